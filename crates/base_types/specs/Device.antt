@@ -1,0 +1,16 @@
+-- What a device is at a moment.
+use Rattle.std.specs.Prelude.{ℕ, List, Option, map, filter}
+use Rattle.base_types.specs.declared.device.Activity.{Activity}
+use Rattle.base_types.specs.declared.device.Medium.{Medium}
+
+pub record Device : Type 0 where
+  pub rate_one : ℕ
+  pub rate_two : Option ℕ
+  pub setup : ℕ
+  pub formats : List (List ℕ)
+  pub media : List Medium
+  pub activity : Activity
+
+-- the names of the media that are loaded
+abbrev pub loaded_media : Device → List (List ℕ)
+loaded_media device = map (λ m. m.name) (filter (λ m. m.loaded) device.media)

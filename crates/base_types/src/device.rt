@@ -1,0 +1,100 @@
+ghost use Rattle.std.specs.Prelude.{◌≡◌};
+
+use crate::ids::{DeviceId, JobId};
+use crate::text::Text;
+use std::marker::Model;
+
+/// A job on a running device.
+#[derive(Clone, Copy, Debug, PartialEq, Eq)]
+pub struct Printing {
+    pub job: JobId,
+    /// The moment at which it is expected to end, in ms. It may lie after the last moment.
+    pub end: u64,
+}
+
+/// A job on a stopped device.
+#[derive(Clone, Copy, Debug, PartialEq, Eq)]
+pub struct Interrupted {
+    pub job: JobId,
+    /// The time that it will still take, in ms.
+    pub left: u64,
+}
+
+/// Whether a device runs, and the job that it has.
+#[derive(Clone, Copy, Debug, PartialEq, Eq)]
+pub enum Activity {
+    Running(Option<Printing>),
+    Stopped(Option<Interrupted>),
+}
+
+/// A medium that a device can hold.
+#[derive(Debug, Drop)]
+pub struct Medium {
+    pub name: Text,
+    pub loaded: bool,
+}
+
+/// What a device is at a moment. In clauses it is a record of the same fields.
+#[derive(Debug, Drop)]
+pub struct DeviceNow {
+    /// Time for an impression on one side, in ms: 1 to [`Limits::RATE`].
+    pub rate_one: u32,
+    /// The same on two sides, where the device prints them.
+    pub rate_two: Option<u32>,
+    /// Time before a job's first impression, in ms, at most [`Limits::SETUP`].
+    pub setup: u32,
+    /// The document formats that it prints.
+    pub formats: Vec<Text>,
+    /// The media of its settings, in their order, each loaded or not.
+    pub media: Vec<Medium>,
+    pub activity: Activity,
+}
+
+impl Model for DeviceNow {
+    ghost use Rattle.base_types.specs.Device.{Device};
+    ghost use Rattle.base_types.specs.Ranges.{IsRate, IsSetup};
+    ghost use Rattle.std.specs.Option.{ForSome};
+
+    ghost Value = { Device };
+
+    ghost view = { λ d. record {
+      rate_one = d.rate_one;
+      rate_two = d.rate_two;
+      setup = d.setup;
+      formats = d.formats.items;
+      media = d.media.items;
+      activity = d.activity;
+    } };
+
+    ghost invariant = { λ d. IsRate d.rate_one × ForSome d.rate_two IsRate × IsSetup d.setup };
+}
+
+/// The devices of a printer, in the order of the settings. In clauses it is the list of their places.
+#[derive(Debug, Drop)]
+pub struct PrinterSet {
+    devices: Vec<DeviceId>,
+}
+
+impl Model for PrinterSet {
+    ghost use Rattle.std.specs.Prelude.{ℕ, List};
+
+    ghost Value = { List ℕ };
+
+    ghost view = { λ s. s.devices.items };
+}
+
+impl PrinterSet {
+    /// The set of these devices.
+    pub fn new(devices: Vec<DeviceId>) -> PrinterSet
+        ensures { result ≡ devices.items }
+    {
+        PrinterSet { devices }
+    }
+
+    /// Its devices.
+    pub fn devices(&self) -> &[DeviceId]
+        ensures { result.now ≡ self.now }
+    {
+        &self.devices
+    }
+}

@@ -1,0 +1,24 @@
+//! The words that every crate of the server shares: ids, moments, priorities, limits, what a job
+//! needs, what a device is at a moment, and what a device reports.
+//!
+//! It promises the range of each type: a number that is out of range can't be made. It decides
+//! nothing; what happens to a job or a device stands in the crates above.
+#![tactic(auto)]
+
+mod device;
+mod ids;
+mod limits;
+mod moment;
+mod needs;
+mod priority;
+mod report;
+mod text;
+
+pub use device::{Activity, DeviceNow, Interrupted, Medium, PrinterSet, Printing};
+pub use ids::{DeviceId, JobId, PrinterId};
+pub use limits::Limits;
+pub use moment::Moment;
+pub use needs::{Cause, Needs, Sides};
+pub use priority::Priority;
+pub use report::Report;
+pub use text::Text;
