@@ -1,0 +1,12 @@
+pub mod Fields
+pub mod Parts
+pub mod Tree
+pub mod Fitting
+pub mod Showing
+pub mod Texts
+pub mod Unique
+pub mod OneFault
+pub mod Steps
+pub mod Heads
+pub mod Once
+pub mod Writing

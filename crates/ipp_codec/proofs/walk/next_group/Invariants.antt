@@ -1,0 +1,9 @@
+use Rattle.std.proofs.Common.{◌≡◌, ◌≤◌, length}
+use Rattle.ipp_codec.specs.Views.{level}
+use Rattle.ipp_codec.proofs.walk.next_group.Given as goal
+
+abbrev pub invariant-loop-entry : goal.invariant-loop-entry
+invariant-loop-entry l = ((level l.bytes).groups ≡ (level l.rest).groups) × (length l.rest ≤ length l.bytes)
+
+abbrev pub decreases-loop-entry : goal.decreases-loop-entry
+decreases-loop-entry l = length l.rest

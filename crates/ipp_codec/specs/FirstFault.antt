@@ -1,0 +1,110 @@
+-- Why bytes begin with no spelling: the first fault from left to right.
+use Rattle.std.specs.Prelude.{◌≡◌, ◌≢◌, ◌⊎◌, ◌<◌, ◌≤◌, ℕ, ◌+◌, ◌*◌, List, [], ◌∷◌, ◌++◌, length, take, Some}
+use Rattle.base_types.specs.declared.limits.TheConstants.Limits.{COLLECTION_DEPTH, IPP_HEAD_BYTES}
+use Rattle.ipp_codec.specs.declared.fault.CodecFault.{CodecFault}
+use Rattle.ipp_codec.specs.declared.fault.CodecFault.TheVariants.{Short, BadTag, BadLength, BadValue, LooseValue, BadCollection, TooDeep, TooLarge}
+use Rattle.ipp_codec.specs.declared.place.Place.{Place}
+use Rattle.ipp_codec.specs.declared.place.Place.TheVariants.{Outside, Opened}
+use Rattle.ipp_codec.specs.Message.{IppMessage}
+use Rattle.ipp_codec.specs.Spelling.{Element, plainly, begin, counted, value_bytes, bytes_of, elements, header}
+use Rattle.ipp_codec.specs.Grammar.{HasShape, IsMessage}
+use Rattle.ipp_codec.specs.Place.{depth, place_from, Takes}
+use Rattle.ipp_codec.specs.Kind.{kind_of}
+
+-- A value's tag may stand at the place.
+abbrev pub Admits : Place → ℕ → Type 0
+Admits place tag = (16 ≤ tag) × (tag < 256) × (place ≢ Outside)
+
+-- fewer bytes than a length and what it says
+abbrev pub IsCut : List ℕ → Type 0
+IsCut [] = Unit {0}
+IsCut (_ ∷ []) = Unit {0}
+IsCut (high ∷ low ∷ bytes) = (high < 128) × (length bytes < 256 * high + low)
+
+-- a length from 0x8000 on
+abbrev pub IsTooLong : List ℕ → Type 0
+IsTooLong [] = ⊥
+IsTooLong (_ ∷ []) = ⊥
+IsTooLong (high ∷ low ∷ bytes) = 128 ≤ high
+
+-- Behind a value's tag, or behind its name, the bytes are so.
+pub record AtField (place : Place) (part : List ℕ) (P : List ℕ → Type 0) : Type 0 where
+  pub tag : ℕ
+  pub field : List ℕ
+  pub admitted : Admits place tag
+  pub behind : (part ≡ tag ∷ field) ⊎ ((name : List ℕ) × (length name < 0x8000) × (part ≡ tag ∷ (counted name ++ field)))
+  pub so : P field
+
+-- The part begins with a whole value.
+pub record IsWhole (place : Place) (part : List ℕ) (tag : ℕ) (name bytes : List ℕ) : Type 0 where
+  pub rest : List ℕ
+  pub admitted : Admits place tag
+  pub name_length : length name < 0x8000
+  pub length : length bytes < 0x8000
+  pub joined : part ≡ value_bytes tag name bytes ++ rest
+
+-- a further value with no attribute before it in its group
+abbrev pub IsLoose : Place → List ℕ → Type 0
+IsLoose place name = (place ≡ Opened) × (name ≡ [])
+
+-- An element that may stand here is too deep, or its bytes lack their tag's shape.
+abbrev pub Exceeds : Place → Element → CodecFault → Type 0
+Exceeds place (begin name) TooDeep = COLLECTION_DEPTH ≤ depth place
+Exceeds place (plainly tag name bytes) BadValue = ¬ (HasShape tag bytes)
+Exceeds place _ _ = ⊥
+
+-- the first rule that a whole value breaks
+abbrev pub Breaks : Place → ℕ → List ℕ → List ℕ → CodecFault → Type 0
+Breaks place tag name bytes LooseValue = IsLoose place name
+Breaks place tag name bytes BadCollection = ¬ (IsLoose place name) × ((e : Element) → kind_of tag name bytes ≡ Some e → ¬ (Takes place e))
+Breaks place tag name bytes fault = ¬ (IsLoose place name) × ((e : Element) × (kind_of tag name bytes ≡ Some e) × Takes place e × Exceeds place e fault)
+
+-- A whole value breaks a rule.
+pub record AtValue (place : Place) (part : List ℕ) (fault : CodecFault) : Type 0 where
+  pub tag : ℕ
+  pub name : List ℕ
+  pub bytes : List ℕ
+  pub whole : IsWhole place part tag name bytes
+  pub breaks : Breaks place tag name bytes fault
+
+-- tag 0, or a value's tag before any group
+abbrev pub IsBadTag : Place → ℕ → Type 0
+IsBadTag place tag = (tag ≡ 0) ⊎ ((16 ≤ tag) × (place ≡ Outside))
+
+-- a group's tag or the end byte inside a collection
+abbrev pub IsUnclosed : Place → ℕ → Type 0
+IsUnclosed place tag = (0 < tag) × (tag < 16) × (0 < depth place)
+
+-- The part begins with such a tag.
+abbrev pub AtTag : List ℕ → (ℕ → Type 0) → Type 0
+AtTag part P = (tag : ℕ) × (rest : List ℕ) × (part ≡ tag ∷ rest) × P tag
+
+-- At the place, this is the first fault of the part.
+abbrev pub First : Place → List ℕ → CodecFault → Type 0
+First place part Short = (part ≡ []) ⊎ AtField place part IsCut
+First place part BadTag = AtTag part (IsBadTag place)
+First place part BadLength = AtField place part IsTooLong
+First place part BadCollection = AtTag part (IsUnclosed place) ⊎ AtValue place part BadCollection
+First place part TooLarge = ⊥
+First place part fault = AtValue place part fault
+
+-- The bytes are a header and first elements of a message, and a part with this first fault.
+pub record AtPart (bytes : List ℕ) (fault : CodecFault) : Type 0 where
+  pub message : IppMessage
+  pub before : List Element
+  pub behind : List Element
+  pub part : List ℕ
+  pub is_message : IsMessage message
+  pub split : elements message.groups ≡ before ++ behind
+  pub joined : bytes ≡ header message ++ (bytes_of before ++ part)
+  pub first : First (place_from Outside before) part fault
+
+-- The bytes begin with no spelling, and this is why; a header has eight bytes.
+abbrev pub FirstFault : List ℕ → CodecFault → Type 0
+FirstFault bytes fault = ((length bytes < 8) × (fault ≡ Short)) ⊎ AtPart bytes fault
+
+-- The first fault within the bytes that a head may have; a byte that is due after them is too many.
+abbrev pub HeadFault : List ℕ → CodecFault → Type 0
+HeadFault bytes Short = (length bytes < IPP_HEAD_BYTES) × FirstFault bytes Short
+HeadFault bytes TooLarge = (IPP_HEAD_BYTES ≤ length bytes) × FirstFault (take IPP_HEAD_BYTES bytes) Short
+HeadFault bytes fault = FirstFault (take IPP_HEAD_BYTES bytes) fault

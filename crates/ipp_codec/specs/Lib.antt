@@ -1,0 +1,13 @@
+pub mod Message
+pub mod Spelling
+pub mod Grammar
+pub mod Place
+pub mod Kind
+pub mod FirstFault
+pub mod Reading
+pub mod Shown
+pub mod Views
+pub mod Decoding
+pub mod Owned
+pub mod Typed
+pub mod Written

@@ -1,0 +1,71 @@
+-- What bytes show: their elements, and the groups, attributes, values and members that these make.
+use Rattle.std.specs.Prelude.{ℕ, zero, suc, List, [], ◌∷◌, length, Option, Some, None}
+use Rattle.ipp_codec.specs.Message.{IppValue, plain, collection, IppMembers, no_member, member_and, IppAttribute, IppGroup, values_of}
+use Rattle.ipp_codec.specs.Spelling.{Element, opening, plainly, begin, named, finish}
+use Rattle.ipp_codec.specs.Reading.{element_at}
+
+-- what comes next at one depth: nameless values, then members or attributes, then groups
+pub record Level : Type 0 where
+  pub values : List IppValue
+  pub members : IppMembers
+  pub attributes : List IppAttribute
+  pub groups : List IppGroup
+
+-- where nothing comes next
+abbrev pub nothing : Level
+nothing = record { values = []; members = no_member; attributes = []; groups = [] }
+
+-- a value with this name, and what follows it
+abbrev pub add : List ℕ → IppValue → Level → Level
+add [] v l = record { values = v ∷ l.values; members = l.members; attributes = l.attributes; groups = l.groups }
+add (c ∷ name) v l = record { values = []; members = l.members; attributes = record { name = c ∷ name; first = v; others = l.values } ∷ l.attributes; groups = l.groups }
+
+-- a member of this name, if it has a value
+abbrev pub add_member : List ℕ → List IppValue → IppMembers → IppMembers
+add_member name [] ms = ms
+add_member name (v ∷ vs) ms = member_and name v (values_of vs) ms
+
+-- the name of a member, whose values come next
+abbrev pub name_member : List ℕ → Level → Level
+name_member name l = record { values = []; members = add_member name l.values l.members; attributes = l.attributes; groups = l.groups }
+
+-- the tag of a group, whose attributes come next
+abbrev pub open_group : ℕ → Level → Level
+open_group tag l = record { values = []; members = no_member; attributes = []; groups = record { tag = tag; attributes = l.attributes } ∷ l.groups }
+
+-- the innermost of the levels that lie inside one another
+abbrev pub top : List Level → Level
+top [] = nothing
+top (l ∷ ls) = l
+
+-- the levels around the innermost
+abbrev pub below : List Level → List Level
+below [] = []
+below (l ∷ ls) = ls
+
+-- what an element and what follows it make
+abbrev pub before : Element → List Level → List Level
+before (opening tag) ls = open_group tag (top ls) ∷ below ls
+before (plainly tag name bytes) ls = add name (plain tag bytes) (top ls) ∷ below ls
+before (begin name) ls = add name (collection (top ls).members) (top (below ls)) ∷ below (below ls)
+before (named name) ls = name_member name (top ls) ∷ below ls
+before finish ls = nothing ∷ ls
+
+-- the levels that elements make, read from the last one back
+unfoldable pub levels_of : List Element → List Level
+levels_of [] = []
+levels_of (e ∷ es) = before e (levels_of es)
+
+-- the list that a found element makes, or none
+abbrev pub listed : {A : Type 0} → Option (Element × List ℕ) → (Element × List ℕ → List A) → List A
+listed (Some x) f = f x
+listed None f = []
+
+-- the elements at the front of the bytes, n at most
+unfoldable pub elements_in : ℕ → List ℕ → List Element
+elements_in zero bytes = []
+elements_in (suc n) bytes = listed (element_at bytes) (λ x. x.0 ∷ elements_in n x.1)
+
+-- the levels that bytes show
+abbrev pub shown : List ℕ → List Level
+shown bytes = levels_of (elements_in (length bytes) bytes)

@@ -1,0 +1,41 @@
+use thiserror::Error;
+
+/// Why bytes begin with no head of a message: the first fault from left to right.
+#[derive(Clone, Copy, Debug, PartialEq, Eq, Error)]
+pub enum CodecFault {
+    /// The bytes end before the head does.
+    #[error("the bytes end before the head does")]
+    Short,
+    /// A tag is 0, or a value stands before the first group.
+    #[error("a tag is 0, or a value stands before the first group")]
+    BadTag,
+    /// The length of a name or a value is 32,768 or more.
+    #[error("the length of a name or a value is 32,768 or more")]
+    BadLength,
+    /// The bytes of a value don't fit its tag.
+    #[error("the bytes of a value don't fit its tag")]
+    BadValue,
+    /// A further value stands before a group's first attribute.
+    #[error("a further value stands before a group's first attribute")]
+    LooseValue,
+    /// A part of a collection stands where none may, or a collection isn't closed.
+    #[error("a part of a collection stands where none may, or a collection isn't closed")]
+    BadCollection,
+    /// Collections lie in one another more than [`Limits::COLLECTION_DEPTH`] deep.
+    #[error("collections lie too deep in one another")]
+    TooDeep,
+    /// The head has more than [`Limits::IPP_HEAD_BYTES`] bytes.
+    #[error("the head has too many bytes")]
+    TooLarge,
+}
+
+/// Why a message was not encoded.
+#[derive(Clone, Copy, Debug, PartialEq, Eq, Error)]
+pub enum EncodeFault {
+    /// No bytes spell the message.
+    #[error("no bytes spell the message")]
+    Unspellable,
+    /// Memory was refused.
+    #[error("memory was refused")]
+    OutOfMemory,
+}

@@ -1,0 +1,38 @@
+//! IPP messages and their bytes (RFC 8010, section 3).
+//!
+//! `decode` reads the head of a message in place, without memory, and says exactly when bytes begin
+//! with one, which message it is, and else what is first wrong with them. `encode` appends the one
+//! spelling of a message. Nothing here knows what an attribute or an operation means: a value is a
+//! tag and bytes, or a collection of members.
+#![tactic(auto)]
+
+mod element;
+mod fault;
+mod head;
+mod law;
+mod member_view;
+mod message;
+mod owning;
+mod place;
+mod shape;
+mod spelling;
+mod tag;
+mod typed;
+mod value;
+mod view;
+mod walk;
+
+pub use fault::{CodecFault, EncodeFault};
+pub use head::decode;
+pub use law::{one_first_fault, one_spelling};
+pub use member_view::{MemberView, Members};
+pub use message::{Attribute, Group, Message};
+pub use spelling::encode;
+pub use tag::{GroupTag, ValueTag};
+pub use value::{Member, Value};
+pub use view::{
+    AttributeView, Attributes, GroupView, Groups, MessageView, ValueView, Values, Version,
+};
+
+#[cfg(test)]
+mod tests;

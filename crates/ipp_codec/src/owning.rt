@@ -1,0 +1,107 @@
+//! Views made owned.
+ghost use Rattle.std.specs.Prelude.{◌≡◌, ◌<◌, length, IfOk};
+ghost use Rattle.ipp_codec.specs.Message.{members_in};
+ghost use Rattle.ipp_codec.specs.Owned.{value_owned, values_owned, members_owned, attributes_owned, groups_owned, message_owned};
+ghost use Rattle.ipp_codec.specs.Views.{level, value_shown, message_shown};
+
+use crate::element::BEGIN_COLLECTION;
+use crate::message::{Attribute, Group, Message};
+use crate::tag::{GroupTag, ValueTag};
+use crate::value::{Member, Value};
+use crate::view::{MessageView, ValueView};
+use crate::walk::{next_attribute, next_group, next_member, next_value};
+use std::alloc::{AllocError, Global};
+
+#[cycle(own)]
+fn own_value(alloc: Global, value: ValueView<'_>) -> Result<Value, AllocError>
+    ensures { IfOk result (λ v. value_owned v ≡ value_shown value.entry) }
+{
+    if value.tag == BEGIN_COLLECTION {
+        let members = own_members(alloc, value.content)?;
+        Ok(Value::collection(members))
+    } else {
+        Value::copy_of(alloc, ValueTag::new(value.tag), value.content)
+    }
+}
+
+#[cycle(own)]
+fn own_values(alloc: Global, bytes: &[u8]) -> Result<Vec<Value>, AllocError>
+    ensures { IfOk result (λ vs. values_owned vs.items ≡ (level bytes.now).values) }
+{
+    let mut owned = Vec::new(alloc);
+    let mut rest = bytes;
+    while let Some((value, behind)) = next_value(rest) {
+        rest = behind;
+        let value = own_value(alloc, value)?;
+        owned.push(value)?;
+    }
+    Ok(owned)
+}
+
+#[cycle(own)]
+fn own_members(alloc: Global, bytes: &[u8]) -> Result<Vec<Member>, AllocError>
+    ensures { IfOk result (λ ms. members_owned ms.items ≡ members_in (level bytes.now).members) }
+{
+    let mut owned = Vec::new(alloc);
+    let mut rest = bytes;
+    while let Some(member) = next_member(rest) {
+        rest = member.rest;
+        let name = Vec::from_slice(alloc, member.name)?;
+        let first = own_value(alloc, member.first)?;
+        let others = own_values(alloc, member.rest)?;
+        owned.push(Member {
+            name,
+            first,
+            others,
+        })?;
+    }
+    Ok(owned)
+}
+
+fn own_attributes(alloc: Global, bytes: &[u8]) -> Result<Vec<Attribute>, AllocError>
+    ensures { IfOk result (λ xs. attributes_owned xs.items ≡ (level bytes.now).attributes) }
+{
+    let mut owned = Vec::new(alloc);
+    let mut rest = bytes;
+    while let Some(attribute) = next_attribute(rest) {
+        rest = attribute.rest;
+        let name = Vec::from_slice(alloc, attribute.name)?;
+        let first = own_value(alloc, attribute.first)?;
+        let others = own_values(alloc, attribute.rest)?;
+        owned.push(Attribute {
+            name,
+            first,
+            others,
+        })?;
+    }
+    Ok(owned)
+}
+
+fn own_groups(alloc: Global, bytes: &[u8]) -> Result<Vec<Group>, AllocError>
+    ensures { IfOk result (λ gs. groups_owned gs.items ≡ (level bytes.now).groups) }
+{
+    let mut owned = Vec::new(alloc);
+    let mut rest = bytes;
+    while let Some(group) = next_group(rest) {
+        rest = group.rest;
+        let tag = GroupTag::new(group.tag);
+        let attributes = own_attributes(alloc, group.rest)?;
+        owned.push(Group { tag, attributes })?;
+    }
+    Ok(owned)
+}
+
+impl<'a> MessageView<'a> {
+    /// A message of its own that says the same.
+    pub fn to_owned(&self, alloc: Global) -> Result<Message, AllocError>
+        ensures { IfOk result (λ message. message_owned message ≡ message_shown self.now) }
+    {
+        let groups = own_groups(alloc, self.body)?;
+        Ok(Message {
+            version: self.version,
+            code: self.code,
+            request_id: self.request_id,
+            groups,
+        })
+    }
+}

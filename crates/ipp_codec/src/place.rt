@@ -1,0 +1,179 @@
+//! What stands before a part of a head, and what may follow.
+ghost use Rattle.std.specs.Prelude.{◌≡◌, MatchResult, ◌↔◌, IsTrue};
+ghost use Rattle.ipp_codec.specs.Place.{depth, after, Takes, TakesValue, TakesMember};
+ghost use Rattle.ipp_codec.specs.FirstFault.{Breaks, Exceeds};
+ghost use Rattle.ipp_codec.specs.Reading.{seen, Keeps, Stands, Steps, Walks};
+
+use crate::element::{END, ElementView, FIRST_VALUE_TAG, fields_of, kind_of};
+use crate::fault::CodecFault;
+use crate::shape::has_shape;
+use base_types::Limits;
+
+/// What stands before a part of a head. A number counts the collections around the innermost one.
+#[derive(Clone, Copy, Debug, PartialEq, Eq)]
+pub enum Place {
+    /// no group
+    Outside,
+    /// a group's tag
+    Opened,
+    /// a value of an attribute
+    Valued,
+    /// the beginning of a collection
+    Begun(u8),
+    /// the name of a member
+    Naming(u8),
+    /// a value of a member
+    Within(u8),
+}
+
+/// How many collections are open.
+fn depth(place: Place) -> usize
+    ensures { result ≡ depth place }
+{
+    match place {
+        Place::Begun(outer) | Place::Naming(outer) | Place::Within(outer) => {
+            usize::from(outer) + 1
+        }
+        Place::Outside | Place::Opened | Place::Valued => 0,
+    }
+}
+
+/// Whether no group has begun.
+fn is_outside(place: Place) -> bool
+    ensures { IsTrue result ↔ (place ≡ Place.Outside) }
+{
+    matches!(place, Place::Outside)
+}
+
+/// Whether a value with this name may stand here.
+fn takes_value(place: Place, name: &[u8]) -> bool
+    ensures { IsTrue result ↔ TakesValue place name.now }
+{
+    match place {
+        Place::Outside | Place::Begun(_) => false,
+        Place::Opened => !name.is_empty(),
+        Place::Valued => true,
+        Place::Naming(_) | Place::Within(_) => name.is_empty(),
+    }
+}
+
+/// Whether a member's name or a collection's end may stand here.
+fn takes_member(place: Place) -> bool
+    ensures { IsTrue result ↔ TakesMember place }
+{
+    matches!(place, Place::Begun(_) | Place::Within(_))
+}
+
+/// Whether an element of this kind may stand here.
+fn takes(place: Place, element: ElementView<'_>) -> bool
+    ensures { IsTrue result ↔ Takes place (seen element.entry) }
+{
+    match element {
+        ElementView::Opening(_) => depth(place) == 0,
+        ElementView::Plain(_, name, _) | ElementView::Begin(name) => takes_value(place, name),
+        ElementView::Named(_) | ElementView::Finish => takes_member(place),
+    }
+}
+
+/// Judges the limit and the shape of an element.
+fn judge_limits(place: Place, element: ElementView<'_>) -> Result<(), CodecFault>
+    ensures { MatchResult result (λ _. Keeps place (seen element.entry)) (Exceeds place (seen element.entry)) }
+{
+    match element {
+        ElementView::Begin(_) if depth(place) >= Limits::COLLECTION_DEPTH => {
+            Err(CodecFault::TooDeep)
+        }
+        ElementView::Plain(tag, _, bytes) if !has_shape(tag, bytes) => Err(CodecFault::BadValue),
+        _ => Ok(()),
+    }
+}
+
+/// The place behind an element that may stand here.
+fn after(place: Place, element: ElementView<'_>) -> Place
+    requires takes { Takes place (seen element) }
+    requires keeps { Keeps place (seen element) }
+    ensures { result ≡ after place (seen element.entry) }
+{
+    match element {
+        ElementView::Opening(_) => Place::Opened,
+        ElementView::Plain(..) => match place {
+            Place::Begun(outer) | Place::Naming(outer) | Place::Within(outer) => {
+                Place::Within(outer)
+            }
+            Place::Outside | Place::Opened | Place::Valued => Place::Valued,
+        },
+        ElementView::Begin(_) => match place {
+            Place::Begun(outer) | Place::Naming(outer) | Place::Within(outer) => {
+                Place::Begun(outer + 1)
+            }
+            Place::Outside | Place::Opened | Place::Valued => Place::Begun(0),
+        },
+        ElementView::Named(_) => match place {
+            Place::Begun(outer) | Place::Within(outer) => Place::Naming(outer),
+            other => other,
+        },
+        ElementView::Finish => match place {
+            Place::Begun(0) | Place::Within(0) => Place::Valued,
+            Place::Begun(outer) | Place::Within(outer) => Place::Within(outer - 1),
+            other => other,
+        },
+    }
+}
+
+/// The place behind a whole value, or the first rule that it breaks.
+fn judge(place: Place, tag: u8, name: &[u8], bytes: &[u8]) -> Result<Place, CodecFault>
+    ensures { MatchResult result (Stands place tag name.now bytes.now) (Breaks place tag name.now bytes.now) }
+{
+    if place == Place::Opened && name.is_empty() {
+        return Err(CodecFault::LooseValue);
+    }
+    let Some(element) = kind_of(tag, name, bytes) else {
+        return Err(CodecFault::BadCollection);
+    };
+    if !takes(place, element) {
+        return Err(CodecFault::BadCollection);
+    }
+    judge_limits(place, element)?;
+    Ok(after(place, element))
+}
+
+/// The next element's place and what follows it, or `None` at the end byte.
+fn next_of(place: Place, bytes: &[u8]) -> Result<Option<(Place, &[u8])>, CodecFault>
+    ensures { Steps (λ x. (x.0, x.1.now)) place bytes.now result }
+{
+    let [tag, rest @ ..] = bytes else {
+        return Err(CodecFault::Short);
+    };
+    let tag = *tag;
+    if tag == 0 {
+        return Err(CodecFault::BadTag);
+    }
+    if tag < FIRST_VALUE_TAG {
+        if depth(place) > 0 {
+            return Err(CodecFault::BadCollection);
+        }
+        if tag == END {
+            return Ok(None);
+        }
+        return Ok(Some((Place::Opened, rest)));
+    }
+    if is_outside(place) {
+        return Err(CodecFault::BadTag);
+    }
+    let (name, value, rest) = fields_of(rest)?;
+    let next_place = judge(place, tag, name, value)?;
+    Ok(Some((next_place, rest)))
+}
+
+/// How many bytes of groups stand before the end byte.
+pub(crate) fn body_len(bytes: &[u8]) -> Result<usize, CodecFault>
+    ensures { Walks bytes.now result }
+{
+    let mut rest = bytes;
+    let mut place = Place::Outside;
+    while let Some((next_place, behind)) = next_of(place, rest)? {
+        place = next_place;
+        rest = behind;
+    }
+    Ok(bytes.len() - rest.len())
+}

@@ -1,0 +1,90 @@
+//! Values that own their bytes.
+ghost use Rattle.std.specs.Prelude.{◌≡◌, [], ◌∷◌, ◌++◌, map, IfOk, OnOk, OnErr};
+ghost use Rattle.ipp_codec.specs.Message.{plain, collection, members_of};
+ghost use Rattle.ipp_codec.specs.Owned.{value_owned, member_owned};
+ghost use Rattle.ipp_codec.specs.Typed.{bytes_of_integer, byte_of_boolean};
+
+use crate::tag::ValueTag;
+use std::alloc::{AllocError, Global};
+
+/// A value: its tag and bytes, or a collection's members.
+#[cycle(value)]
+#[derive(Drop)]
+pub enum Value {
+    Plain { tag: ValueTag, bytes: Vec<u8> },
+    Collection(Vec<Member>),
+}
+
+/// A member of a collection: its name, and one or more values.
+#[cycle(value)]
+#[derive(Drop)]
+pub struct Member {
+    pub name: Vec<u8>,
+    pub first: Value,
+    pub others: Vec<Value>,
+}
+
+impl Value {
+    /// A value of this tag with a copy of the bytes.
+    pub fn copy_of(alloc: Global, tag: ValueTag, bytes: &[u8]) -> Result<Value, AllocError>
+        ensures { IfOk result (λ value. value_owned value ≡ plain tag bytes.now) }
+    {
+        let bytes = Vec::from_slice(alloc, bytes)?;
+        Ok(Value::Plain { tag, bytes })
+    }
+
+    /// An integer (RFC 8010, section 3.9).
+    pub fn integer(alloc: Global, number: i32) -> Result<Value, AllocError>
+        ensures { IfOk result (λ value. value_owned value ≡ plain 0x21 (bytes_of_integer number)) }
+    {
+        Value::copy_of(
+            alloc,
+            ValueTag::INTEGER,
+            &number.cast_unsigned().to_be_bytes(),
+        )
+    }
+
+    /// A number of an enumeration (RFC 8010, section 3.9).
+    pub fn enumeration(alloc: Global, number: i32) -> Result<Value, AllocError>
+        ensures { IfOk result (λ value. value_owned value ≡ plain 0x23 (bytes_of_integer number)) }
+    {
+        Value::copy_of(alloc, ValueTag::ENUM, &number.cast_unsigned().to_be_bytes())
+    }
+
+    /// A truth value (RFC 8010, section 3.9).
+    pub fn boolean(alloc: Global, truth: bool) -> Result<Value, AllocError>
+        ensures { IfOk result (λ value. value_owned value ≡ plain 0x22 (byte_of_boolean truth ∷ [])) }
+    {
+        Value::copy_of(alloc, ValueTag::BOOLEAN, &[u8::from(truth)])
+    }
+
+    /// A collection of these members.
+    pub fn collection(members: Vec<Member>) -> Value
+        ensures { value_owned result ≡ collection (members_of (map member_owned members.items)) }
+    {
+        Value::Collection(members)
+    }
+}
+
+impl Member {
+    /// A member of this name with one value.
+    pub fn new(alloc: Global, name: &[u8], first: Value) -> Result<Member, AllocError>
+        ensures { IfOk result (λ member. member_owned member ≡ record { name = name.now; first = value_owned first; others = [] }) }
+    {
+        let name = Vec::from_slice(alloc, name)?;
+        Ok(Member {
+            name,
+            first,
+            others: Vec::new(alloc),
+        })
+    }
+
+    /// Adds a further value.
+    pub fn push(&mut self, value: Value) -> Result<(), AllocError>
+        ensures ok { OnOk result (member_owned self.new ≡ record { name = (member_owned self.old).name; first = (member_owned self.old).first; others = (member_owned self.old).others ++ value_owned value ∷ [] }) }
+        ensures err { OnErr result (member_owned self.new ≡ member_owned self.old) }
+    {
+        self.others.push(value)?;
+        Ok(())
+    }
+}
