@@ -1,0 +1,3 @@
+mod ItemLemmas
+mod LimitLemmas
+mod TomlFault

@@ -1,0 +1,60 @@
+-- Why settings are refused, and the line that says so.
+use Rattle.std.specs.Prelude.{◌≡◌, ℕ, List, ◌++◌, Option, Some, None, IfSome, Result, Ok, Err, codes}
+use Rattle.settings_file.specs.declared.key.Key.{Key}
+use Rattle.settings_file.specs.declared.key.Key.TheVariants.{Version, UriBase, Operators, Device, Printer, Name, RateOne, RateTwo, Setup, Media, Formats, Devices, MediaDefault, FormatDefault}
+use Rattle.settings_file.specs.declared.fault.SettingsFault.{SettingsFault}
+use Rattle.settings_file.specs.declared.fault.SettingsFault.TheVariants as code
+
+-- the first fault of a text
+pub data Fault : Type 0 where
+  not_toml : Fault
+  missing : Key → Fault
+  wrong_kind : Key → Fault
+  out_of_range : Key → Fault
+  unknown : List ℕ → Fault
+  twice : List ℕ → Fault
+
+-- the key as it stands in a text
+abbrev pub key_name : Key → List ℕ
+key_name Version = codes "version"
+key_name UriBase = codes "uri_base"
+key_name Operators = codes "operators"
+key_name Device = codes "device"
+key_name Printer = codes "printer"
+key_name Name = codes "name"
+key_name RateOne = codes "rate_one"
+key_name RateTwo = codes "rate_two"
+key_name Setup = codes "setup"
+key_name Media = codes "media"
+key_name Formats = codes "formats"
+key_name Devices = codes "devices"
+key_name MediaDefault = codes "media_default"
+key_name FormatDefault = codes "format_default"
+
+-- the fault that the code names, which is none for want of memory
+abbrev pub fault_of : SettingsFault → Option Fault
+fault_of code.NotToml = Some not_toml
+fault_of (code.Missing key) = Some (missing key)
+fault_of (code.WrongKind key) = Some (wrong_kind key)
+fault_of (code.OutOfRange key) = Some (out_of_range key)
+fault_of (code.Unknown name) = Some (unknown name)
+fault_of (code.Twice name) = Some (twice name)
+fault_of code.OutOfMemory = None
+
+-- the line of a fault that is about a key or a name
+abbrev pub line_about : List ℕ → List ℕ → List ℕ
+line_about kind name = (((codes "refused settings " ++ kind) ++ codes " ") ++ name) ++ codes "\n"
+
+-- the line that tells of a fault
+abbrev pub fault_line : Fault → List ℕ
+fault_line not_toml = codes "refused settings NotToml\n"
+fault_line (missing key) = line_about (codes "Missing") (key_name key)
+fault_line (wrong_kind key) = line_about (codes "WrongKind") (key_name key)
+fault_line (out_of_range key) = line_about (codes "OutOfRange") (key_name key)
+fault_line (unknown name) = line_about (codes "Unknown") name
+fault_line (twice name) = line_about (codes "Twice") name
+
+-- what the code gives is what the definition says: its value or its fault, where it names one
+abbrev pub Gives : {A B : Type 0} → (A → B) → Result A SettingsFault → Result B Fault → Type 0
+Gives seen (Ok a) expected = expected ≡ Ok (seen a)
+Gives seen (Err e) expected = IfSome (fault_of e) (λ fault. expected ≡ Err fault)

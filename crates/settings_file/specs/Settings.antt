@@ -1,0 +1,64 @@
+-- The settings of a server, and the limits that they keep.
+use Rattle.std.specs.Prelude.{ℕ, List, Option, ◌≤◌, ◌<◌, ◌≢◌, All, AllPairs, length}
+use Rattle.std.specs.Option.{ForSome}
+use Rattle.base_types.specs.Ranges.{IsRate, IsSetup}
+use Rattle.base_types.specs.declared.limits.TheConstants.Limits.{DEVICES, PRINTERS, LIST_ENTRIES}
+use Rattle.settings_file.specs.Forms.{IsName, IsMedia, IsFormat, IsUriBase}
+
+-- what the settings say of a device
+pub record DeviceEntry : Type 0 where
+  pub name : List ℕ
+  pub rate_one : ℕ
+  pub rate_two : Option ℕ
+  pub setup : ℕ
+  pub media : List (List ℕ)
+  pub formats : List (List ℕ)
+
+-- what the settings say of a printer; its devices are places in the list of devices
+pub record PrinterEntry : Type 0 where
+  pub name : List ℕ
+  pub devices : List ℕ
+  pub media_default : List ℕ
+  pub format_default : List ℕ
+
+pub record ServerSettings : Type 0 where
+  pub uri_base : List ℕ
+  pub operators : List (List ℕ)
+  pub devices : List DeviceEntry
+  pub printers : List PrinterEntry
+
+-- a list within the bound on lists
+abbrev pub IsShort : {A : Type 0} → List A → Type 0
+IsShort entries = length entries ≤ LIST_ENTRIES
+
+-- a device's entry is within the limits
+pub record IsDeviceEntry (device : DeviceEntry) : Type 0 where
+  pub name : IsName device.name
+  pub rate_one : IsRate device.rate_one
+  pub rate_two : ForSome device.rate_two IsRate
+  pub setup : IsSetup device.setup
+  pub few_media : IsShort device.media
+  pub each_media : All IsMedia device.media
+  pub few_formats : IsShort device.formats
+  pub each_format : All IsFormat device.formats
+
+-- a printer's entry is within the limits, and names devices among so many
+pub record IsPrinterEntry (devices : ℕ) (printer : PrinterEntry) : Type 0 where
+  pub name : IsName printer.name
+  pub few_devices : IsShort printer.devices
+  pub each_device : All (λ place. place < devices) printer.devices
+  pub media_default : IsMedia printer.media_default
+  pub format_default : IsFormat printer.format_default
+
+-- the settings are within the limits
+pub record MeetsLimits (settings : ServerSettings) : Type 0 where
+  pub uri_base : IsUriBase settings.uri_base
+  pub few_operators : IsShort settings.operators
+  pub some_device : 1 ≤ length settings.devices
+  pub few_devices : length settings.devices ≤ DEVICES
+  pub each_device : All IsDeviceEntry settings.devices
+  pub device_names_differ : AllPairs (λ a b. a.name ≢ b.name) settings.devices
+  pub some_printer : 1 ≤ length settings.printers
+  pub few_printers : length settings.printers ≤ PRINTERS
+  pub each_printer : All (IsPrinterEntry (length settings.devices)) settings.printers
+  pub printer_names_differ : AllPairs (λ a b. a.name ≢ b.name) settings.printers

@@ -1,0 +1,88 @@
+ghost use Rattle.std.specs.Prelude.{◌≡◌, [], map};
+ghost use Rattle.std.specs.Str.{bytes_eq};
+ghost use Rattle.toml.specs.View.{table_view};
+ghost use Rattle.settings_file.specs.Fault.{Gives};
+ghost use Rattle.settings_file.specs.Device.{device_of, devices_of, has_device, place_of};
+
+use crate::entry::{know_keys, list, number, optional_number, text};
+use crate::fault::SettingsFault;
+use crate::key::Key;
+use crate::settings::DeviceSettings;
+use base_types::Limits;
+use std::alloc::Global;
+use toml::Table;
+
+const DEVICE_KEYS: [Key; 6] = [
+    Key::Name,
+    Key::RateOne,
+    Key::RateTwo,
+    Key::Setup,
+    Key::Media,
+    Key::Formats,
+];
+
+// Whether the device has the name.
+fn is_named(device: &DeviceSettings, name: &[u8]) -> bool
+    ensures { result ≡ bytes_eq device.now.name name.now }
+{
+    device.name.as_bytes() == name
+}
+
+// Whether a device has the name.
+#[tactic(auto, unfolding(crate::specs::Device::has_device))]
+fn has_device(devices: &[DeviceSettings], name: &[u8]) -> bool
+    ensures { result ≡ has_device devices.now name.now }
+{
+    devices.iter().any(|device| is_named(device, name))
+}
+
+/// The place of the device of this name.
+#[tactic(auto, unfolding(crate::specs::Device::place_of))]
+pub(crate) fn place_of(devices: &[DeviceSettings], name: &[u8]) -> Option<usize>
+    ensures { result ≡ place_of devices.now name.now }
+{
+    devices.iter().position(|device| is_named(device, name))
+}
+
+// The device of a table, after those of earlier tables.
+fn read_device(
+    alloc: Global,
+    earlier: &[DeviceSettings],
+    table: &Table,
+) -> Result<DeviceSettings, SettingsFault>
+    ensures { Gives (λ d. d) result (device_of earlier.now (table_view table.now)) }
+{
+    let name = text(alloc, table, Key::Name)?;
+    let rate_one = number(table, Key::RateOne, 1, Limits::RATE)?;
+    let rate_two = optional_number(table, Key::RateTwo, 1, Limits::RATE)?;
+    let setup = optional_number(table, Key::Setup, 0, Limits::SETUP)?;
+    let media = list(alloc, table, Key::Media)?;
+    let formats = list(alloc, table, Key::Formats)?;
+    know_keys(alloc, table, &DEVICE_KEYS)?;
+    if has_device(earlier, name.as_bytes()) {
+        return Err(SettingsFault::Twice(name));
+    }
+    Ok(DeviceSettings {
+        name,
+        rate_one,
+        rate_two,
+        setup: setup.unwrap_or(0),
+        media,
+        formats,
+    })
+}
+
+/// The devices of these tables.
+pub(crate) fn read_devices(
+    alloc: Global,
+    tables: &[&Table],
+) -> Result<Vec<DeviceSettings>, SettingsFault>
+    ensures { Gives (λ v. v.items) result (devices_of [] (map (λ t. table_view t.now) tables.now)) }
+{
+    let mut devices = Vec::new(alloc);
+    for table in tables {
+        let device = read_device(alloc, &devices, table)?;
+        devices.push(device)?;
+    }
+    Ok(devices)
+}

@@ -1,0 +1,106 @@
+ghost use Rattle.std.specs.Prelude.{◌≡◌};
+ghost use Rattle.std.specs.Char.{is_ascii_graphic};
+ghost use Rattle.std.specs.List.{list_all};
+ghost use Rattle.settings_file.specs.Forms.{has_length, is_name_byte, is_media_byte, is_format_byte, is_name, is_media, is_format, is_uri_base};
+
+use base_types::Limits;
+
+// Whether a text has a byte, and no more than `most`.
+fn has_length(text: &[u8], most: usize) -> bool
+    ensures { result ≡ has_length most text.now }
+{
+    1 <= text.len() && text.len() <= most
+}
+
+// A letter, a digit, `_` or `-`.
+fn is_name_byte(byte: u8) -> bool
+    ensures { result ≡ is_name_byte byte }
+{
+    byte.is_ascii_alphanumeric() || byte == b'_' || byte == b'-'
+}
+
+// A small letter, a digit, `.`, `_` or `-`.
+fn is_media_byte(byte: u8) -> bool
+    ensures { result ≡ is_media_byte byte }
+{
+    byte.is_ascii_lowercase()
+        || byte.is_ascii_digit()
+        || byte == b'.'
+        || byte == b'_'
+        || byte == b'-'
+}
+
+// A byte that prints and is no space, comma or capital letter.
+fn is_format_byte(byte: u8) -> bool
+    ensures { result ≡ is_format_byte byte }
+{
+    byte.is_ascii_graphic() && byte != b',' && !byte.is_ascii_uppercase()
+}
+
+/// Whether a text is the name of a device or a printer.
+#[tactic(auto, unfolding(crate::specs::Forms::is_name))]
+pub(crate) fn is_name(text: &[u8]) -> bool
+    ensures { result ≡ is_name text.now }
+{
+    if !has_length(text, Limits::NAME_BYTES) {
+        return false;
+    }
+    has_name_bytes(text)
+}
+
+/// Whether a text is the name of a medium.
+#[tactic(auto, unfolding(crate::specs::Forms::is_media))]
+pub(crate) fn is_media(text: &[u8]) -> bool
+    ensures { result ≡ is_media text.now }
+{
+    if !has_length(text, Limits::MEDIA_BYTES) {
+        return false;
+    }
+    has_media_bytes(text)
+}
+
+/// Whether a text is a document format.
+#[tactic(auto, unfolding(crate::specs::Forms::is_format))]
+pub(crate) fn is_format(text: &[u8]) -> bool
+    ensures { result ≡ is_format text.now }
+{
+    if !has_length(text, Limits::FORMAT_BYTES) {
+        return false;
+    }
+    has_format_bytes(text)
+}
+
+/// Whether a text is a base of URIs.
+#[tactic(auto, unfolding(crate::specs::Forms::is_uri_base))]
+pub(crate) fn is_uri_base(text: &[u8]) -> bool
+    ensures { result ≡ is_uri_base text.now }
+{
+    if !has_length(text, Limits::URI_BASE_BYTES) {
+        return false;
+    }
+    has_uri_base_bytes(text)
+}
+
+fn has_name_bytes(text: &[u8]) -> bool
+    ensures { result ≡ list_all is_name_byte text.now }
+{
+    text.iter().all(|byte| is_name_byte(*byte))
+}
+
+fn has_media_bytes(text: &[u8]) -> bool
+    ensures { result ≡ list_all is_media_byte text.now }
+{
+    text.iter().all(|byte| is_media_byte(*byte))
+}
+
+fn has_format_bytes(text: &[u8]) -> bool
+    ensures { result ≡ list_all is_format_byte text.now }
+{
+    text.iter().all(|byte| is_format_byte(*byte))
+}
+
+fn has_uri_base_bytes(text: &[u8]) -> bool
+    ensures { result ≡ list_all is_ascii_graphic text.now }
+{
+    text.iter().all(|byte| byte.is_ascii_graphic())
+}

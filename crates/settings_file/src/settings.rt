@@ -1,0 +1,89 @@
+use base_types::{PrinterSet, Text};
+use std::marker::Model;
+
+/// The settings of a server. In clauses they are a record of the same fields.
+#[derive(Debug, Drop)]
+pub struct Settings {
+    /// What the URIs of printers and jobs begin with: 1 to [`base_types::Limits::URI_BASE_BYTES`]
+    /// bytes that print, without space.
+    pub uri_base: Text,
+    /// The names of users who may do what an owner may do, to every job and printer.
+    pub operators: Vec<Text>,
+    /// 1 to [`base_types::Limits::DEVICES`].
+    pub devices: Vec<DeviceSettings>,
+    /// 1 to [`base_types::Limits::PRINTERS`].
+    pub printers: Vec<PrinterSettings>,
+}
+
+impl Model for Settings {
+    ghost use Rattle.settings_file.specs.Settings.{ServerSettings};
+
+    ghost Value = { ServerSettings };
+
+    ghost view = { λ s. record {
+      uri_base = s.uri_base;
+      operators = s.operators.items;
+      devices = s.devices.items;
+      printers = s.printers.items;
+    } };
+}
+
+/// What the settings say of a device. In clauses it is a record of the same fields.
+#[derive(Debug, Drop)]
+pub struct DeviceSettings {
+    pub name: Text,
+    /// Time for an impression on one side, in ms: 1 to [`base_types::Limits::RATE`].
+    pub rate_one: u32,
+    /// The same on two sides, where the device prints them.
+    pub rate_two: Option<u32>,
+    /// Time before a job's first impression, in ms, at most [`base_types::Limits::SETUP`].
+    pub setup: u32,
+    /// The media that can be loaded.
+    pub media: Vec<Text>,
+    /// The document formats that it prints.
+    pub formats: Vec<Text>,
+}
+
+impl Model for DeviceSettings {
+    ghost use Rattle.settings_file.specs.Settings.{DeviceEntry};
+    ghost use Rattle.base_types.specs.Ranges.{IsRate, IsSetup};
+    ghost use Rattle.std.specs.Option.{ForSome};
+
+    ghost Value = { DeviceEntry };
+
+    ghost view = { λ d. record {
+      name = d.name;
+      rate_one = d.rate_one;
+      rate_two = d.rate_two;
+      setup = d.setup;
+      media = d.media.items;
+      formats = d.formats.items;
+    } };
+
+    ghost invariant = { λ d. IsRate d.rate_one × ForSome d.rate_two IsRate × IsSetup d.setup };
+}
+
+/// What the settings say of a printer. In clauses it is a record of the same fields.
+#[derive(Debug, Drop)]
+pub struct PrinterSettings {
+    pub name: Text,
+    /// Its devices, in the order in which it names them.
+    pub devices: PrinterSet,
+    /// The medium of a job that names none.
+    pub media_default: Text,
+    /// The format of a document that names none.
+    pub format_default: Text,
+}
+
+impl Model for PrinterSettings {
+    ghost use Rattle.settings_file.specs.Settings.{PrinterEntry};
+
+    ghost Value = { PrinterEntry };
+
+    ghost view = { λ p. record {
+      name = p.name;
+      devices = p.devices;
+      media_default = p.media_default;
+      format_default = p.format_default;
+    } };
+}
