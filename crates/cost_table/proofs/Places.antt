@@ -1,0 +1,59 @@
+-- Where the jobs of a class stand, and which pairs have a time.
+use Rattle.std.proofs.Common.{◌≡◌, ◌==◌, ℕ, ◌<◌, List, [], length, get_or, Option, None, Some, MatchOption, Contains, ltb, arith, refl, sym, ◌∙◌, not, eqb, inl, inr}
+use Rattle.std.specs.List.{position, position_or_len}
+use Rattle.std.specs.List.Sorted.{IsStrictlyIncreasing}
+use Rattle.std.proofs.lemmas.Bool.{cond_both, ltb-true, ltb-false, cases_lt, ne_eqb, eq-eqb, eqb-true, both_ways}
+use Rattle.std.proofs.lemmas.List.{get_or_past}
+use Rattle.std.proofs.lemmas.List.Sums.{prefix_len-le-length, position_or_len_is, passes_at_first, fails_before_first}
+use Rattle.std.proofs.lemmas.List.Kept.{AllPairs-from_increasing}
+use Rattle.cost_table.specs.Class.{Class, IsClass, place_of, time_in}
+
+at_position : (ids : List ℕ) (job : ℕ) → MatchOption (position (λ id. id == job) ids) (place_of ids job ≡ length ids) (λ place. (place_of ids job ≡ place) × (place < length ids))
+at_position ids job =
+    cond_both (ltb (place_of ids job) (length ids)) (Some (place_of ids job)) None (λ o. MatchOption o (place_of ids job ≡ length ids) (λ place. (place_of ids job ≡ place) × (place < length ids)))
+    (λ e. (refl, ltb-true _ _ e))
+    (λ e. omega (arith, ltb-false (place_of ids job) (length ids) e, prefix_len-le-length (λ id. not (id == job)) ids))
+
+-- what a search among the class's jobs finds
+pub place_cases : (ids : List ℕ) (job : ℕ) (searched : List ℕ) (found : Option ℕ) → searched ≡ ids → found ≡ position (λ id. id == job) searched → MatchOption found (place_of ids job ≡ length ids) (λ place. (place_of ids job ≡ place) × (place < length ids))
+place_cases ids job searched found same e = rw (e, same) (at_position ids job)
+
+-- the job at a place stands at that place
+pub place_at : (ids : List ℕ) → IsStrictlyIncreasing ids → (place : ℕ) → place < length ids → place_of ids (get_or ids place 0) ≡ place
+place_at ids up place below =
+    position_or_len_is (λ id. id == get_or ids place 0) ids place 0 (omega arith)
+    (λ k before. ne_eqb (get_or ids k 0) (get_or ids place 0) (λ e. let rises : get_or ids k 0 < get_or ids place 0 = AllPairs-from_increasing ids up k place 0 before below in omega arith))
+    (λ _. eq-eqb (get_or ids place 0) (get_or ids place 0) refl)
+
+-- at the place of a job of the class stands the job
+pub at_place : (ids : List ℕ) (job : ℕ) → place_of ids job < length ids → get_or ids (place_of ids job) 0 ≡ job
+at_place ids job below = eqb-true (get_or ids (place_of ids job) 0) job (passes_at_first (λ id. id == job) ids 0 below)
+
+-- a job of the class stands at a place below their number
+pub place_below : (ids : List ℕ) (job : ℕ) → Contains ids job → place_of ids job < length ids
+place_below ids job known = elim (cases_lt (place_of ids job) (length ids)) [
+  | inl below ↦ below
+  | inr past ↦
+      let before : known.0 < position_or_len (λ id. id == job) ids = omega (arith, known.1) in
+      absurd (both_ways (eqb (get_or ids known.0 job) job) (fails_before_first (λ id. id == job) ids known.0 job before) (eq-eqb (get_or ids known.0 job) job known.2))
+]
+
+-- a job with a time is one of the class
+pub timed_place : (c : Class) → IsClass c → (job device time : ℕ) → time_in c job device ≡ Some time → place_of c.ids job < length c.ids
+timed_place c class job device time e = elim (cases_lt (place_of c.ids job) (length c.ids)) [
+  | inl below ↦ below
+  | inr past ↦
+      let no_row : get_or c.rows (place_of c.ids job) [] ≡ [] = get_or_past c.rows (place_of c.ids job) [] (omega (arith, class.one_row_each)) in
+      absurd (let none : None ≡ Some time = (rw no_row at e) in cc)
+]
+
+-- and its device is one of the class
+pub timed_device : (c : Class) → IsClass c → (job device time : ℕ) → time_in c job device ≡ Some time → device < length c.waits
+timed_device c class job device time e = elim (cases_lt device (length c.waits)) [
+  | inl below ↦ below
+  | inr past ↦
+      let row : place_of c.ids job < length c.rows = (let known : place_of c.ids job < length c.ids = timed_place c class job device time e in omega (arith, known, class.one_row_each)) in
+      let width : length (get_or c.rows (place_of c.ids job) []) ≡ length c.waits = class.one_time_each (place_of c.ids job) [] row in
+      let no_entry : get_or (get_or c.rows (place_of c.ids job) []) device None ≡ None = get_or_past (get_or c.rows (place_of c.ids job) []) device None (omega (arith, width)) in
+      absurd (let none : None ≡ Some time = sym no_entry ∙ e in cc)
+]

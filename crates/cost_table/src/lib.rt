@@ -1,0 +1,19 @@
+//! How long jobs take, and the problem of one class: its jobs, its devices' waits, and the time of
+//! each able pair.
+//!
+//! It promises exact times within their ranges, and that a class problem made of jobs and devices
+//! has a time exactly where the device is able. It plans nothing.
+#![tactic(auto)]
+
+mod class_job;
+mod class_problem;
+mod job_time;
+mod row;
+
+pub use class_job::{ClassJob, build};
+pub use class_problem::{ClassProblem, is_class};
+pub use job_time::time;
+pub use row::Row;
+
+#[cfg(test)]
+mod tests;
