@@ -1,0 +1,4 @@
+pub mod Lookups
+pub mod Devices
+pub mod Starts
+pub mod Strandings

@@ -1,0 +1,10 @@
+use Rattle.std.proofs.Common.{◌≡◌, ◌∙◌, ◌<◌, sym, ap, subst, List, get_or, set, length, map, rules}
+use Rattle.std.proofs.lemmas.List.Edits.{map_over_more}
+use Rattle.base_types.specs.declared.device.Medium.{Medium}
+use Rattle.dispatcher.specs.State.{loaded_if}
+use Rattle.dispatcher.proofs.state.load.Goals as goal
+
+pub loop-medium-preserved : goal.loop-medium-preserved
+loop-medium-preserved c =
+    rw (c.is_named-medium.ensures, c.as_bytes.ensures, ← c.medium-item.is)
+    (map_over_more (loaded_if c.args.names.now) c.args.media.now c.loop-medium.media c.loop-medium.medium-index c.medium-item.result c.loop-medium-test.true c.loop-medium.invariant c.medium-item.is)

@@ -1,0 +1,14 @@
+pub mod Status
+pub mod JobState
+pub mod Job
+pub mod JobStep
+pub mod Jobs
+pub mod Activity
+pub mod Plan
+pub mod State
+pub mod Report
+pub mod Marked
+pub mod Dispatch
+pub mod Dispatched
+pub mod Opening
+pub mod Step

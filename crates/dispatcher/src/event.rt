@@ -1,0 +1,49 @@
+ghost use Rattle.std.specs.Prelude.{◌≡◌, false};
+
+use base_types::{DeviceId, Report, Text};
+
+/// Which printer a request's printer-uri names.
+#[derive(Debug, Drop)]
+pub enum Target {
+    /// The printer of this name.
+    Named(Text),
+    /// The first printer of the settings.
+    First,
+    /// Nothing that this server has.
+    Unknown,
+}
+
+/// A Print-Job request (RFC 8011, section 4.2.1): what the server reads of it.
+#[derive(Debug, Drop)]
+pub struct PrintJob {
+    pub target: Target,
+    /// Who asks, as claimed: requesting-user-name.
+    pub user: Text,
+    pub job_name: Text,
+    /// job-impressions, where it is given and isn't negative.
+    pub impressions: Option<u32>,
+    /// compression, where it is given.
+    pub compression: Option<Text>,
+    /// document-format, where it is given.
+    pub format: Option<Text>,
+    /// The document data.
+    pub octets: Vec<u8>,
+}
+
+/// What the core acts on: one request that is complete, or one report of a device.
+#[derive(Debug, Drop)]
+pub enum Event {
+    PrintJob(PrintJob),
+    Report(DeviceId, Report),
+}
+
+impl Event {
+    /// Whether it only asks: no dispatch follows a query.
+    pub fn is_query(&self) -> bool
+        ensures { result ≡ false }
+    {
+        match self {
+            Event::PrintJob(_) | Event::Report(_, _) => false,
+        }
+    }
+}

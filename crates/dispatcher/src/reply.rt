@@ -1,0 +1,39 @@
+use crate::job::Document;
+use crate::status::Status;
+use base_types::{DeviceId, JobId};
+use ipp_codec::{Attribute, Group};
+
+/// A cancel to send: the device still has the job.
+#[derive(Clone, Copy, Debug, PartialEq, Eq)]
+pub struct Cancel {
+    pub job: JobId,
+    pub device: DeviceId,
+}
+
+/// The answer to an IPP request.
+#[derive(Drop)]
+pub struct IppAnswer {
+    pub status: Status,
+    /// What of the request isn't supported, as it came or with the tag for unsupported values.
+    pub unsupported: Vec<Attribute>,
+    /// The groups of jobs or of the printer.
+    pub groups: Vec<Group>,
+}
+
+/// What an event is answered.
+#[derive(Drop)]
+pub enum Answer {
+    Ipp(IppAnswer),
+    /// A device's report is not answered.
+    Nothing,
+}
+
+/// What an event brings.
+#[derive(Drop)]
+pub struct Reply {
+    pub answer: Answer,
+    /// Cancels to send, by rising job id.
+    pub cancels: Vec<Cancel>,
+    /// Documents that the core has no use for any more.
+    pub documents: Vec<Document>,
+}

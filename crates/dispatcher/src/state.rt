@@ -1,0 +1,88 @@
+ghost use Rattle.std.specs.Prelude.{◌≡◌, ◌≤◌, ◌<◌, IfOk, length, None, [], map};
+ghost use Rattle.std.specs.List.{list_any};
+ghost use Rattle.std.specs.Str.{bytes_eq};
+ghost use Rattle.std.specs.Option.{option_copied};
+ghost use Rattle.dispatcher.specs.Activity.{KeepsTime};
+ghost use Rattle.dispatcher.specs.State.{with_device, doing, holding, loaded_if};
+ghost use Rattle.dispatcher.specs.Jobs.{job_at};
+
+use crate::job::{Document, Job};
+use crate::job_list::JobList;
+use crate::plan::Plan;
+use base_types::{Activity, DeviceId, DeviceNow, JobId, Medium, Moment, Text};
+use settings_file::{DeviceSettings, Settings};
+use std::alloc::{AllocError, Global};
+use std::marker::Model;
+
+/// The core: settings, devices, jobs, the last moment and the last plan. In clauses it is a record
+/// of these.
+#[derive(Debug, Drop)]
+pub struct Core {
+    pub(crate) settings: Settings,
+    pub(crate) devices: Vec<DeviceNow>,
+    pub(crate) jobs: JobList,
+    pub(crate) last: Moment,
+    pub(crate) plan: Option<Plan>,
+    pub(crate) alloc: Global,
+}
+
+impl Model for Core {
+    ghost use Rattle.dispatcher.specs.State.{State, AllKeepTime};
+
+    ghost Value = { State };
+
+    ghost view = { λ c. record {
+      settings = c.settings;
+      devices = c.devices.items;
+      jobs = c.jobs;
+      last = c.last;
+      plan = c.plan;
+    } };
+
+    ghost invariant = { λ c. AllKeepTime c.last c.devices.items };
+}
+
+impl Core {
+    /// The time goes on, up to a moment that is not before the last one.
+    pub(crate) fn advance(&mut self, now: Moment)
+        requires { self.old.last ≤ now }
+        ensures { self.new ≡ record self.old { last = now } }
+    {
+        self.last = now;
+    }
+
+    /// What the device at a place does from now on.
+    pub(crate) fn set_activity(&mut self, place: usize, activity: Activity)
+        requires inside { place < length self.old.devices }
+        requires in_time { KeepsTime self.old.last activity }
+        ensures { self.new ≡ record self.old { devices = with_device place (doing activity) self.old.devices } }
+    {
+        let device = &mut self.devices[place];
+        device.activity = activity;
+    }
+
+    /// These media are loaded in the device at a place, and no others.
+    pub(crate) fn load(&mut self, place: usize, names: &[Text])
+        requires { place < length self.old.devices }
+        ensures { self.new ≡ record self.old { devices = with_device place (holding names.now) self.old.devices } }
+    {
+        let device = &mut self.devices[place];
+        load(&mut device.media, names);
+    }
+}
+
+/// These media are loaded, as far as they are there, and no others.
+fn load(media: &mut [Medium], names: &[Text])
+    ensures { media.new ≡ map (loaded_if names.now) media.old }
+{
+    for medium in media.iter_mut() {
+        medium.loaded = is_named(names, medium.name.as_bytes());
+    }
+}
+
+/// Whether a text is one of these.
+fn is_named(names: &[Text], wanted: &[u8]) -> bool
+    ensures { result ≡ list_any (bytes_eq wanted.now) names.now }
+{
+    names.iter().any(|name| wanted == name.as_bytes())
+}

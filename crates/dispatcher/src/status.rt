@@ -1,0 +1,43 @@
+ghost use Rattle.std.specs.Prelude.{◌≡◌};
+ghost use Rattle.dispatcher.specs.Status.{code_of};
+
+/// How a request went (RFC 8011, appendix B): the statuses that this server answers.
+#[derive(Clone, Copy, Debug, PartialEq, Eq)]
+pub enum Status {
+    Ok,
+    OkIgnoredOrSubstituted,
+    BadRequest,
+    NotPossible,
+    NotFound,
+    TooLarge,
+    FormatNotSupported,
+    CharsetNotSupported,
+    CompressionNotSupported,
+    OperationNotSupported,
+    VersionNotSupported,
+    TemporaryError,
+    Busy,
+}
+
+impl Status {
+    /// Its number in a reply.
+    pub fn code(self) -> u16
+        ensures { result ≡ code_of self }
+    {
+        match self {
+            Status::Ok => 0x0000,
+            Status::OkIgnoredOrSubstituted => 0x0001,
+            Status::BadRequest => 0x0400,
+            Status::NotPossible => 0x0404,
+            Status::NotFound => 0x0406,
+            Status::TooLarge => 0x0408,
+            Status::FormatNotSupported => 0x040A,
+            Status::CharsetNotSupported => 0x040D,
+            Status::CompressionNotSupported => 0x040F,
+            Status::OperationNotSupported => 0x0501,
+            Status::VersionNotSupported => 0x0503,
+            Status::TemporaryError => 0x0505,
+            Status::Busy => 0x0507,
+        }
+    }
+}
