@@ -1,0 +1,58 @@
+//! The program: `printd replay` reads a trace from standard input and writes what the server does.
+#![tactic(auto)]
+
+mod engine;
+mod input;
+mod lines;
+mod log;
+mod output;
+mod replay;
+mod replies;
+mod request;
+mod trace;
+mod words;
+
+use crate::replay::run_replay;
+use crate::words::{Asked, read_words};
+use std::alloc::AllocError;
+use std::process::ExitCode;
+use std::{env, io};
+
+/// The status of want of memory, or of a stream that fails.
+const FAILED: u8 = 3;
+
+/// The words that the program was given.
+fn words_of(rt: &HostRuntime) -> io::Result<Vec<String>> {
+    let mut words = Vec::new(rt.alloc());
+    for word in env::args(rt)? {
+        words.push(word)?;
+    }
+    Ok(words)
+}
+
+/// The same words, lent.
+fn lent<'a>(rt: &HostRuntime, words: &'a [String]) -> Result<Vec<&'a str>, AllocError> {
+    let mut texts = Vec::with_capacity(rt.alloc(), words.len())?;
+    for word in words {
+        texts.push(word.as_str())?;
+    }
+    Ok(texts)
+}
+
+/// What the program is asked to do, or its status.
+fn asked(rt: &HostRuntime) -> Result<Asked, u8> {
+    let words = words_of(rt).map_err(|_| FAILED)?;
+    let texts = lent(rt, &words).map_err(|_| FAILED)?;
+    read_words(rt.alloc(), &texts, &mut rt.stderr())
+}
+
+fn main(rt: HostRuntime) -> ExitCode {
+    let status = match asked(&rt) {
+        Ok(Asked::Replay) => run_replay(rt.alloc(), &mut rt.reader(), &mut io::writer(&rt)),
+        Err(status) => status,
+    };
+    ExitCode::from(status)
+}
+
+#[cfg(test)]
+mod tests;

@@ -1,0 +1,20 @@
+ghost use Rattle.std.specs.Prelude.{◌≤◌, length, take};
+ghost use Rattle.std.specs.Io.KnownBytes.{Appends};
+
+use std::io::Write;
+
+/// Writes the bytes until the writer fails, and tells how many it took.
+pub fn write_front<W: Write>(writer: &mut W, bytes: &[u8]) -> usize
+    ensures front { Appends (W.contents writer.old) (W.contents writer.new) (take result bytes.now) }
+    ensures bound { result ≤ length bytes.now }
+{
+    let mut at = 0;
+    for _ in 0..bytes.len() {
+        let (_, rest) = bytes.split_at(at);
+        match writer.write(rest) {
+            Ok(count) if count > 0 => at += count,
+            _ => return at,
+        }
+    }
+    at
+}
