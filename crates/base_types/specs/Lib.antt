@@ -1,3 +1,5 @@
 pub mod Ranges
+pub mod Forms
 pub mod Needs
 pub mod Device
+pub mod Report

@@ -6,6 +6,7 @@
 #![tactic(auto)]
 
 mod device;
+mod form;
 mod ids;
 mod limits;
 mod moment;
@@ -15,6 +16,7 @@ mod report;
 mod text;
 
 pub use device::{Activity, DeviceNow, Interrupted, Medium, PrinterSet, Printing};
+pub use form::{is_format, is_media, is_name, is_uri_base};
 pub use ids::{DeviceId, JobId, PrinterId};
 pub use limits::Limits;
 pub use moment::Moment;

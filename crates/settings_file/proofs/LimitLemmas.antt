@@ -10,7 +10,7 @@ use Rattle.std.proofs.lemmas.List.Quantifiers.{all_pairs_push}
 use Rattle.std.proofs.lemmas.Slice.Eq.{bytes_eq-Decides}
 use Rattle.std.specs.Char.{is_ascii_graphic}
 use Rattle.std.specs.Str.{bytes_eq}
-use Rattle.settings_file.specs.Forms.{has_length, is_name_byte, is_media_byte, is_format_byte, is_name, is_media, is_format, is_uri_base, HasForm, IsName, IsMedia, IsFormat, IsUriBase}
+use Rattle.base_types.specs.Forms.{has_length, is_name_byte, is_media_byte, is_format_byte, is_name, is_media, is_format, is_uri_base, HasForm, IsName, IsMedia, IsFormat, IsUriBase}
 use Rattle.toml.specs.Data.{Data, Members, as_integer, as_str, as_array}
 use Rattle.toml.specs.Parse.{parse_document}
 use Rattle.base_types.specs.Ranges.{IsSetup}

@@ -1,4 +1,3 @@
-pub mod Forms
 pub mod Settings
 pub mod Fault
 pub mod Entry

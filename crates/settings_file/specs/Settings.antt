@@ -3,7 +3,7 @@ use Rattle.std.specs.Prelude.{ℕ, List, Option, ◌≤◌, ◌<◌, ◌≢◌, 
 use Rattle.std.specs.Option.{ForSome}
 use Rattle.base_types.specs.Ranges.{IsRate, IsSetup}
 use Rattle.base_types.specs.declared.limits.TheConstants.Limits.{DEVICES, PRINTERS, LIST_ENTRIES}
-use Rattle.settings_file.specs.Forms.{IsName, IsMedia, IsFormat, IsUriBase}
+use Rattle.base_types.specs.Forms.{IsName, IsMedia, IsFormat, IsUriBase}
 
 -- what the settings say of a device
 pub record DeviceEntry : Type 0 where

@@ -5,9 +5,8 @@ ghost use Rattle.settings_file.specs.Fault.{Gives, fault_of, unknown};
 ghost use Rattle.settings_file.specs.Entry.{value_at, number_in, optional_number, number, takes, text, item_texts, item_tables, is_among, new_texts, list_in, optional_list, list, tables_in, tables, is_one_of, other_key};
 
 use crate::fault::SettingsFault;
-use crate::form::{is_format, is_media, is_name, is_uri_base};
 use crate::key::Key;
-use base_types::{Limits, Text};
+use base_types::{Limits, Text, is_format, is_media, is_name, is_uri_base};
 use std::alloc::{AllocError, Global};
 use toml::value::Array;
 use toml::{Table, Value};

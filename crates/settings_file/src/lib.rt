@@ -12,7 +12,6 @@
 mod device;
 mod entry;
 mod fault;
-mod form;
 mod key;
 mod printer;
 mod read;

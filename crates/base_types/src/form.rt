@@ -1,9 +1,9 @@
 ghost use Rattle.std.specs.Prelude.{◌≡◌};
 ghost use Rattle.std.specs.Char.{is_ascii_graphic};
 ghost use Rattle.std.specs.List.{list_all};
-ghost use Rattle.settings_file.specs.Forms.{has_length, is_name_byte, is_media_byte, is_format_byte, is_name, is_media, is_format, is_uri_base};
+ghost use Rattle.base_types.specs.Forms.{has_length, is_name_byte, is_media_byte, is_format_byte, is_name, is_media, is_format, is_uri_base};
 
-use base_types::Limits;
+use crate::limits::Limits;
 
 // Whether a text has a byte, and no more than `most`.
 fn has_length(text: &[u8], most: usize) -> bool
@@ -37,9 +37,10 @@ fn is_format_byte(byte: u8) -> bool
     byte.is_ascii_graphic() && byte != b',' && !byte.is_ascii_uppercase()
 }
 
-/// Whether a text is the name of a device or a printer.
+/// Whether a text is the name of a device or a printer: 1 to [`Limits::NAME_BYTES`] letters, digits,
+/// `_` and `-`.
 #[tactic(auto, unfolding(crate::specs::Forms::is_name))]
-pub(crate) fn is_name(text: &[u8]) -> bool
+pub fn is_name(text: &[u8]) -> bool
     ensures { result ≡ is_name text.now }
 {
     if !has_length(text, Limits::NAME_BYTES) {
@@ -48,9 +49,10 @@ pub(crate) fn is_name(text: &[u8]) -> bool
     has_name_bytes(text)
 }
 
-/// Whether a text is the name of a medium.
+/// Whether a text is the name of a medium: 1 to [`Limits::MEDIA_BYTES`] small letters, digits, `.`,
+/// `_` and `-`.
 #[tactic(auto, unfolding(crate::specs::Forms::is_media))]
-pub(crate) fn is_media(text: &[u8]) -> bool
+pub fn is_media(text: &[u8]) -> bool
     ensures { result ≡ is_media text.now }
 {
     if !has_length(text, Limits::MEDIA_BYTES) {
@@ -59,9 +61,10 @@ pub(crate) fn is_media(text: &[u8]) -> bool
     has_media_bytes(text)
 }
 
-/// Whether a text is a document format.
+/// Whether a text is a document format: 1 to [`Limits::FORMAT_BYTES`] bytes that print, none of them
+/// a space, a comma or a capital letter.
 #[tactic(auto, unfolding(crate::specs::Forms::is_format))]
-pub(crate) fn is_format(text: &[u8]) -> bool
+pub fn is_format(text: &[u8]) -> bool
     ensures { result ≡ is_format text.now }
 {
     if !has_length(text, Limits::FORMAT_BYTES) {
@@ -70,9 +73,10 @@ pub(crate) fn is_format(text: &[u8]) -> bool
     has_format_bytes(text)
 }
 
-/// Whether a text is a base of URIs.
+/// Whether a text is the base of the server's URIs: 1 to [`Limits::URI_BASE_BYTES`] bytes that print,
+/// none of them a space.
 #[tactic(auto, unfolding(crate::specs::Forms::is_uri_base))]
-pub(crate) fn is_uri_base(text: &[u8]) -> bool
+pub fn is_uri_base(text: &[u8]) -> bool
     ensures { result ≡ is_uri_base text.now }
 {
     if !has_length(text, Limits::URI_BASE_BYTES) {

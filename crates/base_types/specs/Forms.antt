@@ -1,4 +1,4 @@
--- The forms of the settings' texts.
+-- The forms of names: of devices and printers, of media, of document formats, and the base of URIs.
 use Rattle.std.specs.Prelude.{ℕ, ◌≤◌, List, Bool, ◌&&◌, ◌||◌, ◌==◌, nat_le, not, length, if◌then◌else◌, false}
 use Rattle.std.specs.List.{list_all, AllPass}
 use Rattle.std.specs.Char.{is_ascii_alphanumeric, is_ascii_lowercase, is_ascii_uppercase, is_ascii_digit, is_ascii_graphic}

@@ -1,0 +1,4 @@
+mod Digits
+mod Fronts
+mod Splits
+mod Streams

@@ -1,0 +1,4 @@
+pub mod Line
+pub mod Stream
+pub mod Front
+pub mod Orders

@@ -1,0 +1,66 @@
+-- What a line of a device says. A line is a word, and its operands after single spaces; a carriage return at its end is dropped.
+use Rattle.std.specs.Prelude.{ℕ, ◌==◌, ◌&&◌, nat_le, nat_lt, Bool, true, false, if◌then◌else◌, List, [], ◌∷◌, length, Option, Some, None, option_map, codes}
+use Rattle.std.specs.Option.{option_and_then}
+use Rattle.std.specs.List.{slice_split, list_all}
+use Rattle.std.specs.Str.{bytes_eq, all_ascii_digits}
+use Rattle.std.specs.Str.Lines.{strip_carriage_return}
+use Rattle.std.specs.Str.Parse.{digits_value}
+use Rattle.base_types.specs.declared.limits.TheConstants.Limits.{LAST_JOB_ID}
+use Rattle.base_types.specs.Forms.{is_name, is_media}
+use Rattle.base_types.specs.Report.{ReportRecord, SaysHello, SaysMedia, SaysReady, SaysStop, SaysPages, SaysDone, SaysFail, IsGone}
+
+abbrev pub words_of : List ℕ → List (List ℕ)
+words_of line = slice_split (λ byte. byte == 32) (strip_carriage_return line)
+
+-- a number in decimal digits, which may begin with zeros, up to the last job id
+unfoldable pub number_in : List ℕ → Option ℕ
+number_in word = if nat_lt 0 (length word) && all_ascii_digits word && nat_le (digits_value 10 word) LAST_JOB_ID then Some (digits_value 10 word) else None
+
+-- the names of media, with commas between them
+unfoldable pub media_in : List ℕ → Option (List (List ℕ))
+media_in operand = if list_all is_media (slice_split (λ byte. byte == 44) operand) then Some (slice_split (λ byte. byte == 44) operand) else None
+
+unfoldable pub name_in : List ℕ → Option (List ℕ)
+name_in operand = if is_name operand then Some operand else None
+
+-- a word alone
+unfoldable pub said_alone : List ℕ → Option ReportRecord
+said_alone word =
+    if bytes_eq word (codes "READY") then Some SaysReady
+    else if bytes_eq word (codes "STOP") then Some SaysStop
+    else if bytes_eq word (codes "MEDIA") then Some (SaysMedia [])
+    else None
+
+-- a word and its one operand
+unfoldable pub said_of_one : List ℕ → List ℕ → Option ReportRecord
+said_of_one word operand =
+    if bytes_eq word (codes "HELLO") then option_map SaysHello (name_in operand)
+    else if bytes_eq word (codes "MEDIA") then option_map SaysMedia (media_in operand)
+    else if bytes_eq word (codes "DONE") then option_map SaysDone (number_in operand)
+    else if bytes_eq word (codes "FAIL") then option_map SaysFail (number_in operand)
+    else None
+
+-- a word and its two operands
+unfoldable pub said_of_two : List ℕ → List ℕ → List ℕ → Option ReportRecord
+said_of_two word job printed =
+    if bytes_eq word (codes "PAGES") then option_and_then (λ id. option_map (SaysPages id) (number_in printed)) (number_in job)
+    else None
+
+abbrev pub said : List (List ℕ) → Option ReportRecord
+said [] = None
+said (word ∷ []) = said_alone word
+said (word ∷ operand ∷ []) = said_of_one word operand
+said (word ∷ job ∷ printed ∷ []) = said_of_two word job printed
+said (word ∷ first ∷ second ∷ third ∷ more) = None
+
+-- a device says its name first, and once
+abbrev pub in_turn : Bool → Option ReportRecord → Option ReportRecord
+in_turn greeted None = None
+in_turn true (Some (SaysHello name)) = None
+in_turn true (Some report) = Some report
+in_turn false (Some (SaysHello name)) = Some (SaysHello name)
+in_turn false (Some report) = None
+
+-- what a line says, if it is one of those that may come now
+abbrev pub report_in : Bool → List ℕ → Option ReportRecord
+report_in greeted line = in_turn greeted (said (words_of line))

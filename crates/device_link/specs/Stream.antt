@@ -1,0 +1,78 @@
+-- What a device's connection says: the reports of its whole lines, and then a fault or an unfinished line.
+use Rattle.std.specs.Prelude.{ℕ, ◌≡◌, ◌==◌, nat_lt, Bool, true, false, if◌then◌else◌, List, [], ◌∷◌, ◌++◌, length, Option, Some, None, Result, Ok, Err}
+use Rattle.std.specs.List.{slice_split}
+use Rattle.base_types.specs.declared.limits.TheConstants.Limits.{DEVICE_LINE_BYTES}
+use Rattle.base_types.specs.declared.report.Report.{Report}
+use Rattle.base_types.specs.Report.{ReportRecord, report_of}
+use Rattle.device_link.specs.declared.fault.LinkFault.{LinkFault}
+use Rattle.device_link.specs.declared.fault.LinkFault.TheVariants.{BadLine, LineTooLong}
+use Rattle.device_link.specs.declared.fault.LinkError.{LinkError}
+use Rattle.device_link.specs.declared.fault.LinkError.TheVariants.{Fault, OutOfMemory}
+use Rattle.device_link.specs.Line.{report_in}
+
+pub data Ending : Type 0 where
+  Unfinished : Ending
+  Faulty : LinkFault → Ending
+
+pub record Heard : Type 0 where
+  pub reports : List ReportRecord
+  pub ending : Ending
+
+abbrev pub silence : Ending → Heard
+silence ending = record { reports = []; ending = ending }
+
+-- these reports, and then what is heard later
+abbrev pub with_front : List ReportRecord → Heard → Heard
+with_front reports later = record { reports = reports ++ later.reports; ending = later.ending }
+
+-- a line's report and what is heard later; a line that says nothing known is the end
+abbrev pub heard_after : Option ReportRecord → Heard → Heard
+heard_after None later = silence (Faulty BadLine)
+heard_after (Some report) later = with_front (report ∷ []) later
+
+-- a line and its line feed together have at most so many bytes
+abbrev pub fits : List ℕ → Bool
+fits line = nat_lt (length line) DEVICE_LINE_BYTES
+
+-- what the texts between line feeds say, the last of which is no whole line yet
+abbrev pub heard_in : Bool → List (List ℕ) → Heard
+heard_in greeted [] = silence Unfinished
+heard_in greeted (rest ∷ []) = if fits rest then silence Unfinished else silence (Faulty LineTooLong)
+heard_in greeted (line ∷ next ∷ more) =
+    if fits line then heard_after (report_in greeted line) (heard_in true (next ∷ more)) else silence (Faulty LineTooLong)
+
+abbrev pub texts_of : List ℕ → List (List ℕ)
+texts_of stream = slice_split (λ byte. byte == 10) stream
+
+-- what a whole stream of bytes says
+abbrev pub device_reports : List ℕ → Heard
+device_reports stream = heard_in false (texts_of stream)
+
+-- a reader: the bytes that are no report yet, whether the device has said its name, and the fault, once there is one
+pub record LinkState : Type 0 where
+  pub rest : List ℕ
+  pub greeted : Bool
+  pub fault : Option LinkFault
+
+abbrev pub heard_on : Option LinkFault → Bool → List ℕ → Heard
+heard_on (Some fault) greeted bytes = silence (Faulty fault)
+heard_on None greeted bytes = heard_in greeted (texts_of bytes)
+
+-- what a reader will hear, where these bytes are still to come
+abbrev pub ahead : LinkState → List ℕ → Heard
+ahead reader coming = heard_on reader.fault reader.greeted (reader.rest ++ coming)
+
+-- The reader has been fed this stream and has given these reports: whatever comes yet, the whole says these and then what the reader will hear.
+abbrev pub Stands : List ℕ → List ReportRecord → LinkState → Type 0
+Stands stream given reader = (coming : List ℕ) → device_reports (stream ++ coming) ≡ with_front given (ahead reader coming)
+
+-- what an answer of the reader says of the stream that it was fed, and where the reader stands then
+abbrev pub Answers : LinkState → Result (Option Report) LinkError → LinkState → Type 0
+Answers old (Ok (Some report)) new =
+    (stream : List ℕ) (given : List ReportRecord) → Stands stream given old → Stands stream (given ++ report_of report ∷ []) new
+Answers old (Ok None) new =
+    (new ≡ old) × ((stream : List ℕ) (given : List ReportRecord) → Stands stream given old → device_reports stream ≡ record { reports = given; ending = Unfinished })
+Answers old (Err (Fault fault)) new =
+    (new ≡ record old { fault = Some fault })
+    × ((stream : List ℕ) (given : List ReportRecord) → Stands stream given old → (device_reports stream ≡ record { reports = given; ending = Faulty fault }) × Stands stream given new)
+Answers old (Err OutOfMemory) new = new ≡ old

@@ -1,0 +1,163 @@
+ghost use Rattle.std.specs.Prelude.{◌≡◌, ◌==◌, ◌∷◌, [], IfOk, option_map, map};
+ghost use Rattle.std.specs.List.{slice_split, list_all};
+ghost use Rattle.std.specs.Option.{option_map_or};
+ghost use Rattle.std.specs.Str.Lines.{strip_carriage_return};
+ghost use Rattle.base_types.specs.Forms.{is_media};
+ghost use Rattle.base_types.specs.Report.{report_of};
+ghost use Rattle.device_link.specs.Line.{words_of, media_in, name_in, said_alone, said_of_one, said_of_two, said, in_turn, report_in};
+
+use crate::find::find_byte;
+use crate::number::number_in;
+use base_types::{Report, Text, is_media, is_name};
+use std::alloc::{AllocError, Global};
+
+/// The report that a line is, if it is one that may come now: a device says its name first, and
+/// once.
+pub(crate) fn read_line(
+    alloc: Global,
+    greeted: bool,
+    line: &[u8],
+) -> Result<Option<Report>, AllocError>
+    ensures { IfOk result (λ report. option_map report_of report ≡ report_in greeted line.now) }
+{
+    let line = line.strip_suffix(b"\r").unwrap_or(line);
+    let Some(report) = read_words(alloc, line)? else {
+        return Ok(None);
+    };
+    if matches!(report, Report::Hello(_)) == greeted {
+        return Ok(None);
+    }
+    Ok(Some(report))
+}
+
+/// The report that a word and its operands are.
+#[tactic(auto, using(crate::proofs::Splits::nothing_said))]
+fn read_words(alloc: Global, line: &[u8]) -> Result<Option<Report>, AllocError>
+    ensures { IfOk result (λ report. option_map report_of report ≡ said (slice_split (λ byte. byte == 32) line.now)) }
+{
+    let (word, operands) = split_word(line);
+    let Some(operands) = operands else {
+        return Ok(read_alone(alloc, word));
+    };
+    let (first, operands) = split_word(operands);
+    let Some(operands) = operands else {
+        return read_one(alloc, word, first);
+    };
+    let (second, operands) = split_word(operands);
+    if operands.is_some() {
+        return Ok(None);
+    }
+    Ok(read_two(word, first, second))
+}
+
+/// A word up to a space, and what follows the space, where there is one.
+#[tactic(auto, using(crate::proofs::Splits::split_at, crate::proofs::Splits::split_nowhere))]
+fn split_word(text: &[u8]) -> (&[u8], Option<&[u8]>)
+    ensures { slice_split (λ byte. byte == 32) text.now
+        ≡ result.0.now ∷ option_map_or (λ more. slice_split (λ byte. byte == 32) more.now) result.1 [] }
+{
+    match find_byte(text, b' ') {
+        Some(end) => (&text[..end], Some(&text[end + 1..])),
+        None => (text, None),
+    }
+}
+
+/// A word alone.
+#[tactic(auto, unfolding(crate::specs::Line::said_alone))]
+fn read_alone(alloc: Global, word: &[u8]) -> Option<Report>
+    ensures { option_map report_of result ≡ said_alone word.now }
+{
+    if word == b"READY".as_slice() {
+        Some(Report::Ready)
+    } else if word == b"STOP".as_slice() {
+        Some(Report::Stop)
+    } else if word == b"MEDIA".as_slice() {
+        Some(Report::Media(Vec::new(alloc)))
+    } else {
+        None
+    }
+}
+
+/// A word and its one operand.
+#[tactic(auto, unfolding(crate::specs::Line::said_of_one))]
+fn read_one(alloc: Global, word: &[u8], operand: &[u8]) -> Result<Option<Report>, AllocError>
+    ensures { IfOk result (λ report. option_map report_of report ≡ said_of_one word.now operand.now) }
+{
+    if word == b"HELLO".as_slice() {
+        Ok(read_name(alloc, operand)?.map(|name| Report::Hello(name)))
+    } else if word == b"MEDIA".as_slice() {
+        Ok(read_media(alloc, operand)?.map(|names| Report::Media(names)))
+    } else if word == b"DONE".as_slice() {
+        Ok(number_in(operand).map(|job| Report::Done { job }))
+    } else if word == b"FAIL".as_slice() {
+        Ok(number_in(operand).map(|job| Report::Fail { job }))
+    } else {
+        Ok(None)
+    }
+}
+
+/// A word and its two operands.
+#[tactic(auto, unfolding(crate::specs::Line::said_of_two))]
+fn read_two(word: &[u8], first: &[u8], second: &[u8]) -> Option<Report>
+    ensures { option_map report_of result ≡ said_of_two word.now first.now second.now }
+{
+    if word != b"PAGES".as_slice() {
+        return None;
+    }
+    let job = number_in(first)?;
+    let printed = number_in(second)?;
+    Some(Report::Pages { job, printed })
+}
+
+/// A device's name.
+#[tactic(auto, unfolding(crate::specs::Line::name_in))]
+fn read_name(alloc: Global, operand: &[u8]) -> Result<Option<Text>, AllocError>
+    ensures { IfOk result (λ name. name ≡ name_in operand.now) }
+{
+    if !is_name(operand) {
+        return Ok(None);
+    }
+    Ok(Some(Text::copy_of(alloc, operand)?))
+}
+
+/// The names of media, with commas between them.
+#[tactic(auto, unfolding(crate::specs::Line::media_in))]
+fn read_media(alloc: Global, operand: &[u8]) -> Result<Option<Vec<Text>>, AllocError>
+    ensures { IfOk result (λ names. option_map (λ v. v.items) names ≡ media_in operand.now) }
+{
+    let names = media_texts(alloc, operand)?;
+    if !are_media(&names) {
+        return Ok(None);
+    }
+    Ok(Some(copies(alloc, &names)?))
+}
+
+/// The texts between commas.
+fn media_texts<'a>(alloc: Global, operand: &'a [u8]) -> Result<Vec<&'a [u8]>, AllocError>
+    ensures { IfOk result (λ names. map (λ name. name.now) names.items ≡ slice_split (λ byte. byte == 44) operand.now) }
+{
+    operand.split(|byte| *byte == b',').collect(alloc)
+}
+
+/// Whether each text is the name of a medium.
+fn are_media(names: &[&[u8]]) -> bool
+    ensures { result ≡ list_all is_media (map (λ name. name.now) names.now) }
+{
+    for name in names {
+        if !is_media(*name) {
+            return false;
+        }
+    }
+    true
+}
+
+/// A text for each name.
+fn copies(alloc: Global, names: &[&[u8]]) -> Result<Vec<Text>, AllocError>
+    ensures { IfOk result (λ texts. texts.items ≡ map (λ name. name.now) names.now) }
+{
+    let mut texts = Vec::with_capacity(alloc, names.len())?;
+    for name in names {
+        texts.push(Text::copy_of(alloc, *name)?)?;
+    }
+    Ok(texts)
+}

@@ -1,0 +1,189 @@
+ghost use Rattle.std.specs.Prelude.{◌≡◌, ◌≤◌, ◌<◌, ◌+◌, ◌++◌, [], List, ℕ, None, Some, Err, true, IfOk, IfSome, OnOk, OnErr, option_map, take, drop, length as length_of};
+ghost use Rattle.base_types.specs.Report.{ReportRecord, report_of};
+ghost use Rattle.device_link.specs.Line.{report_in};
+ghost use Rattle.device_link.specs.Stream.{Stands, Answers};
+ghost use Rattle.device_link.specs.Front.{IsLine, IsFront};
+
+use crate::fault::{LinkError, LinkFault};
+use crate::find::find_byte;
+use crate::line::read_line;
+use base_types::{Limits, Report};
+use std::alloc::{AllocError, Global};
+use std::marker::Model;
+
+/// A reader of what a device sends, in pieces of any length. In clauses it is a record of what it
+/// still has to read, whether the device has said its name, and its fault.
+#[derive(Debug, Drop)]
+pub struct LinkReader {
+    alloc: Global,
+    buffer: Vec<u8>,
+    /// How many bytes of the buffer are read.
+    start: usize,
+    greeted: bool,
+    fault: Option<LinkFault>,
+}
+
+impl Model for LinkReader {
+    ghost use Rattle.std.specs.Prelude.{◌≤◌, drop, length};
+    ghost use Rattle.device_link.specs.Stream.{LinkState};
+
+    ghost Value = { LinkState };
+
+    ghost view = { λ r. record { rest = drop r.start r.buffer.items; greeted = r.greeted; fault = r.fault } };
+
+    ghost invariant = { λ r. r.start ≤ length r.buffer.items };
+}
+
+/// What stands at the front of bytes.
+enum Front {
+    /// A line of so many bytes, and its line feed.
+    Line(usize),
+    TooLong,
+    /// The beginning of a line.
+    Unfinished,
+}
+
+impl LinkReader {
+    /// A reader of a new connection.
+    pub fn new(alloc: Global) -> LinkReader
+        ensures { Stands [] [] result }
+    {
+        LinkReader {
+            alloc,
+            buffer: Vec::new(alloc),
+            start: 0,
+            greeted: false,
+            fault: None,
+        }
+    }
+
+    /// Takes the next bytes of the connection. After a fault they are dropped.
+    ///
+    /// Where there is no memory, none of them is taken.
+    #[tactic(auto, using(crate::proofs::Streams::stands_fed, crate::proofs::Streams::stands_still))]
+    pub fn feed(&mut self, piece: &[u8]) -> Result<(), AllocError>
+        ensures fed { OnOk result ((stream : List ℕ) (given : List ReportRecord) → Stands stream given self.old → Stands (stream ++ piece.now) given self.new) }
+        ensures err { OnErr result (self.new ≡ self.old) }
+    {
+        if self.fault().is_some() {
+            return Ok(());
+        }
+        self.append(piece)
+    }
+
+    /// The next report, if its line is whole.
+    ///
+    /// After a fault it answers that fault, whatever it is fed. Where there is no memory for the
+    /// names of a report, the report stays to be read.
+    #[tactic(auto, using(crate::proofs::Streams::answers_again, crate::proofs::Streams::answers_nothing, crate::proofs::Streams::answers_too_long))]
+    pub fn next_report(&mut self) -> Result<Option<Report>, LinkError>
+        ensures answer { Answers self.old result self.new }
+        ensures kept { IfSome self.old.fault (λ fault. result ≡ Err (LinkError.Fault fault)) }
+    {
+        if let Some(fault) = self.fault() {
+            return Err(LinkError::Fault(fault));
+        }
+        match front_of(self.rest()) {
+            Front::Unfinished => Ok(None),
+            Front::TooLong => Err(self.fail(LinkFault::LineTooLong)),
+            Front::Line(length) => self.take_line(length),
+        }
+    }
+
+    /// Reads the line of so many bytes at the front.
+    #[tactic(auto, using(crate::proofs::Streams::answers_bad_line, crate::proofs::Streams::answers_report))]
+    fn take_line(&mut self, length: usize) -> Result<Option<Report>, LinkError>
+        requires line { IsLine length self.old.rest }
+        requires faultless { self.old.fault ≡ None }
+        ensures { Answers self.old result self.new }
+    {
+        match self.read_front(length)? {
+            None => Err(self.fail(LinkFault::BadLine)),
+            Some(report) => {
+                self.pass_line(length);
+                Ok(Some(report))
+            }
+        }
+    }
+
+    /// The bytes that are not read yet.
+    fn rest(&self) -> &[u8]
+        ensures { result.now ≡ self.now.rest }
+    {
+        &self.buffer[self.start..]
+    }
+
+    /// The fault, once there is one.
+    fn fault(&self) -> Option<LinkFault>
+        ensures { result ≡ self.now.fault }
+    {
+        self.fault
+    }
+
+    /// The report of the line of so many bytes at the front.
+    fn read_front(&self, length: usize) -> Result<Option<Report>, AllocError>
+        requires { length < length_of self.now.rest }
+        ensures { IfOk result (λ report. option_map report_of report ≡ report_in self.now.greeted (take length self.now.rest)) }
+    {
+        read_line(self.alloc, self.greeted, &self.rest()[..length])
+    }
+
+    /// Goes past the line of so many bytes at the front.
+    fn pass_line(&mut self, length: usize)
+        requires { length < length_of self.old.rest }
+        ensures { self.new ≡ record { rest = drop (length + 1) self.old.rest; greeted = true; fault = self.old.fault } }
+    {
+        self.start = self.start + length + 1;
+        self.greeted = true;
+    }
+
+    /// Keeps a fault.
+    fn fail(&mut self, fault: LinkFault) -> LinkError
+        ensures kept { self.new ≡ record self.old { fault = Some fault } }
+        ensures answer { result ≡ LinkError.Fault fault }
+    {
+        self.fault = Some(fault);
+        LinkError::Fault(fault)
+    }
+
+    /// Keeps these bytes to be read.
+    #[tactic(auto, using(crate::proofs::Streams::rest_with))]
+    fn append(&mut self, piece: &[u8]) -> Result<(), AllocError>
+        ensures ok { OnOk result (self.new ≡ record self.old { rest = self.old.rest ++ piece.now }) }
+        ensures err { OnErr result (self.new ≡ self.old) }
+    {
+        self.forget_read();
+        self.buffer.extend_from_slice(piece)
+    }
+
+    /// Gives the room of what is read to what comes.
+    fn forget_read(&mut self)
+        ensures { self.new ≡ self.old }
+    {
+        drop_front(&mut self.buffer, self.start);
+        self.start = 0;
+    }
+}
+
+/// Removes so many bytes from the front.
+fn drop_front(bytes: &mut Vec<u8>, count: usize)
+    requires { count ≤ length_of bytes.old.items }
+    ensures { bytes.new.items ≡ drop count bytes.old.items }
+{
+    let rest = bytes.len() - count;
+    bytes.rotate_left(count);
+    bytes.truncate(rest);
+}
+
+/// What stands at the front of bytes.
+#[tactic(auto, using(crate::proofs::Fronts::too_long_at, crate::proofs::Fronts::too_long_without))]
+fn front_of(bytes: &[u8]) -> Front
+    ensures { IsFront bytes.now result }
+{
+    match find_byte(bytes, b'\n') {
+        Some(length) if length < Limits::DEVICE_LINE_BYTES => Front::Line(length),
+        Some(_) => Front::TooLong,
+        None if bytes.len() >= Limits::DEVICE_LINE_BYTES => Front::TooLong,
+        None => Front::Unfinished,
+    }
+}
