@@ -1,6 +1,7 @@
 //! The lines of a trace.
 use crate::lines::decimal;
 use base_types::{DeviceId, Limits, Moment, Report, Text};
+use device_link::{LinkError, LinkReader};
 use hex::FromHexError;
 use std::alloc::{AllocError, Global};
 
@@ -26,7 +27,7 @@ pub fn read_line(alloc: Global, text: &[u8], devices: &[Text]) -> Result<Option<
     match word {
         "at" => Ok(read_moment(rest).map(|moment| Line::At(moment))),
         "ipp" => Ok(read_body(alloc, rest)?.map(|body| Line::Ipp(body))),
-        "dev" => Ok(read_device_line(rest, devices)),
+        "dev" => read_device_line(alloc, rest, devices),
         _ => Ok(None),
     }
 }
@@ -49,31 +50,30 @@ fn read_body(alloc: Global, text: &str) -> Result<Option<Vec<u8>>, AllocError> {
 }
 
 /// A device's name and its report.
-fn read_device_line(text: &str, devices: &[Text]) -> Option<Line> {
-    let (name, line) = text.split_once(' ')?;
-    let place = devices
-        .iter()
-        .position(|device| device.is(name.as_bytes()))?;
-    let report = read_report(line)?;
-    Some(Line::Device(DeviceId::new(place), report))
-}
-
-/// A report: `READY`, or `DONE` and a number.
-fn read_report(line: &str) -> Option<Report> {
-    if line == "READY" {
-        return Some(Report::Ready);
-    }
-    let (word, number) = line.split_once(' ')?;
-    match word {
-        "DONE" => Some(Report::Done {
-            job: job_number(number)?,
-        }),
-        _ => None,
+fn read_device_line(
+    alloc: Global,
+    text: &str,
+    devices: &[Text],
+) -> Result<Option<Line>, AllocError> {
+    let Some((name, line)) = text.split_once(' ') else {
+        return Ok(None);
+    };
+    let Some(place) = devices.iter().position(|device| device.is(name.as_bytes())) else {
+        return Ok(None);
+    };
+    match read_report(alloc, name, line) {
+        Ok(report) => Ok(report.map(|report| Line::Device(DeviceId::new(place), report))),
+        Err(LinkError::Fault(_)) => Ok(None),
+        Err(LinkError::OutOfMemory) => Err(AllocError),
     }
 }
 
-/// The number of a job, as a device writes it.
-fn job_number(text: &str) -> Option<u32> {
-    let number = decimal(text, u64::from(Limits::LAST_JOB_ID))?;
-    u32::try_from(number).ok()
+/// The report that a line is which a device writes once it has said its name.
+fn read_report(alloc: Global, name: &str, line: &str) -> Result<Option<Report>, LinkError> {
+    let mut reader = LinkReader::new(alloc);
+    for part in ["HELLO ", name, "\n", line, "\n"] {
+        reader.feed(part.as_bytes())?;
+    }
+    let _hello = reader.next_report()?;
+    reader.next_report()
 }
