@@ -5,20 +5,24 @@
 //! nothing; what happens to a job or a device stands in the crates above.
 #![tactic(auto)]
 
+mod bytes;
 mod device;
 mod form;
 mod ids;
 mod limits;
+mod line;
 mod moment;
 mod needs;
 mod priority;
 mod report;
 mod text;
 
+pub use bytes::{decimal, drop_front, find_byte};
 pub use device::{Activity, DeviceNow, Interrupted, Medium, PrinterSet, Printing};
 pub use form::{is_format, is_media, is_name, is_uri_base};
 pub use ids::{DeviceId, JobId, PrinterId};
 pub use limits::Limits;
+pub use line::{FirstLine, first_line};
 pub use moment::Moment;
 pub use needs::{Cause, Needs, Sides};
 pub use priority::Priority;

@@ -41,6 +41,8 @@ impl Limits {
 
     /// Bytes of an LPD command, subcommand or control line.
     pub const LPD_LINE_BYTES: usize = 1_024;
+    /// Bytes of the host in the name of an LPD file (RFC 1179, section 6).
+    pub const LPD_HOST_BYTES: usize = 127;
     /// Bytes of an LPD control file.
     pub const LPD_CONTROL_BYTES: usize = 65_536;
 

@@ -1,4 +1,2 @@
-mod Digits
-mod Fronts
 mod Splits
 mod Streams

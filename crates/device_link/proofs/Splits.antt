@@ -2,24 +2,19 @@
 use Rattle.std.specs.Prelude.{ℕ, ◌≡◌, ◌++◌, ◌⊎◌, ◌+◌, ◌<◌, ◌≤◌, Bool, true, false, List, [], ◌∷◌, length, take, drop, All, Option, Some, None, position, slice_index_or, nat_lt}
 use Rattle.std.specs.List.{slice_split, position_or_len}
 use Rattle.std.proofs.Common.{rules, arith, refl, sym, ◌∙◌, inl, inr}
-use Rattle.std.proofs.lemmas.List.Sums.{fails_before_first, position_or_len_is}
 use Rattle.std.proofs.lemmas.List.Splits.{slice_split_none, slice_split_first, length-slice_split}
 use Rattle.std.proofs.lemmas.List.Quantifiers.{position-Some}
-use Rattle.std.proofs.lemmas.List.{take-append-le, drop-append-le, get_or_append_left, length-append, length-take-le}
-use Rattle.std.proofs.lemmas.Bool.{cases_lt, true≢false}
+use Rattle.std.proofs.lemmas.List.{take-append-le, drop-append-le, length-take-le}
+use Rattle.base_types.proofs.Positions.{position_before, each_fails, passes_late}
 use Rattle.base_types.specs.Report.{ReportRecord}
 use Rattle.device_link.specs.Line.{said}
 
 pub split_at : (p : ℕ → Bool) (xs : List ℕ) (i : ℕ) → position p xs ≡ Some i → slice_split p xs ≡ take i xs ∷ slice_split p (drop (i + 1) xs)
 split_at p xs i found = search (rules, slice_split_first)
 
-each_fails : (p : ℕ → Bool) (xs : List ℕ) → length xs ≤ position_or_len p xs → All (λ x. p x ≡ false) xs
-each_fails p xs far = search (rules, fails_before_first p xs)
-
 pub split_nowhere : (p : ℕ → Bool) (xs : List ℕ) → position p xs ≡ None → slice_split p xs ≡ xs ∷ []
 split_nowhere p xs absent =
-    let far : length xs ≤ position_or_len p xs = search rules in
-    slice_split_none p xs (each_fails p xs far)
+    slice_split_none p xs (each_fails p xs absent)
 
 -- a text is cut into one part at least
 pub record Parts (p : ℕ → Bool) (xs : List ℕ) : Type 0 where
@@ -40,16 +35,7 @@ nothing_said p xs word first second =
     let it = parts p xs in
     rw it.cut refl
 
--- where more follows, the first byte that passes is the same
-position_before : (p : ℕ → Bool) (xs ys : List ℕ) (i : ℕ) → position p xs ≡ Some i → position p (xs ++ ys) ≡ Some i
-position_before p xs ys i found =
-    let at : (i < length xs) × (p (slice_index_or xs i 0) ≡ true) × ((k : ℕ) → k < i → p (slice_index_or xs k 0) ≡ false) = position-Some p xs i 0 found in
-    let long : i < length (xs ++ ys) = rw (length-append xs ys) (omega (arith, at.0)) in
-    let same : position_or_len p (xs ++ ys) ≡ i =
-    position_or_len_is p (xs ++ ys) i 0 (omega (arith, long)) (λ k low. rw (get_or_append_left xs ys 0 k (omega (arith, low, at.0))) (at.2 k low)) (λ _. rw (get_or_append_left xs ys 0 i at.0) at.1) in
-    search (rules, same, long)
-
--- so the text before it is, too
+-- where more follows, the first text is the same
 pub split_before : (p : ℕ → Bool) (xs ys : List ℕ) (i : ℕ) → position p xs ≡ Some i → slice_split p (xs ++ ys) ≡ take i xs ∷ slice_split p (drop (i + 1) xs ++ ys)
 split_before p xs ys i found =
     let at : i < length xs = search (rules, position-Some p xs i 0 found) in
@@ -61,12 +47,8 @@ split_before p xs ys i found =
 pub first_is_long : (p : ℕ → Bool) (xs : List ℕ) (n : ℕ) → n ≤ length xs → ((k : ℕ) → k < n → p (slice_index_or xs k 0) ≡ false) → (it : Parts p xs) × (n ≤ length it.first)
 first_is_long p xs n many fails = by_position (position p xs) refl
   where
-    long : {i : ℕ} → (i < n) ⊎ (n ≤ i) → (i < length xs) × (p (slice_index_or xs i 0) ≡ true) × ((k : ℕ) → k < i → p (slice_index_or xs k 0) ≡ false) → n ≤ i
-    long {i} (inl low) at = absurd (true≢false (sym at.1 ∙ fails i low))
-    long (inr high) at = high
-
     by_position : (o : Option ℕ) → position p xs ≡ o → (it : Parts p xs) × (n ≤ length it.first)
     by_position None absent = (record { first = xs; later = []; cut = split_nowhere p xs absent }, many)
     by_position (Some i) found =
-        let at : (i < length xs) × (p (slice_index_or xs i 0) ≡ true) × ((k : ℕ) → k < i → p (slice_index_or xs k 0) ≡ false) = position-Some p xs i 0 found in
-        (record { first = take i xs; later = slice_split p (drop (i + 1) xs); cut = split_at p xs i found }, rw (length-take-le i xs (omega (arith, at.0))) (long (cases_lt i n) at))
+        let within : i < length xs = search (rules, position-Some p xs i 0 found) in
+        (record { first = take i xs; later = slice_split p (drop (i + 1) xs); cut = split_at p xs i found }, rw (length-take-le i xs (omega (arith, within))) (passes_late p xs n i fails found))

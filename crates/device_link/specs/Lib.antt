@@ -1,4 +1,3 @@
 pub mod Line
 pub mod Stream
-pub mod Front
 pub mod Orders

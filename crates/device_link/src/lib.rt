@@ -8,7 +8,6 @@
 #![tactic(auto)]
 
 mod fault;
-mod find;
 mod line;
 mod number;
 mod order;

@@ -2,12 +2,12 @@ ghost use Rattle.std.specs.Prelude.{◌≡◌, ◌≤◌, ◌<◌, ◌+◌, ◌+
 ghost use Rattle.base_types.specs.Report.{ReportRecord, report_of};
 ghost use Rattle.device_link.specs.Line.{report_in};
 ghost use Rattle.device_link.specs.Stream.{Stands, Answers};
-ghost use Rattle.device_link.specs.Front.{IsLine, IsFront};
+ghost use Rattle.base_types.specs.FirstLine.{first_line_of};
+ghost use Rattle.base_types.specs.declared.line.FirstLine.TheVariants.{Whole};
 
 use crate::fault::{LinkError, LinkFault};
-use crate::find::find_byte;
 use crate::line::read_line;
-use base_types::{Limits, Report};
+use base_types::{FirstLine, Limits, Report, drop_front, first_line};
 use std::alloc::{AllocError, Global};
 use std::marker::Model;
 
@@ -32,15 +32,6 @@ impl Model for LinkReader {
     ghost view = { λ r. record { rest = drop r.start r.buffer.items; greeted = r.greeted; fault = r.fault } };
 
     ghost invariant = { λ r. r.start ≤ length r.buffer.items };
-}
-
-/// What stands at the front of bytes.
-enum Front {
-    /// A line of so many bytes, and its line feed.
-    Line(usize),
-    TooLong,
-    /// The beginning of a line.
-    Unfinished,
 }
 
 impl LinkReader {
@@ -83,17 +74,17 @@ impl LinkReader {
         if let Some(fault) = self.fault() {
             return Err(LinkError::Fault(fault));
         }
-        match front_of(self.rest()) {
-            Front::Unfinished => Ok(None),
-            Front::TooLong => Err(self.fail(LinkFault::LineTooLong)),
-            Front::Line(length) => self.take_line(length),
+        match first_line(self.rest(), Limits::DEVICE_LINE_BYTES) {
+            FirstLine::Unfinished => Ok(None),
+            FirstLine::TooLong => Err(self.fail(LinkFault::LineTooLong)),
+            FirstLine::Whole(length) => self.take_line(length),
         }
     }
 
     /// Reads the line of so many bytes at the front.
     #[tactic(auto, using(crate::proofs::Streams::answers_bad_line, crate::proofs::Streams::answers_report))]
     fn take_line(&mut self, length: usize) -> Result<Option<Report>, LinkError>
-        requires line { IsLine length self.old.rest }
+        requires line { first_line_of Limits.DEVICE_LINE_BYTES self.old.rest ≡ Whole length }
         requires faultless { self.old.fault ≡ None }
         ensures { Answers self.old result self.new }
     {
@@ -162,28 +153,5 @@ impl LinkReader {
     {
         drop_front(&mut self.buffer, self.start);
         self.start = 0;
-    }
-}
-
-/// Removes so many bytes from the front.
-fn drop_front(bytes: &mut Vec<u8>, count: usize)
-    requires { count ≤ length_of bytes.old.items }
-    ensures { bytes.new.items ≡ drop count bytes.old.items }
-{
-    let rest = bytes.len() - count;
-    bytes.rotate_left(count);
-    bytes.truncate(rest);
-}
-
-/// What stands at the front of bytes.
-#[tactic(auto, using(crate::proofs::Fronts::too_long_at, crate::proofs::Fronts::too_long_without))]
-fn front_of(bytes: &[u8]) -> Front
-    ensures { IsFront bytes.now result }
-{
-    match find_byte(bytes, b'\n') {
-        Some(length) if length < Limits::DEVICE_LINE_BYTES => Front::Line(length),
-        Some(_) => Front::TooLong,
-        None if bytes.len() >= Limits::DEVICE_LINE_BYTES => Front::TooLong,
-        None => Front::Unfinished,
     }
 }

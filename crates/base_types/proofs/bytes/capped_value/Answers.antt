@@ -1,6 +1,6 @@
 use Rattle.std.proofs.Common.{rules, ◌≡◌, ◌+◌, slice_index_or}
-use Rattle.device_link.proofs.Digits.{rest_digits, value_more, capped_more}
-use Rattle.device_link.proofs.number.capped_value.Goals as goal
+use Rattle.base_types.proofs.Digits.{rest_digits, value_more, capped_more}
+use Rattle.base_types.proofs.bytes.capped_value.Goals as goal
 
 pub loop-byte-preserved : goal.loop-byte-preserved
 loop-byte-preserved c =
