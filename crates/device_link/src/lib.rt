@@ -12,6 +12,8 @@ mod line;
 mod number;
 mod order;
 mod reader;
+#[cfg(test)]
+mod tests;
 
 pub use fault::{LinkError, LinkFault};
 pub use order::{write_cancel, write_job};
