@@ -1,0 +1,4 @@
+pub mod FileName
+pub mod Session
+pub mod Command
+pub mod Stream

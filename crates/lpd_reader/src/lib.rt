@@ -1,0 +1,18 @@
+//! What an LPD client says (RFC 1179): commands, subcommands and files from any cutting of its stream
+//! of bytes, and the control files that describe jobs.
+//!
+//! It promises that an [`LpdReader`] gives exactly the items of the whole stream that it was fed, in
+//! order, and then the first fault. It answers nothing and keeps no files: what is done with an item
+//! stands elsewhere.
+#![tactic(auto)]
+
+mod command;
+mod fault;
+mod file_name;
+mod item;
+mod reader;
+mod words;
+
+pub use fault::{LpdError, LpdFault};
+pub use item::{FileHead, FileKind, LpdCommand, LpdItem};
+pub use reader::LpdReader;

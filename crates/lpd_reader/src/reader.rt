@@ -1,0 +1,251 @@
+ghost use Rattle.std.specs.Prelude.{◌≡◌, ◌<◌, ◌+◌, ◌++◌, [], List, ℕ, None, Some, Err, IfOk, IfSome, OnOk, OnErr, take, drop, length as length_of, true};
+ghost use Rattle.base_types.specs.FirstLine.{first_line_of};
+ghost use Rattle.base_types.specs.declared.line.FirstLine.TheVariants.{Whole};
+ghost use Rattle.lpd_reader.specs.Session.{ItemRecord, item_record, awaited_after, told};
+ghost use Rattle.lpd_reader.specs.Command.{meaning_of, awaits_line};
+ghost use Rattle.lpd_reader.specs.Stream.{Stands, Answers};
+
+use crate::command::{read_command, read_subcommand};
+use crate::fault::{LpdError, LpdFault};
+use crate::item::{LpdCommand, LpdItem};
+use base_types::{FirstLine, Limits, drop_front, first_line};
+use std::alloc::{AllocError, Global};
+use std::marker::Model;
+use std::mem;
+
+/// What a reader reads next.
+#[derive(Clone, Copy, Debug, PartialEq, Eq)]
+enum Awaited {
+    Command,
+    Subcommand,
+    /// A file of so many bytes, and the zero byte after it.
+    File(u32),
+}
+
+/// A reader of what an LPD client sends, in pieces of any length. In clauses it is a record of what
+/// it still has to read, what it awaits, and its fault.
+///
+/// After a command that is no command to receive a job another command is awaited, though a server
+/// closes the connection there.
+#[derive(Debug, Drop)]
+pub struct LpdReader {
+    alloc: Global,
+    buffer: Vec<u8>,
+    /// How many bytes of the buffer are read.
+    start: usize,
+    awaited: Awaited,
+    fault: Option<LpdFault>,
+}
+
+impl Model for LpdReader {
+    ghost use Rattle.std.specs.Prelude.{◌≤◌, drop, length};
+    ghost use Rattle.lpd_reader.specs.Stream.{LpdState};
+
+    ghost Value = { LpdState };
+
+    ghost view = { λ r. record { rest = drop r.start r.buffer.items; awaited = r.awaited; fault = r.fault } };
+
+    ghost invariant = { λ r. r.start ≤ length r.buffer.items };
+}
+
+impl LpdReader {
+    /// A reader of a new connection.
+    pub fn new(alloc: Global) -> LpdReader
+        ensures { Stands [] [] result }
+    {
+        LpdReader {
+            alloc,
+            buffer: Vec::new(alloc),
+            start: 0,
+            awaited: Awaited::Command,
+            fault: None,
+        }
+    }
+
+    /// Takes the next bytes of the connection. After a fault they are dropped.
+    ///
+    /// Where there is no memory, none of them is taken.
+    #[tactic(auto, using(crate::proofs::Streams::stands_fed, crate::proofs::Streams::stands_still))]
+    pub fn feed(&mut self, piece: &[u8]) -> Result<(), AllocError>
+        ensures fed { OnOk result ((stream : List ℕ) (given : List ItemRecord) → Stands stream given self.old → Stands (stream ++ piece.now) given self.new) }
+        ensures err { OnErr result (self.new ≡ self.old) }
+    {
+        if self.fault().is_some() {
+            return Ok(());
+        }
+        self.append(piece)
+    }
+
+    /// The next item, if it is whole.
+    ///
+    /// After a fault it answers that fault, whatever it is fed. Where there is no memory for an
+    /// item, the item stays to be read.
+    #[tactic(auto, using(crate::proofs::Streams::answers_again))]
+    pub fn next_item(&mut self) -> Result<Option<LpdItem>, LpdError>
+        ensures answer { Answers self.old result self.new }
+        ensures kept { IfSome self.old.fault (λ fault. result ≡ Err (LpdError.Fault fault)) }
+    {
+        if let Some(fault) = self.fault() {
+            return Err(LpdError::Fault(fault));
+        }
+        match self.awaited() {
+            Awaited::File(length) => self.next_file(length),
+            Awaited::Command | Awaited::Subcommand => self.next_line(),
+        }
+    }
+
+    /// The next command or subcommand.
+    fn next_line(&mut self) -> Result<Option<LpdItem>, LpdError>
+        requires line { awaits_line self.old.awaited ≡ true }
+        requires faultless { self.old.fault ≡ None }
+        ensures { Answers self.old result self.new }
+    {
+        match first_line(self.rest(), Limits::LPD_LINE_BYTES) {
+            FirstLine::Unfinished => Ok(None),
+            FirstLine::TooLong => Err(self.fail(LpdFault::LineTooLong)),
+            FirstLine::Whole(length) => self.take_line(length),
+        }
+    }
+
+    /// Reads the line of so many bytes at the front.
+    fn take_line(&mut self, length: usize) -> Result<Option<LpdItem>, LpdError>
+        requires whole { first_line_of Limits.LPD_LINE_BYTES self.old.rest ≡ Whole length }
+        requires line { awaits_line self.old.awaited ≡ true }
+        requires faultless { self.old.fault ≡ None }
+        ensures { Answers self.old result self.new }
+    {
+        match self.read_front(length)? {
+            Err(fault) => Err(self.fail(fault)),
+            Ok(item) => {
+                self.pass_line(length, after(&item));
+                Ok(Some(item))
+            }
+        }
+    }
+
+    /// The file of so many bytes at the front, once it and the zero byte after it are there.
+    fn next_file(&mut self, length: u32) -> Result<Option<LpdItem>, LpdError>
+        requires file { self.old.awaited ≡ Awaited.File length }
+        requires faultless { self.old.fault ≡ None }
+        ensures { Answers self.old result self.new }
+    {
+        let length = length as usize;
+        let rest = self.rest();
+        if rest.len() <= length {
+            return Ok(None);
+        }
+        if rest[length] != 0 {
+            return Err(self.fail(LpdFault::MissingZero));
+        }
+        let contents = self.take_file(length)?;
+        Ok(Some(LpdItem::File(contents)))
+    }
+
+    /// Takes the bytes of the file at the front, without a copy.
+    fn take_file(&mut self, length: usize) -> Result<Vec<u8>, AllocError>
+        requires { length < length_of self.old.rest }
+        ensures file { IfOk result (λ contents. contents.items ≡ take length self.old.rest) }
+        ensures ok { OnOk result (self.new ≡ record { rest = drop (length + 1) self.old.rest; awaited = Awaited.Subcommand; fault = self.old.fault }) }
+        ensures err { OnErr result (self.new ≡ self.old) }
+    {
+        drop_front(&mut self.buffer, self.start);
+        self.start = 0;
+        let contents = split_file(&mut self.buffer, length)?;
+        self.awaited = Awaited::Subcommand;
+        Ok(contents)
+    }
+
+    /// The bytes that are not read yet.
+    fn rest(&self) -> &[u8]
+        ensures { result.now ≡ self.now.rest }
+    {
+        &self.buffer[self.start..]
+    }
+
+    /// The fault, once there is one.
+    fn fault(&self) -> Option<LpdFault>
+        ensures { result ≡ self.now.fault }
+    {
+        self.fault
+    }
+
+    /// What is read next.
+    fn awaited(&self) -> Awaited
+        ensures { result ≡ self.now.awaited }
+    {
+        self.awaited
+    }
+
+    /// What the line of so many bytes at the front says.
+    fn read_front(&self, length: usize) -> Result<Result<LpdItem, LpdFault>, AllocError>
+        requires { length < length_of self.now.rest }
+        ensures { IfOk result (λ said. told said ≡ meaning_of self.now.awaited (take length self.now.rest)) }
+    {
+        let line = &self.rest()[..length];
+        match self.awaited() {
+            Awaited::Command => read_command(self.alloc, line),
+            Awaited::Subcommand | Awaited::File(_) => read_subcommand(self.alloc, line),
+        }
+    }
+
+    /// Goes past the line of so many bytes at the front.
+    fn pass_line(&mut self, length: usize, awaited: Awaited)
+        requires { length < length_of self.old.rest }
+        ensures { self.new ≡ record { rest = drop (length + 1) self.old.rest; awaited = awaited; fault = self.old.fault } }
+    {
+        self.start = self.start + length + 1;
+        self.awaited = awaited;
+    }
+
+    /// Keeps a fault.
+    fn fail(&mut self, fault: LpdFault) -> LpdError
+        ensures kept { self.new ≡ record self.old { fault = Some fault } }
+        ensures answer { result ≡ LpdError.Fault fault }
+    {
+        self.fault = Some(fault);
+        LpdError::Fault(fault)
+    }
+
+    /// Keeps these bytes to be read.
+    #[tactic(auto, using(crate::proofs::Streams::rest_with))]
+    fn append(&mut self, piece: &[u8]) -> Result<(), AllocError>
+        ensures ok { OnOk result (self.new ≡ record self.old { rest = self.old.rest ++ piece.now }) }
+        ensures err { OnErr result (self.new ≡ self.old) }
+    {
+        self.forget_read();
+        self.buffer.extend_from_slice(piece)
+    }
+
+    /// Gives the room of what is read to what comes.
+    fn forget_read(&mut self)
+        ensures { self.new ≡ self.old }
+    {
+        drop_front(&mut self.buffer, self.start);
+        self.start = 0;
+    }
+}
+
+/// Splits off the first bytes, and drops the byte after them.
+fn split_file(buffer: &mut Vec<u8>, length: usize) -> Result<Vec<u8>, AllocError>
+    requires { length < length_of buffer.old.items }
+    ensures file { IfOk result (λ contents. contents.items ≡ take length buffer.old.items) }
+    ensures ok { OnOk result (buffer.new.items ≡ drop (length + 1) buffer.old.items) }
+    ensures err { OnErr result (buffer.new.items ≡ buffer.old.items) }
+{
+    let rest = buffer.split_off(length + 1)?;
+    let mut contents = mem::replace(buffer, rest);
+    contents.truncate(length);
+    Ok(contents)
+}
+
+/// What is read after an item.
+fn after(item: &LpdItem) -> Awaited
+    ensures { result ≡ awaited_after (item_record item.now) }
+{
+    match item {
+        LpdItem::Command(LpdCommand::ReceiveJob { .. }) => Awaited::Subcommand,
+        LpdItem::Command(_) => Awaited::Command,
+        LpdItem::Abort | LpdItem::File(_) => Awaited::Subcommand,
+        LpdItem::Announced(head) => Awaited::File(head.length),
+    }
+}
