@@ -1,1 +1,2 @@
+mod Drafts
 mod Streams

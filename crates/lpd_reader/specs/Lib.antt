@@ -2,3 +2,5 @@ pub mod FileName
 pub mod Session
 pub mod Command
 pub mod Stream
+pub mod Control
+pub mod ControlLine

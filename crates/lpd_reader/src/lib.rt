@@ -7,12 +7,15 @@
 #![tactic(auto)]
 
 mod command;
+mod control;
+mod control_line;
 mod fault;
 mod file_name;
 mod item;
 mod reader;
 mod words;
 
+pub use control::{Control, ControlError, ControlFault, Print, PrintFormat, read_control};
 pub use fault::{LpdError, LpdFault};
 pub use item::{FileHead, FileKind, LpdCommand, LpdItem};
 pub use reader::LpdReader;

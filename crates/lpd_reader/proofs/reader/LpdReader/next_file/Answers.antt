@@ -8,7 +8,7 @@ use Rattle.lpd_reader.proofs.Streams.{answers_no_file, answers_no_zero, answers_
 use Rattle.lpd_reader.proofs.reader.LpdReader.next_file.Goals as goal
 
 pub returns-then-rest-length : goal.returns-then-rest-length
-returns-then-rest-length c = 
+returns-then-rest-length c =
     let short : length c.args.self.now.rest ≤ c.args.length = rw (sym c.rest-rest.ensures) c.if-rest-length.true in
     answers_no_file c.args.self.now c.args.length c.requires.faultless c.requires.file short
 
