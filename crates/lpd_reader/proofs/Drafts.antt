@@ -13,8 +13,13 @@ or_assoc (Some name) two three = refl
 
 before_assoc : (one two three : Draft) → before (before one two) three ≡ before one (before two three)
 before_assoc one two three =
-    rw (or_assoc one.host two.host three.host, or_assoc one.owner two.owner three.owner, or_assoc one.job_name two.job_name three.job_name,
-      or_assoc one.source_name two.source_name three.source_name, append_assoc one.prints two.prints three.prints) refl
+    rw (
+      or_assoc one.host two.host three.host,
+      or_assoc one.owner two.owner three.owner,
+      or_assoc one.job_name two.job_name three.job_name,
+      or_assoc one.source_name two.source_name three.source_name,
+      append_assoc one.prints two.prints three.prints,
+    ) refl
 
 joined_by : (draft : Draft) (line : LineRecord) (read : Result (List LineRecord) ControlFault)
     → (read >>= λ lines. Ok (before (before draft (alone line)) (together lines))) ≡ ((read >>= λ lines. Ok (line ∷ lines)) >>= λ lines. Ok (before draft (together lines)))
@@ -29,4 +34,4 @@ pub lines_step : (old new : Draft) (texts : List (Bor (List ℕ))) (place : ℕ)
     → joined new (map (λ text. text.now) (drop (place + 1) texts)) ≡ joined old (map (λ text. text.now) (drop place texts))
 lines_step old new texts place default line within says is =
     rw is (joined_step old (slice_index_or texts place default).now (map (λ text. text.now) (drop (place + 1) texts)) line says
-      ∙ sym (at_drop_more (λ rest. joined old (map (λ text. text.now) rest)) texts place default within))
+    ∙ sym (at_drop_more (λ rest. joined old (map (λ text. text.now) rest)) texts place default within))

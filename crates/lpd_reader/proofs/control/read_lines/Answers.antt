@@ -7,6 +7,6 @@ use Rattle.lpd_reader.proofs.control.read_lines.Goals as goal
 pub loop-line-preserved : goal.loop-line-preserved
 loop-line-preserved c =
     let says : line_in (slice_index_or c.args.lines.now c.loop-line.line-index _).now ≡ Ok (line_record c.in_ok-line.line) =
-        sym (c.in_ok-read_line.ensures {u = tt}) ∙ ap told_line (c.in_ok-line.was {u = tt}) in
+    sym (c.in_ok-read_line.ensures {u = tt}) ∙ ap told_line (c.in_ok-line.was {u = tt}) in
     lines_step c.loop-line.draft c.add.new.self c.args.lines.now c.loop-line.line-index _ (line_record c.in_ok-line.line) c.loop-line-test.true says (c.in_ok-add.ensures {u = tt})
-      ∙ c.loop-line.invariant
+    ∙ c.loop-line.invariant
