@@ -1,0 +1,18 @@
+-- When each device is free again after a class.
+use Rattle.std.specs.Prelude.{ℕ, suc, ◌+◌, List, [], ◌∷◌}
+use Rattle.cost_table.specs.Class.{Class, wait_of}
+use Rattle.prices.specs.Total.{time_on}
+
+-- the time that a list of jobs takes on a device
+abbrev pub busy_time : Class → ℕ → List ℕ → ℕ
+busy_time c device [] = 0
+busy_time c device (job ∷ jobs) = time_on c job device + busy_time c device jobs
+
+-- for the devices from one on
+abbrev pub waits_from : Class → ℕ → List (List ℕ) → List ℕ
+waits_from c device [] = []
+waits_from c device (jobs ∷ lists) = (wait_of c device + busy_time c device jobs) ∷ waits_from c (suc device) lists
+
+-- for each device its wait, and the times of all its jobs
+abbrev pub waits_after : Class → List (List ℕ) → List ℕ
+waits_after c way = waits_from c 0 way

@@ -1,0 +1,36 @@
+use crate::price_lists::PricedWay;
+use base_types::{Cause, JobId, Priority};
+use cost_table::ClassProblem;
+use std::marker::Model;
+
+/// A ready job that no device can print, and why.
+#[derive(Clone, Copy, Debug, PartialEq, Eq)]
+pub struct Stranded {
+    pub job: JobId,
+    pub cause: Cause,
+}
+
+/// The jobs of one priority: their problem, and a way with its prices and total.
+#[derive(Debug, Drop)]
+pub struct PlannedClass {
+    pub priority: Priority,
+    pub problem: ClassProblem,
+    pub priced: PricedWay,
+}
+
+/// A plan. In clauses it is a record of the same lists.
+#[derive(Debug, Drop)]
+pub struct Plan {
+    /// From the highest priority down.
+    pub classes: Vec<PlannedClass>,
+    /// By rising id.
+    pub stranded: Vec<Stranded>,
+}
+
+impl Model for Plan {
+    ghost use Rattle.prices.specs.Plan.{PlanRecord};
+
+    ghost Value = { PlanRecord };
+
+    ghost view = { λ plan. record { classes = plan.classes.items; stranded = plan.stranded.items } };
+}
