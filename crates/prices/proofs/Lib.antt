@@ -1,0 +1,10 @@
+pub mod Totals
+pub mod Sums
+pub mod Names
+pub mod Duality
+pub mod Bounds
+pub mod Bounded
+pub mod Steps
+pub mod Timetables
+pub mod WayTimetable
+pub mod Starts

@@ -1,5 +1,5 @@
 -- Timetables of a class: its jobs start at any moments, in any order, with gaps.
-use Rattle.std.specs.Prelude.{◌≡◌, ◌==◌, ◌⊎◌, ℕ, ◌+◌, ◌≤◌, List, [], ◌∷◌, IsSome, All, AllPairs, Contains, count_by}
+use Rattle.std.specs.Prelude.{◌≡◌, ◌==◌, ◌⊎◌, ℕ, suc, ◌+◌, ◌≤◌, List, [], ◌∷◌, ◌++◌, IsSome, All, AllPairs, Contains, count_by}
 use Rattle.cost_table.specs.Class.{Class, time_in, wait_of}
 use Rattle.prices.specs.Total.{time_on}
 
@@ -33,3 +33,17 @@ pub record IsTimetable (c : Class) (slots : List Slot) : Type 0 where
 abbrev pub slots_total : Class → List Slot → ℕ
 slots_total c [] = 0
 slots_total c (slot ∷ slots) = end_of c slot + slots_total c slots
+
+-- the slots of a list of jobs that follow one another from a moment on
+abbrev pub slots_of_list : Class → ℕ → ℕ → List ℕ → List Slot
+slots_of_list c device free [] = []
+slots_of_list c device free (job ∷ jobs) = record { job = job; device = device; start = free } ∷ slots_of_list c device (free + time_on c job device) jobs
+
+-- for the devices from one on
+abbrev pub slots_from : Class → ℕ → List (List ℕ) → List Slot
+slots_from c device [] = []
+slots_from c device (jobs ∷ lists) = slots_of_list c device (wait_of c device) jobs ++ slots_from c (suc device) lists
+
+-- a way's own timetable: on each device the jobs follow one another from its wait on
+abbrev pub own_slots : Class → List (List ℕ) → List Slot
+own_slots c way = slots_from c 0 way

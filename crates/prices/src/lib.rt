@@ -1,14 +1,25 @@
-//! Ways to print the jobs of a class, their totals, and prices that prove a way best.
+//! Ways to print the jobs of a class, their totals, and prices that make a way's rank plain.
 //!
-//! It promises exact totals and waits, and the laws that make prices a proof: a way with fair prices
-//! is best, and no timetable, whatever its gaps, does better than a best way. It finds no way and
-//! judges none: a solver finds one, a checker judges it, and neither is mentioned here.
+//! It promises exact totals, waits and starts, and the laws that make prices a proof: a way with
+//! fair prices is best, and no timetable, whatever its gaps, does better than a best way. It finds
+//! no way and judges none: a solver finds one, a checker judges it, and neither is mentioned here.
 #![tactic(auto)]
 
+mod laws;
 mod plan;
 mod price_lists;
 mod way;
+mod way_start;
+mod way_total;
+mod way_waits;
 
+pub use laws::{
+    best_at_most_timetables, fair_is_best, fair_prices_bounded, timetable_no_better,
+    way_is_timetable,
+};
 pub use plan::{Plan, PlannedClass, Stranded};
 pub use price_lists::{PlacePrices, PricedWay, Prices};
 pub use way::{Queue, Way};
+pub use way_start::start_of;
+pub use way_total::total;
+pub use way_waits::{leaves_waits, waits_after};

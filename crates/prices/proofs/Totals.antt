@@ -1,0 +1,22 @@
+-- the total of a way by places from the end
+use Rattle.std.proofs.Common.{◌≡◌, ℕ, suc, ◌+◌, ◌*◌, List, [], ◌∷◌, length, refl, ap, ◌∙◌, arith}
+use Rattle.cost_table.specs.Class.{Class, wait_of}
+use Rattle.prices.specs.Total.{time_on, list_total, list_cost, total_from, cost_from}
+
+-- a device that is free t later ends each job t later
+pub list_total-later : (c : Class) (d free t : ℕ) (jobs : List ℕ) → list_total c d (free + t) jobs ≡ list_total c d free jobs + length jobs * t
+list_total-later c d free t [] = omega arith
+list_total-later c d free t (j ∷ js) =
+    let x : ℕ = time_on c j d in
+    let e : list_total c d (free + t + x) js ≡ list_total c d (free + x) js + length js * t =
+    ap (λ n. list_total c d n js) (let q : free + t + x ≡ free + x + t = omega arith in q) ∙ list_total-later c d (free + x) t js in
+    omega (arith, e)
+
+pub list_cost_is : (c : Class) (d free : ℕ) (jobs : List ℕ) → list_total c d free jobs ≡ list_cost c d free jobs
+list_cost_is c d free [] = refl
+list_cost_is c d free (j ∷ js) =
+    omega (arith, list_total-later c d free (time_on c j d) js, list_cost_is c d free js)
+
+pub cost_from_is : (c : Class) (d : ℕ) (way : List (List ℕ)) → total_from c d way ≡ cost_from c d way
+cost_from_is c d [] = refl
+cost_from_is c d (q ∷ qs) = omega (arith, list_cost_is c d (wait_of c d) q, cost_from_is c (suc d) qs)

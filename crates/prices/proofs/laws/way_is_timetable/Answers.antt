@@ -1,0 +1,8 @@
+use Rattle.prices.proofs.WayTimetable.{own_timetable, own_total}
+use Rattle.prices.proofs.laws.way_is_timetable.Goals as goal
+
+pub returns-clause-timetable : goal.returns-clause-timetable
+returns-clause-timetable c = own_timetable c.args.class.now c.args.way.now c.requires
+
+pub returns-clause-total : goal.returns-clause-total
+returns-clause-total c = own_total c.args.class.now c.args.way.now

@@ -1,0 +1,39 @@
+ghost use Rattle.std.specs.Prelude.{◌≡◌, ◌==◌, Contains, MatchOption, position};
+ghost use Rattle.std.specs.List.{concat};
+ghost use Rattle.prices.specs.Way.{IsWay};
+ghost use Rattle.prices.specs.Total.{total_of};
+ghost use Rattle.prices.specs.Timetable.{IsTimetable, own_slots, slots_total};
+
+use crate::way::Way;
+use crate::way_waits::free_after;
+use base_types::{DeviceId, JobId};
+use cost_table::ClassProblem;
+
+/// The device of a job and when it starts there, in ms from the moment that the waits are counted
+/// from: once the device is free and the jobs before it are done. None where the way hasn't the job.
+///
+/// These starts are a timetable whose total is the way's.
+pub fn start_of(class: &ClassProblem, way: &Way, job: JobId) -> Option<(DeviceId, u64)>
+    requires { IsWay class.now way.now }
+    ensures start { MatchOption result (¬ Contains (concat way.now) job)
+        (λ found. Contains (own_slots class.now way.now) (record { job = job; device = found.0; start = found.1 })) }
+    ensures timetable { IsTimetable class.now (own_slots class.now way.now) }
+    ensures total { slots_total class.now (own_slots class.now way.now) ≡ total_of class.now way.now }
+{
+    let _class = class.ids();
+    for (place, queue) in way.queues().iter().enumerate() {
+        let jobs = queue.jobs();
+        if let Some(before) = find(jobs, job) {
+            let device = DeviceId::new(place);
+            return Some((device, free_after(class, device, &jobs[..before])));
+        }
+    }
+    None
+}
+
+/// The first place of a queue at which a job stands, counted from the front.
+fn find(jobs: &[JobId], job: JobId) -> Option<usize>
+    ensures { result ≡ position (λ id. id == job) jobs.now }
+{
+    jobs.iter().position(|id| *id == job)
+}
