@@ -1,3 +1,4 @@
+pub mod Each
 pub mod Totals
 pub mod Sums
 pub mod Names

@@ -1,5 +1,5 @@
 -- A way to print the jobs of a class: for each device a list of them.
-use Rattle.std.specs.Prelude.{◌≡◌, ◌==◌, ℕ, List, [], length, IsSome, All, Contains, count_by, slice_index_or}
+use Rattle.std.specs.Prelude.{◌≡◌, ◌==◌, ◌≤◌, ℕ, List, [], length, IsSome, All, Contains, count_by, slice_index_or}
 use Rattle.std.specs.List.{concat}
 use Rattle.cost_table.specs.Class.{Class, time_in}
 
@@ -17,3 +17,21 @@ pub record IsWay (c : Class) (way : List (List ℕ)) : Type 0 where
   pub known : All (Contains c.ids) (concat way)
   pub once : All (λ job. times_named way job ≡ 1) c.ids
   pub able : (device : ℕ) → All (λ job. IsSome (time_in c job device)) (queue_of way device)
+
+-- the facts that make a way, one by one, as a reader of ways tells them apart
+
+-- all jobs that it names are of the class
+abbrev pub NamesKnown : Class → List (List ℕ) → Type 0
+NamesKnown c way = All (Contains c.ids) (concat way)
+
+-- no job stands twice
+abbrev pub NoneTwice : Class → List (List ℕ) → Type 0
+NoneTwice c way = All (λ job. times_named way job ≤ 1) c.ids
+
+-- each job stands somewhere
+abbrev pub AllNamed : Class → List (List ℕ) → Type 0
+AllNamed c way = All (λ job. 1 ≤ times_named way job) c.ids
+
+-- each job is on a device that is able
+abbrev pub AllAble : Class → List (List ℕ) → Type 0
+AllAble c way = (device : ℕ) → All (λ job. IsSome (time_in c job device)) (queue_of way device)

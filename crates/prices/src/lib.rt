@@ -9,6 +9,7 @@ mod laws;
 mod plan;
 mod price_lists;
 mod way;
+mod way_facts;
 mod way_start;
 mod way_total;
 mod way_waits;
@@ -20,6 +21,10 @@ pub use laws::{
 pub use plan::{Plan, PlannedClass, Stranded};
 pub use price_lists::{PlacePrices, PricedWay, Prices};
 pub use way::{Queue, Way};
+pub use way_facts::{all_able, all_named, is_way, names_known, none_twice};
 pub use way_start::start_of;
 pub use way_total::total;
 pub use way_waits::{leaves_waits, waits_after};
+
+#[cfg(test)]
+mod tests;

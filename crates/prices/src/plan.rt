@@ -1,3 +1,5 @@
+ghost use Rattle.std.specs.Prelude.{◌≡◌};
+
 use crate::price_lists::PricedWay;
 use base_types::{Cause, JobId, Priority};
 use cost_table::ClassProblem;
@@ -33,4 +35,20 @@ impl Model for Plan {
     ghost Value = { PlanRecord };
 
     ghost view = { λ plan. record { classes = plan.classes.items; stranded = plan.stranded.items } };
+}
+
+impl Plan {
+    /// Its classes, from the highest priority down.
+    pub fn classes(&self) -> &[PlannedClass]
+        ensures { result.now ≡ self.now.classes }
+    {
+        &self.classes
+    }
+
+    /// The stranded jobs, by rising id.
+    pub fn stranded(&self) -> &[Stranded]
+        ensures { result.now ≡ self.now.stranded }
+    {
+        &self.stranded
+    }
 }
