@@ -1,0 +1,4 @@
+pub mod Fair
+pub mod Proved
+pub mod Above
+pub mod Plans

@@ -1,0 +1,37 @@
+-- What stands beside a class in its plan: the classes above it, and the stranded jobs.
+use Rattle.std.specs.Prelude.{◌≡◌, ℕ, suc, List, [], Some, length, All, Contains, slice_get}
+use Rattle.cost_table.specs.Class.{Class}
+use Rattle.prices.specs.declared.plan.PlannedClass.{PlannedClass}
+use Rattle.prices.specs.declared.plan.Stranded.{Stranded}
+use Rattle.prices.specs.Way.{IsWay}
+use Rattle.prices.specs.Waits.{waits_after}
+
+-- the classes above, the highest first
+pub record Beside : Type 0 where
+  pub above : List PlannedClass
+  pub stranded : List Stranded
+
+-- of a class by itself there is nothing
+abbrev pub alone : Beside
+alone = record { above = []; stranded = [] }
+
+-- a job isn't one of a class above
+abbrev pub NotAbove : List PlannedClass → ℕ → Type 0
+NotAbove above job = All (λ class. ¬ Contains class.problem.ids job) above
+
+-- a job isn't stranded
+abbrev pub NotStranded : List Stranded → ℕ → Type 0
+NotStranded stranded job = All (λ other. ¬ (other.job ≡ job)) stranded
+
+-- no job of the class is one of a class above, or stranded
+pub record NoneElsewhere (beside : Beside) (c : Class) : Type 0 where
+  pub above : All (NotAbove beside.above) c.ids
+  pub stranded : All (NotStranded beside.stranded) c.ids
+
+-- the waits of the class are those that the class just above leaves; those of the first are given
+abbrev pub WaitsFollow : List PlannedClass → Class → Type 0
+WaitsFollow above c = (place : ℕ) (last : PlannedClass) → suc place ≡ length above → slice_get above place ≡ Some last → c.waits ≡ waits_after last.problem last.priced.way
+
+-- each class above has a way
+abbrev pub AboveHaveWays : List PlannedClass → Type 0
+AboveHaveWays above = All (λ class. IsWay class.problem class.priced.way) above

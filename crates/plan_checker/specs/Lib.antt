@@ -1,0 +1,5 @@
+pub mod Beside
+pub mod Fair
+pub mod Verdict
+pub mod Plan
+pub mod PlanText

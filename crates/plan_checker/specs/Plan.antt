@@ -1,0 +1,40 @@
+-- The verdict on a plan, and what a proved plan is.
+use Rattle.std.specs.Prelude.{◌≡◌, ℕ, ◌<◌, Some, length, take, All, slice_get}
+use Rattle.prices.specs.declared.plan.PlannedClass.{PlannedClass}
+use Rattle.prices.specs.Plan.{PlanRecord}
+use Rattle.prices.specs.Prices.{IsProved}
+use Rattle.plan_checker.specs.Beside.{Beside, NoneElsewhere, WaitsFollow}
+use Rattle.plan_checker.specs.Verdict.{IsVerdict}
+use Rattle.plan_checker.specs.declared.verdict.Verdict.{Verdict}
+use Rattle.plan_checker.specs.declared.verdict.PlanVerdict.{PlanVerdict}
+use Rattle.plan_checker.specs.declared.verdict.Verdict.TheVariants.{Yes as Proved}
+use Rattle.plan_checker.specs.declared.verdict.PlanVerdict.TheVariants.{Yes, No}
+
+-- each class has a list of jobs and a list of place prices for each device
+pub record HasOneListEach (class : PlannedClass) : Type 0 where
+  pub queues : length class.priced.way ≡ length class.problem.waits
+  pub places : length class.priced.prices.places ≡ length class.problem.waits
+
+-- what stands beside the class at a place, the highest counted as 0
+abbrev pub beside_at : PlanRecord → ℕ → Beside
+beside_at plan place = record { above = take place plan.classes; stranded = plan.stranded }
+
+-- the verdict on the class at a place
+abbrev pub IsVerdictAt : PlanRecord → ℕ → Verdict → Type 0
+IsVerdictAt plan place verdict = (class : PlannedClass) → slice_get plan.classes place ≡ Some class → IsVerdict (beside_at plan place) class.problem class.priced.way class.priced.prices class.priced.total verdict
+
+-- all classes above a place have the verdict yes
+abbrev pub YesAbove : PlanRecord → ℕ → Type 0
+YesAbove plan place = (above : ℕ) → above < place → IsVerdictAt plan above Proved
+
+-- all classes have the verdict yes, or the one at the place is the first that hasn't
+abbrev pub IsPlanVerdict : PlanRecord → PlanVerdict → Type 0
+IsPlanVerdict plan Yes = YesAbove plan (length plan.classes)
+IsPlanVerdict plan (No place fault) = (place < length plan.classes) × YesAbove plan place × IsVerdictAt plan place fault × ¬ (fault ≡ Proved)
+
+-- each class is proved best, the waits of each are those left by the one above, and no job stands
+-- in two classes, or in a class and among the stranded
+pub record IsProvedPlan (plan : PlanRecord) : Type 0 where
+  pub proved : All (λ class. IsProved class.problem class.priced.way class.priced.prices class.priced.total) plan.classes
+  pub waits : (place : ℕ) (class : PlannedClass) → slice_get plan.classes place ≡ Some class → WaitsFollow (take place plan.classes) class.problem
+  pub once : (place : ℕ) (class : PlannedClass) → slice_get plan.classes place ≡ Some class → NoneElsewhere (beside_at plan place) class.problem

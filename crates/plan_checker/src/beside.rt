@@ -1,0 +1,59 @@
+ghost use Rattle.std.specs.Prelude.{◌≡◌, ◌↔◌, All, IsTrue};
+ghost use Rattle.plan_checker.specs.Beside.{AboveHaveWays, NoneElsewhere, NotAbove, NotStranded, WaitsFollow};
+
+use base_types::JobId;
+use cost_table::ClassProblem;
+use prices::{PlannedClass, Stranded, leaves_waits};
+
+/// Whether no job of the class is one of a class above, or stranded.
+pub(crate) fn none_elsewhere(
+    class: &ClassProblem,
+    above: &[PlannedClass],
+    stranded: &[Stranded],
+) -> bool
+    ensures { IsTrue result ↔ NoneElsewhere (record { above = above.now; stranded = stranded.now }) class.now }
+{
+    for job in class.ids() {
+        if !not_above(*job, above) {
+            return false;
+        }
+        if !not_stranded(*job, stranded) {
+            return false;
+        }
+    }
+    true
+}
+
+/// Whether a job is in none of these classes.
+fn not_above(job: JobId, above: &[PlannedClass]) -> bool
+    ensures { IsTrue result ↔ NotAbove above.now job }
+{
+    for class in above {
+        if class.problem.place(job).is_some() {
+            return false;
+        }
+    }
+    true
+}
+
+/// Whether a job is none of the stranded ones.
+fn not_stranded(job: JobId, stranded: &[Stranded]) -> bool
+    ensures { IsTrue result ↔ NotStranded stranded.now job }
+{
+    stranded.iter().all(|other| other.job != job)
+}
+
+/// Whether the waits of the class are those that the class just above leaves, if there is one.
+pub(crate) fn waits_follow(class: &ClassProblem, above: &[PlannedClass]) -> bool
+    requires { AboveHaveWays above.now }
+    ensures { IsTrue result ↔ WaitsFollow above.now class.now }
+{
+    if above.is_empty() {
+        return true;
+    }
+    let last = &above[above.len() - 1];
+    if class.waits().len() != last.problem.waits().len() {
+        return false;
+    }
+    leaves_waits(&last.problem, &last.priced.way, class.waits())
+}

@@ -1,0 +1,74 @@
+ghost use Rattle.std.specs.Prelude.{◌≡◌, ◌↔◌, ◌≤◌, List, length};
+ghost use Rattle.cost_table.specs.Class.{IsClass};
+ghost use Rattle.prices.specs.Total.{IsBest, total_of};
+ghost use Rattle.prices.specs.Timetable.{Slot, IsTimetable, slots_total};
+ghost use Rattle.prices.specs.Prices.{IsProved};
+ghost use Rattle.plan_checker.specs.Beside.{AboveHaveWays, alone};
+ghost use Rattle.plan_checker.specs.Verdict.{IsVerdict};
+
+use crate::beside::{none_elsewhere, waits_follow};
+use crate::fairness::{all_fair, no_place_positive, none_missing};
+use crate::totals::totals_agree;
+use crate::verdict::Verdict;
+use cost_table::ClassProblem;
+use prices::{PlannedClass, PricedWay, Stranded, all_able, names_known, none_twice};
+
+/// Judges a priced way of a class by itself. It takes no memory.
+///
+/// The answer is yes exactly where the way is one of the class, its prices are fair and its total
+/// is stated; the way is then best, and no timetable of the class does better. The waits are taken
+/// as given.
+pub fn check_class(class: &ClassProblem, priced: &PricedWay) -> Verdict
+    requires queues { length priced.now.way ≡ length class.now.waits }
+    requires places { length priced.now.prices.places ≡ length class.now.waits }
+    ensures verdict { IsVerdict alone class.now priced.now.way priced.now.prices priced.now.total result }
+    ensures yes { (result ≡ Verdict.Yes) ↔ IsProved class.now priced.now.way priced.now.prices priced.now.total }
+    ensures best { result ≡ Verdict.Yes → IsBest class.now priced.now.way }
+    ensures timetables { result ≡ Verdict.Yes → (slots : List Slot) → IsTimetable class.now slots → total_of class.now priced.now.way ≤ slots_total class.now slots }
+{
+    let _class = class.ids();
+    first_fault(class, priced, &[], &[])
+}
+
+/// The first fault of a priced way, beside the classes above it in its plan and the stranded jobs.
+pub(crate) fn first_fault(
+    class: &ClassProblem,
+    priced: &PricedWay,
+    above: &[PlannedClass],
+    stranded: &[Stranded],
+) -> Verdict
+    requires class { IsClass class.now }
+    requires queues { length priced.now.way ≡ length class.now.waits }
+    requires places { length priced.now.prices.places ≡ length class.now.waits }
+    requires above { AboveHaveWays above.now }
+    ensures { IsVerdict (record { above = above.now; stranded = stranded.now }) class.now priced.now.way priced.now.prices priced.now.total result }
+{
+    if !names_known(class, &priced.way) {
+        return Verdict::UnknownName;
+    }
+    if !none_twice(class, &priced.way) {
+        return Verdict::Twice;
+    }
+    if !none_elsewhere(class, above, stranded) {
+        return Verdict::Twice;
+    }
+    if !none_missing(class, &priced.way, &priced.prices) {
+        return Verdict::Missing;
+    }
+    if !all_able(class, &priced.way) {
+        return Verdict::NotAble;
+    }
+    if !waits_follow(class, above) {
+        return Verdict::WrongWait;
+    }
+    if !no_place_positive(priced.prices.places()) {
+        return Verdict::PositivePlacePrice;
+    }
+    if !all_fair(class, &priced.prices) {
+        return Verdict::PriceTooHigh;
+    }
+    if !totals_agree(class, priced) {
+        return Verdict::TotalsDiffer;
+    }
+    Verdict::Yes
+}

@@ -1,0 +1,49 @@
+ghost use Rattle.std.specs.Prelude.{◌≡◌, ◌↔◌, ◌≤◌, All, IsTrue, List};
+ghost use Rattle.prices.specs.Total.{IsBest, total_of};
+ghost use Rattle.prices.specs.Timetable.{Slot, IsTimetable, slots_total};
+ghost use Rattle.plan_checker.specs.Plan.{HasOneListEach, IsPlanVerdict, IsProvedPlan};
+
+use crate::class_verdict::first_fault;
+use crate::verdict::{PlanVerdict, Verdict};
+use prices::{Plan, PlannedClass};
+
+/// Judges a plan, class by class from the top. It takes no memory.
+///
+/// The answer is yes exactly where each class is proved, its waits are those that the class above
+/// leaves, and no job stands in two classes, or in a class and among the stranded. Each class is
+/// then best under its waits, and no timetable does better. The first waits are taken as given.
+///
+/// The names of the devices don't matter, so a plan that has none yet can be judged too.
+pub fn check_plan(plan: &Plan) -> PlanVerdict
+    requires { All HasOneListEach plan.now.classes }
+    ensures verdict { IsPlanVerdict plan.now result }
+    ensures yes { (result ≡ PlanVerdict.Yes) ↔ IsProvedPlan plan.now }
+    ensures best { result ≡ PlanVerdict.Yes → All (λ class. IsBest class.problem class.priced.way) plan.now.classes }
+    ensures timetables { result ≡ PlanVerdict.Yes → All (λ class. (slots : List Slot) → IsTimetable class.problem slots → total_of class.problem class.priced.way ≤ slots_total class.problem slots) plan.now.classes }
+{
+    let classes = plan.classes();
+    for (place, class) in classes.iter().enumerate() {
+        let above = &classes[..place];
+        let _class = class.problem.ids();
+        match first_fault(&class.problem, &class.priced, above, plan.stranded()) {
+            Verdict::Yes => {}
+            fault => return PlanVerdict::No { place, fault },
+        }
+    }
+    PlanVerdict::Yes
+}
+
+/// Whether each class has a queue and a list of place prices for each device.
+pub fn has_one_list_each(classes: &[PlannedClass]) -> bool
+    ensures { IsTrue result ↔ All HasOneListEach classes.now }
+{
+    for class in classes {
+        if class.priced.way.queues().len() != class.problem.waits().len() {
+            return false;
+        }
+        if class.priced.prices.places().len() != class.problem.waits().len() {
+            return false;
+        }
+    }
+    true
+}
