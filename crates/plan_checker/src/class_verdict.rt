@@ -26,6 +26,7 @@ pub fn check_class(class: &ClassProblem, priced: &PricedWay) -> Verdict
     ensures best { result ≡ Verdict.Yes → IsBest class.now priced.now.way }
     ensures timetables { result ≡ Verdict.Yes → (slots : List Slot) → IsTimetable class.now slots → total_of class.now priced.now.way ≤ slots_total class.now slots }
 {
+    // Reading the class makes its invariant known.
     let _class = class.ids();
     first_fault(class, priced, &[], &[])
 }

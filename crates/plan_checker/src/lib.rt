@@ -18,3 +18,6 @@ pub use class_verdict::check_class;
 pub use plan_text::PlanText;
 pub use plan_verdict::{check_plan, has_one_list_each};
 pub use verdict::{PlanVerdict, Verdict};
+
+#[cfg(test)]
+mod tests;

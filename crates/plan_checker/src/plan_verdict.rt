@@ -24,6 +24,7 @@ pub fn check_plan(plan: &Plan) -> PlanVerdict
     let classes = plan.classes();
     for (place, class) in classes.iter().enumerate() {
         let above = &classes[..place];
+        // Reading the class makes its invariant known.
         let _class = class.problem.ids();
         match first_fault(&class.problem, &class.priced, above, plan.stranded()) {
             Verdict::Yes => {}

@@ -15,6 +15,7 @@ pub fn fair_is_best(class: &ClassProblem, priced: &PricedWay)
     requires fair { AreFair class.now priced.now.way priced.now.prices }
     ensures { IsBest class.now priced.now.way }
 {
+    // Reading the class makes its invariant known.
     let _class = class.ids();
 }
 
@@ -26,6 +27,7 @@ pub fn fair_prices_bounded(class: &ClassProblem, priced: &PricedWay)
     ensures jobs { All (λ price. (pos 1 ≤ℤ price) × (price ≤ℤ pos (2 * Limits.WAIT))) priced.now.prices.jobs }
     ensures places { All (λ prices. All (λ price. (neg_ℤ (pos (2 * Limits.WAIT)) ≤ℤ price) × (price ≤ℤ pos 0)) prices) priced.now.prices.places }
 {
+    // Reading the class makes its invariant known.
     let _class = class.ids();
 }
 
@@ -33,6 +35,7 @@ pub fn fair_prices_bounded(class: &ClassProblem, priced: &PricedWay)
 pub fn timetable_no_better(class: &ClassProblem)
     ensures { (slots : List Slot) → IsTimetable class.now slots → (way : List (List ℕ)) × IsWay class.now way × (total_of class.now way ≤ slots_total class.now slots) }
 {
+    // Reading the class makes its invariant known.
     let _class = class.ids();
 }
 
@@ -48,5 +51,6 @@ pub fn best_at_most_timetables(class: &ClassProblem, way: &Way)
     requires { IsBest class.now way.now }
     ensures { (slots : List Slot) → IsTimetable class.now slots → total_of class.now way.now ≤ slots_total class.now slots }
 {
+    // Reading the class makes its invariant known.
     let _class = class.ids();
 }

@@ -20,6 +20,7 @@ pub fn start_of(class: &ClassProblem, way: &Way, job: JobId) -> Option<(DeviceId
     ensures timetable { IsTimetable class.now (own_slots class.now way.now) }
     ensures total { slots_total class.now (own_slots class.now way.now) ≡ total_of class.now way.now }
 {
+    // Reading the class makes its invariant known.
     let _class = class.ids();
     for (place, queue) in way.queues().iter().enumerate() {
         let jobs = queue.jobs();

@@ -17,6 +17,7 @@ pub fn total(class: &ClassProblem, way: &Way) -> u64
     ensures completions { result ≡ total_of class.now way.now }
     ensures places { result ≡ cost_of class.now way.now }
 {
+    // Reading the class makes its invariant known.
     let _class = class.ids();
     let mut sum = 0;
     for (place, queue) in way.queues().iter().enumerate() {

@@ -15,6 +15,7 @@ pub fn waits_after(alloc: Global, class: &ClassProblem, way: &Way) -> Result<Vec
     requires { IsWay class.now way.now }
     ensures { IfOk result (λ waits. waits.items ≡ waits_left class.now way.now) }
 {
+    // Reading the class makes its invariant known.
     let _class = class.ids();
     let mut after = Vec::new(alloc);
     for (place, queue) in way.queues().iter().enumerate() {
@@ -29,6 +30,7 @@ pub fn leaves_waits(class: &ClassProblem, way: &Way, next: &[u64]) -> bool
     requires next { length next.now ≡ length class.now.waits }
     ensures { IsTrue result ↔ (next.now ≡ waits_left class.now way.now) }
 {
+    // Reading the class makes its invariant known.
     let _class = class.ids();
     for (place, queue) in way.queues().iter().enumerate() {
         if free_after(class, DeviceId::new(place), queue.jobs()) != next[place] {
