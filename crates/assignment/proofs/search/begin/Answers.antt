@@ -1,0 +1,49 @@
+use Rattle.std.proofs.Common.{◌≡◌, ℕ, vec_len, ap, subst, inl, inr, ◌∙◌, arith}
+use Rattle.std.specs.Global.{Vec}
+use Rattle.assignment.specs.declared.search.Search.{Search}
+use Rattle.assignment.specs.Costs.{cost_of}
+use Rattle.assignment.specs.Search.{IsBlank}
+use Rattle.assignment.proofs.Opening.{Begins, begun}
+use Rattle.assignment.proofs.Charges.{cost_of-low}
+use Rattle.assignment.proofs.search.begin.Goals as goal
+
+pub returns-clause-searched : goal.returns-clause-searched
+returns-clause-searched c =
+    let s = c.args.seating.now in
+    let x = c.in_ok-search.search in
+    let y = c.relax.new.search in
+    let z = c.leave.new.search in
+    let r = c.requires in
+    let n = vec_len s.seats in
+    let en : c.len-new.result ≡ n = c.len-new.ensures in
+    let b : IsBlank n x = subst (λ (k : ℕ). IsBlank k x) en (c.in_ok-search.ensures {u = tt}) in
+    let el = ap (λ (v : Search). v.lengths.items) c.leave.ensures.same in
+    let ef = ap (λ (v : Search). v.froms.items) c.leave.ensures.same in
+    let es = ap (λ (v : Search). v.settled) c.leave.ensures.same ∙ c.relax.ensures.same.2 in
+    let er : z.ranks.items ≡ x.ranks.items = ap (λ (v : Search). v.ranks.items) c.leave.ensures.same ∙ ap (λ (v : Vec ℕ). v.items) c.relax.ensures.same.0 in
+    let h : Begins (cost_of c.args.costs.now) s.jobs.items s.prices.items s.seats.items s.rents.items c.args.free.now x.lengths.items x.froms.items z.lengths.items z.froms.items z.ranks.items x.exit z.exit n = record {
+      low = cost_of-low c.args.costs.now;
+      rents_low = r.rents_low;
+      uncharged = r.new_job.uncharged;
+      some = r.some;
+      far = b.far;
+      root = b.root;
+      unsettled = rw er b.unsettled;
+      root_rank = rw er b.root_rank;
+      far_exit = b.far_exit;
+      relaxed = λ k lt. rw (el, ef, er, ← en) (c.relax.ensures.relaxed k lt);
+      rest = rw el c.relax.ensures.rest;
+      exit_every = λ f lt. rw (el, ← en) (c.leave.ensures.every f lt);
+      exit_edge = elim c.leave.ensures.edge [ inl e ↦ inl (e ∙ c.relax.ensures.same.1) | inr k ↦ inr (k.0, rw (el, ← en) k.1, k.2 ∙ en) ];
+    } in
+    rw (es, b.settled) (begun h)
+
+pub returns-clause-counted : goal.returns-clause-counted
+returns-clause-counted c =
+    let n = vec_len c.args.seating.now.seats in
+    let x = c.in_ok-search.search in
+    let en : c.len-new.result ≡ n = c.len-new.ensures in
+    let b : IsBlank n x = subst (λ (k : ℕ). IsBlank k x) en (c.in_ok-search.ensures {u = tt}) in
+    let es = ap (λ (v : Search). v.settled) c.leave.ensures.same ∙ c.relax.ensures.same.2 in
+    let ranks = ap (λ (v : Search). v.ranks) c.leave.ensures.same ∙ c.relax.ensures.same.0 in
+    rw (es, ranks) (omega (arith, b.settled, b.counted, b.ranks))

@@ -1,0 +1,135 @@
+use Rattle.std.proofs.Common.{◌≡◌, ◌≢◌, ℕ, ◌+◌, ◌<◌, ◌≤◌, List, [], ◌∷◌, ◌++◌, length, vec_len, get_or, set, ap, inl, inr, ◌∙◌, arith}
+use Rattle.std.specs.Global.{Vec}
+use Rattle.std.proofs.lemmas.Bool.{cases_eq}
+use Rattle.std.proofs.lemmas.List.{get_or_push, get_or_append_left, get_or-set_same, get_or-set_other}
+use Rattle.assignment.specs.declared.costs.Place.{Place}
+use Rattle.assignment.specs.declared.seating.Seating.{Seating}
+use Rattle.assignment.specs.declared.costs.Costs.{Costs}
+use Rattle.assignment.specs.declared.costs.TheConstants.{UNABLE}
+use Rattle.assignment.specs.Costs.{cost_of, nowhere}
+use Rattle.assignment.specs.Seating.{IsSeated}
+use Rattle.assignment.proofs.Charges.{cost_of-low}
+use Rattle.assignment.proofs.Raised.{Raises, Moves, raises_from, fair_now, free_now, tight_now, falls_along}
+use Rattle.assignment.proofs.seating.insert.Goals as goal
+
+-- charged prices and rents are no more than a free place's cost
+price_low : (t : Costs) (s : Seating) (free : List Place) → IsSeated (cost_of t) s free → 0 < length free → (q : ℕ) → q < vec_len s.seats → get_or s.prices.items q 0 ≤ UNABLE
+price_low t s free h some q lt =
+    omega (arith, h.fair_free.at q 0 (omega (arith, s.jobs.ok.0, h.jobs)) some, cost_of-low t (get_or s.jobs.items q 0) (get_or free 0 nowhere))
+
+rent_low : (t : Costs) (s : Seating) (free : List Place) → IsSeated (cost_of t) s free → 0 < length free → (c : ℕ) → c < vec_len s.seats → get_or s.rents.items c 0 ≤ UNABLE
+rent_low t s free h some c lt = omega (arith, h.tight.at c (omega (arith, s.seats.ok.0)), price_low t s free h some c lt)
+
+pub search_exit-requires-clause-rents_low : goal.search_exit-requires-clause-rents_low
+search_exit-requires-clause-rents_low c = rent_low c.args.costs.now c.args.seating.now c.args.free.now c.requires.seated c.requires.some
+
+pub raise_all-requires-clause-rents_low : goal.raise_all-requires-clause-rents_low
+raise_all-requires-clause-rents_low c = λ k lt. rent_low c.args.costs.now c.args.seating.now c.args.free.now c.requires.seated c.requires.some k (omega (arith, c.requires.seated.rents))
+
+pub raise_all-requires-clause-prices_low : goal.raise_all-requires-clause-prices_low
+raise_all-requires-clause-prices_low c = λ q lt.
+    let s = c.args.seating.now in
+    let n = vec_len s.seats in
+    let ep : c.push-2.new.self.items ≡ s.prices.items ++ 0 ∷ [] = (c.in_ok-push-2.ensures {u = tt}).items in
+    let len : vec_len c.push-2.new.self ≡ n + 1 = omega (arith, (c.in_ok-push-2.ensures {u = tt}).len, c.requires.seated.prices) in
+    let lp : length s.prices.items ≡ n = omega (arith, s.prices.ok.0, c.requires.seated.prices) in
+    elim (cases_eq q n) [
+      | inl e ↦ rw (ep, e, get_or_push s.prices.items 0 0 n lp) (omega arith)
+      | inr d ↦
+          let below : q < n = omega arith in
+          rw (ep, get_or_append_left s.prices.items (0 ∷ []) 0 q (omega arith)) (price_low c.args.costs.now s c.args.free.now c.requires.seated c.requires.some q below)
+    ]
+
+linked : (xs ys : List ℕ) (n v : ℕ) → ys ≡ set xs n v → n < length xs → ((k : ℕ) → k < n → get_or ys k 0 ≡ get_or xs k 0) × (get_or ys n 0 ≡ v)
+linked xs ys n v e lt = (λ k below. let ne : k ≢ n = omega arith in rw e (get_or-set_other xs n k v 0 ne), rw e (get_or-set_same xs n v 0 lt))
+
+seat_pushed : (xs ys : List Place) (n : ℕ) (v : Place) → ys ≡ xs ++ v ∷ [] → length xs ≡ n → ((k : ℕ) → k < n → get_or ys k nowhere ≡ get_or xs k nowhere) × (get_or ys n nowhere ≡ v)
+seat_pushed xs ys n v e l = (λ k below. rw e (get_or_append_left xs (v ∷ []) nowhere k (omega arith)), rw e (get_or_push xs v nowhere n l))
+
+pushed : (xs ys : List ℕ) (n v : ℕ) → ys ≡ xs ++ v ∷ [] → length xs ≡ n → ((k : ℕ) → k < n → get_or ys k 0 ≡ get_or xs k 0) × (get_or ys n 0 ≡ v)
+pushed xs ys n v e l = (λ k below. rw e (get_or_append_left xs (v ∷ []) 0 k (omega arith)), rw e (get_or_push xs v 0 n l))
+
+pub move_jobs-requires-clause-falling : goal.move_jobs-requires-clause-falling
+move_jobs-requires-clause-falling c =
+    let s = c.args.seating.now in
+    let x = c.in_ok-search.search in
+    let y = c.raise_all.new.seating in
+    let t = c.add_seat.new.seating in
+    let w = c.add_seat.new.search in
+    let n = vec_len s.seats in
+    let en : c.len-last.result ≡ n = c.len-last.ensures in
+    let ej : c.push.new.self.items ≡ s.jobs.items ++ c.args.job ∷ [] = (c.in_ok-push.ensures {u = tt}).items in
+    let ep : c.push-2.new.self.items ≡ s.prices.items ++ 0 ∷ [] = (c.in_ok-push-2.ensures {u = tt}).items in
+    let found = c.in_ok-search.ensures {u = tt} in
+    let added = c.in_ok-add_seat.ensures {u = tt} in
+    let up = c.raise_all.ensures in
+    let len : vec_len c.push-2.new.self ≡ n + 1 = omega (arith, (c.in_ok-push-2.ensures {u = tt}).len, c.requires.seated.prices) in
+    let h : Raises (cost_of c.args.costs.now) c.push.new.self.items c.push-2.new.self.items s.seats.items s.rents.items c.args.free.now x.lengths.items x.froms.items x.ranks.items y.prices.items y.rents.items x.exit x.settled n =
+    raises_from _ s.jobs.items s.prices.items _ _ _ _ _ _ _ _ _ _ _ _ n c.args.job ej ep (omega (arith, s.jobs.ok.0, c.requires.seated.jobs)) (omega (arith, s.prices.ok.0, c.requires.seated.prices)) (omega (arith, s.seats.ok.0))
+    c.requires.seated.fair c.requires.seated.fair_free c.requires.seated.tight found.searched found.finished.far
+    (λ q le. up.prices q (omega arith)) (λ k lt. up.rents k (omega (arith, c.requires.seated.rents))) in
+    let es : vec_len y.seats ≡ n = ap (λ (v : Vec Place). vec_len v) up.same.1 in
+    let ef : w.froms.items ≡ set x.froms.items n x.exit.from = added.froms ∙ ap (λ k. set x.froms.items k x.exit.from) es in
+    let er : w.ranks.items ≡ set x.ranks.items n x.settled = added.ranks ∙ ap (λ k. set x.ranks.items k x.settled) es in
+    let from = linked x.froms.items w.froms.items n x.exit.from ef (omega (arith, x.froms.ok.0, found.sizes.froms)) in
+    let rank = linked x.ranks.items w.ranks.items n x.settled er (omega (arith, x.ranks.ok.0, found.sizes.ranks)) in
+    rw en (falls_along h w.froms.items w.ranks.items from.0 from.1 rank.0 rank.1)
+
+pub returns-clause-seated : goal.returns-clause-seated
+returns-clause-seated c =
+    let s = c.args.seating.now in
+    let x = c.in_ok-search.search in
+    let y = c.raise_all.new.seating in
+    let t = c.add_seat.new.seating in
+    let w = c.add_seat.new.search in
+    let n = vec_len s.seats in
+    let en : c.len-last.result ≡ n = c.len-last.ensures in
+    let ej : c.push.new.self.items ≡ s.jobs.items ++ c.args.job ∷ [] = (c.in_ok-push.ensures {u = tt}).items in
+    let ep : c.push-2.new.self.items ≡ s.prices.items ++ 0 ∷ [] = (c.in_ok-push-2.ensures {u = tt}).items in
+    let found = c.in_ok-search.ensures {u = tt} in
+    let added = c.in_ok-add_seat.ensures {u = tt} in
+    let up = c.raise_all.ensures in
+    let len : vec_len c.push-2.new.self ≡ n + 1 = omega (arith, (c.in_ok-push-2.ensures {u = tt}).len, c.requires.seated.prices) in
+    let h : Raises (cost_of c.args.costs.now) c.push.new.self.items c.push-2.new.self.items s.seats.items s.rents.items c.args.free.now x.lengths.items x.froms.items x.ranks.items y.prices.items y.rents.items x.exit x.settled n =
+    raises_from _ s.jobs.items s.prices.items _ _ _ _ _ _ _ _ _ _ _ _ n c.args.job ej ep (omega (arith, s.jobs.ok.0, c.requires.seated.jobs)) (omega (arith, s.prices.ok.0, c.requires.seated.prices)) (omega (arith, s.seats.ok.0))
+    c.requires.seated.fair c.requires.seated.fair_free c.requires.seated.tight found.searched found.finished.far
+    (λ q le. up.prices q (omega arith)) (λ k lt. up.rents k (omega (arith, c.requires.seated.rents))) in
+    let es : vec_len y.seats ≡ n = ap (λ (v : Vec Place). vec_len v) up.same.1 in
+    let ef : w.froms.items ≡ set x.froms.items n x.exit.from = added.froms ∙ ap (λ k. set x.froms.items k x.exit.from) es in
+    let er : w.ranks.items ≡ set x.ranks.items n x.settled = added.ranks ∙ ap (λ k. set x.ranks.items k x.settled) es in
+    let from = linked x.froms.items w.froms.items n x.exit.from ef (omega (arith, x.froms.ok.0, found.sizes.froms)) in
+    let rank = linked x.ranks.items w.ranks.items n x.settled er (omega (arith, x.ranks.ok.0, found.sizes.ranks)) in
+    let z = c.move_jobs.new.seating in
+    let last = c.move_jobs.ensures in
+    let jobs_is : t.jobs.items ≡ c.push.new.self.items = ap (λ (v : Vec ℕ). v.items) (added.same.0 ∙ up.same.0) in
+    let prices_is : t.prices.items ≡ y.prices.items = ap (λ (v : Vec ℕ). v.items) added.same.1 in
+    let at = get_or c.args.free.now x.exit.place nowhere in
+    let seat = seat_pushed s.seats.items t.seats.items n at (added.seats ∙ ap (λ (v : Vec Place). v.items ++ at ∷ []) up.same.1) (omega (arith, s.seats.ok.0)) in
+    let rent = pushed y.rents.items t.rents.items n 0 added.rents (omega (arith, y.rents.ok.0, up.sizes.rents, es)) in
+    let m : Moves (cost_of c.args.costs.now) c.push.new.self.items c.push-2.new.self.items s.seats.items s.rents.items c.args.free.now x.lengths.items x.froms.items x.ranks.items y.prices.items y.rents.items t.seats.items t.rents.items w.froms.items w.ranks.items z.jobs.items z.prices.items x.exit x.settled n = record {
+      raised = h;
+      room = found.finished.room;
+      seat = seat.0;
+      seat_new = seat.1;
+      rent = rent.0;
+      rent_new = rent.1;
+      from = from.0;
+      from_new = from.1;
+      rank = rank.0;
+      rank_new = rank.1;
+      moved = λ k le. rw (jobs_is, prices_is, en) at (last.moved k (omega (arith, en)));
+    } in
+    let seats_is : z.seats.items ≡ t.seats.items = ap (λ (v : Vec Place). v.items) last.same.0 in
+    let rents_is : z.rents.items ≡ t.rents.items = ap (λ (v : Vec ℕ). v.items) last.same.1 in
+    let seats_len : vec_len z.seats ≡ n + 1 = omega (arith, ap (λ (v : Vec Place). vec_len v) last.same.0, added.seats_len, es) in
+    let rents_len : vec_len z.rents ≡ n + 1 = omega (arith, ap (λ (v : Vec ℕ). vec_len v) last.same.1, added.rents_len, up.sizes.rents, es) in
+    let jobs_in : (q : ℕ) → q < length z.jobs.items → q ≤ n = λ q lt. omega (arith, z.jobs.ok.0, last.jobs_len, en) in
+    let seats_in : (k : ℕ) → k < length z.seats.items → k ≤ n = λ k lt. omega (arith, z.seats.ok.0, seats_len) in
+    record {
+      jobs = omega (arith, last.jobs_len, en, seats_len);
+      prices = omega (arith, last.prices_len, en, seats_len);
+      rents = omega (arith, rents_len, seats_len);
+      fair = record { at = λ q k lq lk. rw (seats_is, rents_is) (fair_now m q k (jobs_in q lq) (seats_in k lk)) };
+      fair_free = record { at = λ q f lq lf. omega (arith, free_now m q f (jobs_in q lq) lf) };
+      tight = record { at = λ k lk. rw (seats_is, rents_is) (tight_now m k (seats_in k lk)) };
+    }

@@ -1,0 +1,88 @@
+-- The search for the nearest free place: shortest ways from a new job over the seats, by Dijkstra's
+-- method (E. W. Dijkstra, A note on two problems in connexion with graphs, 1959).
+use Rattle.std.specs.Prelude.{◌≡◌, ◌≢◌, ◌⊎◌, ℕ, ◌+◌, ◌-◌, ◌<◌, ◌≤◌, List, Option, Some, None, length, slice_index, slice_index_or, sum_by, if◌then◌else◌, ◌==◌, vec_len}
+use Rattle.assignment.specs.declared.costs.Costs.{Costs}
+use Rattle.assignment.specs.declared.costs.Place.{Place}
+use Rattle.assignment.specs.declared.costs.TheConstants.{UNABLE}
+use Rattle.assignment.specs.declared.search.Exit.{Exit}
+use Rattle.assignment.specs.declared.search.Search.{Search}
+use Rattle.assignment.specs.declared.search.TheConstants.{UNSETTLED, FAR}
+use Rattle.assignment.specs.declared.seating.Seating.{Seating}
+use Rattle.assignment.specs.Costs.{cost_of, nowhere}
+
+-- r is the place of the least length among the first n seats whose rank is `unsettled`
+abbrev pub IsNearestOf : List ℕ → List ℕ → ℕ → ℕ → Option ℕ → Type 0
+IsNearestOf lengths ranks unsettled n None = (k : ℕ) → k < n → slice_index ranks k ≢ unsettled
+IsNearestOf lengths ranks unsettled n (Some c) =
+    (c < n) × (slice_index ranks c ≡ unsettled) × ((k : ℕ) → k < n → slice_index ranks k ≡ unsettled → slice_index lengths c ≤ slice_index lengths k)
+
+abbrev pub IsNearest : List ℕ → List ℕ → ℕ → Option ℕ → Type 0
+IsNearest lengths ranks unsettled r = IsNearestOf lengths ranks unsettled (length ranks) r
+
+-- what a relaxed seat's length and origin become: `length` is the way over the seat `origin`
+abbrev pub IsRelaxed : (rank origin length old new from from' : ℕ) → Type 0
+IsRelaxed rank origin length old new from from' =
+    ((rank ≢ UNSETTLED) × (new ≡ old) × (from' ≡ from)) ⊎ ((rank ≡ UNSETTLED) × (length < old) × (new ≡ length) × (from' ≡ origin)) ⊎ ((rank ≡ UNSETTLED) × (old ≤ length) × (new ≡ old) × (from' ≡ from))
+
+abbrev pub IsExitOf : (cost : ℕ → Place → ℕ) (job price base q : ℕ) → List Place → Exit → Type 0
+IsExitOf cost job price base q free exit =
+    (exit.place < length free) × (exit.length ≡ base + (cost job (slice_index_or free exit.place nowhere) - price)) × (exit.from ≡ q)
+
+-- A search from a new job, the last of `jobs`, over n seats: how far each is, from which seat it was reached, and in
+-- which order seats were settled, `top` being the next rank.
+pub record IsSearched (cost : ℕ → Place → ℕ) (jobs prices : List ℕ) (seats : List Place) (rents : List ℕ) (free : List Place) (lengths froms ranks : List ℕ) (exit : Exit) (top n : ℕ) : Type 0 where
+  pub root : slice_index lengths n ≡ 0
+  pub root_rank : slice_index ranks n ≡ 0
+  pub top_above : 0 < top
+  pub ranked : (q : ℕ) → q ≤ n → slice_index ranks q ≢ UNSETTLED → slice_index ranks q < top
+  pub onward : (q c : ℕ) → q ≤ n → c < n → slice_index ranks q ≢ UNSETTLED → slice_index lengths c + slice_index prices q ≤ slice_index lengths q + (cost (slice_index jobs q) (slice_index_or seats c nowhere) + slice_index rents c)
+  pub out : (q f : ℕ) → q ≤ n → f < length free → slice_index ranks q ≢ UNSETTLED → exit.length + slice_index prices q ≤ slice_index lengths q + cost (slice_index jobs q) (slice_index_or free f nowhere)
+  pub ordered : (q c : ℕ) → q ≤ n → c < n → slice_index ranks q ≢ UNSETTLED → slice_index ranks c ≡ UNSETTLED → slice_index lengths q ≤ slice_index lengths c
+  pub within : (q : ℕ) → q ≤ n → slice_index ranks q ≢ UNSETTLED → slice_index lengths q ≤ exit.length
+  pub origin : (c : ℕ) → c < n → slice_index froms c ≤ n
+  pub falling : (c : ℕ) → c < n → slice_index ranks (slice_index froms c) < slice_index ranks c
+  pub origin_settled : (c : ℕ) → c < n → slice_index ranks (slice_index froms c) ≢ UNSETTLED
+  pub edge : (c : ℕ) → c < n → slice_index lengths c + slice_index prices (slice_index froms c) ≡ slice_index lengths (slice_index froms c) + (cost (slice_index jobs (slice_index froms c)) (slice_index_or seats c nowhere) + slice_index rents c)
+  pub near : exit.length ≤ UNABLE
+  pub exit_origin : exit.from ≤ n
+  pub exit_settled : slice_index ranks exit.from ≢ UNSETTLED
+  pub exit_place : exit.place < length free
+  pub exit_edge : exit.length + slice_index prices exit.from ≡ slice_index lengths exit.from + cost (slice_index jobs exit.from) (slice_index_or free exit.place nowhere)
+
+-- the new job is the last of `jobs`, and has no seat yet
+pub record IsSized (s : Seating) (x : Search) : Type 0 where
+  pub jobs : vec_len s.jobs ≡ vec_len s.seats + 1
+  pub prices : vec_len s.prices ≡ vec_len s.seats + 1
+  pub rents : vec_len s.rents ≡ vec_len s.seats
+  pub lengths : vec_len x.lengths ≡ vec_len s.seats + 1
+  pub froms : vec_len x.froms ≡ vec_len s.seats + 1
+  pub ranks : vec_len x.ranks ≡ vec_len s.seats + 1
+
+abbrev pub SearchedFrom : Costs → Seating → List Place → Search → Type 0
+SearchedFrom t s free x = IsSearched (cost_of t) s.jobs.items s.prices.items s.seats.items s.rents.items free x.lengths.items x.froms.items x.ranks.items x.exit x.settled (vec_len s.seats)
+
+-- 1 for the rank of an unsettled seat, 0 for another
+abbrev pub open_of : ℕ → ℕ
+open_of r = if r == UNSETTLED then 1 else 0
+
+-- how many seats are unsettled
+unfoldable pub open_count : List ℕ → ℕ
+open_count ranks = sum_by open_of ranks
+
+-- no unsettled seat is nearer than the nearest free place
+pub record IsFinished (s : Seating) (x : Search) : Type 0 where
+  pub far : (c : ℕ) → c < vec_len s.seats → slice_index x.ranks.items c ≡ UNSETTLED → x.exit.length ≤ slice_index x.lengths.items c
+  pub room : x.settled < UNSETTLED
+
+-- a search from a new job at seat n before any way is taken
+pub record IsBlank (n : ℕ) (x : Search) : Type 0 where
+  pub lengths : vec_len x.lengths ≡ n + 1
+  pub froms : vec_len x.froms ≡ n + 1
+  pub ranks : vec_len x.ranks ≡ n + 1
+  pub far : (c : ℕ) → c < n → slice_index x.lengths.items c ≡ FAR
+  pub root : slice_index x.lengths.items n ≡ 0
+  pub unsettled : (c : ℕ) → c < n → slice_index x.ranks.items c ≡ UNSETTLED
+  pub root_rank : slice_index x.ranks.items n ≡ 0
+  pub far_exit : x.exit.length ≡ FAR
+  pub settled : x.settled ≡ 1
+  pub counted : open_count x.ranks.items ≤ n

@@ -1,0 +1,37 @@
+-- Jobs in seats, with prices and rents: a seat is a used place, its rent is what its price is below 0.
+use Rattle.std.specs.Prelude.{◌≡◌, ◌≢◌, ◌⊎◌, ℕ, ◌+◌, ◌<◌, ◌≤◌, List, [], length, slice_index, slice_index_or, vec_len}
+use Rattle.assignment.specs.declared.costs.Place.{Place}
+use Rattle.assignment.specs.declared.seating.Seating.{Seating}
+use Rattle.assignment.specs.Costs.{nowhere}
+
+-- each job q of the list is charged at most what any of the places costs it together with the place's rent;
+-- a place past the end of `rents` has the rent 0
+pub record IsFair (cost : ℕ → Place → ℕ) (jobs prices : List ℕ) (places : List Place) (rents : List ℕ) : Type 0 where
+  pub at : (q c : ℕ) → q < length jobs → c < length places → slice_index prices q ≤ cost (slice_index jobs q) (slice_index_or places c nowhere) + slice_index rents c
+
+-- the job that sits at c is charged exactly what its place costs it together with the rent
+pub record IsTight (cost : ℕ → Place → ℕ) (jobs prices : List ℕ) (places : List Place) (rents : List ℕ) : Type 0 where
+  pub at : (c : ℕ) → c < length places → slice_index prices c ≡ cost (slice_index jobs c) (slice_index_or places c nowhere) + slice_index rents c
+
+-- jobs in seats with prices and rents that are fair also towards the free places
+pub record IsSeated (cost : ℕ → Place → ℕ) (s : Seating) (free : List Place) : Type 0 where
+  pub jobs : vec_len s.jobs ≡ vec_len s.seats
+  pub prices : vec_len s.prices ≡ vec_len s.seats
+  pub rents : vec_len s.rents ≡ vec_len s.seats
+  pub fair : IsFair cost s.jobs.items s.prices.items s.seats.items s.rents.items
+  pub fair_free : IsFair cost s.jobs.items s.prices.items free []
+  pub tight : IsTight cost s.jobs.items s.prices.items s.seats.items s.rents.items
+
+-- there is one job more than seats, the last one, which is charged nothing yet
+pub record HasNewJob (s : Seating) : Type 0 where
+  pub jobs : vec_len s.jobs ≡ vec_len s.seats + 1
+  pub prices : vec_len s.prices ≡ vec_len s.seats + 1
+  pub rents : vec_len s.rents ≡ vec_len s.seats
+  pub uncharged : slice_index s.prices.items (vec_len s.seats) ≡ 0
+
+-- seat c holds the job that it held, or the one of the seat from which it was reached,
+-- and then it was reached no later than the last seat
+abbrev pub AreMoved : (jobs jobs' prices prices' froms ranks : List ℕ) → ℕ → ℕ → Type 0
+AreMoved jobs jobs' prices prices' froms ranks last c =
+    ((slice_index jobs' c ≡ slice_index jobs c) × (slice_index prices' c ≡ slice_index prices c) × (c ≢ last))
+    ⊎ ((slice_index jobs' c ≡ slice_index jobs (slice_index froms c)) × (slice_index prices' c ≡ slice_index prices (slice_index froms c)) × (slice_index ranks c ≤ slice_index ranks last))

@@ -1,0 +1,10 @@
+//! Finds a best way to print the jobs of a class, with fair prices that prove it best.
+//!
+//! It promises a way of the class, fair prices and the stated total, whenever each job has a device
+//! that is able; want of memory is the only refusal. It doesn't promise speed, nor which of several
+//! best ways it finds.
+#![tactic(auto)]
+
+mod costs;
+mod search;
+mod seating;

@@ -1,0 +1,242 @@
+ghost use Rattle.std.specs.Prelude.{◌≡◌, ◌≢◌, ℕ, ◌+◌, ◌-◌, ◌<◌, ◌≤◌, ◌⊎◌, length, slice_index, slice_index_or, slice_set, vec_len, [], IfOk};
+ghost use Rattle.assignment.specs.Costs.{cost_of, nowhere};
+ghost use Rattle.assignment.specs.Seating.{IsFair, HasNewJob};
+ghost use Rattle.assignment.specs.Search.{IsNearest, IsRelaxed, IsExitOf, IsSized, SearchedFrom, IsBlank, IsFinished, open_count};
+
+use crate::costs::{Costs, Place, UNABLE, cost};
+use crate::seating::Seating;
+use std::alloc::{AllocError, Global};
+
+pub(crate) const UNSETTLED: usize = usize::MAX;
+
+/// Farther than any seat.
+const FAR: u64 = 4 * UNABLE;
+
+/// The nearest free place: how far, which one, and the seat from which it is reached.
+#[derive(Clone, Copy, Debug)]
+pub(crate) struct Exit {
+    pub(crate) length: u64,
+    pub(crate) place: usize,
+    pub(crate) from: usize,
+}
+
+#[derive(Debug, Drop)]
+pub(crate) struct Search {
+    pub(crate) lengths: Vec<u64>,
+    pub(crate) froms: Vec<usize>,
+    pub(crate) ranks: Vec<usize>,
+    pub(crate) exit: Exit,
+    pub(crate) settled: usize,
+}
+
+/// A search from the new job, before any way is taken.
+fn blank(alloc: Global, new: usize, len: usize) -> Result<Search, AllocError>
+    requires { len ≡ new + 1 }
+    ensures { IfOk result (λ x. IsBlank new x) }
+{
+    let mut lengths = vec![in alloc; FAR; len]?;
+    lengths[new] = 0;
+    let froms = vec![in alloc; new; len]?;
+    let mut ranks = vec![in alloc; UNSETTLED; len]?;
+    ranks[new] = 0;
+    let exit = Exit {
+        length: FAR,
+        place: 0,
+        from: new,
+    };
+    Ok(Search {
+        lengths,
+        froms,
+        ranks,
+        exit,
+        settled: 1,
+    })
+}
+
+/// The search with the new job's own ways taken.
+fn begin(
+    alloc: Global,
+    costs: &Costs,
+    seating: &Seating,
+    free: &[Place],
+) -> Result<Search, AllocError>
+    requires new_job { HasNewJob seating.now }
+    requires rents_low { (k : ℕ) → k < vec_len seating.now.seats → slice_index seating.now.rents.items k ≤ UNABLE }
+    requires some { 0 < length free.now }
+    ensures sizes { IfOk result (λ x. IsSized seating.now x) }
+    ensures searched { IfOk result (λ x. SearchedFrom costs.now seating.now free.now x) }
+    ensures counted { IfOk result (λ x. x.settled + open_count x.ranks.items ≤ vec_len x.ranks) }
+{
+    let new = seating.seats.len();
+    let mut search = blank(alloc, new, seating.jobs.len())?;
+    relax(costs, seating, &mut search, new);
+    leave(costs, seating, free, &mut search, new);
+    Ok(search)
+}
+
+/// The shortest ways from the new job, as far as the nearest free place.
+pub(crate) fn search_exit(
+    alloc: Global,
+    costs: &Costs,
+    seating: &Seating,
+    free: &[Place],
+) -> Result<Search, AllocError>
+    requires new_job { HasNewJob seating.now }
+    requires fair { IsFair (cost_of costs.now) seating.now.jobs.items seating.now.prices.items seating.now.seats.items seating.now.rents.items }
+    requires fair_free { IsFair (cost_of costs.now) seating.now.jobs.items seating.now.prices.items free.now [] }
+    requires rents_low { (k : ℕ) → k < vec_len seating.now.seats → slice_index seating.now.rents.items k ≤ UNABLE }
+    requires some { 0 < length free.now }
+    ensures sizes { IfOk result (λ x. IsSized seating.now x) }
+    ensures searched { IfOk result (λ x. SearchedFrom costs.now seating.now free.now x) }
+    ensures finished { IfOk result (λ x. IsFinished seating.now x) }
+{
+    let mut search = begin(alloc, costs, seating, free)?;
+    'settling: loop {
+        match nearest(&search.lengths, &search.ranks, UNSETTLED) {
+            Some(c) => {
+                if search.exit.length <= search.lengths[c] {
+                    return Ok(search);
+                }
+                settle(costs, seating, free, &mut search, c);
+            }
+            None => return Ok(search),
+        }
+    }
+}
+
+/// The unsettled seat with the least length.
+fn nearest(lengths: &[u64], ranks: &[usize], unsettled: usize) -> Option<usize>
+    requires covered { length ranks.now ≤ length lengths.now }
+    ensures { IsNearest lengths.now ranks.now unsettled result }
+{
+    let mut best: Option<usize> = None;
+    for (c, rank) in ranks.iter().enumerate() {
+        if *rank == unsettled {
+            match best {
+                Some(b) if lengths[b] <= lengths[c] => {}
+                _ => best = Some(c),
+            }
+        }
+    }
+    best
+}
+
+/// Settles the nearest seat `c`, and takes the ways of its job.
+fn settle(costs: &Costs, seating: &Seating, free: &[Place], search: &mut Search, c: usize)
+    requires sizes { IsSized seating.now search.old }
+    requires fair { IsFair (cost_of costs.now) seating.now.jobs.items seating.now.prices.items seating.now.seats.items seating.now.rents.items }
+    requires fair_free { IsFair (cost_of costs.now) seating.now.jobs.items seating.now.prices.items free.now [] }
+    requires rents_low { (k : ℕ) → k < vec_len seating.now.seats → slice_index seating.now.rents.items k ≤ UNABLE }
+    requires searched { SearchedFrom costs.now seating.now free.now search.old }
+    requires here { c < vec_len seating.now.seats }
+    requires unsettled { slice_index search.old.ranks.items c ≡ UNSETTLED }
+    requires least { (k : ℕ) → k < vec_len seating.now.seats → slice_index search.old.ranks.items k ≡ UNSETTLED
+        → slice_index search.old.lengths.items c ≤ slice_index search.old.lengths.items k }
+    requires nearer { slice_index search.old.lengths.items c < search.old.exit.length }
+    requires room { search.old.settled < UNSETTLED }
+    ensures sizes { IsSized seating.now search.new }
+    ensures searched { SearchedFrom costs.now seating.now free.now search.new }
+    ensures ranks { search.new.ranks.items ≡ slice_set search.old.ranks.items c search.old.settled }
+    ensures settled { search.new.settled ≡ search.old.settled + 1 }
+{
+    search.ranks[c] = search.settled;
+    search.settled += 1;
+    relax(costs, seating, search, c);
+    leave(costs, seating, free, search, c);
+}
+
+/// Shortens the lengths of the unsettled seats that are nearer by way of the job at `q`.
+fn relax(costs: &Costs, seating: &Seating, search: &mut Search, q: usize)
+    requires sizes { IsSized seating.now search.old }
+    requires here { q ≤ vec_len seating.now.seats }
+    requires near { slice_index search.old.lengths.items q ≤ UNABLE }
+    requires settled { slice_index search.old.ranks.items q ≢ UNSETTLED }
+    requires rents_low { (c : ℕ) → c < vec_len seating.now.seats → slice_index seating.now.rents.items c ≤ UNABLE }
+    requires fair { (c : ℕ) → c < vec_len seating.now.seats
+        → slice_index seating.now.prices.items q ≤ cost_of costs.now (slice_index seating.now.jobs.items q) (slice_index_or seating.now.seats.items c nowhere) + slice_index seating.now.rents.items c }
+    ensures sizes { IsSized seating.now search.new }
+    ensures same { (search.new.ranks ≡ search.old.ranks) × (search.new.exit ≡ search.old.exit) × (search.new.settled ≡ search.old.settled) }
+    ensures relaxed { (c : ℕ) → c < vec_len seating.now.seats
+        → IsRelaxed (slice_index search.old.ranks.items c) q
+        (slice_index search.old.lengths.items q + (cost_of costs.now (slice_index seating.now.jobs.items q) (slice_index_or seating.now.seats.items c nowhere) + slice_index seating.now.rents.items c - slice_index seating.now.prices.items q))
+        (slice_index search.old.lengths.items c) (slice_index search.new.lengths.items c) (slice_index search.old.froms.items c) (slice_index search.new.froms.items c) }
+    ensures rest { slice_index search.new.lengths.items (vec_len seating.now.seats) ≡ slice_index search.old.lengths.items (vec_len seating.now.seats) }
+{
+    let job = seating.jobs[q];
+    let price = seating.prices[q];
+    let base = search.lengths[q];
+    let row = costs.row(job);
+    for c in 0..seating.seats.len() {
+        let length = base + (cost(&costs.waits, row, seating.seats[c]) + seating.rents[c] - price);
+        take_way(search, c, length, q);
+    }
+}
+
+/// Reaches the seat `c` by way of `q`, over the given length, where it is unsettled and that is shorter.
+fn take_way(search: &mut Search, c: usize, length: u64, q: usize)
+    requires lengths_in { c < vec_len search.old.lengths }
+    requires froms_in { c < vec_len search.old.froms }
+    requires ranks_in { c < vec_len search.old.ranks }
+    ensures sizes { (vec_len search.new.lengths ≡ vec_len search.old.lengths) × (vec_len search.new.froms ≡ vec_len search.old.froms) }
+    ensures same { (search.new.ranks ≡ search.old.ranks) × (search.new.exit ≡ search.old.exit) × (search.new.settled ≡ search.old.settled) }
+    ensures relaxed { IsRelaxed (slice_index search.old.ranks.items c) q length
+        (slice_index search.old.lengths.items c) (slice_index search.new.lengths.items c) (slice_index search.old.froms.items c) (slice_index search.new.froms.items c) }
+    ensures others { (k : ℕ) → k ≢ c
+        → (slice_index search.new.lengths.items k ≡ slice_index search.old.lengths.items k) × (slice_index search.new.froms.items k ≡ slice_index search.old.froms.items k) }
+{
+    if search.ranks[c] == UNSETTLED && length < search.lengths[c] {
+        search.lengths[c] = length;
+        search.froms[c] = q;
+    }
+}
+
+/// Takes the nearest free place by way of the job at `q`, where it is nearer.
+fn leave(costs: &Costs, seating: &Seating, free: &[Place], search: &mut Search, q: usize)
+    requires sizes { IsSized seating.now search.old }
+    requires here { q ≤ vec_len seating.now.seats }
+    requires near { slice_index search.old.lengths.items q ≤ UNABLE }
+    requires fair { (f : ℕ) → f < length free.now
+        → slice_index seating.now.prices.items q ≤ cost_of costs.now (slice_index seating.now.jobs.items q) (slice_index_or free.now f nowhere) }
+    ensures same { search.new ≡ record search.old { exit = search.new.exit } }
+    ensures nearer { search.new.exit.length ≤ search.old.exit.length }
+    ensures every { (f : ℕ) → f < length free.now
+        → search.new.exit.length ≤ slice_index search.old.lengths.items q + (cost_of costs.now (slice_index seating.now.jobs.items q) (slice_index_or free.now f nowhere) - slice_index seating.now.prices.items q) }
+    ensures edge { (search.new.exit ≡ search.old.exit)
+        ⊎ IsExitOf (cost_of costs.now) (slice_index seating.now.jobs.items q) (slice_index seating.now.prices.items q) (slice_index search.old.lengths.items q) q free.now search.new.exit }
+{
+    let job = seating.jobs[q];
+    let price = seating.prices[q];
+    let base = search.lengths[q];
+    search.exit = nearest_free(costs, job, price, base, q, free, search.exit);
+}
+
+fn nearest_free(
+    costs: &Costs,
+    job: usize,
+    price: u64,
+    base: u64,
+    q: usize,
+    free: &[Place],
+    exit: Exit,
+) -> Exit
+    requires near { base ≤ UNABLE }
+    requires fair { (f : ℕ) → f < length free.now → price ≤ cost_of costs.now job (slice_index_or free.now f nowhere) }
+    ensures nearer { result.length ≤ exit.length }
+    ensures every { (f : ℕ) → f < length free.now
+        → result.length ≤ base + (cost_of costs.now job (slice_index_or free.now f nowhere) - price) }
+    ensures edge { (result ≡ exit) ⊎ IsExitOf (cost_of costs.now) job price base q free.now result }
+{
+    let row = costs.row(job);
+    let mut best = exit;
+    for (place, at) in free.iter().enumerate() {
+        let length = base + (cost(&costs.waits, row, *at) - price);
+        if length < best.length {
+            best = Exit {
+                length,
+                place,
+                from: q,
+            };
+        }
+    }
+    best
+}
