@@ -1,3 +1,4 @@
 pub mod Costs
 pub mod Seating
 pub mod Search
+pub mod Layout

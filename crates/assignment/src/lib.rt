@@ -6,5 +6,7 @@
 #![tactic(auto)]
 
 mod costs;
+mod order;
 mod search;
 mod seating;
+mod solver;

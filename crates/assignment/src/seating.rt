@@ -1,10 +1,10 @@
 ghost use Rattle.std.specs.Prelude.{◌≡◌, ◌≢◌, ℕ, ◌+◌, ◌-◌, ◌<◌, ◌≤◌, length, slice_index, slice_index_or, slice_set, vec_len, [], ◌∷◌, ◌++◌, IfOk, OnOk};
 ghost use Rattle.std.specs.List.Sorted.{IsPermutation};
 ghost use Rattle.assignment.specs.Costs.{cost_of, nowhere};
-ghost use Rattle.assignment.specs.Seating.{AreMoved, IsSeated};
+ghost use Rattle.assignment.specs.Seating.{AreMoved, IsFair, IsSeated};
 ghost use Rattle.assignment.specs.Search.{IsSized};
 
-use crate::costs::{Costs, Place, UNABLE};
+use crate::costs::{Costs, Place, UNABLE, cost};
 use crate::search::{Search, search_exit};
 use std::alloc::{AllocError, Global};
 
@@ -146,4 +146,75 @@ fn shift(jobs: &mut [usize], prices: &mut [u64], froms: &[usize], ranks: &[usize
         empty = from;
         from = froms[empty];
     }
+}
+
+/// Raises all prices and rents alike, as far as the free places allow: the next job then finds its
+/// place after fewer steps.
+pub(crate) fn lift(costs: &Costs, seating: &mut Seating, free: &[Place])
+    requires seated { IsSeated (cost_of costs.now) seating.old free.now }
+    requires some { 0 < length free.now }
+    ensures seated { IsSeated (cost_of costs.now) seating.new free.now }
+    ensures same { (seating.new.jobs ≡ seating.old.jobs) × (seating.new.seats ≡ seating.old.seats) }
+{
+    let more = slack(costs, seating, free);
+    lift_by(seating, more);
+}
+
+/// Adds the same to all prices and rents.
+fn lift_by(seating: &mut Seating, more: u64)
+    requires prices_low { (q : ℕ) → q < vec_len seating.old.prices → slice_index seating.old.prices.items q ≤ UNABLE }
+    requires rents_low { (c : ℕ) → c < vec_len seating.old.rents → slice_index seating.old.rents.items c ≤ UNABLE }
+    requires more_low { more ≤ UNABLE }
+    ensures same { (seating.new.jobs ≡ seating.old.jobs) × (seating.new.seats ≡ seating.old.seats) }
+    ensures prices_len { vec_len seating.new.prices ≡ vec_len seating.old.prices }
+    ensures rents_len { vec_len seating.new.rents ≡ vec_len seating.old.rents }
+    ensures prices { (q : ℕ) → q < vec_len seating.old.prices
+        → slice_index seating.new.prices.items q ≡ slice_index seating.old.prices.items q + more }
+    ensures rents { (c : ℕ) → c < vec_len seating.old.rents
+        → slice_index seating.new.rents.items c ≡ slice_index seating.old.rents.items c + more }
+{
+    add_to_each(&mut seating.prices, more);
+    add_to_each(&mut seating.rents, more);
+}
+
+/// Adds the same to each value.
+fn add_to_each(values: &mut [u64], more: u64)
+    requires low { (c : ℕ) → c < length values.old → slice_index values.old c ≤ UNABLE }
+    requires more_low { more ≤ UNABLE }
+    ensures len { length values.new ≡ length values.old }
+    ensures added { (c : ℕ) → c < length values.old → slice_index values.new c ≡ slice_index values.old c + more }
+{
+    for value in values.iter_mut() {
+        *value += more;
+    }
+}
+
+/// By how much all prices may rise before one is above what a free place costs.
+fn slack(costs: &Costs, seating: &Seating, free: &[Place]) -> u64
+    requires jobs { vec_len seating.now.jobs ≡ vec_len seating.now.seats }
+    requires prices { vec_len seating.now.prices ≡ vec_len seating.now.seats }
+    requires fair { IsFair (cost_of costs.now) seating.now.jobs.items seating.now.prices.items free.now [] }
+    ensures low { result ≤ UNABLE }
+    ensures every { (q f : ℕ) → q < vec_len seating.now.seats → f < length free.now
+        → slice_index seating.now.prices.items q + result ≤ cost_of costs.now (slice_index seating.now.jobs.items q) (slice_index_or free.now f nowhere) }
+{
+    let mut least = UNABLE;
+    for q in 0..seating.seats.len() {
+        least = least.min(room(costs, seating.jobs[q], seating.prices[q], free));
+    }
+    least
+}
+
+/// By how much the price of a job may rise before it is above what a free place costs it.
+fn room(costs: &Costs, job: usize, price: u64, free: &[Place]) -> u64
+    requires fair { (f : ℕ) → f < length free.now → price ≤ cost_of costs.now job (slice_index_or free.now f nowhere) }
+    ensures every { (f : ℕ) → f < length free.now
+        → price + result ≤ cost_of costs.now job (slice_index_or free.now f nowhere) }
+{
+    let row = costs.row(job);
+    let mut least = UNABLE;
+    for place in free {
+        least = least.min(cost(&costs.waits, row, *place) - price);
+    }
+    least
 }

@@ -3,22 +3,10 @@ use Rattle.std.specs.Global.{Vec}
 use Rattle.std.proofs.lemmas.Bool.{cases_eq}
 use Rattle.std.proofs.lemmas.List.{get_or_push, get_or_append_left, get_or-set_same, get_or-set_other}
 use Rattle.assignment.specs.declared.costs.Place.{Place}
-use Rattle.assignment.specs.declared.seating.Seating.{Seating}
-use Rattle.assignment.specs.declared.costs.Costs.{Costs}
-use Rattle.assignment.specs.declared.costs.TheConstants.{UNABLE}
 use Rattle.assignment.specs.Costs.{cost_of, nowhere}
-use Rattle.assignment.specs.Seating.{IsSeated}
-use Rattle.assignment.proofs.Charges.{cost_of-low}
 use Rattle.assignment.proofs.Raised.{Raises, Moves, raises_from, fair_now, free_now, tight_now, falls_along}
+use Rattle.assignment.proofs.Bounds.{price_low, rent_low}
 use Rattle.assignment.proofs.seating.insert.Goals as goal
-
--- charged prices and rents are no more than a free place's cost
-price_low : (t : Costs) (s : Seating) (free : List Place) → IsSeated (cost_of t) s free → 0 < length free → (q : ℕ) → q < vec_len s.seats → get_or s.prices.items q 0 ≤ UNABLE
-price_low t s free h some q lt =
-    omega (arith, h.fair_free.at q 0 (omega (arith, s.jobs.ok.0, h.jobs)) some, cost_of-low t (get_or s.jobs.items q 0) (get_or free 0 nowhere))
-
-rent_low : (t : Costs) (s : Seating) (free : List Place) → IsSeated (cost_of t) s free → 0 < length free → (c : ℕ) → c < vec_len s.seats → get_or s.rents.items c 0 ≤ UNABLE
-rent_low t s free h some c lt = omega (arith, h.tight.at c (omega (arith, s.seats.ok.0)), price_low t s free h some c lt)
 
 pub search_exit-requires-clause-rents_low : goal.search_exit-requires-clause-rents_low
 search_exit-requires-clause-rents_low c = rent_low c.args.costs.now c.args.seating.now c.args.free.now c.requires.seated c.requires.some

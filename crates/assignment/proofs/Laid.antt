@@ -1,0 +1,151 @@
+-- The places of each device are its last ones.
+use Rattle.std.proofs.Common.{◌≡◌, ◌≢◌, ℕ, ◌+◌, ◌<◌, ◌≤◌, zero, suc, add-one, cond, eqb, List, [], ◌∷◌, ◌++◌, length, vec_len, get_or, set, take, drop, ◌^◌, Option, Some, None, ap, sym, inl, inr, ◌∙◌, refl, arith}
+use Rattle.std.proofs.lemmas.Bool.{cases_eq}
+use Rattle.std.proofs.lemmas.Bool.Decides.{nat_tests}
+use Rattle.std.proofs.Math.Nat.{mul-le-mul_left}
+use Rattle.std.specs.List.{range_with_len}
+use Rattle.std.proofs.Math.Seq.{take-length}
+use Rattle.std.proofs.lemmas.List.{get_or_push, get_or_append_left, get_or-set_same, get_or-set_other, take-append-le, length_push}
+use Rattle.std.proofs.lemmas.List.Sums.{sum_by_push, count_by-le-length}
+use Rattle.std.proofs.Math.ListN.{length-set}
+use Rattle.assignment.specs.declared.costs.Costs.{Costs}
+use Rattle.assignment.specs.declared.costs.Place.{Place}
+use Rattle.assignment.specs.declared.costs.TheConstants.{UNABLE}
+use Rattle.assignment.specs.declared.seating.Seating.{Seating}
+use Rattle.assignment.specs.Costs.{cost_of, cost_at, cost_with, row_of, nowhere}
+use Rattle.assignment.specs.Seating.{IsFair, IsSeated}
+use Rattle.assignment.specs.Layout.{taken, IsFilled, IsLaid, ShowsNext, place_before}
+
+abbrev before_of : ℕ → ℕ → Place
+before_of device after = record { device = device; after = after }
+
+abbrev pub on : ℕ → Place → ℕ
+on device place = cond (eqb place.device device) 1 0
+
+pub on-same : (device : ℕ) (place : Place) → place.device ≡ device → on device place ≡ 1
+on-same device place e = grind (arith, nat_tests)
+
+pub on-other : (device : ℕ) (place : Place) → place.device ≢ device → on device place ≡ 0
+on-other device place ne = grind (arith, nat_tests)
+
+pub taken-push : (device : ℕ) (place : Place) (places : List Place) → taken device (places ++ place ∷ []) ≡ taken device places + on device place
+unfolding taken
+taken-push device place places = sum_by_push (on device) places place
+
+pub taken-le : (device : ℕ) (places : List Place) → taken device places ≤ length places
+unfolding taken
+taken-le device places = count_by-le-length (λ place. eqb place.device device) places
+
+pub taken-none : (device : ℕ) → taken device [] ≡ 0
+unfolding taken
+taken-none device = refl
+
+pub laid_now : (devices f : ℕ) (seats free seats' : List Place) → IsLaid devices seats → ShowsNext devices seats free → f < devices → seats' ≡ seats ++ get_or free f nowhere ∷ [] → IsLaid devices seats'
+laid_now devices f seats free seats' h show lt es =
+    let x = get_or free f nowhere in
+    let next = show.next f lt in
+    let new : get_or (seats ++ x ∷ []) (length seats) nowhere ≡ x = get_or_push seats x nowhere (length seats) refl in
+    let whole : take (length seats) (seats ++ x ∷ []) ≡ seats = take-append-le (length seats) seats (x ∷ []) (omega arith) ∙ take-length seats in
+    record {
+      known = λ c below. elim (cases_eq c (length seats)) [
+        | inl e ↦ rw (es, e, new, next) lt
+        | inr ne ↦
+            let before : c < length seats = omega (arith, below, ap length es, length_push seats x) in
+            rw (es, get_or_append_left seats (x ∷ []) nowhere c before) (h.known c before)
+      ];
+      places = λ c below. elim (cases_eq c (length seats)) [
+        | inl e ↦ rw (es, e, new, whole, next) refl
+        | inr ne ↦
+            let before : c < length seats = omega (arith, below, ap length es, length_push seats x) in
+            let front : take c (seats ++ x ∷ []) ≡ take c seats = take-append-le c seats (x ∷ []) (omega arith) in
+            rw (es, get_or_append_left seats (x ∷ []) nowhere c before, front) (h.places c before)
+      ];
+    }
+
+pub shows_now : (devices f : ℕ) (seats free seats' free' : List Place) → ShowsNext devices seats free → f < devices → seats' ≡ seats ++ get_or free f nowhere ∷ [] → free' ≡ set free f (place_before (get_or free f nowhere)) → ShowsNext devices seats' free'
+shows_now devices f seats free seats' free' show lt es ef =
+    let x = get_or free f nowhere in
+    let next = show.next f lt in
+    record {
+      one_each = rw (ef, length-set) show.one_each;
+      next = λ d below. elim (cases_eq d f) [
+        | inl e ↦ rw (es, ef, e, taken-push, on-same f x (ap (λ (p : Place). p.device) next), get_or-set_same free f (place_before x) nowhere (omega (arith, lt, show.one_each)), next) refl
+        | inr ne ↦ rw (es, ef, taken-push, on-other d x (λ e. ne (sym e ∙ ap (λ (p : Place). p.device) next)), get_or-set_other free f d (place_before x) nowhere ne) (show.next d below ∙ ap (λ (t : ℕ). before_of d t) (omega arith))
+      ];
+    }
+
+-- a place before another costs no less
+rises_with : (time : Option ℕ) (wait after : ℕ) → cost_with time wait after ≤ cost_with time wait (after + 1)
+rises_with None wait after = omega arith
+rises_with (Some time) wait after = omega (arith, mul-le-mul_left time (let more : suc after ≤ suc (after + 1) = omega arith in more))
+
+pub rises : (costs : Costs) (job : ℕ) (place : Place) → cost_of costs job place ≤ cost_of costs job (place_before place)
+unfolding cost_at
+rises costs job place = rises_with (get_or (row_of costs job) place.device None) (get_or costs.waits.items place.device UNABLE) place.after
+
+pub fair_later : (costs : Costs) (f : ℕ) (jobs prices : List ℕ) (free free' : List Place) → IsFair (cost_of costs) jobs prices free [] → f < length free → free' ≡ set free f (place_before (get_or free f nowhere)) → IsFair (cost_of costs) jobs prices free' []
+fair_later costs f jobs prices free free' fair lt ef = record {
+  at = λ q d lq ld. elim (cases_eq d f) [
+    | inl e ↦ rw (ef, e, get_or-set_same free f (place_before (get_or free f nowhere)) nowhere lt) (omega (arith, fair.at q f lq lt, rises costs (get_or jobs q 0) (get_or free f nowhere)))
+    | inr ne ↦ rw (ef, get_or-set_other free f d (place_before (get_or free f nowhere)) nowhere ne) (fair.at q d lq (rw (← length-set free f (place_before (get_or free f nowhere)), ← ef) ld))
+  ];
+}
+
+pub laid_none : (devices : ℕ) (seats : List Place) → seats ≡ [] → IsLaid devices seats
+laid_none devices seats e = record {
+  known = λ c below. absurd (omega (arith, below, ap length e));
+  places = λ c below. absurd (omega (arith, below, ap length e));
+}
+
+pub shows_none : (devices : ℕ) (seats free : List Place) → seats ≡ [] → length free ≡ devices → ((d : ℕ) → d < devices → get_or free d nowhere ≡ record { device = d; after = 0 }) → ShowsNext devices seats free
+shows_none devices seats free e len places = record {
+  one_each = len;
+  next = λ d below. rw (e, taken-none) (places d below);
+}
+
+range-suc : (a n : ℕ) → range_with_len a (suc n) ≡ range_with_len a n ++ (a + n) ∷ []
+range-suc a zero = ap (λ (x : ℕ). x ∷ []) (omega arith)
+range-suc a (suc n) = ap (λ (l : List ℕ). a ∷ l) (range-suc (a + 1) n ∙ ap (λ (x : ℕ). range_with_len (a + 1) n ++ x ∷ []) (omega arith))
+
+pub range-push : (a n : ℕ) → range_with_len a (n + 1) ≡ range_with_len a n ++ (a + n) ∷ []
+range-push a n = rw add-one (range-suc a n)
+
+-- with other free places towards which prices are fair
+pub seated_with : (costs : Costs) (s : Seating) (free free' : List Place) → IsSeated (cost_of costs) s free → IsFair (cost_of costs) s.jobs.items s.prices.items free' [] → IsSeated (cost_of costs) s free'
+seated_with costs s free free' h fair = record {
+  jobs = h.jobs;
+  prices = h.prices;
+  rents = h.rents;
+  fair = h.fair;
+  fair_free = fair;
+  tight = h.tight;
+}
+
+-- no job in no seat
+pub seated_none : (costs : Costs) (s : Seating) (free : List Place) → s.seats.items ≡ [] → s.jobs.items ≡ [] → vec_len s.seats ≡ 0 → vec_len s.jobs ≡ 0 → vec_len s.prices ≡ 0 → vec_len s.rents ≡ 0 → IsSeated (cost_of costs) s free
+seated_none costs s free es ej ls lj lp lr = record {
+  jobs = omega arith;
+  prices = omega arith;
+  rents = omega arith;
+  fair = record { at = λ q k lq lk. absurd (omega (arith, lk, ap length es)) };
+  fair_free = record { at = λ q k lq lk. absurd (omega (arith, lq, ap length ej)) };
+  tight = record { at = λ k lk. absurd (omega (arith, lk, ap length es)) };
+}
+
+-- what a place shows can go up by one
+pub shown_low : (devices f : ℕ) (seats free : List Place) → ShowsNext devices seats free → f < devices → length seats < 2 ^ 63 → (get_or free f nowhere).after < 2 ^ 63
+shown_low devices f seats free show lt small = rw (show.next f lt) (omega (arith, taken-le f seats))
+
+-- the whole of a list that was lent
+pub lent_whole : (n : ℕ) (new old : List Place) → length new ≡ n → take n (new ++ drop (length new) old) ≡ new
+lent_whole n new old e = rw (← e) (take-append-le (length new) new (drop (length new) old) (omega arith) ∙ take-length new)
+
+-- the seating is filled, once its free places are the next ones
+pub filled_from : (costs : Costs) (s : Seating) (free : List Place) → IsSeated (cost_of costs) s free → IsLaid (vec_len costs.waits) s.seats.items → ShowsNext (vec_len costs.waits) s.seats.items free → IsFilled costs s
+filled_from costs s free h laid show = record {
+  seated = seated_with costs s free [] h (record { at = λ q k lq lk. absurd (omega (arith, lk)) });
+  laid = laid;
+  next = λ q d lq ld.
+      let at = h.fair_free.at q d (omega (arith, lq, h.jobs, s.jobs.ok.0)) (omega (arith, ld, show.one_each)) in
+      rw (← show.next d ld) (omega (arith, at));
+}

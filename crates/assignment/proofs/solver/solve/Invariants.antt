@@ -1,0 +1,14 @@
+use Rattle.std.proofs.Common.{vec_len, take}
+use Rattle.std.specs.List.Sorted.{IsPermutation}
+use Rattle.assignment.specs.Costs.{cost_of}
+use Rattle.assignment.specs.Seating.{IsSeated}
+use Rattle.assignment.specs.Layout.{IsLaid, ShowsNext}
+use Rattle.assignment.proofs.solver.solve.Given as goal
+
+abbrev pub invariant-loop-place : goal.invariant-loop-place
+invariant-loop-place l = record {
+  seated : IsSeated (cost_of l.costs) l.seating l.free.items;
+  laid : IsLaid (vec_len l.costs.waits) l.seating.seats.items;
+  shows : ShowsNext (vec_len l.costs.waits) l.seating.seats.items l.free.items;
+  all : IsPermutation (take l.place l.order.items) l.seating.jobs.items;
+}

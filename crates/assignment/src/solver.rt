@@ -1,0 +1,76 @@
+ghost use Rattle.std.specs.Prelude.{◌≡◌, ℕ, ◌<◌, [], ◌∷◌, ◌++◌, IfOk, OnOk, length, vec_len, slice_index_or, slice_set};
+ghost use Rattle.std.specs.List.{range_with_len};
+ghost use Rattle.std.specs.List.Sorted.{IsPermutation};
+ghost use Rattle.assignment.specs.Costs.{cost_of, nowhere};
+ghost use Rattle.assignment.specs.Seating.{IsSeated};
+ghost use Rattle.assignment.specs.Layout.{IsFilled, IsLaid, ShowsNext, place_before};
+
+use crate::costs::{Costs, Place};
+use crate::order::longest_first;
+use crate::seating::{Seating, insert, lift};
+use std::alloc::{AllocError, Global};
+
+/// Seats all jobs, one by one, where each device shows its next free place alone.
+pub(crate) fn solve(alloc: Global, costs: &Costs) -> Result<Seating, AllocError>
+    requires { 0 < vec_len costs.now.rows → 0 < vec_len costs.now.waits }
+    ensures filled { IfOk result (λ s. IsFilled costs.now s) }
+    ensures all { IfOk result (λ s. IsPermutation (range_with_len 0 (vec_len costs.now.rows)) s.jobs.items) }
+{
+    let order = longest_first(alloc, costs)?;
+    let mut free = last_places(alloc, costs.waits.len())?;
+    let mut seating = Seating {
+        seats: Vec::new(alloc),
+        rents: Vec::new(alloc),
+        jobs: Vec::new(alloc),
+        prices: Vec::new(alloc),
+    };
+    for place in 0..order.len() {
+        seat(alloc, costs, &mut seating, &mut free, order[place])?;
+    }
+    Ok(seating)
+}
+
+/// Seats one job more, and shows the place before the one that is taken then.
+fn seat(
+    alloc: Global,
+    costs: &Costs,
+    seating: &mut Seating,
+    free: &mut [Place],
+    job: usize,
+) -> Result<(), AllocError>
+    requires some { 0 < vec_len costs.now.waits }
+    requires seated { IsSeated (cost_of costs.now) seating.old free.old }
+    requires laid { IsLaid (vec_len costs.now.waits) seating.old.seats.items }
+    requires shows { ShowsNext (vec_len costs.now.waits) seating.old.seats.items free.old }
+    ensures seated { OnOk result (IsSeated (cost_of costs.now) seating.new free.new) }
+    ensures laid { OnOk result (IsLaid (vec_len costs.now.waits) seating.new.seats.items) }
+    ensures shows { OnOk result (ShowsNext (vec_len costs.now.waits) seating.new.seats.items free.new) }
+    ensures jobs { OnOk result (IsPermutation (seating.old.jobs.items ++ job ∷ []) seating.new.jobs.items) }
+{
+    let device = insert(alloc, costs, seating, free, job)?;
+    advance(free, device);
+    lift(costs, seating, free);
+    Ok(())
+}
+
+/// The last place of each device.
+fn last_places(alloc: Global, devices: usize) -> Result<Vec<Place>, AllocError>
+    ensures len { IfOk result (λ places. vec_len places ≡ devices) }
+    ensures places { IfOk result (λ places. (d : ℕ) → d < devices
+        → slice_index_or places.items d nowhere ≡ record { device = d; after = 0 }) }
+{
+    let mut places = Vec::new(alloc);
+    for device in 0..devices {
+        places.push(Place { device, after: 0 })?;
+    }
+    Ok(places)
+}
+
+/// Shows the place before the one that was shown.
+fn advance(free: &mut [Place], at: usize)
+    requires here { at < length free.old }
+    requires room { (slice_index_or free.old at nowhere).after < u64.MAX }
+    ensures { free.new ≡ slice_set free.old at (place_before (slice_index_or free.old at nowhere)) }
+{
+    free[at].after += 1;
+}
