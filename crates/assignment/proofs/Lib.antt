@@ -1,7 +1,13 @@
+pub mod Apart
 pub mod Bounds
 pub mod Charges
 pub mod Count
+pub mod Filled
 pub mod Laid
 pub mod Opening
+pub mod Proving
+pub mod Queues
 pub mod Raised
+pub mod Reading
+pub mod Spread
 pub mod Step

@@ -2,3 +2,5 @@ pub mod Costs
 pub mod Seating
 pub mod Search
 pub mod Layout
+pub mod Entries
+pub mod Answer

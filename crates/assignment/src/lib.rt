@@ -5,8 +5,14 @@
 //! best ways it finds.
 #![tactic(auto)]
 
+mod answer;
 mod costs;
 mod order;
+mod planner;
 mod search;
 mod seating;
 mod solver;
+mod times;
+
+pub use planner::{Lazy, Planner};
+pub use times::{Counted, Times};

@@ -1,0 +1,61 @@
+ghost use Rattle.std.specs.Prelude.{◌≡◌, ◌+◌, ◌*◌, ◌^◌, ◌<◌, ◌≤◌, IfOk, length};
+ghost use Rattle.prices.specs.Total.{IsBest};
+ghost use Rattle.prices.specs.Prices.{IsProved};
+ghost use Rattle.assignment.specs.Entries.{EachAble};
+
+use crate::answer::{prices, total, way};
+use crate::solver::solve;
+use crate::times::{Counted, Times, read};
+use cost_table::ClassProblem;
+use prices::{PricedWay, fair_is_best};
+use std::alloc::{AllocError, Global};
+
+/// What finds a best way to print the jobs of a class.
+pub trait Planner {
+    /// A best way, with fair prices that prove it best, and its total. Each job of the class has a
+    /// device that is able. The only error is want of memory.
+    fn plan_class(&self, class: &ClassProblem) -> Result<PricedWay, AllocError>
+        requires { EachAble class.now }
+        ensures proved { IfOk result (λ p. IsProved class.now p.way p.prices p.total) }
+        ensures best { IfOk result (λ p. IsBest class.now p.way) };
+}
+
+/// Shows for each device the used places and the next free one.
+#[derive(Clone, Copy, Debug)]
+pub struct Lazy {
+    alloc: Global,
+}
+
+impl Lazy {
+    /// A planner that takes its memory from here.
+    pub fn new(alloc: Global) -> Lazy {
+        Lazy { alloc }
+    }
+
+    /// What [`Planner::plan_class`] answers, where each time is read by a look that is counted. The
+    /// looks rise by at most `J * J * (J + D)` for J jobs on D devices.
+    pub fn plan_counted<T: Times>(&self, times: &mut T) -> Result<PricedWay, AllocError>
+        requires able { EachAble (T.class times.old) }
+        requires room { T.looked times.old < 2 ^ 62 }
+        ensures proved { IfOk result (λ p. IsProved (T.class times.old) p.way p.prices p.total) }
+        ensures same { T.class times.new ≡ T.class times.old }
+        ensures looked { let jobs = length (T.class times.old).ids in let devices = length (T.class times.old).waits in
+            T.looked times.new ≤ T.looked times.old + jobs * jobs * (jobs + devices) }
+    {
+        let entries = read(self.alloc, times)?;
+        let seating = solve(self.alloc, &entries.costs)?;
+        let way = way(self.alloc, &entries, &seating)?;
+        let prices = prices(self.alloc, &entries, &seating)?;
+        let total = total(&entries.costs, &seating);
+        Ok(PricedWay { way, prices, total })
+    }
+}
+
+impl Planner for Lazy {
+    fn plan_class(&self, class: &ClassProblem) -> Result<PricedWay, AllocError> {
+        let mut counted = Counted::new(class);
+        let priced = self.plan_counted(&mut counted)?;
+        fair_is_best(class, &priced);
+        Ok(priced)
+    }
+}
