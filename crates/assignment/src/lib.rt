@@ -5,6 +5,7 @@
 //! best ways it finds.
 #![tactic(auto)]
 
+mod able;
 mod answer;
 mod costs;
 mod order;
@@ -14,5 +15,9 @@ mod seating;
 mod solver;
 mod times;
 
+pub use able::each_able;
 pub use planner::{Lazy, Planner};
 pub use times::{Counted, Times};
+
+#[cfg(test)]
+mod tests;

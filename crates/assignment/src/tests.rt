@@ -1,0 +1,73 @@
+use crate::{Counted, Lazy, Planner, Times, each_able};
+use base_types::{JobId, Limits};
+use cost_table::{ClassProblem, Row, is_class};
+use std::alloc::Global;
+use std::test::Fail;
+
+/// A class of jobs 1, 2, .. with these times and waits.
+fn class_of(alloc: Global, times: &[&[Option<u64>]], waits: &[u64]) -> Result<ClassProblem, Fail> {
+    let mut ids = Vec::new(alloc);
+    let mut rows = Vec::new(alloc);
+    for (number, row) in (1..).zip(times) {
+        ids.push(JobId::new(number).ok_or("id")?)?;
+        rows.push(Row::new(Vec::from_slice(alloc, *row)?))?;
+    }
+    let waits = Vec::from_slice(alloc, waits)?;
+    if !is_class(&ids, &rows, &waits) {
+        return Err(Fail::from("not a class"));
+    }
+    Ok(ClassProblem::from_rows(ids, rows, waits))
+}
+
+/// The total that a planner finds.
+fn planned(planner: &impl Planner, class: &ClassProblem) -> Result<u64, Fail> {
+    if !each_able(class) {
+        return Err(Fail::from("a job without a device"));
+    }
+    Ok(planner.plan_class(class)?.total)
+}
+
+/// Three jobs on two devices.
+const THREE: [&[Option<u64>]; 3] = [
+    &[Some(10), Some(20)],
+    &[Some(10), Some(12)],
+    &[Some(30), Some(15)],
+];
+
+/// The best way is found, and each time looked at no more often than promised.
+#[test]
+fn best_of_three(rt: HostRuntime) -> Result<(), Fail> {
+    let alloc = rt.alloc();
+    let class = class_of(alloc, &THREE, &[0, 0])?;
+    assert!(rt; each_able(&class));
+    let mut counted = Counted::new(&class);
+    let priced = Lazy::new(alloc).plan_counted(&mut counted)?;
+    assert_eq!(rt; priced.total, 45);
+    assert!(rt; counted.looks() <= 45);
+    Ok(())
+}
+
+/// A device that is free late prints nothing, the shortest job goes first, and waits count.
+#[test]
+fn known_totals(rt: HostRuntime) -> Result<(), Fail> {
+    let alloc = rt.alloc();
+    let lazy = Lazy::new(alloc);
+    let late_device = class_of(alloc, &THREE[..2], &[100, 0])?;
+    assert_eq!(rt; planned(&lazy, &late_device)?, 44);
+    let one: [&[Option<u64>]; 3] = [&[Some(5)], &[Some(3)], &[Some(4)]];
+    let shortest_first = class_of(alloc, &one, &[0])?;
+    assert_eq!(rt; planned(&lazy, &shortest_first)?, 22);
+    let second_class = class_of(alloc, &THREE[..2], &[0, 15])?;
+    assert_eq!(rt; planned(&lazy, &second_class)?, 30);
+    Ok(())
+}
+
+/// As many of the longest jobs as there may be, behind one another.
+#[test]
+fn largest_totals(rt: HostRuntime) -> Result<(), Fail> {
+    let alloc = rt.alloc();
+    let job: &[Option<u64>] = &[Some(Limits::JOB_TIME)];
+    let class = class_of(alloc, &[job; 127], &[Limits::JOB_TIME])?;
+    assert_eq!(rt; planned(&Lazy::new(alloc), &class)?, 4_948_076_718_000_000);
+    Ok(())
+}
