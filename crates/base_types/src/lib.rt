@@ -24,7 +24,7 @@ pub use ids::{DeviceId, JobId, PrinterId};
 pub use limits::Limits;
 pub use line::{FirstLine, first_line};
 pub use moment::Moment;
-pub use needs::{Cause, Needs, Sides};
+pub use needs::{Cause, Needs, Sides, Stranded};
 pub use priority::Priority;
 pub use report::Report;
 pub use text::Text;

@@ -22,6 +22,8 @@ impl Limits {
     pub const JOB_OCTETS: usize = 16_777_216;
     /// Documents of a job.
     pub const JOB_DOCUMENTS: usize = 100;
+    /// Time after which a job whose next document doesn't come is given up, in ms.
+    pub const INCOMING_JOB_TIME: u64 = 300_000;
 
     /// Bytes of the head of an IPP message, its end tag included.
     pub const IPP_HEAD_BYTES: usize = 65_536;

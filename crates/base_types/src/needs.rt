@@ -1,4 +1,4 @@
-use crate::ids::PrinterId;
+use crate::ids::{JobId, PrinterId};
 use crate::text::Text;
 use std::marker::Model;
 
@@ -27,6 +27,13 @@ pub enum Cause {
     Media,
     /// None of those runs.
     Running,
+}
+
+/// A ready job that no device can print, and why.
+#[derive(Clone, Copy, Debug, PartialEq, Eq)]
+pub struct Stranded {
+    pub job: JobId,
+    pub cause: Cause,
 }
 
 /// What a job needs of a device, and how long it is. In clauses it is a record of the same fields.

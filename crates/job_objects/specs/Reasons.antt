@@ -1,0 +1,48 @@
+-- Why a job is in its state, and the keywords of the reasons (RFC 8011, section 5.3.8).
+use Rattle.std.specs.Prelude.{ℕ, Bool, true, false, if◌then◌else◌, List, Option, Some, None, codes}
+use Rattle.job_objects.specs.declared.job_state.JobState.{JobState}
+use Rattle.job_objects.specs.declared.job_state.JobState.TheVariants.{Pending, Held, Processing, Stopped, Canceled, Aborted, Completed}
+use Rattle.job_objects.specs.declared.job.Canceler.{Canceler}
+use Rattle.job_objects.specs.declared.job.Canceler.TheVariants.{Owner}
+use Rattle.job_objects.specs.declared.reason.Reason.{Reason}
+use Rattle.job_objects.specs.declared.reason.Reason.TheVariants.{Nothing, PrinterStopped, ResourcesAreNotReady, JobIncoming, JobHoldUntilSpecified, JobPrinting, JobCanceledByUser, JobCanceledByOperator, AbortedBySystem, JobCompletedSuccessfully}
+use Rattle.job_objects.specs.declared.reason.JobReasons.{JobReasons}
+use Rattle.job_objects.specs.Job.{JobRecord}
+
+abbrev pub keyword_of : Reason → List ℕ
+keyword_of Nothing = codes "none"
+keyword_of PrinterStopped = codes "printer-stopped"
+keyword_of ResourcesAreNotReady = codes "resources-are-not-ready"
+keyword_of JobIncoming = codes "job-incoming"
+keyword_of JobHoldUntilSpecified = codes "job-hold-until-specified"
+keyword_of JobPrinting = codes "job-printing"
+keyword_of JobCanceledByUser = codes "job-canceled-by-user"
+keyword_of JobCanceledByOperator = codes "job-canceled-by-operator"
+keyword_of AbortedBySystem = codes "aborted-by-system"
+keyword_of JobCompletedSuccessfully = codes "job-completed-successfully"
+
+abbrev pub one : Reason → JobReasons
+one reason = record { first = reason; second = None }
+
+-- a job that is held back says that it comes in, that it is held, or both in this order
+abbrev pub held_reasons : Bool → Bool → JobReasons
+held_reasons true true = record { first = JobIncoming; second = Some JobHoldUntilSpecified }
+held_reasons true false = one JobIncoming
+held_reasons false held = one JobHoldUntilSpecified
+
+abbrev pub canceled_reason : Option Canceler → Reason
+canceled_reason (Some Owner) = JobCanceledByUser
+canceled_reason _ = JobCanceledByOperator
+
+abbrev pub reasons_in : JobState → JobRecord → Bool → JobReasons
+reasons_in Pending job paused = one (if paused then PrinterStopped else if job.stranded then ResourcesAreNotReady else Nothing)
+reasons_in Held job paused = held_reasons job.incoming job.held
+reasons_in Processing job paused = one JobPrinting
+reasons_in Stopped job paused = one PrinterStopped
+reasons_in Canceled job paused = one (canceled_reason job.canceled_by)
+reasons_in Aborted job paused = one AbortedBySystem
+reasons_in Completed job paused = one JobCompletedSuccessfully
+
+-- the reasons of a job, told whether its printer is paused
+abbrev pub reasons_of : JobRecord → Bool → JobReasons
+reasons_of job paused = reasons_in job.state job paused

@@ -1,0 +1,71 @@
+use crate::job_state::JobState;
+use base_types::{JobId, Moment, Needs, Priority, Text};
+use std::marker::Model;
+
+/// Who canceled a job.
+#[derive(Clone, Copy, Debug, PartialEq, Eq)]
+pub enum Canceler {
+    /// Its owner.
+    Owner,
+    /// An operator who isn't its owner.
+    Operator,
+}
+
+/// A job that the server took, without its documents. In clauses it is a record of the same fields.
+#[derive(Debug, Drop)]
+pub struct Job {
+    pub id: JobId,
+    pub owner: Text,
+    pub name: Text,
+    pub priority: Priority,
+    pub needs: Needs,
+    /// job-impressions as it was given (RFC 8011, section 5.3.18.2), where it was and isn't negative.
+    pub impressions: Option<u32>,
+    pub state: JobState,
+    /// Whether documents are still to come.
+    pub incoming: bool,
+    /// Whether it is held, by job-hold-until or Hold-Job.
+    pub held: bool,
+    /// Whether the last plan found no device for it.
+    pub stranded: bool,
+    /// How many documents were taken: at most [`base_types::Limits::JOB_DOCUMENTS`]. The number stays
+    /// when the documents are dropped.
+    pub documents: usize,
+    /// Their octets together: at most [`base_types::Limits::JOB_OCTETS`]. The number stays too.
+    pub octets: usize,
+    /// Who canceled it, where it is canceled.
+    pub canceled_by: Option<Canceler>,
+    /// When it was made.
+    pub created: Moment,
+    /// When a device began it.
+    pub started: Option<Moment>,
+    /// When it was finished.
+    pub finished: Option<Moment>,
+}
+
+impl Model for Job {
+    ghost use Rattle.job_objects.specs.Job.{JobRecord, KeepsLimits};
+
+    ghost Value = { JobRecord };
+
+    ghost view = { λ j. record {
+      id = j.id;
+      owner = j.owner;
+      name = j.name;
+      priority = j.priority;
+      needs = j.needs;
+      impressions = j.impressions;
+      state = j.state;
+      incoming = j.incoming;
+      held = j.held;
+      stranded = j.stranded;
+      documents = j.documents;
+      octets = j.octets;
+      canceled_by = j.canceled_by;
+      created = j.created;
+      started = j.started;
+      finished = j.finished;
+    } };
+
+    ghost invariant = { λ j. KeepsLimits j.documents j.octets };
+}

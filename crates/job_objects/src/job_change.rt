@@ -1,0 +1,129 @@
+ghost use Rattle.std.specs.Prelude.{◌≡◌, is_ok, is_some, false};
+ghost use Rattle.job_objects.specs.JobStep.{job_after, stepped, waiting, moved, ended};
+
+use crate::job::{Canceler, Job};
+use crate::job_state::JobState;
+use base_types::Moment;
+
+/// What may happen to a job (RFC 8011, section 5.3.7).
+#[derive(Clone, Copy, Debug, PartialEq, Eq)]
+pub enum JobChange {
+    /// Its last document is in.
+    Close,
+    /// It is held.
+    Hold,
+    /// It is held no more.
+    Release,
+    /// A device begins it.
+    Start,
+    /// Its device stops.
+    Stop,
+    /// Its device runs again.
+    Continue,
+    /// It is canceled.
+    Cancel(Canceler),
+    /// It is printed.
+    Done,
+    /// It can't be printed, or stopped coming in.
+    Fail,
+}
+
+/// Why a job isn't changed.
+#[derive(Clone, Copy, Debug, PartialEq, Eq)]
+pub enum StateRefusal {
+    /// Its state doesn't allow the change.
+    NotPossible,
+}
+
+/// Changes a job as the table of states says; a refused change leaves it as it was.
+pub fn job_step(job: &mut Job, change: JobChange, now: Moment) -> Result<(), StateRefusal>
+    ensures possible { is_ok result ≡ is_some (job_after change now job.old) }
+    ensures after { job.new ≡ stepped change now job.old }
+    ensures same_job { job.new.id ≡ job.old.id }
+{
+    match (change, job.state) {
+        (JobChange::Close, JobState::Held) if job.incoming => job.close(),
+        (JobChange::Hold, JobState::Pending | JobState::Held) => job.hold(true),
+        (JobChange::Release, JobState::Pending | JobState::Held) => job.hold(false),
+        (JobChange::Release, JobState::Processing | JobState::Stopped) => {}
+        (JobChange::Start, JobState::Pending) => job.start(now),
+        (JobChange::Stop, JobState::Processing) => job.take_state(JobState::Stopped),
+        (JobChange::Continue, JobState::Stopped) => job.take_state(JobState::Processing),
+        (JobChange::Cancel(by), JobState::Pending | JobState::Held) => job.cancel(by, now),
+        (JobChange::Cancel(by), JobState::Processing | JobState::Stopped) => job.cancel(by, now),
+        (JobChange::Done, JobState::Processing | JobState::Stopped) => {
+            job.end(JobState::Completed, now)
+        }
+        (JobChange::Fail, JobState::Held) if job.incoming => job.end(JobState::Aborted, now),
+        (JobChange::Fail, JobState::Processing | JobState::Stopped) => {
+            job.end(JobState::Aborted, now)
+        }
+        _ => return Err(StateRefusal::NotPossible),
+    }
+    Ok(())
+}
+
+impl Job {
+    /// The last document is in.
+    fn close(&mut self)
+        ensures after { self.new ≡ waiting (record self.old { incoming = false }) }
+        ensures same_job { self.new.id ≡ self.old.id }
+    {
+        self.incoming = false;
+        self.wait();
+    }
+
+    /// The job is held, or isn't.
+    fn hold(&mut self, held: bool)
+        ensures after { self.new ≡ waiting (record self.old { held = held }) }
+        ensures same_job { self.new.id ≡ self.old.id }
+    {
+        self.held = held;
+        self.wait();
+    }
+
+    /// The state of a job that no device has yet.
+    fn wait(&mut self)
+        ensures after { self.new ≡ waiting self.old }
+        ensures same_job { self.new.id ≡ self.old.id }
+    {
+        if self.incoming || self.held {
+            self.take_state(JobState::Held);
+        } else {
+            self.state = JobState::Pending;
+        }
+    }
+
+    /// The job takes a state other than pending.
+    fn take_state(&mut self, state: JobState)
+        ensures { self.new ≡ moved state self.old }
+    {
+        self.state = state;
+        self.stranded = false;
+    }
+
+    /// A device begins the job.
+    fn start(&mut self, now: Moment)
+        ensures { self.new ≡ record (moved JobState.Processing self.old) { started = Some now } }
+    {
+        self.take_state(JobState::Processing);
+        self.started = Some(now);
+    }
+
+    /// Someone cancels the job.
+    fn cancel(&mut self, by: Canceler, now: Moment)
+        ensures { self.new ≡ record (ended JobState.Canceled now self.old) { canceled_by = Some by } }
+    {
+        self.end(JobState::Canceled, now);
+        self.canceled_by = Some(by);
+    }
+
+    /// The job is finished, in one of the final states.
+    fn end(&mut self, state: JobState, now: Moment)
+        ensures { self.new ≡ ended state now self.old }
+    {
+        self.take_state(state);
+        self.incoming = false;
+        self.finished = Some(now);
+    }
+}

@@ -1,0 +1,21 @@
+//! What a job is, the states it goes through, and the reasons it gives for its state.
+//!
+//! It promises that a job changes just as the table of states says: [`job_step`] makes a change that
+//! the job's state allows, and leaves the job as it was where it doesn't. It takes no memory, holds no
+//! documents and knows nothing of other jobs; those stand in the spool above.
+#![tactic(auto)]
+
+mod impressions;
+mod job;
+mod job_change;
+mod job_state;
+mod reason;
+
+pub use impressions::estimated_impressions;
+pub use job::{Canceler, Job};
+pub use job_change::{JobChange, StateRefusal, job_step};
+pub use job_state::JobState;
+pub use reason::{JobReasons, Reason, reasons};
+
+#[cfg(test)]
+mod tests;

@@ -1,0 +1,119 @@
+ghost use Rattle.std.specs.Prelude.{◌≡◌, if◌then◌else◌};
+ghost use Rattle.job_objects.specs.Reasons.{keyword_of, reasons_of, held_reasons, canceled_reason};
+
+use crate::job::{Canceler, Job};
+use crate::job_state::JobState;
+
+/// Why a job is in its state (RFC 8011, section 5.3.8).
+#[derive(Clone, Copy, Debug, PartialEq, Eq)]
+pub enum Reason {
+    /// There is nothing to say.
+    Nothing,
+    /// Its printer is paused, or its device is stopped.
+    PrinterStopped,
+    /// No device can print it at present.
+    ResourcesAreNotReady,
+    /// Documents are still to come.
+    JobIncoming,
+    /// It is held.
+    JobHoldUntilSpecified,
+    /// A device prints it.
+    JobPrinting,
+    JobCanceledByUser,
+    JobCanceledByOperator,
+    /// It couldn't be printed, or stopped coming in.
+    AbortedBySystem,
+    JobCompletedSuccessfully,
+}
+
+/// The reasons of a job: one, or two in order.
+#[derive(Clone, Copy, Debug, PartialEq, Eq)]
+pub struct JobReasons {
+    pub first: Reason,
+    pub second: Option<Reason>,
+}
+
+impl Reason {
+    /// Its keyword.
+    pub fn keyword(self) -> &'static str
+        ensures { result.now ≡ keyword_of self }
+    {
+        match self {
+            Reason::Nothing => "none",
+            Reason::PrinterStopped => "printer-stopped",
+            Reason::ResourcesAreNotReady => "resources-are-not-ready",
+            Reason::JobIncoming => "job-incoming",
+            Reason::JobHoldUntilSpecified => "job-hold-until-specified",
+            Reason::JobPrinting => "job-printing",
+            Reason::JobCanceledByUser => "job-canceled-by-user",
+            Reason::JobCanceledByOperator => "job-canceled-by-operator",
+            Reason::AbortedBySystem => "aborted-by-system",
+            Reason::JobCompletedSuccessfully => "job-completed-successfully",
+        }
+    }
+}
+
+/// Why a job is in its state, told whether its printer is paused.
+pub fn reasons(job: &Job, printer_paused: bool) -> JobReasons
+    ensures { result ≡ reasons_of job.now printer_paused }
+{
+    match job.state {
+        JobState::Pending => one(pending_reason(printer_paused, job.stranded)),
+        JobState::Held => held_reasons(job.incoming, job.held),
+        JobState::Processing => one(Reason::JobPrinting),
+        JobState::Stopped => one(Reason::PrinterStopped),
+        JobState::Canceled => one(canceled_reason(job.canceled_by)),
+        JobState::Aborted => one(Reason::AbortedBySystem),
+        JobState::Completed => one(Reason::JobCompletedSuccessfully),
+    }
+}
+
+/// A reason alone.
+fn one(reason: Reason) -> JobReasons
+    ensures { result ≡ record { first = reason; second = None } }
+{
+    JobReasons {
+        first: reason,
+        second: None,
+    }
+}
+
+/// Why a pending job isn't printed yet.
+fn pending_reason(printer_paused: bool, stranded: bool) -> Reason
+    ensures { result ≡ (if printer_paused then Reason.PrinterStopped else (if stranded then Reason.ResourcesAreNotReady else Reason.Nothing)) }
+{
+    if printer_paused {
+        Reason::PrinterStopped
+    } else if stranded {
+        Reason::ResourcesAreNotReady
+    } else {
+        Reason::Nothing
+    }
+}
+
+/// Why a job is held back.
+fn held_reasons(incoming: bool, held: bool) -> JobReasons
+    ensures { result ≡ held_reasons incoming held }
+{
+    if !incoming {
+        return one(Reason::JobHoldUntilSpecified);
+    }
+    JobReasons {
+        first: Reason::JobIncoming,
+        second: if held {
+            Some(Reason::JobHoldUntilSpecified)
+        } else {
+            None
+        },
+    }
+}
+
+/// Who canceled the job.
+fn canceled_reason(by: Option<Canceler>) -> Reason
+    ensures { result ≡ canceled_reason by }
+{
+    match by {
+        Some(Canceler::Owner) => Reason::JobCanceledByUser,
+        Some(Canceler::Operator) | None => Reason::JobCanceledByOperator,
+    }
+}
