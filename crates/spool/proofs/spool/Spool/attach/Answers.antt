@@ -1,0 +1,36 @@
+use Rattle.std.proofs.Common.{◌<◌, ◌≤◌, ◌+◌, sym, subst, length, Option}
+use Rattle.std.specs.Prelude.{IfSome}
+use Rattle.base_types.specs.declared.limits.TheConstants.Limits.{JOB_DOCUMENTS, JOB_OCTETS}
+use Rattle.spool.specs.Spooled.{SpooledRecord, attached}
+use Rattle.spool.proofs.Entries.{changed_at, found_at, same_at, keyed_set, ok_map, err_map}
+use Rattle.spool.proofs.spool.Spool.attach.Goals as goal
+
+pub invariant_of-self-2 : goal.invariant_of-self-2
+invariant_of-self-2 c =
+    (rw (c.get_mut.follows.holds c.attach.new.self).0 (keyed_set c.number.result 0 c.self.inside.next c.self.inside.entries.entries c.in-Some.spooled.now c.attach.new.self c.self.invariant.0 (sym (c.in-Some.ensures {u = tt}).value) c.attach.ensures.same_job), c.self.invariant.1, c.self.invariant.2)
+
+pub returns-clause-ok : goal.returns-clause-ok
+returns-clause-ok c =
+    ok_map c.attach.result
+    (λ after. rw (c.get_mut.follows.holds c.attach.new.self).0
+    (changed_at c.args.id c.number.result c.self.inside.next c.self.inside.entries.entries c.args.self.now c.in-Some.spooled.now c.attach.new.self (attached c.args.document c.args.now) c.number.ensures.value c.self.invariant.0 c.self.view_is (sym (c.in-Some.ensures {u = tt}).value) after))
+    c.attach.ensures.ok
+
+pub returns-clause-kept : goal.returns-clause-kept
+returns-clause-kept c =
+    err_map c.attach.result
+    (λ same. rw (c.get_mut.follows.holds c.attach.new.self).0
+    (same_at c.number.result c.self.inside.next c.self.inside.entries.entries c.args.self.now c.in-Some.spooled.now c.attach.new.self c.self.invariant.0 c.self.view_is (sym (c.in-Some.ensures {u = tt}).value) same))
+    c.attach.ensures.kept
+
+pub attach-requires-clause-documents : goal.attach-requires-clause-documents
+attach-requires-clause-documents c =
+    (subst (λ (o : Option SpooledRecord). IfSome o (λ s. (s.job.documents < JOB_DOCUMENTS) × (s.job.octets + length c.args.document.contents ≤ JOB_OCTETS)))
+    (sym (found_at c.args.id c.number.result c.self.inside.next c.self.inside.entries.entries c.args.self.now _ c.number.ensures.value c.self.invariant.0 c.self.view_is (c.in-Some.ensures {u = tt}).value))
+    c.requires).0
+
+pub attach-requires-clause-octets : goal.attach-requires-clause-octets
+attach-requires-clause-octets c =
+    (subst (λ (o : Option SpooledRecord). IfSome o (λ s. (s.job.documents < JOB_DOCUMENTS) × (s.job.octets + length c.args.document.contents ≤ JOB_OCTETS)))
+    (sym (found_at c.args.id c.number.result c.self.inside.next c.self.inside.entries.entries c.args.self.now _ c.number.ensures.value c.self.invariant.0 c.self.view_is (c.in-Some.ensures {u = tt}).value))
+    c.requires).1

@@ -1,0 +1,13 @@
+-- Who may ask for a change of a job: its owner, and operators.
+use Rattle.std.specs.Prelude.{ℕ, Bool, ◌||◌, if◌then◌else◌, List}
+use Rattle.std.specs.Str.{bytes_eq}
+use Rattle.job_objects.specs.declared.job.Canceler.{Canceler}
+use Rattle.job_objects.specs.declared.job.Canceler.TheVariants.{Owner, Operator}
+use Rattle.job_objects.specs.Job.{JobRecord}
+
+abbrev pub may_ask : List ℕ → Bool → JobRecord → Bool
+may_ask name is_operator job = is_operator || bytes_eq name job.owner
+
+-- an operator who cancels their own job does so as its owner
+abbrev pub canceler_of : List ℕ → JobRecord → Canceler
+canceler_of name job = if bytes_eq name job.owner then Owner else Operator

@@ -1,0 +1,14 @@
+-- A document, as a plain record.
+use Rattle.std.specs.Prelude.{ℕ, ◌≡◌, ◌<◌, ◌++◌, List, length, sum_by}
+
+pub record DocumentRecord : Type 0 where
+  pub format : List ℕ
+  pub contents : List ℕ
+
+abbrev pub octets_of : List DocumentRecord → ℕ
+octets_of documents = sum_by (λ d. length d.contents) documents
+
+-- the octets begin with the piece, which is empty only where they are
+pub record IsFrontOf (piece octets : List ℕ) : Type 0 where
+  pub front : (rest : List ℕ) × (octets ≡ piece ++ rest)
+  pub some : 0 < length octets → 0 < length piece

@@ -1,0 +1,24 @@
+-- Which finished jobs are kept to be asked about.
+use Rattle.std.specs.Prelude.{ℕ, Bool, not, ◌||◌, ◌&&◌, ◌==◌, nat_lt, List, filter, count_by, unwrap_or}
+use Rattle.base_types.specs.declared.limits.TheConstants.Limits.{FINISHED_JOBS_KEPT}
+use Rattle.spool.specs.Spooled.{SpooledRecord, is_settled}
+
+-- the moment at which a job was finished
+abbrev pub end_of : SpooledRecord → ℕ
+end_of spooled = unwrap_or spooled.job.finished 0
+
+-- whether the first was finished later than the second; of two of one moment that of the greater id counts as later
+abbrev pub is_later : SpooledRecord → SpooledRecord → Bool
+is_later first second = nat_lt (end_of second) (end_of first) || ((end_of first == end_of second) && nat_lt second.job.id first.job.id)
+
+-- how many finished jobs that no device has were finished later than this one
+abbrev pub later_jobs : List SpooledRecord → SpooledRecord → ℕ
+later_jobs jobs spooled = count_by (λ other. is_settled other && is_later other spooled) jobs
+
+-- a finished job that no device has is kept while fewer than so many were finished later; any other is kept
+abbrev pub is_kept : List SpooledRecord → SpooledRecord → Bool
+is_kept jobs spooled = not (is_settled spooled) || nat_lt (later_jobs jobs spooled) FINISHED_JOBS_KEPT
+
+-- the jobs that are kept
+abbrev pub retained : List SpooledRecord → List SpooledRecord
+retained jobs = filter (is_kept jobs) jobs

@@ -1,0 +1,110 @@
+ghost use Rattle.std.specs.Prelude.{◌≡◌, OnOk, OnErr, IfErr, IfOk, None, Some, option_map};
+ghost use Rattle.std.specs.Option.{option_copied};
+ghost use Rattle.job_objects.specs.declared.job_change.JobChange.{JobChange};
+ghost use Rattle.job_objects.specs.declared.job_change.JobChange.TheVariants as Change;
+ghost use Rattle.spool.specs.Spooled.{changed};
+ghost use Rattle.spool.specs.Kept.{retained};
+ghost use Rattle.spool.specs.Jobs.{spooled_at, job_at, with_job};
+ghost use Rattle.spool.specs.Calls.{asking_refusal, change_refusal, cancel_of};
+
+use crate::asker::Asker;
+use crate::document::Document;
+use crate::refusal::SpoolRefusal;
+use crate::spool::Spool;
+use base_types::{JobId, Moment};
+use job_objects::{Canceler, Job, JobChange, StateRefusal};
+
+/// What people ask of jobs. A refusal changes nothing. In this order: not found, not authorized, not
+/// possible.
+impl Spool {
+    /// The job of this id.
+    pub fn get(&self, id: JobId) -> Option<&Job>
+        ensures { option_copied result ≡ job_at id self.now.jobs }
+    {
+        let spooled = self.spooled(id)?;
+        Some(spooled.job())
+    }
+
+    /// The documents of the job of this id, until they are handed out or dropped.
+    pub fn documents(&self, id: JobId) -> Option<&[Document]>
+        ensures { option_map (λ d. d.now) result ≡ option_map (λ s. s.documents) (spooled_at id self.now.jobs) }
+    {
+        let spooled = self.spooled(id)?;
+        Some(spooled.documents())
+    }
+
+    /// Whether someone may change the job of this id, whatever its state.
+    pub(crate) fn may_change(&self, id: JobId, asker: Asker<'_>) -> Result<(), SpoolRefusal>
+        ensures ok { OnOk result (asking_refusal asker.entry.name.now asker.entry.is_operator (spooled_at id self.now.jobs) ≡ None) }
+        ensures refused { IfErr result (λ refusal. asking_refusal asker.entry.name.now asker.entry.is_operator (spooled_at id self.now.jobs) ≡ Some refusal) }
+    {
+        let Some(spooled) = self.spooled(id) else {
+            return Err(SpoolRefusal::NotFound);
+        };
+        if asker.may_change(spooled.job()) {
+            Ok(())
+        } else {
+            Err(SpoolRefusal::NotAuthorized)
+        }
+    }
+
+    /// Holds a job that no device has yet.
+    pub fn hold(&mut self, id: JobId, asker: Asker<'_>, now: Moment) -> Result<(), SpoolRefusal>
+        ensures ok { OnOk result ((change_refusal asker.entry.name.now asker.entry.is_operator Change.Hold now (spooled_at id self.old.jobs) ≡ None) × (self.new ≡ record self.old { jobs = with_job id (changed Change.Hold now) self.old.jobs })) }
+        ensures kept { OnErr result (self.new ≡ self.old) }
+        ensures refused { IfErr result (λ refusal. change_refusal asker.entry.name.now asker.entry.is_operator Change.Hold now (spooled_at id self.old.jobs) ≡ Some refusal) }
+    {
+        self.ask(id, asker, JobChange::Hold, now)
+    }
+
+    /// Holds a job no more. Of a job that a device has it changes nothing.
+    pub fn release(&mut self, id: JobId, asker: Asker<'_>, now: Moment) -> Result<(), SpoolRefusal>
+        ensures ok { OnOk result ((change_refusal asker.entry.name.now asker.entry.is_operator Change.Release now (spooled_at id self.old.jobs) ≡ None) × (self.new ≡ record self.old { jobs = with_job id (changed Change.Release now) self.old.jobs })) }
+        ensures kept { OnErr result (self.new ≡ self.old) }
+        ensures refused { IfErr result (λ refusal. change_refusal asker.entry.name.now asker.entry.is_operator Change.Release now (spooled_at id self.old.jobs) ≡ Some refusal) }
+    {
+        self.ask(id, asker, JobChange::Release, now)
+    }
+
+    /// Cancels a job that isn't finished. A device that has it keeps it, with its documents, until it
+    /// says that it is done.
+    pub fn cancel(&mut self, id: JobId, asker: Asker<'_>, now: Moment) -> Result<(), SpoolRefusal>
+        ensures ok { OnOk result (let found = spooled_at id self.old.jobs in let change = cancel_of asker.entry.name.now found in (change_refusal asker.entry.name.now asker.entry.is_operator change now found ≡ None) × (self.new ≡ record self.old { jobs = retained (with_job id (changed change now) self.old.jobs) })) }
+        ensures kept { OnErr result (self.new ≡ self.old) }
+        ensures refused { IfErr result (λ refusal. let found = spooled_at id self.old.jobs in change_refusal asker.entry.name.now asker.entry.is_operator (cancel_of asker.entry.name.now found) now found ≡ Some refusal) }
+    {
+        let change = self.cancel_by(id, asker);
+        self.ask(id, asker, change, now)?;
+        self.forget();
+        Ok(())
+    }
+
+    /// How someone cancels the job of this id.
+    fn cancel_by(&self, id: JobId, asker: Asker<'_>) -> JobChange
+        ensures { result ≡ cancel_of asker.entry.name.now (spooled_at id self.now.jobs) }
+    {
+        match self.spooled(id) {
+            Some(spooled) => JobChange::Cancel(asker.canceler(spooled.job())),
+            None => JobChange::Cancel(Canceler::Operator),
+        }
+    }
+
+    /// Makes a change that someone asks for.
+    fn ask(
+        &mut self,
+        id: JobId,
+        asker: Asker<'_>,
+        change: JobChange,
+        now: Moment,
+    ) -> Result<(), SpoolRefusal>
+        ensures ok { OnOk result ((change_refusal asker.entry.name.now asker.entry.is_operator change now (spooled_at id self.old.jobs) ≡ None) × (self.new ≡ record self.old { jobs = with_job id (changed change now) self.old.jobs })) }
+        ensures kept { OnErr result (self.new ≡ self.old) }
+        ensures refused { IfErr result (λ refusal. change_refusal asker.entry.name.now asker.entry.is_operator change now (spooled_at id self.old.jobs) ≡ Some refusal) }
+    {
+        self.may_change(id, asker)?;
+        match self.change(id, change, now) {
+            Ok(()) => Ok(()),
+            Err(StateRefusal::NotPossible) => Err(SpoolRefusal::NotPossible),
+        }
+    }
+}

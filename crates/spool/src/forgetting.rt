@@ -1,0 +1,85 @@
+ghost use Rattle.std.specs.Prelude.{◌≡◌, not, position};
+ghost use Rattle.spool.specs.Calls.{is_unfinished, unfinished_jobs};
+ghost use Rattle.spool.specs.Kept.{end_of, is_later, later_jobs, is_kept, retained};
+
+use crate::spool::Spool;
+use crate::spooled::SpooledJob;
+use base_types::Limits;
+
+impl SpooledJob {
+    /// Whether the job is neither canceled, aborted nor completed.
+    fn is_unfinished(&self) -> bool
+        ensures { result ≡ is_unfinished self.now }
+    {
+        !self.job().state.is_finished()
+    }
+
+    /// The moment at which it was finished, in ms.
+    fn end(&self) -> u64
+        ensures { result ≡ end_of self.now }
+    {
+        let finished = self.job().finished;
+        match finished {
+            Some(moment) => moment.millis(),
+            None => 0,
+        }
+    }
+
+    /// Whether it was finished later than another; of one moment, the greater id is the later.
+    fn is_later(&self, other: &SpooledJob) -> bool
+        ensures { result ≡ is_later self.now other.now }
+    {
+        let end = self.end();
+        let other_end = other.end();
+        let after = other.job().id.number() < self.job().id.number();
+        other_end < end || (end == other_end && after)
+    }
+}
+
+impl Spool {
+    /// How many jobs are not finished.
+    pub fn unfinished(&self) -> usize
+        ensures { result ≡ unfinished_jobs self.now.jobs }
+    {
+        self.jobs()
+            .iter()
+            .filter(|spooled| spooled.is_unfinished())
+            .count()
+    }
+
+    /// How many finished jobs that no device has were finished later than this one.
+    fn later_jobs(&self, spooled: &SpooledJob) -> usize
+        ensures { result ≡ later_jobs self.now.jobs spooled.now }
+    {
+        self.jobs()
+            .iter()
+            .filter(|other| other.is_settled() && other.is_later(spooled))
+            .count()
+    }
+
+    /// Whether a job is kept: unless it is finished, no device has it, and enough jobs were
+    /// finished later.
+    fn is_kept(&self, spooled: &SpooledJob) -> bool
+        ensures { result ≡ is_kept self.now.jobs spooled.now }
+    {
+        !spooled.is_settled() || self.later_jobs(spooled) < Limits::FINISHED_JOBS_KEPT
+    }
+
+    /// Where the first job stands that isn't kept.
+    fn outdated(&self) -> Option<usize>
+        ensures { result ≡ position (λ s. not (is_kept self.now.jobs s)) self.now.jobs }
+    {
+        self.jobs()
+            .iter()
+            .position(|spooled| !self.is_kept(spooled))
+    }
+
+    /// Forgets the jobs that aren't kept.
+    pub(crate) fn forget(&mut self)
+        ensures { self.new ≡ record self.old { jobs = retained self.old.jobs } }
+    {
+        while let Some(place) = self.outdated() {
+            self.remove(place);
+        }
+    }
+}

@@ -1,0 +1,33 @@
+//! The jobs of a server, by rising id, with their documents.
+//!
+//! It promises the list of jobs after each call: what is taken, refused, changed, handed out and
+//! forgotten. A refusal changes nothing and hands back what it was given. Only [`Spool::submit`],
+//! [`Spool::create`] and [`Spool::add_document`] take memory; they make the room that the job's later
+//! states need. Jobs live in memory alone, and no document is read or converted. Which device prints
+//! a job is decided above; the spool knows only whether one has it.
+#![tactic(auto)]
+
+mod asker;
+mod asking;
+mod devices;
+mod document;
+mod forgetting;
+mod new_job;
+mod octets;
+mod planning;
+mod ready;
+mod refusal;
+mod sending;
+mod spool;
+mod spooled;
+mod submitting;
+mod taking;
+
+pub use asker::Asker;
+pub use document::Document;
+pub use new_job::NewJob;
+pub use octets::Octets;
+pub use ready::Ready;
+pub use refusal::{Refused, RefusedDocument, SpoolRefusal};
+pub use spool::Spool;
+pub use spooled::SpooledJob;

@@ -1,0 +1,120 @@
+ghost use Rattle.std.specs.Prelude.{◌≡◌, ◌<◌, OnOk, OnErr, IfOk, IfErr, IfSome, None, Some, false, length};
+ghost use Rattle.job_objects.specs.declared.job_change.JobChange.TheVariants as Change;
+ghost use Rattle.spool.specs.Spooled.{attached, changed};
+ghost use Rattle.spool.specs.Jobs.{spooled_at, with_job};
+ghost use Rattle.spool.specs.Calls.{IsRefusal, adds, is_too_large, taking_refusal, document_refusal, with_document, closed_if};
+
+use crate::asker::Asker;
+use crate::document::Document;
+use crate::refusal::{RefusedDocument, SpoolRefusal};
+use crate::spool::Spool;
+use base_types::{JobId, Limits, Moment};
+use job_objects::{Job, JobChange};
+
+/// Whether a document is added to its job: the last one isn't, if it has no octets.
+fn adds(document: &Document, last: bool) -> bool
+    ensures { result ≡ adds document.now last }
+{
+    !last || document.contents.len() > 0
+}
+
+/// Whether a job may not have so many octets more in one more document.
+fn is_too_large(job: &Job, octets: usize) -> bool
+    ensures { result ≡ is_too_large octets job.now }
+{
+    job.documents >= Limits::JOB_DOCUMENTS || octets > Limits::JOB_OCTETS - job.octets
+}
+
+impl Spool {
+    /// Adds a document to a job whose documents are still to come (RFC 8011, section 4.3.1); with the
+    /// last one the job is all in. A last document without octets isn't added.
+    ///
+    /// A refusal hands the document back and changes nothing. In this order: not found, not
+    /// authorized, not possible, too large, want of memory.
+    pub fn add_document(
+        &mut self,
+        id: JobId,
+        asker: Asker<'_>,
+        document: Document,
+        last: bool,
+        now: Moment,
+    ) -> Result<(), RefusedDocument>
+        ensures ok { OnOk result ((document_refusal asker.entry.name.now asker.entry.is_operator document last (spooled_at id self.old.jobs) ≡ None) × (self.new ≡ record self.old { jobs = closed_if last id now (with_document (adds document last) id document now self.old.jobs) })) }
+        ensures kept { OnErr result (self.new ≡ self.old) }
+        ensures returned { IfErr result (λ refused. refused.document ≡ document) }
+        ensures refused { IfErr result (λ refused. IsRefusal (document_refusal asker.entry.name.now asker.entry.is_operator document last (spooled_at id self.old.jobs)) refused.refusal) }
+    {
+        let added = adds(&document, last);
+        let spool = &*self;
+        if let Err(refusal) = spool.admits_document(id, asker, &document, last) {
+            return Err(RefusedDocument { refusal, document });
+        }
+        if let Err(document) = self.attach_if(added, id, document, now) {
+            let refusal = SpoolRefusal::OutOfMemory;
+            return Err(RefusedDocument { refusal, document });
+        }
+        self.close_if(last, id, now);
+        Ok(())
+    }
+
+    /// Why a document that someone sends isn't taken, if there is a cause other than want of memory.
+    pub fn admits_document(
+        &self,
+        id: JobId,
+        asker: Asker<'_>,
+        document: &Document,
+        last: bool,
+    ) -> Result<(), SpoolRefusal>
+        ensures ok { OnOk result (document_refusal asker.entry.name.now asker.entry.is_operator document.now last (spooled_at id self.now.jobs) ≡ None) }
+        ensures refused { IfErr result (λ refusal. document_refusal asker.entry.name.now asker.entry.is_operator document.now last (spooled_at id self.now.jobs) ≡ Some refusal) }
+    {
+        self.may_change(id, asker)?;
+        self.may_take(id, document, adds(document, last))
+    }
+
+    /// Whether a job takes a document, told whether it is added.
+    fn may_take(&self, id: JobId, document: &Document, added: bool) -> Result<(), SpoolRefusal>
+        ensures ok { OnOk result (taking_refusal document.now added (spooled_at id self.now.jobs) ≡ None) }
+        ensures refused { IfErr result (λ refusal. taking_refusal document.now added (spooled_at id self.now.jobs) ≡ Some refusal) }
+    {
+        let Some(spooled) = self.spooled(id) else {
+            return Ok(());
+        };
+        let job = spooled.job();
+        if !job.incoming {
+            return Err(SpoolRefusal::NotPossible);
+        }
+        if added && is_too_large(job, document.contents.len()) {
+            return Err(SpoolRefusal::TooLarge);
+        }
+        Ok(())
+    }
+
+    /// Adds a document, if it is to be added.
+    fn attach_if(
+        &mut self,
+        added: bool,
+        id: JobId,
+        document: Document,
+        now: Moment,
+    ) -> Result<(), Document>
+        requires { taking_refusal document added (spooled_at id self.old.jobs) ≡ None }
+        ensures ok { OnOk result (self.new ≡ record self.old { jobs = with_document added id document now self.old.jobs }) }
+        ensures kept { OnErr result (self.new ≡ self.old) }
+        ensures back { IfErr result (λ back. back ≡ document) }
+    {
+        if !added {
+            return Ok(());
+        }
+        self.attach(id, document, now)
+    }
+
+    /// The job is all in, if the document was the last.
+    fn close_if(&mut self, last: bool, id: JobId, now: Moment)
+        ensures { self.new ≡ record self.old { jobs = closed_if last id now self.old.jobs } }
+    {
+        if last {
+            let _refused = self.change(id, JobChange::Close, now);
+        }
+    }
+}

@@ -1,0 +1,199 @@
+ghost use Rattle.std.specs.Prelude.{◌≡◌, ◌≤◌, ◌<◌, ◌+◌, ◌∷◌, ◌++◌, [], OnOk, OnErr, IfErr, IfSome, IfNone, length, map, remove, slice_get, is_ok};
+ghost use Rattle.std.specs.Option.{option_copied};
+ghost use Rattle.spool.specs.Spooled.{changed, begun, relieved, handed_out, attached, expired};
+ghost use Rattle.base_types.specs.declared.limits.TheConstants.Limits.{LAST_JOB_ID, JOB_DOCUMENTS, JOB_OCTETS};
+ghost use Rattle.spool.specs.Document.{octets_of};
+ghost use Rattle.spool.specs.Submission.{spooled_of};
+ghost use Rattle.spool.specs.Calls.{allows, marked_by};
+ghost use Rattle.spool.specs.Jobs.{spooled_at, with_job, map_at, handed_out_at};
+
+use crate::document::Document;
+use crate::new_job::NewJob;
+use crate::spooled::SpooledJob;
+use crate::taking::taken;
+use base_types::{JobId, Moment, Stranded, Text};
+use indexmap::IndexMap;
+use job_objects::{JobChange, StateRefusal};
+use std::alloc::Global;
+use std::marker::Model;
+
+/// The jobs, by rising id. In clauses it is a record of their list and the next id.
+#[derive(Debug, Drop)]
+pub struct Spool {
+    entries: IndexMap<u32, SpooledJob>,
+    next: u32,
+    alloc: Global,
+}
+
+impl Model for Spool {
+    ghost use Rattle.std.specs.Prelude.{◌+◌, ◌≤◌};
+    ghost use Rattle.base_types.specs.declared.limits.TheConstants.Limits.{LAST_JOB_ID};
+    ghost use Rattle.spool.specs.Jobs.{SpoolRecord, jobs_of, Keyed};
+
+    ghost Value = { SpoolRecord };
+
+    ghost view = { λ s. record { jobs = jobs_of s.entries.entries; next = s.next } };
+
+    ghost invariant = { λ s. Keyed s.entries.entries 0 s.next × (1 ≤ s.next) × (s.next ≤ LAST_JOB_ID + 1) };
+}
+
+impl Spool {
+    /// No jobs; the first will have this id.
+    pub fn new(alloc: Global, first: JobId) -> Spool
+        ensures { result ≡ record { jobs = []; next = first } }
+    {
+        Spool {
+            entries: IndexMap::new(alloc),
+            next: first.number(),
+            alloc,
+        }
+    }
+
+    /// What it takes memory from.
+    pub(crate) fn allocator(&self) -> Global {
+        self.alloc
+    }
+
+    /// How many jobs there are, finished ones among them.
+    pub fn len(&self) -> usize
+        ensures { result ≡ length self.now.jobs }
+    {
+        self.entries.len()
+    }
+
+    /// All jobs, by rising id, each with its documents.
+    pub fn jobs(&self) -> &[SpooledJob]
+        ensures { result.now ≡ self.now.jobs }
+    {
+        self.entries.values().as_slice()
+    }
+
+    /// The job of this id, with its documents.
+    pub fn spooled(&self, id: JobId) -> Option<&SpooledJob>
+        ensures { option_copied result ≡ spooled_at id self.now.jobs }
+    {
+        self.entries.get(&id.number())
+    }
+
+    /// The id of the next job, while there is one.
+    pub fn next_id(&self) -> Option<JobId>
+        ensures value { IfSome result (λ id. id ≡ self.now.next) }
+        ensures used { IfNone result (LAST_JOB_ID < self.now.next) }
+    {
+        JobId::new(self.next)
+    }
+
+    /// A change of the job of this id, where there is one and its state allows it; a refused one
+    /// changes nothing.
+    pub(crate) fn change(
+        &mut self,
+        id: JobId,
+        change: JobChange,
+        now: Moment,
+    ) -> Result<(), StateRefusal>
+        ensures possible { is_ok result ≡ allows change now (spooled_at id self.old.jobs) }
+        ensures after { self.new ≡ record self.old { jobs = with_job id (changed change now) self.old.jobs } }
+        ensures kept { OnErr result (self.new ≡ self.old) }
+    {
+        let Some(spooled) = self.entries.get_mut(&id.number()) else {
+            return Err(StateRefusal::NotPossible);
+        };
+        spooled.change(change, now)
+    }
+
+    /// A device begins the job of this id, where there is one and it is pending.
+    pub(crate) fn begin(&mut self, id: JobId, now: Moment)
+        ensures { self.new ≡ record self.old { jobs = with_job id (begun now) self.old.jobs } }
+    {
+        let Some(spooled) = self.entries.get_mut(&id.number()) else {
+            return;
+        };
+        spooled.begin(now);
+    }
+
+    /// The device that has the job of this id, if there is one, lets go of it with a change.
+    pub(crate) fn relieve(&mut self, id: JobId, change: JobChange, now: Moment) -> Vec<Document>
+        ensures documents { result.items ≡ handed_out_at id self.old.jobs }
+        ensures rest { self.new ≡ record self.old { jobs = with_job id (relieved change now) self.old.jobs } }
+    {
+        let alloc = self.alloc;
+        let Some(spooled) = self.entries.get_mut(&id.number()) else {
+            return Vec::new(alloc);
+        };
+        spooled.relieve(alloc, change, now)
+    }
+
+    /// The job of this id takes a further document. Where memory is wanting, it hands it back.
+    pub(crate) fn attach(
+        &mut self,
+        id: JobId,
+        document: Document,
+        now: Moment,
+    ) -> Result<(), Document>
+        requires { IfSome (spooled_at id self.old.jobs) (λ s. (s.job.documents < JOB_DOCUMENTS) × (s.job.octets + length document.contents ≤ JOB_OCTETS)) }
+        ensures ok { OnOk result (self.new ≡ record self.old { jobs = with_job id (attached document now) self.old.jobs }) }
+        ensures kept { OnErr result (self.new ≡ self.old) }
+        ensures back { IfErr result (λ back. back ≡ document) }
+    {
+        let alloc = self.alloc;
+        let Some(spooled) = self.entries.get_mut(&id.number()) else {
+            return Err(document);
+        };
+        spooled.attach(alloc, document, now)
+    }
+
+    /// The job at a place is given up, if its documents stopped coming in.
+    pub(crate) fn expire_at(&mut self, place: usize, now: Moment)
+        requires { place < length self.old.jobs }
+        ensures { self.new ≡ record self.old { jobs = map_at place (expired now) self.old.jobs } }
+    {
+        let Some(spooled) = self.entries.get_index_mut(place) else {
+            return;
+        };
+        spooled.expire(now);
+    }
+
+    /// Marks the job at a place as stranded or not, as these entries say, if it is ready.
+    pub(crate) fn mark_by(&mut self, place: usize, paused: &[bool], stranded: &[Stranded])
+        requires { place < length self.old.jobs }
+        ensures { self.new ≡ record self.old { jobs = map_at place (marked_by paused.now stranded.now) self.old.jobs } }
+    {
+        let Some(spooled) = self.entries.get_index_mut(place) else {
+            return;
+        };
+        spooled.mark_by(paused, stranded);
+    }
+
+    /// Removes the job at a place.
+    pub(crate) fn remove(&mut self, place: usize)
+        ensures { self.new ≡ record self.old { jobs = remove self.old.jobs place } }
+    {
+        let _removed = self.entries.shift_remove_index(place);
+    }
+
+    /// Takes a job under the next id. Where memory is wanting, it hands it back.
+    pub(crate) fn append(
+        &mut self,
+        id: JobId,
+        new: NewJob,
+        formats: Vec<Text>,
+        incoming: bool,
+    ) -> Result<(), NewJob>
+        requires next { id ≡ self.old.next }
+        requires formats { formats.items ≡ map (λ d. d.format) new.documents }
+        requires documents { length new.documents ≤ JOB_DOCUMENTS }
+        requires octets { octets_of new.documents ≤ JOB_OCTETS }
+        ensures ok { OnOk result (self.new ≡ record { jobs = self.old.jobs ++ spooled_of new id incoming ∷ []; next = id + 1 }) }
+        ensures kept { OnErr result (self.new ≡ self.old) }
+        ensures back { IfErr result (λ back. back ≡ new) }
+    {
+        if self.entries.reserve(1).is_err() {
+            return Err(new);
+        }
+        let number = id.number();
+        let spooled = taken(new, id, formats, incoming);
+        let _none = self.entries.insert(number, spooled).unwrap();
+        self.next = number + 1;
+        Ok(())
+    }
+}

@@ -1,0 +1,184 @@
+ghost use Rattle.std.specs.Prelude.{◌≡◌, ◌≤◌, ◌<◌, ◌+◌, OnOk, OnErr, IfErr, length, is_ok, is_some};
+ghost use Rattle.job_objects.specs.JobStep.{job_after};
+ghost use Rattle.spool.specs.Spooled.{changed, begun, relieved, handed_out, settled, is_settled, counted, attached, expired, is_overdue, marked};
+
+use crate::document::Document;
+use base_types::{Limits, Moment, Text};
+use job_objects::{Job, JobChange, StateRefusal, estimated_impressions, job_step};
+use std::alloc::{AllocError, Global};
+use std::marker::Model;
+use std::mem;
+
+/// A job with its documents. In clauses it is a record of the same fields.
+#[derive(Debug, Drop)]
+pub struct SpooledJob {
+    pub(crate) job: Job,
+    /// Its documents, until they are handed out or dropped.
+    pub(crate) documents: Vec<Document>,
+    /// When its last document came, or it was made.
+    pub(crate) arrived: Moment,
+    /// Whether a device has it. A device keeps a canceled job until it says that it is done.
+    pub(crate) on_device: bool,
+}
+
+impl Model for SpooledJob {
+    ghost use Rattle.spool.specs.Spooled.{SpooledRecord};
+
+    ghost Value = { SpooledRecord };
+
+    ghost view = { λ s. record {
+      job = s.job;
+      documents = s.documents.items;
+      arrived = s.arrived;
+      on_device = s.on_device;
+    } };
+}
+
+impl SpooledJob {
+    /// The job.
+    pub fn job(&self) -> &Job
+        ensures { result.now ≡ self.now.job }
+    {
+        &self.job
+    }
+
+    /// Its documents, until they are handed out or dropped.
+    pub fn documents(&self) -> &[Document]
+        ensures { result.now ≡ self.now.documents }
+    {
+        &self.documents
+    }
+
+    /// Whether a device has it.
+    pub fn is_on_device(&self) -> bool
+        ensures { result ≡ self.now.on_device }
+    {
+        self.on_device
+    }
+
+    /// Whether it is finished and no device has it.
+    pub(crate) fn is_settled(&self) -> bool
+        ensures { result ≡ is_settled self.now }
+    {
+        self.job.state.is_finished() && !self.on_device
+    }
+
+    /// A job that is finished and that no device has drops its documents.
+    fn settle(&mut self)
+        ensures after { self.new ≡ settled self.old }
+        ensures same_job { self.new.job.id ≡ self.old.job.id }
+    {
+        let spooled = &*self;
+        if spooled.is_settled() {
+            self.documents.clear();
+        }
+    }
+
+    /// A change that no device brings to an end; a refused one leaves it as it was.
+    pub(crate) fn change(&mut self, change: JobChange, now: Moment) -> Result<(), StateRefusal>
+        ensures possible { is_ok result ≡ is_some (job_after change now self.old.job) }
+        ensures after { self.new ≡ changed change now self.old }
+        ensures kept { OnErr result (self.new ≡ self.old) }
+        ensures same_job { self.new.job.id ≡ self.old.job.id }
+    {
+        job_step(&mut self.job, change, now)?;
+        self.settle();
+        Ok(())
+    }
+
+    /// A device begins it, where it is pending.
+    pub(crate) fn begin(&mut self, now: Moment)
+        ensures after { self.new ≡ begun now self.old }
+        ensures same_job { self.new.job.id ≡ self.old.job.id }
+    {
+        if job_step(&mut self.job, JobChange::Start, now).is_ok() {
+            self.on_device = true;
+        }
+    }
+
+    /// The device that has it lets go of it, with a change of the job, unless that is finished.
+    /// Its documents are handed out.
+    pub(crate) fn relieve(&mut self, alloc: Global, change: JobChange, now: Moment) -> Vec<Document>
+        ensures documents { result.items ≡ handed_out self.old }
+        ensures rest { self.new ≡ relieved change now self.old }
+        ensures same_job { self.new.job.id ≡ self.old.job.id }
+    {
+        let none = Vec::new(alloc);
+        if !self.on_device {
+            return none;
+        }
+        self.on_device = false;
+        let _refused = job_step(&mut self.job, change, now);
+        mem::replace(&mut self.documents, none)
+    }
+
+    /// It is stranded, or isn't.
+    pub(crate) fn mark(&mut self, stranded: bool)
+        ensures after { self.new ≡ marked stranded self.old }
+        ensures same_job { self.new.job.id ≡ self.old.job.id }
+    {
+        self.job.stranded = stranded;
+    }
+
+    /// It is given up, if documents are still to come and none came for long.
+    pub(crate) fn expire(&mut self, now: Moment)
+        ensures after { self.new ≡ expired now self.old }
+        ensures same_job { self.new.job.id ≡ self.old.job.id }
+    {
+        let spooled = &*self;
+        if spooled.is_overdue(now) {
+            let _refused = self.change(JobChange::Fail, now);
+        }
+    }
+
+    /// Whether documents are still to come, and none came for long.
+    fn is_overdue(&self, now: Moment) -> bool
+        ensures { result ≡ is_overdue now self.now }
+    {
+        let waited = now.millis().saturating_sub(self.arrived.millis());
+        self.job.incoming && waited >= Limits::INCOMING_JOB_TIME
+    }
+
+    /// Takes a further document. Where memory is wanting, it hands it back and nothing is changed.
+    pub(crate) fn attach(
+        &mut self,
+        alloc: Global,
+        document: Document,
+        now: Moment,
+    ) -> Result<(), Document>
+        requires documents { self.old.job.documents < Limits.JOB_DOCUMENTS }
+        requires octets { self.old.job.octets + length document.contents ≤ Limits.JOB_OCTETS }
+        ensures ok { OnOk result (self.new ≡ attached document now self.old) }
+        ensures kept { OnErr result (self.new ≡ self.old) }
+        ensures back { IfErr result (λ back. back ≡ document) }
+        ensures same_job { self.new.job.id ≡ self.old.job.id }
+    {
+        let Ok(format) = document.format.copied(alloc) else {
+            return Err(document);
+        };
+        if self.documents.reserve(1).is_err() {
+            return Err(document);
+        }
+        if count_document(&mut self.job, format, document.contents.len()).is_err() {
+            return Err(document);
+        }
+        self.documents.push(document).unwrap();
+        self.arrived = now;
+        Ok(())
+    }
+}
+
+/// Counts a further document of the job, and estimates its impressions anew.
+fn count_document(job: &mut Job, format: Text, octets: usize) -> Result<(), AllocError>
+    requires documents { job.old.documents < Limits.JOB_DOCUMENTS }
+    requires octets { job.old.octets + octets ≤ Limits.JOB_OCTETS }
+    ensures ok { OnOk result (job.new ≡ counted format octets job.old) }
+    ensures kept { OnErr result (job.new ≡ job.old) }
+    ensures same_job { job.new.id ≡ job.old.id }
+{
+    job.needs.formats.push(format)?;
+    job.documents += 1;
+    job.octets += octets;
+    job.needs.impressions = estimated_impressions(job.impressions, job.octets);
+    Ok(())
+}

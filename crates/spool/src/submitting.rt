@@ -1,0 +1,83 @@
+ghost use Rattle.std.specs.Prelude.{◌≡◌, [], IfOk, OnErr, IfErr, None, Some, true, false};
+ghost use Rattle.spool.specs.Calls.{is_full, new_refusal, IsRefusal, Takes};
+
+use crate::document::Document;
+use crate::new_job::NewJob;
+use crate::refusal::{Refused, SpoolRefusal};
+use crate::spool::Spool;
+use crate::taking::{formats_of, octets_within};
+use base_types::{JobId, Limits};
+
+impl Spool {
+    /// Whether no further job is taken: too many are unfinished, or the last id is used.
+    pub fn is_full(&self) -> bool
+        ensures { result ≡ is_full self.now }
+    {
+        self.unfinished() >= Limits::UNFINISHED_JOBS || self.next_id().is_none()
+    }
+
+    /// The id that a job of these documents would get, or why it isn't taken.
+    pub fn admits(&self, documents: &[Document]) -> Result<JobId, SpoolRefusal>
+        ensures ok { IfOk result (λ id. (id ≡ self.now.next) × (new_refusal self.now documents.now ≡ None)) }
+        ensures refused { IfErr result (λ refusal. new_refusal self.now documents.now ≡ Some refusal) }
+    {
+        if documents.len() > Limits::JOB_DOCUMENTS || octets_within(documents).is_none() {
+            return Err(SpoolRefusal::TooLarge);
+        }
+        if self.unfinished() >= Limits::UNFINISHED_JOBS {
+            return Err(SpoolRefusal::Busy);
+        }
+        self.next_id().ok_or(SpoolRefusal::Busy)
+    }
+
+    /// Takes a job that is all in, under the next id: it is pending, or held.
+    ///
+    /// A refusal hands the job back. In this order: too large, busy, want of memory.
+    pub fn submit(&mut self, new: NewJob) -> Result<JobId, Refused>
+        ensures ok { IfOk result (λ id. Takes self.old new false id self.new) }
+        ensures kept { OnErr result (self.new ≡ self.old) }
+        ensures returned { IfErr result (λ refused. refused.job ≡ new) }
+        ensures refused { IfErr result (λ refused. IsRefusal (new_refusal self.old new.documents) refused.refusal) }
+    {
+        self.take(new, false)
+    }
+
+    /// Takes a job whose documents are still to come, under the next id.
+    ///
+    /// In this order: busy, want of memory.
+    pub fn create(&mut self, new: NewJob) -> Result<JobId, SpoolRefusal>
+        requires { new.documents ≡ [] }
+        ensures ok { IfOk result (λ id. Takes self.old new true id self.new) }
+        ensures kept { OnErr result (self.new ≡ self.old) }
+        ensures refused { IfErr result (λ refusal. IsRefusal (new_refusal self.old []) refusal) }
+    {
+        match self.take(new, true) {
+            Ok(id) => Ok(id),
+            Err(refused) => Err(refused.refusal),
+        }
+    }
+
+    /// Takes a job, told whether documents are still to come.
+    fn take(&mut self, new: NewJob, incoming: bool) -> Result<JobId, Refused>
+        ensures ok { IfOk result (λ id. Takes self.old new incoming id self.new) }
+        ensures kept { OnErr result (self.new ≡ self.old) }
+        ensures returned { IfErr result (λ refused. refused.job ≡ new) }
+        ensures refused { IfErr result (λ refused. IsRefusal (new_refusal self.old new.documents) refused.refusal) }
+    {
+        let id = match self.admits(&new.documents) {
+            Ok(id) => id,
+            Err(refusal) => return Err(Refused { refusal, job: new }),
+        };
+        let Ok(formats) = formats_of(self.allocator(), &new.documents) else {
+            let refusal = SpoolRefusal::OutOfMemory;
+            return Err(Refused { refusal, job: new });
+        };
+        match self.append(id, new, formats, incoming) {
+            Ok(()) => Ok(id),
+            Err(job) => {
+                let refusal = SpoolRefusal::OutOfMemory;
+                Err(Refused { refusal, job })
+            }
+        }
+    }
+}
