@@ -31,3 +31,6 @@ pub use ready::Ready;
 pub use refusal::{Refused, RefusedDocument, SpoolRefusal};
 pub use spool::Spool;
 pub use spooled::SpooledJob;
+
+#[cfg(test)]
+mod tests;
