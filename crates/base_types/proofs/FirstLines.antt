@@ -46,9 +46,9 @@ endless_line most bytes is = endless_by most bytes (position (λ byte. byte == 1
 
 pub endless_grown : (most : ℕ) (bytes coming : List ℕ) → IsEndless most bytes → IsEndless most (bytes ++ coming)
 endless_grown most bytes coming endless = record {
-    many = rw (length-append bytes coming) (omega (arith, endless.many));
-    none = λ place low. rw (get_or_append_left bytes coming 0 place (omega (arith, low, endless.many))) (endless.none place low)
-  }
+  many = rw (length-append bytes coming) (omega (arith, endless.many));
+  none = λ place low. rw (get_or_append_left bytes coming 0 place (omega (arith, low, endless.many))) (endless.none place low);
+}
 
 too_long_by : (most : ℕ) (bytes : List ℕ) (found : Option ℕ) → position (λ byte. byte == 10) bytes ≡ found → IsEndless most bytes → line_of most (length bytes) found ≡ TooLong
 too_long_by most bytes None at endless = grind (arith, endless.many)

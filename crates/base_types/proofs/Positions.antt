@@ -27,6 +27,7 @@ passes_late p xs most i fails found = late (cases_lt i most)
   where
     at : (i < length xs) × (p (slice_index_or xs i 0) ≡ true) × ((k : ℕ) → k < i → p (slice_index_or xs k 0) ≡ false)
     at = position-Some p xs i 0 found
+
     late : (i < most) ⊎ (most ≤ i) → most ≤ i
     late (inl low) = absurd (true≢false (sym at.1 ∙ fails i low))
     late (inr high) = high
