@@ -76,6 +76,8 @@ impl Limits {
     pub const JOB_TIME: u64 = 599_403_600_000;
     /// Time until a device is free, in ms: 2^56.
     pub const WAIT: u64 = 72_057_594_037_927_936;
+    /// A total or a price in the text of a plan, in ms: 2^62.
+    pub const AMOUNT: u64 = 4_611_686_018_427_387_904;
 
     /// Bytes of the name of a device, printer or operator in the settings.
     pub const NAME_BYTES: usize = 32;

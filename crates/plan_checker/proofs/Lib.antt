@@ -2,3 +2,8 @@ pub mod Fair
 pub mod Proved
 pub mod Above
 pub mod Plans
+pub mod TextDigits
+pub mod TextWords
+pub mod TextProblems
+pub mod TextParts
+pub mod TextLines

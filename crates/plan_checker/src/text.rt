@@ -1,0 +1,21 @@
+//! A plan as a text: one line for each thing that it says.
+
+mod cut;
+mod draft;
+mod fault;
+mod line;
+mod number;
+mod open_class;
+mod read_line;
+mod read_plan;
+mod stage;
+mod values;
+mod write_plan;
+mod write_word;
+
+pub use fault::{ReadError, TextFault};
+pub use read_plan::read_plan_text;
+pub use write_plan::write_plan_text;
+
+#[cfg(test)]
+mod tests;

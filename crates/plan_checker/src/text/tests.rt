@@ -1,0 +1,80 @@
+use crate::{
+    PlanText, ReadError, TextFault, Verdict, check_class, read_plan_text, write_plan_text,
+};
+use std::alloc::Global;
+use std::test::Fail;
+
+/// Three jobs on two devices, with the prices that prove the way best.
+const BEST_OF_THREE: &str =
+    "plan\ndevice A\ndevice B\nclass 50\njob 1 10 20\njob 2 10 12\njob 3 30 15\nwait 0 0\nway A 1 2\nway B 3\ntotal 45\njobprices 20 20 23\nplaceprices A -10 0\nplaceprices B -8\nend\n";
+
+/// The fault of a text, if it has one.
+fn fault_of(alloc: Global, text: &str) -> Result<Option<TextFault>, Fail> {
+    match read_plan_text(alloc, text.as_bytes()) {
+        Ok(_) => Ok(None),
+        Err(ReadError::Fault(fault)) => Ok(Some(fault)),
+        Err(ReadError::OutOfMemory) => Err(Fail::from("memory")),
+    }
+}
+
+fn plan_of(alloc: Global, text: &str) -> Result<PlanText, Fail> {
+    match read_plan_text(alloc, text.as_bytes()) {
+        Ok(plan) => Ok(plan),
+        Err(_) => Err(Fail::from("no plan")),
+    }
+}
+
+#[test]
+fn best_of_three(rt: HostRuntime) -> Result<(), Fail> {
+    let plan = plan_of(rt.alloc(), BEST_OF_THREE)?;
+    assert_eq!(rt; plan.devices().len(), 2);
+    let classes = plan.plan().classes();
+    assert_eq!(rt; classes.len(), 1);
+    assert_eq!(rt; classes[0].priced.total, 45);
+    assert_eq!(rt;
+        check_class(&classes[0].problem, &classes[0].priced),
+        Verdict::Yes
+    );
+    Ok(())
+}
+
+/// Texts that are no plan, each for one reason.
+#[test]
+fn refused_texts(rt: HostRuntime) -> Result<(), Fail> {
+    let alloc = rt.alloc();
+    let rows: [(&str, Option<TextFault>); 11] = [
+        ("", Some(TextFault::NoEnd)),
+        ("plan\nend", Some(TextFault::NoEnd)),
+        ("plan\nend\n", None),
+        ("plan\nend\n\n", Some(TextFault::BadLine)),
+        (
+            "plan\ndevice A\nclass 50\nwait 0\nway A\n",
+            Some(TextFault::NoEnd),
+        ),
+        (
+            "plan\ndevice A\nclass 50\nwait 72057594037927937\n",
+            Some(TextFault::OutOfRange),
+        ),
+        (
+            "plan\ndevice A\nclass 50\nwait 0\nway  A\n",
+            Some(TextFault::BadLine),
+        ),
+        (
+            "plan\ndevice A\nclass 50\njob 1 01\n",
+            Some(TextFault::BadLine),
+        ),
+        ("plan\nclass 101\nclass\n", Some(TextFault::OutOfRange)),
+        (
+            "plan\nstranded 2 Media\nstranded 1 Format\n",
+            Some(TextFault::OutOfRange),
+        ),
+        (
+            "plan\nclass 5\nwait\ntotal 0\njobprices -0\n",
+            Some(TextFault::BadLine),
+        ),
+    ];
+    for (text, fault) in rows {
+        assert_eq!(rt; fault_of(alloc, text)?, fault);
+    }
+    Ok(())
+}
