@@ -60,7 +60,7 @@ seat_of_job c e s h j lt =
 wait_read : (c : Class) (e : Entries) (s : Seating) → Solves c e s → (d : ℕ) → d < length c.waits → get_or e.costs.waits.items d UNABLE ≡ wait_of c d
 wait_read c e s h d lt = ap (λ w. get_or w d UNABLE) h.read.waits ∙ get_or_default c.waits d UNABLE 0 lt
 
-timed_cost : (waits : List ℕ) (row : List (Option ℕ)) (d after wait : ℕ) (entry : Option ℕ) → get_or row d None ≡ entry → get_or waits d UNABLE ≡ wait → cost_at waits row (record { device = d; after = after }) ≡ cost_with entry wait after
+pub timed_cost : (waits : List ℕ) (row : List (Option ℕ)) (d after wait : ℕ) (entry : Option ℕ) → get_or row d None ≡ entry → get_or waits d UNABLE ≡ wait → cost_at waits row (record { device = d; after = after }) ≡ cost_with entry wait after
 unfolding cost_at
 timed_cost waits row d after wait entry er ew = rw (er, ew) refl
 
@@ -71,7 +71,7 @@ pub cost_timed : (c : Class) (e : Entries) (s : Seating) → Solves c e s → (j
 cost_timed c e s h j d after t lj ld is = cost_read c e s h j d after lj ld ∙ ap (λ o. cost_with o (wait_of c d) after) is
 
 -- a time of the class
-some_time : (o : Option ℕ) → IsSome o → (t : ℕ) × (o ≡ Some t)
+pub some_time : (o : Option ℕ) → IsSome o → (t : ℕ) × (o ≡ Some t)
 some_time None h = cc
 some_time (Some t) h = (t, refl)
 

@@ -2,7 +2,9 @@ pub mod Apart
 pub mod Bounds
 pub mod Charges
 pub mod Count
+pub mod Fill
 pub mod Filled
+pub mod Gaps
 pub mod Laid
 pub mod Opening
 pub mod Proving

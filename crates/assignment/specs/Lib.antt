@@ -4,3 +4,4 @@ pub mod Search
 pub mod Layout
 pub mod Entries
 pub mod Answer
+pub mod AllPlaces

@@ -9,7 +9,7 @@ use cost_table::Row;
 pub(crate) const UNABLE: u64 = 4 * Limits::WAIT;
 
 /// A place of a device: how many places come after it. The last place of a list has none.
-#[derive(Clone, Copy, Debug)]
+#[derive(Clone, Copy, Debug, PartialEq, Eq)]
 pub(crate) struct Place {
     pub(crate) device: usize,
     pub(crate) after: u64,

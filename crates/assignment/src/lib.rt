@@ -6,6 +6,7 @@
 #![tactic(auto)]
 
 mod able;
+mod all_places;
 mod answer;
 mod costs;
 mod order;
@@ -16,7 +17,7 @@ mod solver;
 mod times;
 
 pub use able::each_able;
-pub use planner::{Lazy, Planner};
+pub use planner::{Dense, Lazy, Planner};
 pub use times::{Counted, Times};
 
 #[cfg(test)]

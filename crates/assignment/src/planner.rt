@@ -3,8 +3,8 @@ ghost use Rattle.prices.specs.Total.{IsBest};
 ghost use Rattle.prices.specs.Prices.{IsProved};
 ghost use Rattle.assignment.specs.Entries.{EachAble};
 
+use crate::all_places::{Shown, seat_all};
 use crate::answer::{prices, total, way};
-use crate::solver::solve;
 use crate::times::{Counted, Times, read};
 use cost_table::ClassProblem;
 use prices::{PricedWay, fair_is_best};
@@ -42,12 +42,7 @@ impl Lazy {
         ensures looked { let jobs = length (T.class times.old).ids in let devices = length (T.class times.old).waits in
             T.looked times.new ≤ T.looked times.old + jobs * jobs * (jobs + devices) }
     {
-        let entries = read(self.alloc, times)?;
-        let seating = solve(self.alloc, &entries.costs)?;
-        let way = way(self.alloc, &entries, &seating)?;
-        let prices = prices(self.alloc, &entries, &seating)?;
-        let total = total(&entries.costs, &seating);
-        Ok(PricedWay { way, prices, total })
+        plan(self.alloc, times, Shown::Next)
     }
 }
 
@@ -58,4 +53,43 @@ impl Planner for Lazy {
         fair_is_best(class, &priced);
         Ok(priced)
     }
+}
+
+/// Shows for each device all its free places. It finds what [`Lazy`] finds, in more time.
+#[derive(Clone, Copy, Debug)]
+pub struct Dense {
+    alloc: Global,
+}
+
+impl Dense {
+    /// A planner that takes its memory from here.
+    pub fn new(alloc: Global) -> Dense {
+        Dense { alloc }
+    }
+}
+
+impl Planner for Dense {
+    fn plan_class(&self, class: &ClassProblem) -> Result<PricedWay, AllocError> {
+        let mut counted = Counted::new(class);
+        let priced = plan(self.alloc, &mut counted, Shown::All)?;
+        fair_is_best(class, &priced);
+        Ok(priced)
+    }
+}
+
+/// A best way of the class, found where each device shows these free places.
+fn plan<T: Times>(alloc: Global, times: &mut T, shown: Shown) -> Result<PricedWay, AllocError>
+    requires able { EachAble (T.class times.old) }
+    requires room { T.looked times.old < 2 ^ 62 }
+    ensures proved { IfOk result (λ p. IsProved (T.class times.old) p.way p.prices p.total) }
+    ensures same { T.class times.new ≡ T.class times.old }
+    ensures looked { let jobs = length (T.class times.old).ids in let devices = length (T.class times.old).waits in
+        T.looked times.new ≤ T.looked times.old + jobs * jobs * (jobs + devices) }
+{
+    let entries = read(alloc, times)?;
+    let seating = seat_all(alloc, &entries.costs, shown)?;
+    let way = way(alloc, &entries, &seating)?;
+    let prices = prices(alloc, &entries, &seating)?;
+    let total = total(&entries.costs, &seating);
+    Ok(PricedWay { way, prices, total })
 }

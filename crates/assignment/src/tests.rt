@@ -1,4 +1,4 @@
-use crate::{Counted, Lazy, Planner, Times, each_able};
+use crate::{Counted, Dense, Lazy, Planner, Times, each_able};
 use base_types::{JobId, Limits};
 use cost_table::{ClassProblem, Row, is_class};
 use std::alloc::Global;
@@ -27,6 +27,15 @@ fn planned(planner: &impl Planner, class: &ClassProblem) -> Result<u64, Fail> {
     Ok(planner.plan_class(class)?.total)
 }
 
+/// The total that both planners find.
+fn agreed(alloc: Global, class: &ClassProblem) -> Result<u64, Fail> {
+    let total = planned(&Lazy::new(alloc), class)?;
+    if planned(&Dense::new(alloc), class)? != total {
+        return Err(Fail::from("the planners differ"));
+    }
+    Ok(total)
+}
+
 /// Three jobs on two devices.
 const THREE: [&[Option<u64>]; 3] = [
     &[Some(10), Some(20)],
@@ -53,14 +62,13 @@ fn best_of_three(rt: HostRuntime) -> Result<(), Fail> {
 #[test]
 fn known_totals(rt: HostRuntime) -> Result<(), Fail> {
     let alloc = rt.alloc();
-    let lazy = Lazy::new(alloc);
     let late_device = class_of(alloc, &THREE[..2], &[100, 0])?;
-    assert_eq!(rt; planned(&lazy, &late_device)?, 44);
+    assert_eq!(rt; agreed(alloc, &late_device)?, 44);
     let one: [&[Option<u64>]; 3] = [&[Some(5)], &[Some(3)], &[Some(4)]];
     let shortest_first = class_of(alloc, &one, &[0])?;
-    assert_eq!(rt; planned(&lazy, &shortest_first)?, 22);
+    assert_eq!(rt; agreed(alloc, &shortest_first)?, 22);
     let second_class = class_of(alloc, &THREE[..2], &[0, 15])?;
-    assert_eq!(rt; planned(&lazy, &second_class)?, 30);
+    assert_eq!(rt; agreed(alloc, &second_class)?, 30);
     Ok(())
 }
 
@@ -70,6 +78,6 @@ fn largest_totals(rt: HostRuntime) -> Result<(), Fail> {
     let alloc = rt.alloc();
     let job: &[Option<u64>] = &[Some(Limits::JOB_TIME)];
     let class = class_of(alloc, &[job; 127], &[Limits::JOB_TIME])?;
-    assert_eq!(rt; planned(&Lazy::new(alloc), &class)?, 4_948_076_718_000_000);
+    assert_eq!(rt; agreed(alloc, &class)?, 4_948_076_718_000_000);
     Ok(())
 }

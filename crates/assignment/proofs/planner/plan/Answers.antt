@@ -6,8 +6,9 @@ use Rattle.std.proofs.lemmas.List.Sorted.{length_permutation}
 use Rattle.prices.proofs.Bounds.{total_small}
 use Rattle.assignment.specs.Answer.{way_of}
 use Rattle.assignment.proofs.Filled.{Solves, charged_low, job_in}
+use Rattle.assignment.proofs.Fill.{can_fill}
 use Rattle.assignment.proofs.Proving.{IsCharged, is_way, proved_as, total_is}
-use Rattle.assignment.proofs.planner.Lazy.plan_counted.Goals as goal
+use Rattle.assignment.proofs.planner.plan.Goals as goal
 
 pub way-requires-clause-known : goal.way-requires-clause-known
 way-requires-clause-known g c = λ q lt.
@@ -75,3 +76,8 @@ returns-clause-proved g c =
       at = λ q lt. charged.4 q (omega (arith, lt, solved.filled.seated.jobs));
     } in
     proved_as class e s charged.0 c.in_ok-way.way c.in_ok-prices.prices c.total-total.result h p (c.in_ok-way.ensures {u = tt}) charged.2 priced.places c.total-total.ensures
+
+pub seat_all-requires : goal.seat_all-requires
+seat_all-requires g c =
+    let read = c.in_ok-entries.ensures {u = tt} in
+    can_fill (g.T.Times.class c.args.times.now) c.in_ok-entries.entries c.read.ensures.class c.requires.able read.read

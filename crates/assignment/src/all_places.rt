@@ -1,0 +1,129 @@
+ghost use Rattle.std.specs.Prelude.{◌≡◌, ◌≢◌, ℕ, ◌+◌, ◌<◌, ◌≤◌, ◌⊎◌, ◌∷◌, [], ◌++◌, ◌^◌, All, Contains, IfOk, OnOk, length, vec_len, slice_index_or};
+ghost use Rattle.std.specs.List.{range_with_len};
+ghost use Rattle.std.specs.List.Sorted.{IsPermutation};
+ghost use Rattle.assignment.specs.declared.costs.Place.{Place};
+ghost use Rattle.assignment.specs.Costs.{cost_of, nowhere};
+ghost use Rattle.assignment.specs.Seating.{IsSeated};
+ghost use Rattle.assignment.specs.Layout.{IsFilled, IsLaid};
+ghost use Rattle.assignment.specs.AllPlaces.{CanFill, ShowsAll, place_on};
+
+use crate::costs::{Costs, Place};
+use crate::order::longest_first;
+use crate::seating::{Seating, insert};
+use crate::solver::solve;
+use std::alloc::{AllocError, Global};
+
+/// Which free places each device shows.
+#[derive(Clone, Copy, Debug)]
+pub(crate) enum Shown {
+    Next,
+    All,
+}
+
+/// Seats all jobs, one by one, where each device shows these free places.
+pub(crate) fn seat_all(alloc: Global, costs: &Costs, shown: Shown) -> Result<Seating, AllocError>
+    requires { CanFill costs.now }
+    ensures filled { IfOk result (λ s. IsFilled costs.now s) }
+    ensures all { IfOk result (λ s. IsPermutation (range_with_len 0 (vec_len costs.now.rows)) s.jobs.items) }
+{
+    match shown {
+        Shown::Next => solve(alloc, costs),
+        Shown::All => solve_densely(alloc, costs),
+    }
+}
+
+/// Seats all jobs, one by one, where each device shows all its free places.
+fn solve_densely(alloc: Global, costs: &Costs) -> Result<Seating, AllocError>
+    requires { CanFill costs.now }
+    ensures filled { IfOk result (λ s. IsFilled costs.now s) }
+    ensures all { IfOk result (λ s. IsPermutation (range_with_len 0 (vec_len costs.now.rows)) s.jobs.items) }
+{
+    let order = longest_first(alloc, costs)?;
+    let mut free = all_places(alloc, costs.waits.len(), costs.rows.len())?;
+    let mut seating = Seating {
+        seats: Vec::new(alloc),
+        rents: Vec::new(alloc),
+        jobs: Vec::new(alloc),
+        prices: Vec::new(alloc),
+    };
+    for place in 0..order.len() {
+        free = seat_among(alloc, costs, &mut seating, &free, order[place])?;
+    }
+    Ok(seating)
+}
+
+/// Seats one job more at one of the free places, and gives those that are left.
+fn seat_among(
+    alloc: Global,
+    costs: &Costs,
+    seating: &mut Seating,
+    free: &[Place],
+    job: usize,
+) -> Result<Vec<Place>, AllocError>
+    requires fill { CanFill costs.now }
+    requires job { job < vec_len costs.now.rows }
+    requires room { vec_len seating.old.seats < vec_len costs.now.rows }
+    requires known { All (λ j. j < vec_len costs.now.rows) seating.old.jobs.items }
+    requires seated { IsSeated (cost_of costs.now) seating.old free.now }
+    requires laid { IsLaid (vec_len costs.now.waits) seating.old.seats.items }
+    requires shows { ShowsAll costs.now seating.old.seats.items free.now }
+    ensures known { IfOk result (λ _. All (λ j. j < vec_len costs.now.rows) seating.new.jobs.items) }
+    ensures count { IfOk result (λ _. vec_len seating.new.seats ≡ vec_len seating.old.seats + 1) }
+    ensures seated { IfOk result (λ left. IsSeated (cost_of costs.now) seating.new left.items) }
+    ensures laid { IfOk result (λ _. IsLaid (vec_len costs.now.waits) seating.new.seats.items) }
+    ensures shows { IfOk result (λ left. ShowsAll costs.now seating.new.seats.items left.items) }
+    ensures jobs { IfOk result (λ _. IsPermutation (seating.old.jobs.items ++ job ∷ []) seating.new.jobs.items) }
+{
+    let at = insert(alloc, costs, seating, free, job)?;
+    let taken = free[at];
+    let left = without(alloc, free, taken)?;
+    Ok(left)
+}
+
+/// The places but one.
+fn without(alloc: Global, places: &[Place], taken: Place) -> Result<Vec<Place>, AllocError>
+    ensures kept { IfOk result (λ left. (p : Place) → Contains places.now p → p ≢ taken → Contains left.items p) }
+    ensures only { IfOk result (λ left. (p : Place) → Contains left.items p → Contains places.now p × (p ≢ taken)) }
+{
+    let mut left = Vec::new(alloc);
+    for place in places {
+        push_unless(&mut left, *place, taken)?;
+    }
+    Ok(left)
+}
+
+/// Appends a place, unless it is the one that is taken.
+fn push_unless(left: &mut Vec<Place>, place: Place, taken: Place) -> Result<(), AllocError>
+    ensures { OnOk result (((place ≢ taken) × (left.new.items ≡ left.old.items ++ place ∷ [])) ⊎ ((place ≡ taken) × (left.new.items ≡ left.old.items))) }
+{
+    if place != taken {
+        left.push(place)?;
+    }
+    Ok(())
+}
+
+/// So many places of each device, and one more.
+fn all_places(alloc: Global, devices: usize, jobs: usize) -> Result<Vec<Place>, AllocError>
+    requires { jobs < 2 ^ 63 }
+    ensures there { IfOk result (λ places. (device after : ℕ) → device < devices → after ≤ jobs → Contains places.items (place_on device after)) }
+    ensures only { IfOk result (λ places. (p : Place) → Contains places.items p → p.device < devices) }
+{
+    let mut places = Vec::new(alloc);
+    for device in 0..devices {
+        push_places(&mut places, device, jobs as u64)?;
+    }
+    Ok(places)
+}
+
+/// Appends the places of a device, up to the one that has so many after it.
+fn push_places(places: &mut Vec<Place>, device: usize, most: u64) -> Result<(), AllocError>
+    requires { most + 1 < u64.MAX }
+    ensures there { OnOk result ((after : ℕ) → after ≤ most → Contains places.new.items (place_on device after)) }
+    ensures kept { OnOk result ((p : Place) → Contains places.old.items p → Contains places.new.items p) }
+    ensures only { OnOk result ((p : Place) → Contains places.new.items p → Contains places.old.items p ⊎ (p.device ≡ device)) }
+{
+    for after in 0..most + 1 {
+        places.push(Place { device, after })?;
+    }
+    Ok(())
+}
