@@ -100,7 +100,17 @@ fn reports_from_any_cutting(rt: HostRuntime) -> Result<(), Fail> {
     Ok(())
 }
 
-/// A fault is answered again, whatever comes.
+/// Whether the fault of these bytes is answered again, whatever comes.
+fn is_kept(alloc: Global, bytes: &[u8]) -> Result<bool, AllocError> {
+    let mut reader = LinkReader::new(alloc);
+    let mut text = Vec::new(alloc);
+    reader.feed(bytes)?;
+    listen(alloc, &mut reader, &mut text)?;
+    let first = reader.next_report().err();
+    reader.feed(b"HELLO A\n")?;
+    Ok(first.is_some() && reader.next_report().err() == first)
+}
+
 #[test]
 fn faults_are_kept(rt: HostRuntime) -> Result<(), Fail> {
     let alloc = rt.alloc();
@@ -116,14 +126,10 @@ fn faults_are_kept(rt: HostRuntime) -> Result<(), Fail> {
         (&[b'A'; 1024], b"LineTooLong"),
     ];
     for (bytes, wanted) in rows {
-        let mut reader = LinkReader::new(alloc);
-        reader.feed(bytes)?;
-        let mut text = Vec::new(alloc);
-        listen(alloc, &mut reader, &mut text)?;
-        assert!(rt; text.as_slice() == wanted);
-        let first = reader.next_report().err();
-        reader.feed(b"HELLO A\n")?;
-        assert_eq!(rt; reader.next_report().err(), first);
+        for cut in 0..bytes.len() + 1 {
+            assert!(rt; heard(alloc, bytes, cut)?.starts_with(wanted));
+        }
+        assert!(rt; is_kept(alloc, bytes)?);
     }
     Ok(())
 }

@@ -100,7 +100,9 @@ fn lpd_faults(rt: HostRuntime) -> Result<(), Fail> {
         (&[b'A'; 1024], b"LineTooLong"),
     ];
     for (bytes, wanted) in rows {
-        assert!(rt; heard(alloc, bytes, 0)?.as_slice() == wanted);
+        for cut in 0..bytes.len() + 1 {
+            assert!(rt; heard(alloc, bytes, cut)?.starts_with(wanted));
+        }
     }
     Ok(())
 }
@@ -126,12 +128,16 @@ fn described(alloc: Global, text: &[u8]) -> Result<Vec<u8>, AllocError> {
     }
 }
 
-/// Control files as CUPS's backend and LPRng write them, and those of the faults.
+/// Control files as CUPS's backend, rlpr and LPRng write them, and those of the faults.
 #[test]
 fn control_files(rt: HostRuntime) -> Result<(), Fail> {
     let alloc = rt.alloc();
-    let rows: [(&[u8], &[u8]); 9] = [
+    let rows: [(&[u8], &[u8]); 10] = [
         (b"Hhost\nPann\nfdfA001host\n", b"ann untitled dfA001host"),
+        (
+            b"Hpc\nPann\nJletter.txt\nCpc\nLann\nfdfA042pc\nUdfA042pc\nNletter.txt\n",
+            b"ann letter.txt dfA042pc",
+        ),
         (
             b"Hhost\nPann\nJNotes\nldfA123host\nUdfA123host\nNnotes.ps\n",
             b"ann Notes dfA123host",
