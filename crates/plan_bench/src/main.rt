@@ -1,32 +1,65 @@
-//! Plans classes made of a seed, so that the time that it takes can be measured from outside.
+//! Plans classes made of a seed, so that planners can be timed from outside and compared.
 //!
-//! `plan_bench JOBS DEVICES SEED COUNT` makes so many class problems, plans each and writes its total
-//! in ms. The same arguments give the same totals.
+//! `plan_bench lazy JOBS DEVICES SEED COUNT` makes so many class problems, plans each by `Lazy` and
+//! writes its total in ms; `dense` does so by `Dense`. `plan_bench compare ..` makes problems of up to
+//! so many jobs and devices, plans each by both, and where there are few jobs tries all ways too; it
+//! stops where two totals differ. The same arguments give the same totals.
 #![tactic(auto)]
 
 mod made_class;
 mod random;
+mod search;
 
 use crate::made_class::made_class;
 use crate::random::Random;
+use crate::search::least_total;
 use anyhow::{Context, Error, bail};
-use assignment::{Lazy, Planner, each_able};
+use assignment::{Dense, Lazy, Planner, each_able};
+use cost_table::ClassProblem;
+use std::alloc::Global;
 use std::env;
+
+/// The most jobs of a class all of whose ways are tried.
+const FEW_JOBS: usize = 4;
+
+/// How classes are planned.
+#[derive(Clone, Copy, PartialEq, Eq)]
+enum Mode {
+    Lazy,
+    Dense,
+    Compare,
+}
 
 /// What the program is asked for.
 #[derive(Drop)]
 struct Asked {
+    mode: Mode,
     jobs: u32,
     devices: usize,
     seed: u64,
     count: u32,
 }
 
+/// How a word says that classes are planned.
+fn read_mode(word: &str) -> Result<Mode, Error> {
+    match word {
+        "lazy" => Ok(Mode::Lazy),
+        "dense" => Ok(Mode::Dense),
+        "compare" => Ok(Mode::Compare),
+        _ => bail!("expected lazy, dense or compare"),
+    }
+}
+
 /// The arguments, read.
 fn read_asked(rt: &HostRuntime) -> Result<Asked, Error> {
     let mut words = env::args(rt)?.skip(1);
-    let mut next = || words.next().context("expected JOBS DEVICES SEED COUNT");
+    let mut next = || {
+        words
+            .next()
+            .context("expected MODE JOBS DEVICES SEED COUNT")
+    };
     Ok(Asked {
+        mode: read_mode(next()?.as_str())?,
         jobs: next()?.parse()?,
         devices: next()?.parse()?,
         seed: next()?.parse()?,
@@ -34,17 +67,54 @@ fn read_asked(rt: &HostRuntime) -> Result<Asked, Error> {
     })
 }
 
+/// The next class: of so many jobs and devices, or in a comparison of at most as many.
+fn next_class(alloc: Global, random: &mut Random, asked: &Asked) -> Result<ClassProblem, Error> {
+    let (jobs, devices) = match asked.mode {
+        Mode::Lazy | Mode::Dense => (asked.jobs, asked.devices),
+        Mode::Compare => (
+            u32::try_from(random.below(u64::from(asked.jobs)))?.saturating_add(1),
+            usize::try_from(random.below(asked.devices as u64))?.saturating_add(1),
+        ),
+    };
+    made_class(alloc, random, jobs, devices)
+}
+
+/// The total of the way that a planner finds.
+fn planned<P: Planner>(planner: &P, class: &ClassProblem) -> Result<u64, Error> {
+    if !each_able(class) {
+        bail!("a job has no device");
+    }
+    Ok(planner.plan_class(class)?.total)
+}
+
+/// The total of both planners, which must be the same, and where there are few jobs the least.
+fn compared(alloc: Global, class: &ClassProblem) -> Result<u64, Error> {
+    let total = planned(&Lazy::new(alloc), class)?;
+    if planned(&Dense::new(alloc), class)? != total {
+        bail!("the planners differ");
+    }
+    if class.ids().len() <= FEW_JOBS && least_total(alloc, class)? != Some(total) {
+        bail!("another way is better");
+    }
+    Ok(total)
+}
+
+/// The total of a best way.
+fn total_of(alloc: Global, class: &ClassProblem, mode: Mode) -> Result<u64, Error> {
+    match mode {
+        Mode::Lazy => planned(&Lazy::new(alloc), class),
+        Mode::Dense => planned(&Dense::new(alloc), class),
+        Mode::Compare => compared(alloc, class),
+    }
+}
+
 /// Makes the classes one after the other, and writes the total of each.
 fn plan_all(rt: &HostRuntime, asked: &Asked) -> Result<(), Error> {
-    let planner = Lazy::new(rt.alloc());
     let mut random = Random::new(asked.seed);
     for _ in 0..asked.count {
-        let class = made_class(rt.alloc(), &mut random, asked.jobs, asked.devices)?;
-        if !each_able(&class) {
-            bail!("a job has no device");
-        }
-        let priced = planner.plan_class(&class)?;
-        println!(rt; "{}", priced.total)?;
+        let class = next_class(rt.alloc(), &mut random, asked)?;
+        let total = total_of(rt.alloc(), &class, asked.mode)?;
+        println!(rt; "{total}")?;
     }
     Ok(())
 }
