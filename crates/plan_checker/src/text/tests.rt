@@ -1,5 +1,5 @@
 use crate::{
-    PlanText, ReadError, TextFault, Verdict, check_class, read_plan_text, write_plan_text,
+    PlanText, PlanVerdict, ReadError, TextFault, check_plan, has_one_list_each, read_plan_text,
 };
 use std::alloc::Global;
 use std::test::Fail;
@@ -24,17 +24,19 @@ fn plan_of(alloc: Global, text: &str) -> Result<PlanText, Fail> {
     }
 }
 
+/// The verdict on the plan of a text, where each class has a list for each device.
+fn verdict_of(alloc: Global, text: &str) -> Result<Option<PlanVerdict>, Fail> {
+    let plan = plan_of(alloc, text)?;
+    if !has_one_list_each(plan.plan().classes()) {
+        return Ok(None);
+    }
+    Ok(Some(check_plan(plan.plan())))
+}
+
 #[test]
 fn best_of_three(rt: HostRuntime) -> Result<(), Fail> {
-    let plan = plan_of(rt.alloc(), BEST_OF_THREE)?;
-    assert_eq!(rt; plan.devices().len(), 2);
-    let classes = plan.plan().classes();
-    assert_eq!(rt; classes.len(), 1);
-    assert_eq!(rt; classes[0].priced.total, 45);
-    assert_eq!(rt;
-        check_class(&classes[0].problem, &classes[0].priced),
-        Verdict::Yes
-    );
+    let verdict = verdict_of(rt.alloc(), BEST_OF_THREE)?;
+    assert_eq!(rt; verdict, Some(PlanVerdict::Yes));
     Ok(())
 }
 
