@@ -1,1 +1,5 @@
 pub mod PrinterState
+pub mod Requested
+pub mod Attribute
+pub mod JobAttribute
+pub mod JobShown

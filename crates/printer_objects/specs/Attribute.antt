@@ -1,0 +1,39 @@
+-- Attributes of the kinds that the tables have (RFC 8010, section 3.9).
+use Rattle.std.specs.Prelude.{ℕ, ◌+◌, ◌/◌, pos, min, List, [], ◌∷◌, Option, Some, None}
+use Rattle.ipp_codec.specs.Message.{IppValue, plain, IppAttribute}
+use Rattle.ipp_codec.specs.Typed.{bytes_of_integer}
+use Rattle.job_objects.specs.declared.reason.Reason.{Reason}
+use Rattle.job_objects.specs.declared.reason.JobReasons.{JobReasons}
+use Rattle.job_objects.specs.Reasons.{keyword_of}
+use Rattle.printer_objects.specs.declared.attribute.TheConstants.{LAST_INTEGER, MILLIS_PER_SECOND}
+
+-- one value
+abbrev pub alone : List ℕ → IppValue → IppAttribute
+alone name value = record { name = name; first = value; others = [] }
+
+-- an integer; a number past the greatest integer is shown as that
+abbrev pub number : ℕ → IppValue
+number n = plain 0x21 (bytes_of_integer (pos (min n LAST_INTEGER)))
+
+-- a number of an enumeration
+abbrev pub enumerated : ℕ → IppValue
+enumerated n = plain 0x23 (bytes_of_integer (pos (min n LAST_INTEGER)))
+
+abbrev pub no_value : IppValue
+no_value = plain 0x13 []
+
+abbrev pub keyword : List ℕ → IppValue
+keyword word = plain 0x44 word
+
+-- a moment in ms, in seconds begun since the start, or no value before it has come
+abbrev pub time : Option ℕ → IppValue
+time (Some moment) = number (moment / MILLIS_PER_SECOND + 1)
+time None = no_value
+
+abbrev pub second_reason : Option Reason → List IppValue
+second_reason (Some reason) = keyword (keyword_of reason) ∷ []
+second_reason None = []
+
+-- one reason, or two in order
+abbrev pub reasons_attribute : List ℕ → JobReasons → IppAttribute
+reasons_attribute name reasons = record { name = name; first = keyword (keyword_of reasons.first); others = second_reason reasons.second }

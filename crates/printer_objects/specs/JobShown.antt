@@ -1,0 +1,70 @@
+-- The attributes of a job and their values (RFC 8011, sections 5.3 and 5.2).
+use Rattle.std.specs.Prelude.{ℕ, ◌+◌, ◌-◌, ◌/◌, Bool, true, false, List, [], ◌∷◌, ◌++◌, Option, Some, None, codes}
+use Rattle.std.specs.Fmt.{decimal}
+use Rattle.base_types.specs.declared.needs.Sides.{Sides}
+use Rattle.base_types.specs.declared.needs.Sides.TheVariants as side
+use Rattle.ipp_codec.specs.Message.{IppValue, plain, IppAttribute}
+use Rattle.job_objects.specs.Job.{JobRecord}
+use Rattle.job_objects.specs.JobState.{state_code}
+use Rattle.job_objects.specs.Reasons.{reasons_of}
+use Rattle.printer_objects.specs.declared.job_shown.JobShown.{JobShown}
+use Rattle.printer_objects.specs.declared.job_shown.TheConstants.{OCTETS_PER_K}
+use Rattle.printer_objects.specs.declared.job_attribute.JobAttribute.{JobAttribute}
+use Rattle.printer_objects.specs.declared.job_attribute.JobAttribute.TheVariants.{Uri, Id, PrinterUri, Name, OriginatingUserName, State, StateReasons, NumberOfDocuments, KOctets, Impressions, TimeAtCreation, TimeAtProcessing, TimeAtCompleted, PrinterUpTime, Copies, HoldUntil, Priority, Media, Sides as SidesOf}
+use Rattle.printer_objects.specs.Attribute.{alone, number, enumerated, keyword, time, reasons_attribute}
+use Rattle.printer_objects.specs.JobAttribute.{job_attribute_name}
+
+-- the base of URIs, `/jobs/` and the id
+abbrev pub job_uri : List ℕ → ℕ → List ℕ
+job_uri base id = base ++ (codes "/jobs/" ++ decimal id)
+
+-- the base of URIs, `/printers/` and the name
+abbrev pub printer_uri : List ℕ → List ℕ → List ℕ
+printer_uri base name = base ++ (codes "/printers/" ++ name)
+
+-- octets in units of 1,024, rounded up
+abbrev pub k_octets : ℕ → ℕ
+k_octets octets = (octets + (OCTETS_PER_K - 1)) / OCTETS_PER_K
+
+-- as given, else as estimated
+abbrev pub given_or : Option ℕ → ℕ → ℕ
+given_or (Some given) estimated = given
+given_or None estimated = estimated
+
+abbrev pub impressions_shown : JobRecord → ℕ
+impressions_shown job = given_or job.impressions job.needs.impressions
+
+abbrev pub hold_until : Bool → List ℕ
+hold_until true = codes "indefinite"
+hold_until false = codes "no-hold"
+
+abbrev pub sides_keyword : Sides → List ℕ
+sides_keyword side.One = codes "one-sided"
+sides_keyword side.LongEdge = codes "two-sided-long-edge"
+sides_keyword side.ShortEdge = codes "two-sided-short-edge"
+
+-- the values of an attribute under its name
+abbrev pub valued : List ℕ → JobShown → JobAttribute → IppAttribute
+valued name shown Uri = alone name (plain 0x45 (job_uri shown.uri_base.now shown.job.now.id))
+valued name shown Id = alone name (number shown.job.now.id)
+valued name shown PrinterUri = alone name (plain 0x45 (printer_uri shown.uri_base.now shown.printer_name.now))
+valued name shown Name = alone name (plain 0x42 shown.job.now.name)
+valued name shown OriginatingUserName = alone name (plain 0x42 shown.job.now.owner)
+valued name shown State = alone name (enumerated (state_code shown.job.now.state))
+valued name shown StateReasons = reasons_attribute name (reasons_of shown.job.now shown.printer_paused)
+valued name shown NumberOfDocuments = alone name (number shown.job.now.documents)
+valued name shown KOctets = alone name (number (k_octets shown.job.now.octets))
+valued name shown Impressions = alone name (number (impressions_shown shown.job.now))
+valued name shown TimeAtCreation = alone name (time (Some shown.job.now.created))
+valued name shown TimeAtProcessing = alone name (time shown.job.now.started)
+valued name shown TimeAtCompleted = alone name (time shown.job.now.finished)
+valued name shown PrinterUpTime = alone name (time (Some shown.moment))
+valued name shown Copies = alone name (number shown.job.now.needs.copies)
+valued name shown HoldUntil = alone name (keyword (hold_until shown.job.now.held))
+valued name shown Priority = alone name (number shown.job.now.priority)
+valued name shown Media = alone name (keyword shown.job.now.needs.media)
+valued name shown SidesOf = alone name (keyword (sides_keyword shown.job.now.needs.sides))
+
+-- an attribute of a job
+abbrev pub job_shown : JobShown → JobAttribute → IppAttribute
+job_shown shown which = valued (job_attribute_name which) shown which

@@ -1,0 +1,90 @@
+//! Attributes of the kinds that the tables have.
+ghost use Rattle.std.specs.Prelude.{◌≡◌, IfOk, pos, min};
+ghost use Rattle.ipp_codec.specs.Message.{plain};
+ghost use Rattle.ipp_codec.specs.Owned.{attribute_owned, value_owned};
+ghost use Rattle.printer_objects.specs.Attribute.{alone, number, enumerated, no_value, time, reasons_attribute};
+
+use base_types::Moment;
+use ipp_codec::{Attribute, Value, ValueTag};
+use job_objects::JobReasons;
+use std::alloc::{AllocError, Global};
+
+/// The greatest integer of IPP (RFC 8010, section 3.9).
+pub(crate) const LAST_INTEGER: u64 = 2_147_483_647;
+/// Times are shown in seconds.
+pub(crate) const MILLIS_PER_SECOND: u64 = 1_000;
+
+/// One value that is bytes of a kind.
+pub(crate) fn bytes(
+    alloc: Global,
+    name: &str,
+    tag: ValueTag,
+    bytes: &[u8],
+) -> Result<Attribute, AllocError>
+    ensures { IfOk result (λ a. attribute_owned a ≡ alone name.now (plain tag bytes.now)) }
+{
+    let value = Value::copy_of(alloc, tag, bytes)?;
+    Attribute::new(alloc, name.as_bytes(), value)
+}
+
+/// One integer.
+pub(crate) fn number(alloc: Global, name: &str, amount: u64) -> Result<Attribute, AllocError>
+    ensures { IfOk result (λ a. attribute_owned a ≡ alone name.now (number amount)) }
+{
+    let value = Value::integer(alloc, integer(amount))?;
+    Attribute::new(alloc, name.as_bytes(), value)
+}
+
+/// One number of an enumeration.
+pub(crate) fn enumerated(alloc: Global, name: &str, code: u32) -> Result<Attribute, AllocError>
+    ensures { IfOk result (λ a. attribute_owned a ≡ alone name.now (enumerated code)) }
+{
+    let value = Value::enumeration(alloc, integer(u64::from(code)))?;
+    Attribute::new(alloc, name.as_bytes(), value)
+}
+
+/// No value.
+pub(crate) fn no_value(alloc: Global, name: &str) -> Result<Attribute, AllocError>
+    ensures { IfOk result (λ a. attribute_owned a ≡ alone name.now no_value) }
+{
+    bytes(alloc, name, ValueTag::NO_VALUE, &[])
+}
+
+/// A moment, in seconds that have begun since the server's start; no value before it has come.
+pub(crate) fn time(
+    alloc: Global,
+    name: &str,
+    moment: Option<Moment>,
+) -> Result<Attribute, AllocError>
+    ensures { IfOk result (λ a. attribute_owned a ≡ alone name.now (time moment)) }
+{
+    match moment {
+        Some(moment) => number(alloc, name, moment.millis() / MILLIS_PER_SECOND + 1),
+        None => no_value(alloc, name),
+    }
+}
+
+/// The reasons of a job, one or two.
+pub(crate) fn reasons(
+    alloc: Global,
+    name: &str,
+    reasons: JobReasons,
+) -> Result<Attribute, AllocError>
+    ensures { IfOk result (λ a. attribute_owned a ≡ reasons_attribute name.now reasons) }
+{
+    let first = reasons.first.keyword();
+    let mut attribute = bytes(alloc, name, ValueTag::KEYWORD, first.as_bytes())?;
+    if let Some(second) = reasons.second {
+        let keyword = second.keyword();
+        let value = Value::copy_of(alloc, ValueTag::KEYWORD, keyword.as_bytes())?;
+        attribute.push(value)?;
+    }
+    Ok(attribute)
+}
+
+/// The number as an integer of IPP: one past the greatest is the greatest.
+fn integer(number: u64) -> i32
+    ensures { result ≡ pos (min number LAST_INTEGER) }
+{
+    number.min(LAST_INTEGER) as i32
+}

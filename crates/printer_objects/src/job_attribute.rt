@@ -1,0 +1,107 @@
+ghost use Rattle.std.specs.Prelude.{◌≡◌};
+ghost use Rattle.printer_objects.specs.JobAttribute.{job_attribute_name, job_attribute_group, job_table, is_wanted};
+
+use crate::requested::is_requested;
+use base_types::Text;
+
+/// An attribute of a job (RFC 8011, sections 5.3 and 5.2).
+#[derive(Clone, Copy, Debug, PartialEq, Eq)]
+pub enum JobAttribute {
+    Uri,
+    Id,
+    PrinterUri,
+    Name,
+    OriginatingUserName,
+    State,
+    StateReasons,
+    NumberOfDocuments,
+    KOctets,
+    Impressions,
+    TimeAtCreation,
+    TimeAtProcessing,
+    TimeAtCompleted,
+    PrinterUpTime,
+    Copies,
+    HoldUntil,
+    Priority,
+    Media,
+    Sides,
+}
+
+impl JobAttribute {
+    /// How many there are.
+    pub const COUNT: usize = 19;
+
+    /// All of them, in the table's order.
+    pub fn all() -> [JobAttribute; JobAttribute::COUNT]
+        ensures { result ≡ job_table }
+    {
+        [
+            JobAttribute::Uri,
+            JobAttribute::Id,
+            JobAttribute::PrinterUri,
+            JobAttribute::Name,
+            JobAttribute::OriginatingUserName,
+            JobAttribute::State,
+            JobAttribute::StateReasons,
+            JobAttribute::NumberOfDocuments,
+            JobAttribute::KOctets,
+            JobAttribute::Impressions,
+            JobAttribute::TimeAtCreation,
+            JobAttribute::TimeAtProcessing,
+            JobAttribute::TimeAtCompleted,
+            JobAttribute::PrinterUpTime,
+            JobAttribute::Copies,
+            JobAttribute::HoldUntil,
+            JobAttribute::Priority,
+            JobAttribute::Media,
+            JobAttribute::Sides,
+        ]
+    }
+
+    /// Its name.
+    pub fn name(self) -> &'static str
+        ensures { result.now ≡ job_attribute_name self }
+    {
+        match self {
+            JobAttribute::Uri => "job-uri",
+            JobAttribute::Id => "job-id",
+            JobAttribute::PrinterUri => "job-printer-uri",
+            JobAttribute::Name => "job-name",
+            JobAttribute::OriginatingUserName => "job-originating-user-name",
+            JobAttribute::State => "job-state",
+            JobAttribute::StateReasons => "job-state-reasons",
+            JobAttribute::NumberOfDocuments => "number-of-documents",
+            JobAttribute::KOctets => "job-k-octets",
+            JobAttribute::Impressions => "job-impressions",
+            JobAttribute::TimeAtCreation => "time-at-creation",
+            JobAttribute::TimeAtProcessing => "time-at-processing",
+            JobAttribute::TimeAtCompleted => "time-at-completed",
+            JobAttribute::PrinterUpTime => "job-printer-up-time",
+            JobAttribute::Copies => "copies",
+            JobAttribute::HoldUntil => "job-hold-until",
+            JobAttribute::Priority => "job-priority",
+            JobAttribute::Media => "media",
+            JobAttribute::Sides => "sides",
+        }
+    }
+
+    /// The name of the group by which requested-attributes can ask for it.
+    pub fn group(self) -> &'static str
+        ensures { result.now ≡ job_attribute_group self }
+    {
+        match self {
+            JobAttribute::Copies | JobAttribute::HoldUntil | JobAttribute::Priority =>
+                "job-template",
+            JobAttribute::Media | JobAttribute::Sides => "job-template",
+            _ => "job-description",
+        }
+    }
+
+    /// Whether requested-attributes asks for it.
+    pub(crate) fn is_wanted(self, requested: &[Text]) -> bool
+        ensures { result ≡ is_wanted requested.now self }
+    {
+        is_requested(self.name(), self.group(), requested)
+    }
+}

@@ -1,0 +1,154 @@
+ghost use Rattle.std.specs.Prelude.{◌≡◌, ◌++◌, IfOk, map, filter, None, Some};
+ghost use Rattle.ipp_codec.specs.Owned.{attribute_owned, group_owned};
+ghost use Rattle.printer_objects.specs.JobAttribute.{job_table, is_wanted};
+ghost use Rattle.printer_objects.specs.JobShown.{job_uri, printer_uri, hold_until, sides_keyword, k_octets, impressions_shown, job_shown};
+
+use crate::attribute::{bytes, enumerated, number, reasons, time};
+use crate::job_attribute::JobAttribute;
+use base_types::{JobId, Moment, Sides, Text};
+use ipp_codec::{Attribute, Group, GroupTag, ValueTag};
+use job_objects::Job;
+use std::alloc::{AllocError, Global};
+
+/// Octets that are shown as one k-octet.
+pub(crate) const OCTETS_PER_K: usize = 1_024;
+
+/// What the attributes of a job are made of.
+pub struct JobShown<'a> {
+    pub job: &'a Job,
+    /// What the URIs of printers and jobs begin with.
+    pub uri_base: &'a Text,
+    /// The name of the printer that the job was sent to.
+    pub printer_name: &'a Text,
+    /// Whether that printer is paused.
+    pub printer_paused: bool,
+    /// The moment at which it is asked.
+    pub moment: Moment,
+}
+
+/// The job group of a reply: the attributes of a job that are asked for, in the table's order.
+pub fn job_attributes(
+    alloc: Global,
+    shown: &JobShown<'_>,
+    requested: &[Text],
+) -> Result<Group, AllocError>
+    ensures { IfOk result (λ group. group_owned group ≡ record { tag = 0x02; attributes = map (job_shown shown.now) (filter (is_wanted requested.now) job_table) }) }
+{
+    let mut group = Group::new(alloc, GroupTag::JOB);
+    for which in JobAttribute::all() {
+        if which.is_wanted(requested) {
+            let attribute = which.shown(alloc, shown)?;
+            group.push(attribute)?;
+        }
+    }
+    Ok(group)
+}
+
+impl JobAttribute {
+    /// The attribute of this job.
+    fn shown(self, alloc: Global, shown: &JobShown<'_>) -> Result<Attribute, AllocError>
+        ensures { IfOk result (λ attribute. attribute_owned attribute ≡ job_shown shown.now self) }
+    {
+        let name = self.name();
+        let job = shown.job;
+        match self {
+            JobAttribute::Uri => {
+                let uri = job_uri(alloc, shown.uri_base, job.id)?;
+                bytes(alloc, name, ValueTag::URI, &uri)
+            }
+            JobAttribute::Id => number(alloc, name, u64::from(job.id.number())),
+            JobAttribute::PrinterUri => {
+                let uri = printer_uri(alloc, shown.uri_base, shown.printer_name)?;
+                bytes(alloc, name, ValueTag::URI, &uri)
+            }
+            JobAttribute::Name => bytes(alloc, name, ValueTag::NAME, job.name.as_bytes()),
+            JobAttribute::OriginatingUserName => {
+                bytes(alloc, name, ValueTag::NAME, job.owner.as_bytes())
+            }
+            JobAttribute::State => enumerated(alloc, name, job.state.code()),
+            JobAttribute::StateReasons => {
+                reasons(alloc, name, job_objects::reasons(job, shown.printer_paused))
+            }
+            JobAttribute::NumberOfDocuments => number(alloc, name, job.documents as u64),
+            JobAttribute::KOctets => number(alloc, name, k_octets(job.octets)),
+            JobAttribute::Impressions => number(alloc, name, impressions(job)),
+            JobAttribute::TimeAtCreation => time(alloc, name, Some(job.created)),
+            JobAttribute::TimeAtProcessing => time(alloc, name, job.started),
+            JobAttribute::TimeAtCompleted => time(alloc, name, job.finished),
+            JobAttribute::PrinterUpTime => time(alloc, name, Some(shown.moment)),
+            JobAttribute::Copies => number(alloc, name, u64::from(job.needs.copies)),
+            JobAttribute::HoldUntil => {
+                bytes(
+                    alloc,
+                    name,
+                    ValueTag::KEYWORD,
+                    hold_until(job.held).as_bytes(),
+                )
+            }
+            JobAttribute::Priority => number(alloc, name, u64::from(job.priority.level())),
+            JobAttribute::Media => {
+                bytes(alloc, name, ValueTag::KEYWORD, job.needs.media.as_bytes())
+            }
+            JobAttribute::Sides => {
+                let sides = sides_keyword(job.needs.sides);
+                bytes(alloc, name, ValueTag::KEYWORD, sides.as_bytes())
+            }
+        }
+    }
+}
+
+/// The URI of a job: the base, `/jobs/` and the id.
+pub fn job_uri(alloc: Global, uri_base: &Text, id: JobId) -> Result<Vec<u8>, AllocError>
+    ensures { IfOk result (λ uri. uri.items ≡ job_uri uri_base.now id) }
+{
+    let number = id.number();
+    let path = format!(in alloc; "/jobs/{number}")?;
+    let mut uri = Vec::from_slice(alloc, uri_base.as_bytes())?;
+    uri.extend_from_slice(path.as_bytes())?;
+    Ok(uri)
+}
+
+/// The URI of a printer: the base, `/printers/` and the name.
+pub fn printer_uri(alloc: Global, uri_base: &Text, name: &Text) -> Result<Vec<u8>, AllocError>
+    ensures { IfOk result (λ uri. uri.items ≡ printer_uri uri_base.now name.now) }
+{
+    let mut uri = Vec::from_slice(alloc, uri_base.as_bytes())?;
+    uri.extend_from_slice(b"/printers/")?;
+    uri.extend_from_slice(name.as_bytes())?;
+    Ok(uri)
+}
+
+/// The k-octets of a job, rounded up.
+fn k_octets(octets: usize) -> u64
+    ensures { result ≡ k_octets octets }
+{
+    octets.div_ceil(OCTETS_PER_K) as u64
+}
+
+/// The impressions of a job, as they were given, else as they are estimated.
+fn impressions(job: &Job) -> u64
+    ensures { result ≡ impressions_shown job.now }
+{
+    match job.impressions {
+        Some(given) => u64::from(given),
+        None => u64::from(job.needs.impressions),
+    }
+}
+
+/// Until when a job is held.
+fn hold_until(held: bool) -> &'static str
+    ensures { result.now ≡ hold_until held }
+{
+    if held { "indefinite" } else { "no-hold" }
+}
+
+/// The keyword of sides (RFC 8011, section 5.2.8).
+pub(crate) fn sides_keyword(sides: Sides) -> &'static str
+    ensures { result.now ≡ sides_keyword sides }
+{
+    match sides {
+        Sides::One => "one-sided",
+        Sides::LongEdge => "two-sided-long-edge",
+        Sides::ShortEdge => "two-sided-short-edge",
+    }
+}
