@@ -1,5 +1,5 @@
 -- Attributes of the kinds that the tables have (RFC 8010, section 3.9).
-use Rattle.std.specs.Prelude.{ℕ, ◌+◌, ◌/◌, pos, min, List, [], ◌∷◌, Option, Some, None}
+use Rattle.std.specs.Prelude.{ℕ, ◌+◌, ◌/◌, pos, min, map, List, [], ◌∷◌, Option, Some, None}
 use Rattle.ipp_codec.specs.Message.{IppValue, plain, IppAttribute}
 use Rattle.ipp_codec.specs.Typed.{bytes_of_integer}
 use Rattle.job_objects.specs.declared.reason.Reason.{Reason}
@@ -37,3 +37,8 @@ second_reason None = []
 -- one reason, or two in order
 abbrev pub reasons_attribute : List ℕ → JobReasons → IppAttribute
 reasons_attribute name reasons = record { name = name; first = keyword (keyword_of reasons.first); others = second_reason reasons.second }
+
+-- texts of a kind, or no value where there is none
+abbrev pub texts_attribute : List ℕ → ℕ → List (List ℕ) → IppAttribute
+texts_attribute name tag [] = alone name no_value
+texts_attribute name tag (text ∷ texts) = record { name = name; first = plain tag text; others = map (plain tag) texts }

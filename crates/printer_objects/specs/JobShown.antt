@@ -1,9 +1,9 @@
 -- The attributes of a job and their values (RFC 8011, sections 5.3 and 5.2).
-use Rattle.std.specs.Prelude.{ℕ, ◌+◌, ◌-◌, ◌/◌, Bool, true, false, List, [], ◌∷◌, ◌++◌, Option, Some, None, codes}
+use Rattle.std.specs.Prelude.{ℕ, ◌+◌, ◌-◌, ◌/◌, Bool, true, false, List, ◌++◌, Option, Some, None, codes}
 use Rattle.std.specs.Fmt.{decimal}
 use Rattle.base_types.specs.declared.needs.Sides.{Sides}
 use Rattle.base_types.specs.declared.needs.Sides.TheVariants as side
-use Rattle.ipp_codec.specs.Message.{IppValue, plain, IppAttribute}
+use Rattle.ipp_codec.specs.Message.{plain, IppAttribute}
 use Rattle.job_objects.specs.Job.{JobRecord}
 use Rattle.job_objects.specs.JobState.{state_code}
 use Rattle.job_objects.specs.Reasons.{reasons_of}

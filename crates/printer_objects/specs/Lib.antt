@@ -3,3 +3,7 @@ pub mod Requested
 pub mod Attribute
 pub mod JobAttribute
 pub mod JobShown
+pub mod Together
+pub mod Offered
+pub mod PrinterAttribute
+pub mod PrinterShown

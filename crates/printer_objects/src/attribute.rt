@@ -2,9 +2,9 @@
 ghost use Rattle.std.specs.Prelude.{◌≡◌, IfOk, pos, min};
 ghost use Rattle.ipp_codec.specs.Message.{plain};
 ghost use Rattle.ipp_codec.specs.Owned.{attribute_owned, value_owned};
-ghost use Rattle.printer_objects.specs.Attribute.{alone, number, enumerated, no_value, time, reasons_attribute};
+ghost use Rattle.printer_objects.specs.Attribute.{alone, number, enumerated, no_value, time, reasons_attribute, texts_attribute};
 
-use base_types::Moment;
+use base_types::{Moment, Text};
 use ipp_codec::{Attribute, Value, ValueTag};
 use job_objects::JobReasons;
 use std::alloc::{AllocError, Global};
@@ -77,6 +77,26 @@ pub(crate) fn reasons(
     if let Some(second) = reasons.second {
         let keyword = second.keyword();
         let value = Value::copy_of(alloc, ValueTag::KEYWORD, keyword.as_bytes())?;
+        attribute.push(value)?;
+    }
+    Ok(attribute)
+}
+
+/// Texts of a kind, in order; no value where there is none.
+pub(crate) fn texts(
+    alloc: Global,
+    name: &str,
+    tag: ValueTag,
+    texts: &[Text],
+) -> Result<Attribute, AllocError>
+    ensures { IfOk result (λ a. attribute_owned a ≡ texts_attribute name.now tag texts.now) }
+{
+    let [first, others @ ..] = texts else {
+        return no_value(alloc, name);
+    };
+    let mut attribute = bytes(alloc, name, tag, first.as_bytes())?;
+    for text in others {
+        let value = Value::copy_of(alloc, tag, text.as_bytes())?;
         attribute.push(value)?;
     }
     Ok(attribute)

@@ -14,6 +14,7 @@ use std::alloc::{AllocError, Global};
 pub(crate) const OCTETS_PER_K: usize = 1_024;
 
 /// What the attributes of a job are made of.
+#[derive(Clone, Copy)]
 pub struct JobShown<'a> {
     pub job: &'a Job,
     /// What the URIs of printers and jobs begin with.

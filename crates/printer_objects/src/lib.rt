@@ -1,20 +1,26 @@
-//! What people see of printers and jobs: the state of a printer, and the attributes of jobs (RFC
-//! 8011, sections 5.3 and 5.4) as they are written into a reply.
+//! What people see of printers and jobs: the state of a printer, and the attributes of printers and
+//! jobs (RFC 8011, sections 5.4, 5.3 and 5.2) as groups of a reply.
 //!
-//! It promises the state and its reason, and that a job shows just the attributes of the table in
-//! `docs/ATTRIBUTES.md` that are asked for, in the table's order, with their tags and values. It keeps
-//! no jobs and looks at no clock: what a value depends on is passed in. Only what makes attributes
-//! takes memory.
+//! It promises the state and its reason, and that a group has just the attributes of the tables in
+//! `docs/ATTRIBUTES.md` that requested-attributes asks for, in the table's order, with their tags and
+//! values. It keeps no jobs and looks at no clock: what a value depends on is passed in, such as
+//! whether a job keeps the printer busy ([`keeps_busy`]). Only what makes attributes takes memory.
 #![tactic(auto)]
 
 mod attribute;
 mod job_attribute;
 mod job_shown;
+mod offered;
 mod printer;
+mod printer_attribute;
+mod printer_shown;
 mod requested;
 mod state;
+mod together;
 
 pub use job_attribute::JobAttribute;
 pub use job_shown::{JobShown, job_attributes, job_uri, printer_uri};
 pub use printer::Printer;
+pub use printer_attribute::PrinterAttribute;
+pub use printer_shown::{PrinterShown, printer_attributes};
 pub use state::{PrinterReason, PrinterState, keeps_busy, printer_reason, printer_state};

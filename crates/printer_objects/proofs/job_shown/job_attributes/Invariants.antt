@@ -1,6 +1,6 @@
 use Rattle.std.proofs.Common.{◌≡◌, map, filter, take}
 use Rattle.ipp_codec.specs.Owned.{group_owned}
-use Rattle.printer_objects.specs.JobAttribute.{job_table, is_wanted}
+use Rattle.printer_objects.specs.JobAttribute.{is_wanted}
 use Rattle.printer_objects.specs.JobShown.{job_shown}
 use Rattle.printer_objects.proofs.job_shown.job_attributes.Given as goal
 

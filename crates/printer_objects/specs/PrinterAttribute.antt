@@ -1,0 +1,82 @@
+-- The attributes of a printer: their order, names and groups (RFC 8011, sections 5.4 and 5.2).
+use Rattle.std.specs.Prelude.{ℕ, Bool, List, [], ◌∷◌, codes}
+use Rattle.printer_objects.specs.declared.printer_attribute.PrinterAttribute.{PrinterAttribute}
+use Rattle.printer_objects.specs.declared.printer_attribute.PrinterAttribute.TheVariants.{UriSupported, UriSecuritySupported, UriAuthenticationSupported, Name, State, StateReasons, IppVersionsSupported, OperationsSupported, MultipleDocumentJobsSupported, MultipleOperationTimeOut, CharsetConfigured, CharsetSupported, NaturalLanguageConfigured, GeneratedNaturalLanguageSupported, DocumentFormatDefault, DocumentFormatSupported, IsAcceptingJobs, QueuedJobCount, PdlOverrideSupported, UpTime, CompressionSupported, CopiesDefault, CopiesSupported, HoldUntilDefault, HoldUntilSupported, PriorityDefault, PrioritySupported, MediaDefault, MediaSupported, MediaReady, SidesDefault, SidesSupported}
+use Rattle.printer_objects.specs.Requested.{is_requested}
+
+-- the table's order: printer description, then job template
+abbrev pub printer_table : List PrinterAttribute
+printer_table = UriSupported ∷ UriSecuritySupported ∷ UriAuthenticationSupported ∷ Name ∷ State ∷ StateReasons ∷ IppVersionsSupported ∷ OperationsSupported ∷ MultipleDocumentJobsSupported ∷ MultipleOperationTimeOut ∷ CharsetConfigured ∷ CharsetSupported ∷ NaturalLanguageConfigured ∷ GeneratedNaturalLanguageSupported ∷ DocumentFormatDefault ∷ DocumentFormatSupported ∷ IsAcceptingJobs ∷ QueuedJobCount ∷ PdlOverrideSupported ∷ UpTime ∷ CompressionSupported ∷ CopiesDefault ∷ CopiesSupported ∷ HoldUntilDefault ∷ HoldUntilSupported ∷ PriorityDefault ∷ PrioritySupported ∷ MediaDefault ∷ MediaSupported ∷ MediaReady ∷ SidesDefault ∷ SidesSupported ∷ []
+
+abbrev pub printer_attribute_name : PrinterAttribute → List ℕ
+printer_attribute_name UriSupported = codes "printer-uri-supported"
+printer_attribute_name UriSecuritySupported = codes "uri-security-supported"
+printer_attribute_name UriAuthenticationSupported = codes "uri-authentication-supported"
+printer_attribute_name Name = codes "printer-name"
+printer_attribute_name State = codes "printer-state"
+printer_attribute_name StateReasons = codes "printer-state-reasons"
+printer_attribute_name IppVersionsSupported = codes "ipp-versions-supported"
+printer_attribute_name OperationsSupported = codes "operations-supported"
+printer_attribute_name MultipleDocumentJobsSupported = codes "multiple-document-jobs-supported"
+printer_attribute_name MultipleOperationTimeOut = codes "multiple-operation-time-out"
+printer_attribute_name CharsetConfigured = codes "charset-configured"
+printer_attribute_name CharsetSupported = codes "charset-supported"
+printer_attribute_name NaturalLanguageConfigured = codes "natural-language-configured"
+printer_attribute_name GeneratedNaturalLanguageSupported = codes "generated-natural-language-supported"
+printer_attribute_name DocumentFormatDefault = codes "document-format-default"
+printer_attribute_name DocumentFormatSupported = codes "document-format-supported"
+printer_attribute_name IsAcceptingJobs = codes "printer-is-accepting-jobs"
+printer_attribute_name QueuedJobCount = codes "queued-job-count"
+printer_attribute_name PdlOverrideSupported = codes "pdl-override-supported"
+printer_attribute_name UpTime = codes "printer-up-time"
+printer_attribute_name CompressionSupported = codes "compression-supported"
+printer_attribute_name CopiesDefault = codes "copies-default"
+printer_attribute_name CopiesSupported = codes "copies-supported"
+printer_attribute_name HoldUntilDefault = codes "job-hold-until-default"
+printer_attribute_name HoldUntilSupported = codes "job-hold-until-supported"
+printer_attribute_name PriorityDefault = codes "job-priority-default"
+printer_attribute_name PrioritySupported = codes "job-priority-supported"
+printer_attribute_name MediaDefault = codes "media-default"
+printer_attribute_name MediaSupported = codes "media-supported"
+printer_attribute_name MediaReady = codes "media-ready"
+printer_attribute_name SidesDefault = codes "sides-default"
+printer_attribute_name SidesSupported = codes "sides-supported"
+
+-- the name of its group in requested-attributes
+abbrev pub printer_attribute_group : PrinterAttribute → List ℕ
+printer_attribute_group UriSupported = codes "printer-description"
+printer_attribute_group UriSecuritySupported = codes "printer-description"
+printer_attribute_group UriAuthenticationSupported = codes "printer-description"
+printer_attribute_group Name = codes "printer-description"
+printer_attribute_group State = codes "printer-description"
+printer_attribute_group StateReasons = codes "printer-description"
+printer_attribute_group IppVersionsSupported = codes "printer-description"
+printer_attribute_group OperationsSupported = codes "printer-description"
+printer_attribute_group MultipleDocumentJobsSupported = codes "printer-description"
+printer_attribute_group MultipleOperationTimeOut = codes "printer-description"
+printer_attribute_group CharsetConfigured = codes "printer-description"
+printer_attribute_group CharsetSupported = codes "printer-description"
+printer_attribute_group NaturalLanguageConfigured = codes "printer-description"
+printer_attribute_group GeneratedNaturalLanguageSupported = codes "printer-description"
+printer_attribute_group DocumentFormatDefault = codes "printer-description"
+printer_attribute_group DocumentFormatSupported = codes "printer-description"
+printer_attribute_group IsAcceptingJobs = codes "printer-description"
+printer_attribute_group QueuedJobCount = codes "printer-description"
+printer_attribute_group PdlOverrideSupported = codes "printer-description"
+printer_attribute_group UpTime = codes "printer-description"
+printer_attribute_group CompressionSupported = codes "printer-description"
+printer_attribute_group CopiesDefault = codes "job-template"
+printer_attribute_group CopiesSupported = codes "job-template"
+printer_attribute_group HoldUntilDefault = codes "job-template"
+printer_attribute_group HoldUntilSupported = codes "job-template"
+printer_attribute_group PriorityDefault = codes "job-template"
+printer_attribute_group PrioritySupported = codes "job-template"
+printer_attribute_group MediaDefault = codes "job-template"
+printer_attribute_group MediaSupported = codes "job-template"
+printer_attribute_group MediaReady = codes "job-template"
+printer_attribute_group SidesDefault = codes "job-template"
+printer_attribute_group SidesSupported = codes "job-template"
+
+-- whether requested-attributes asks for it
+abbrev pub is_wanted_of_printer : List (List ℕ) → PrinterAttribute → Bool
+is_wanted_of_printer requested which = is_requested (printer_attribute_name which) (printer_attribute_group which) requested

@@ -1,0 +1,81 @@
+//! Attributes of a printer that say what it offers.
+ghost use Rattle.std.specs.Prelude.{◌≡◌, IfOk};
+ghost use Rattle.std.specs.List.{slice_get};
+ghost use Rattle.ipp_codec.specs.Owned.{attribute_owned};
+ghost use Rattle.printer_objects.specs.Attribute.{alone};
+ghost use Rattle.printer_objects.specs.Offered.{operations_attribute, range, hold_untils_attribute, sides_attribute, prints_two_sided, is_two_sided};
+
+use crate::attribute::{bytes, enumerated};
+use base_types::{DeviceId, DeviceNow, Limits};
+use ipp_codec::{Attribute, Value, ValueTag};
+use std::alloc::{AllocError, Global};
+
+/// The codes of the operations behind the first, Print-Job (RFC 8011, section 5.4.15): Validate-Job,
+/// Create-Job, Send-Document, Cancel-Job, Get-Job-Attributes, Get-Jobs, Get-Printer-Attributes,
+/// Hold-Job, Release-Job, Pause-Printer, Resume-Printer.
+const OTHER_OPERATIONS: [i32; 11] = [
+    0x0004, 0x0005, 0x0006, 0x0008, 0x0009, 0x000A, 0x000B, 0x000C, 0x000D, 0x0010, 0x0011,
+];
+
+/// The operations.
+pub(crate) fn operations(alloc: Global, name: &str) -> Result<Attribute, AllocError>
+    ensures { IfOk result (λ a. attribute_owned a ≡ operations_attribute name.now) }
+{
+    let mut attribute = enumerated(alloc, name, 0x0002)?;
+    for code in OTHER_OPERATIONS {
+        let value = Value::enumeration(alloc, code)?;
+        attribute.push(value)?;
+    }
+    Ok(attribute)
+}
+
+/// How many copies a job may have.
+pub(crate) fn copies(alloc: Global, name: &str) -> Result<Attribute, AllocError>
+    ensures { IfOk result (λ a. attribute_owned a ≡ alone name.now (range 1 Limits.COPIES)) }
+{
+    let least: u32 = 1;
+    let mut range = Vec::from_slice(alloc, &least.to_be_bytes())?;
+    range.extend_from_slice(&Limits::COPIES.to_be_bytes())?;
+    bytes(alloc, name, ValueTag::RANGE_OF_INTEGER, &range)
+}
+
+/// Until when a job can be held.
+pub(crate) fn hold_untils(alloc: Global, name: &str) -> Result<Attribute, AllocError>
+    ensures { IfOk result (λ a. attribute_owned a ≡ hold_untils_attribute name.now) }
+{
+    let mut attribute = bytes(alloc, name, ValueTag::KEYWORD, b"no-hold")?;
+    let value = Value::copy_of(alloc, ValueTag::KEYWORD, b"indefinite")?;
+    attribute.push(value)?;
+    Ok(attribute)
+}
+
+/// On which sides a job can be printed.
+pub(crate) fn sides(alloc: Global, name: &str, two_sided: bool) -> Result<Attribute, AllocError>
+    ensures { IfOk result (λ a. attribute_owned a ≡ sides_attribute name.now two_sided) }
+{
+    let mut attribute = bytes(alloc, name, ValueTag::KEYWORD, b"one-sided")?;
+    if two_sided {
+        let long = Value::copy_of(alloc, ValueTag::KEYWORD, b"two-sided-long-edge")?;
+        attribute.push(long)?;
+        let short = Value::copy_of(alloc, ValueTag::KEYWORD, b"two-sided-short-edge")?;
+        attribute.push(short)?;
+    }
+    Ok(attribute)
+}
+
+/// Whether some device at these places prints both sides.
+pub(crate) fn prints_two_sided(devices: &[DeviceNow], places: &[DeviceId]) -> bool
+    ensures { result ≡ prints_two_sided devices.now places.now }
+{
+    places.iter().any(|id| is_two_sided(devices, *id))
+}
+
+/// Whether the device at a place prints both sides.
+fn is_two_sided(devices: &[DeviceNow], id: DeviceId) -> bool
+    ensures { result ≡ is_two_sided (slice_get devices.now id) }
+{
+    match devices.get(id.place()) {
+        Some(device) => device.rate_two.is_some(),
+        None => false,
+    }
+}

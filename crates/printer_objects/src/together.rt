@@ -1,0 +1,117 @@
+ghost use Rattle.std.specs.Prelude.{◌≡◌, IfOk, OnOk};
+ghost use Rattle.std.specs.List.{slice_get};
+ghost use Rattle.printer_objects.specs.Together.{is_among, listed_by, union, with_device, with_entries, with_entry};
+
+use base_types::{DeviceId, DeviceNow, Text};
+use std::alloc::{AllocError, Global};
+
+/// What a device lists.
+#[derive(Clone, Copy, Debug, PartialEq, Eq)]
+pub(crate) enum Listed {
+    /// The document formats that it prints.
+    Formats,
+    /// The media that it can hold.
+    Media,
+    /// The media that it holds.
+    LoadedMedia,
+}
+
+/// What the devices at these places list, in their order, each entry at its first place.
+pub(crate) fn union(
+    alloc: Global,
+    listed: Listed,
+    devices: &[DeviceNow],
+    places: &[DeviceId],
+) -> Result<Vec<Text>, AllocError>
+    ensures { IfOk result (λ found. found.items ≡ union listed devices.now places.now) }
+{
+    let mut found = Vec::new(alloc);
+    for id in places {
+        add_device(alloc, &mut found, listed, devices, *id)?;
+    }
+    Ok(found)
+}
+
+/// Adds what the device at a place lists, where there is one.
+fn add_device(
+    alloc: Global,
+    found: &mut Vec<Text>,
+    listed: Listed,
+    devices: &[DeviceNow],
+    id: DeviceId,
+) -> Result<(), AllocError>
+    ensures { OnOk result (found.new.items ≡ with_device listed found.old.items (slice_get devices.now id)) }
+{
+    match devices.get(id.place()) {
+        Some(device) => add_listed(alloc, found, listed, device),
+        None => Ok(()),
+    }
+}
+
+/// Adds what a device lists.
+fn add_listed(
+    alloc: Global,
+    found: &mut Vec<Text>,
+    listed: Listed,
+    device: &DeviceNow,
+) -> Result<(), AllocError>
+    ensures { OnOk result (found.new.items ≡ with_entries found.old.items (listed_by listed device.now)) }
+{
+    match listed {
+        Listed::Formats => add_formats(alloc, found, device),
+        Listed::Media => add_media(alloc, found, device),
+        Listed::LoadedMedia => add_loaded(alloc, found, device),
+    }
+}
+
+/// Adds the formats of a device.
+fn add_formats(alloc: Global, found: &mut Vec<Text>, device: &DeviceNow) -> Result<(), AllocError>
+    ensures { OnOk result (found.new.items ≡ with_entries found.old.items (listed_by Listed.Formats device.now)) }
+{
+    for format in &device.formats {
+        add_once(alloc, found, format)?;
+    }
+    Ok(())
+}
+
+/// Adds the media of a device.
+fn add_media(alloc: Global, found: &mut Vec<Text>, device: &DeviceNow) -> Result<(), AllocError>
+    ensures { OnOk result (found.new.items ≡ with_entries found.old.items (listed_by Listed.Media device.now)) }
+{
+    for medium in &device.media {
+        add_once(alloc, found, &medium.name)?;
+    }
+    Ok(())
+}
+
+/// Adds the media that a device holds.
+fn add_loaded(alloc: Global, found: &mut Vec<Text>, device: &DeviceNow) -> Result<(), AllocError>
+    ensures { OnOk result (found.new.items ≡ with_entries found.old.items (listed_by Listed.LoadedMedia device.now)) }
+{
+    for medium in &device.media {
+        if medium.loaded {
+            add_once(alloc, found, &medium.name)?;
+        }
+    }
+    Ok(())
+}
+
+/// Adds an entry, if it isn't there yet.
+pub(crate) fn add_once(alloc: Global, found: &mut Vec<Text>, entry: &Text) -> Result<(), AllocError>
+    ensures { OnOk result (found.new.items ≡ with_entry found.old.items entry.now) }
+{
+    if !is_among(found, entry) {
+        let entry = entry.copied(alloc)?;
+        found.push(entry)?;
+    }
+    Ok(())
+}
+
+/// Whether an entry is there.
+fn is_among(found: &[Text], entry: &Text) -> bool
+    ensures { result ≡ is_among found.now entry.now }
+{
+    found
+        .iter()
+        .any(|other| other.as_bytes() == entry.as_bytes())
+}
