@@ -19,7 +19,7 @@ pub struct Job {
     pub name: Text,
     pub priority: Priority,
     pub needs: Needs,
-    /// job-impressions as it was given (RFC 8011, section 5.3.18.2), where it was and isn't negative.
+    /// job-impressions as it was given (RFC 8011, section 5.3.17.2), where it was and isn't negative.
     pub impressions: Option<u32>,
     pub state: JobState,
     /// Whether documents are still to come.
