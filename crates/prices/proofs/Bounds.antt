@@ -88,7 +88,7 @@ total_small c ok w h =
     let b : cost_from c 0 w ≤ length (concat w) * most_cost = cost_from_small c ok 0 w (omega arith) in
     omega (arith, b, cost_from_is c 0 w)
 
-busy_small : (c : Class) → IsClass c → (d : ℕ) (q : List ℕ) → busy_time c d q ≤ length q * JOB_TIME
+pub busy_small : (c : Class) → IsClass c → (d : ℕ) (q : List ℕ) → busy_time c d q ≤ length q * JOB_TIME
 busy_small c ok d [] = omega arith
 busy_small c ok d (j ∷ js) = omega (arith, time_small c ok j d, busy_small c ok d js)
 

@@ -4,6 +4,7 @@ pub mod Sums
 pub mod Names
 pub mod Duality
 pub mod Bounds
+pub mod Grows
 pub mod Bounded
 pub mod Steps
 pub mod Timetables

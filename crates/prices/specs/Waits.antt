@@ -1,5 +1,6 @@
 -- When each device is free again after a class.
-use Rattle.std.specs.Prelude.{ℕ, suc, ◌+◌, List, [], ◌∷◌}
+use Rattle.std.specs.Prelude.{ℕ, suc, ◌+◌, ◌*◌, ◌≤◌, List, [], ◌∷◌, length, All}
+use Rattle.base_types.specs.declared.limits.TheConstants.Limits.{JOB_TIME}
 use Rattle.cost_table.specs.Class.{Class, wait_of}
 use Rattle.prices.specs.Total.{time_on}
 
@@ -16,3 +17,7 @@ waits_from c device (jobs ∷ lists) = (wait_of c device + busy_time c device jo
 -- for each device its wait, and the times of all its jobs
 abbrev pub waits_after : Class → List (List ℕ) → List ℕ
 waits_after c way = waits_from c 0 way
+
+-- no wait is longer than the longest before, and the most that the jobs of the class can take
+abbrev pub GrowsByTimes : Class → List ℕ → Type 0
+GrowsByTimes c after = (most : ℕ) → All (λ wait. wait ≤ most) c.waits → All (λ wait. wait ≤ most + length c.ids * JOB_TIME) after

@@ -1,7 +1,7 @@
 ghost use Rattle.std.specs.Prelude.{◌≡◌, ◌↔◌, ◌+◌, ◌^◌, ◌<◌, length, IfOk, IsTrue};
 ghost use Rattle.cost_table.specs.Class.{wait_of};
 ghost use Rattle.prices.specs.Way.{IsWay};
-ghost use Rattle.prices.specs.Waits.{busy_time, waits_after as waits_left};
+ghost use Rattle.prices.specs.Waits.{busy_time, GrowsByTimes, waits_after as waits_left};
 
 use crate::way::Way;
 use crate::way_total::time_or_zero;
@@ -9,11 +9,14 @@ use base_types::{DeviceId, JobId};
 use cost_table::ClassProblem;
 use std::alloc::{AllocError, Global};
 
-/// When each device is free again, in ms: its wait, and the times of all its jobs. The only error
-/// is want of memory.
+/// When each device is free again, in ms: its wait, and the times of all its jobs. No wait passes the
+/// longest one before by more than the most that so many jobs can take. The only error is want of
+/// memory.
 pub fn waits_after(alloc: Global, class: &ClassProblem, way: &Way) -> Result<Vec<u64>, AllocError>
     requires { IsWay class.now way.now }
-    ensures { IfOk result (λ waits. waits.items ≡ waits_left class.now way.now) }
+    ensures left { IfOk result (λ waits. waits.items ≡ waits_left class.now way.now) }
+    ensures one_each { IfOk result (λ waits. length waits.items ≡ length class.now.waits) }
+    ensures bounded { IfOk result (λ waits. GrowsByTimes class.now waits.items) }
 {
     // Reading the class makes its invariant known.
     let _class = class.ids();
