@@ -81,7 +81,7 @@ keyed_at place low next [] s w keyed is same = tt
 keyed_at zero low next (e ∷ es) s w keyed is same = (keyed.0 ∙ (ap (λ (x : SpooledRecord). x.job.id) (there_is is) ∙ sym same), keyed.1, keyed.2, keyed.3)
 keyed_at (suc place) low next (e ∷ es) s w keyed is same = (keyed.0, keyed.1, keyed.2, keyed_at place e.0 next es s w keyed.3 is same)
 
-jobs_at : (place : ℕ) (es : List (ℕ × SpooledRecord)) (s : SpooledRecord) (f : SpooledRecord → SpooledRecord) → slice_get (jobs_of es) place ≡ Some s → jobs_of (set_value_at es place (f s)) ≡ map_at place f (jobs_of es)
+pub jobs_at : (place : ℕ) (es : List (ℕ × SpooledRecord)) (s : SpooledRecord) (f : SpooledRecord → SpooledRecord) → slice_get (jobs_of es) place ≡ Some s → jobs_of (set_value_at es place (f s)) ≡ map_at place f (jobs_of es)
 jobs_at place [] s f is = refl
 jobs_at zero (e ∷ es) s f is = ap (λ (x : SpooledRecord). f x ∷ jobs_of es) (sym (there_is is))
 jobs_at (suc place) (e ∷ es) s f is = ap (λ (js : List SpooledRecord). e.1 ∷ js) (jobs_at place es s f is)

@@ -6,3 +6,4 @@ pub mod Jobs
 pub mod Kept
 pub mod Calls
 pub mod Ready
+pub mod Spool

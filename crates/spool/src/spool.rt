@@ -1,11 +1,12 @@
 ghost use Rattle.std.specs.Prelude.{◌≡◌, ◌≤◌, ◌<◌, ◌+◌, ◌∷◌, ◌++◌, [], OnOk, OnErr, IfErr, IfSome, IfNone, length, map, remove, slice_get, is_ok};
 ghost use Rattle.std.specs.Option.{option_copied};
 ghost use Rattle.spool.specs.Spooled.{changed, begun, relieved, handed_out, attached, expired};
-ghost use Rattle.base_types.specs.declared.limits.TheConstants.Limits.{LAST_JOB_ID, JOB_DOCUMENTS, JOB_OCTETS};
+ghost use Rattle.base_types.specs.declared.limits.TheConstants.Limits.{LAST_JOB_ID, UNFINISHED_JOBS, JOB_DOCUMENTS, JOB_OCTETS};
 ghost use Rattle.spool.specs.Document.{octets_of};
 ghost use Rattle.spool.specs.Submission.{spooled_of};
-ghost use Rattle.spool.specs.Calls.{allows, marked_by};
+ghost use Rattle.spool.specs.Calls.{allows, marked_by, unfinished_jobs};
 ghost use Rattle.spool.specs.Jobs.{spooled_at, with_job, map_at, handed_out_at};
+ghost use Rattle.spool.specs.Spool.{IsSpool};
 
 use crate::document::Document;
 use crate::new_job::NewJob;
@@ -27,14 +28,15 @@ pub struct Spool {
 
 impl Model for Spool {
     ghost use Rattle.std.specs.Prelude.{◌+◌, ◌≤◌};
-    ghost use Rattle.base_types.specs.declared.limits.TheConstants.Limits.{LAST_JOB_ID};
+    ghost use Rattle.base_types.specs.declared.limits.TheConstants.Limits.{LAST_JOB_ID, UNFINISHED_JOBS};
     ghost use Rattle.spool.specs.Jobs.{SpoolRecord, jobs_of, Keyed};
+    ghost use Rattle.spool.specs.Calls.{unfinished_jobs};
 
     ghost Value = { SpoolRecord };
 
     ghost view = { λ s. record { jobs = jobs_of s.entries.entries; next = s.next } };
 
-    ghost invariant = { λ s. Keyed s.entries.entries 0 s.next × (1 ≤ s.next) × (s.next ≤ LAST_JOB_ID + 1) };
+    ghost invariant = { λ s. Keyed s.entries.entries 0 s.next × (1 ≤ s.next) × (s.next ≤ LAST_JOB_ID + 1) × (unfinished_jobs (jobs_of s.entries.entries) ≤ UNFINISHED_JOBS) };
 }
 
 impl Spool {
@@ -61,9 +63,11 @@ impl Spool {
         self.entries.len()
     }
 
-    /// All jobs, by rising id, each with its documents.
+    /// All jobs, by rising id, each with its documents. No more are unfinished than
+    /// [`base_types::Limits::UNFINISHED_JOBS`].
     pub fn jobs(&self) -> &[SpooledJob]
-        ensures { result.now ≡ self.now.jobs }
+        ensures value { result.now ≡ self.now.jobs }
+        ensures kept { IsSpool self.now }
     {
         self.entries.values().as_slice()
     }
@@ -171,7 +175,8 @@ impl Spool {
         let _removed = self.entries.shift_remove_index(place);
     }
 
-    /// Takes a job under the next id. Where memory is wanting, it hands it back.
+    /// Takes a job under the next id, while there is room for one more that is unfinished. Where memory
+    /// is wanting, it hands it back.
     pub(crate) fn append(
         &mut self,
         id: JobId,
@@ -180,6 +185,7 @@ impl Spool {
         incoming: bool,
     ) -> Result<(), NewJob>
         requires next { id ≡ self.old.next }
+        requires room { unfinished_jobs self.old.jobs < UNFINISHED_JOBS }
         requires formats { formats.items ≡ map (λ d. d.format) new.documents }
         requires documents { length new.documents ≤ JOB_DOCUMENTS }
         requires octets { octets_of new.documents ≤ JOB_OCTETS }

@@ -4,6 +4,7 @@ use Rattle.indexmap.specs.IndexMap.{insert_entry}
 use Rattle.spool.specs.Spooled.{SpooledRecord}
 use Rattle.spool.specs.Jobs.{SpoolRecord}
 use Rattle.spool.proofs.Entries.{keyed_new, appended, ok_of}
+use Rattle.spool.proofs.Unfinished.{few_new}
 use Rattle.spool.proofs.spool.Spool.append.Goals as goal
 
 pub invariant_of-self-2 : goal.invariant_of-self-2
@@ -11,8 +12,12 @@ invariant_of-self-2 c =
     let next : c.number-number.result ≡ c.self.inside.next = c.number-number.ensures.value ∙ (c.requires.next ∙ sym (ap (λ (s : SpoolRecord). s.next) c.self.view_is)) in
     let same : c.taken-spooled.result.job.id ≡ c.number-number.result = ap (λ (s : SpooledRecord). s.job.id) c.taken-spooled.ensures ∙ sym c.number-number.ensures.value in
     let entries : c.insert.new.self.entries ≡ insert_entry nat_eq c.self.inside.entries.entries c.number-number.result c.taken-spooled.result =
-    ok_of c.insert.result _ c.unwrap-none.ensures c.insert.ensures.entries ∙ ap (λ (es : List (ℕ × SpooledRecord)). insert_entry nat_eq es c.number-number.result c.taken-spooled.result) c.reserve.ensures.entries in
-    (keyed_new c.number-number.result c.self.inside.next c.self.inside.entries.entries c.insert.new.self.entries c.taken-spooled.result c.self.invariant.0 c.self.invariant.1 next same entries, omega arith, omega (arith, c.number-number.ensures.in_range.1, c.number-number.ensures.value))
+    ok_of c.insert.result _ c.unwrap-none.ensures c.insert.ensures.entries ∙ ap (λ (es : List (ℕ × SpooledRecord)). insert_entry nat_eq es c.number-number.result c.taken-spooled.result) c.reserve.ensures.entries in (
+      keyed_new c.number-number.result c.self.inside.next c.self.inside.entries.entries c.insert.new.self.entries c.taken-spooled.result c.self.invariant.0 c.self.invariant.1 next same entries,
+      omega arith,
+      omega (arith, c.number-number.ensures.in_range.1, c.number-number.ensures.value),
+      few_new c.number-number.result c.self.inside.next c.self.inside.entries.entries c.insert.new.self.entries c.args.self.now c.taken-spooled.result c.self.invariant.0 c.self.view_is next entries c.requires.room,
+    )
 
 pub returns-clause-ok : goal.returns-clause-ok
 returns-clause-ok c =

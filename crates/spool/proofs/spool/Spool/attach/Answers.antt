@@ -3,11 +3,21 @@ use Rattle.std.specs.Prelude.{IfSome}
 use Rattle.base_types.specs.declared.limits.TheConstants.Limits.{JOB_DOCUMENTS, JOB_OCTETS}
 use Rattle.spool.specs.Spooled.{SpooledRecord, attached}
 use Rattle.spool.proofs.Entries.{changed_at, found_at, same_at, keyed_set, ok_map, err_map}
+use Rattle.spool.proofs.Finished.{attached_keeps, same_keeps}
+use Rattle.spool.proofs.Unfinished.{few_set, either_way}
 use Rattle.spool.proofs.spool.Spool.attach.Goals as goal
 
 pub invariant_of-self-2 : goal.invariant_of-self-2
-invariant_of-self-2 c =
-    (rw (c.get_mut.follows.holds c.attach.new.self).0 (keyed_set c.number.result 0 c.self.inside.next c.self.inside.entries.entries c.in-Some.spooled.now c.attach.new.self c.self.invariant.0 (sym (c.in-Some.ensures {u = tt}).value) c.attach.ensures.same_job), c.self.invariant.1, c.self.invariant.2)
+invariant_of-self-2 c = (
+  rw (c.get_mut.follows.holds c.attach.new.self).0 (keyed_set c.number.result 0 c.self.inside.next c.self.inside.entries.entries c.in-Some.spooled.now c.attach.new.self c.self.invariant.0 (sym (c.in-Some.ensures {u = tt}).value) c.attach.ensures.same_job),
+  c.self.invariant.1,
+  c.self.invariant.2,
+  rw (c.get_mut.follows.holds c.attach.new.self).0
+      (either_way c.attach.result
+      (λ after. few_set (attached c.args.document c.args.now) (attached_keeps c.args.document c.args.now) c.number.result c.self.inside.next c.self.inside.entries.entries c.in-Some.spooled.now c.attach.new.self c.self.invariant.0 (sym (c.in-Some.ensures {u = tt}).value) after c.self.invariant.3)
+      (λ same. few_set (λ s. s) same_keeps c.number.result c.self.inside.next c.self.inside.entries.entries c.in-Some.spooled.now c.attach.new.self c.self.invariant.0 (sym (c.in-Some.ensures {u = tt}).value) same c.self.invariant.3)
+      c.attach.ensures.ok c.attach.ensures.kept),
+)
 
 pub returns-clause-ok : goal.returns-clause-ok
 returns-clause-ok c =

@@ -3,6 +3,8 @@ use Rattle.spool.specs.Spooled.{SpooledRecord, changed}
 use Rattle.spool.specs.Calls.{allows}
 use Rattle.spool.specs.Jobs.{jobs_of}
 use Rattle.spool.proofs.Entries.{changed_at, unchanged_at, found_at, same_at, keyed_set, err_map}
+use Rattle.spool.proofs.Finished.{changed_keeps}
+use Rattle.spool.proofs.Unfinished.{few_set}
 use Rattle.spool.proofs.spool.Spool.change.Goals as goal
 
 pub returns-in_default-clause-after : goal.returns-in_default-clause-after
@@ -14,8 +16,12 @@ pub invariant_of-self : goal.invariant_of-self
 invariant_of-self c = rw c.get_mut.follows.holds-at-none c.self.invariant
 
 pub invariant_of-self-2 : goal.invariant_of-self-2
-invariant_of-self-2 c =
-    (rw (c.get_mut.follows.holds c.change.new.self).0 (keyed_set c.number.result 0 c.self.inside.next c.self.inside.entries.entries c.in-Some.spooled.now c.change.new.self c.self.invariant.0 (sym (c.in-Some.ensures {u = tt}).value) c.change.ensures.same_job), c.self.invariant.1, c.self.invariant.2)
+invariant_of-self-2 c = (
+  rw (c.get_mut.follows.holds c.change.new.self).0 (keyed_set c.number.result 0 c.self.inside.next c.self.inside.entries.entries c.in-Some.spooled.now c.change.new.self c.self.invariant.0 (sym (c.in-Some.ensures {u = tt}).value) c.change.ensures.same_job),
+  c.self.invariant.1,
+  c.self.invariant.2,
+  rw (c.get_mut.follows.holds c.change.new.self).0 (few_set (changed c.args.change c.args.now) (changed_keeps c.args.change c.args.now) c.number.result c.self.inside.next c.self.inside.entries.entries c.in-Some.spooled.now c.change.new.self c.self.invariant.0 (sym (c.in-Some.ensures {u = tt}).value) c.change.ensures.after c.self.invariant.3),
+)
 
 pub returns-clause-after : goal.returns-clause-after
 returns-clause-after c =

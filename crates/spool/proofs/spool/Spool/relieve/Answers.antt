@@ -3,6 +3,8 @@ use Rattle.std.specs.Option.{option_map_or}
 use Rattle.spool.specs.Spooled.{SpooledRecord, relieved, handed_out}
 use Rattle.spool.specs.Jobs.{jobs_of}
 use Rattle.spool.proofs.Entries.{changed_at, unchanged_at, found_at, keyed_set}
+use Rattle.spool.proofs.Finished.{relieved_keeps}
+use Rattle.spool.proofs.Unfinished.{few_set}
 use Rattle.spool.proofs.spool.Spool.relieve.Goals as goal
 
 pub returns-in_default-clause-rest : goal.returns-in_default-clause-rest
@@ -14,8 +16,12 @@ pub invariant_of-self : goal.invariant_of-self
 invariant_of-self c = rw c.get_mut.follows.holds-at-none c.self.invariant
 
 pub invariant_of-self-2 : goal.invariant_of-self-2
-invariant_of-self-2 c =
-    (rw (c.get_mut.follows.holds c.relieve.new.self).0 (keyed_set c.number.result 0 c.self.inside.next c.self.inside.entries.entries c.in-Some.spooled.now c.relieve.new.self c.self.invariant.0 (sym (c.in-Some.ensures {u = tt}).value) c.relieve.ensures.same_job), c.self.invariant.1, c.self.invariant.2)
+invariant_of-self-2 c = (
+  rw (c.get_mut.follows.holds c.relieve.new.self).0 (keyed_set c.number.result 0 c.self.inside.next c.self.inside.entries.entries c.in-Some.spooled.now c.relieve.new.self c.self.invariant.0 (sym (c.in-Some.ensures {u = tt}).value) c.relieve.ensures.same_job),
+  c.self.invariant.1,
+  c.self.invariant.2,
+  rw (c.get_mut.follows.holds c.relieve.new.self).0 (few_set (relieved c.args.change c.args.now) (relieved_keeps c.args.change c.args.now) c.number.result c.self.inside.next c.self.inside.entries.entries c.in-Some.spooled.now c.relieve.new.self c.self.invariant.0 (sym (c.in-Some.ensures {u = tt}).value) c.relieve.ensures.rest c.self.invariant.3),
+)
 
 pub returns-clause-rest : goal.returns-clause-rest
 returns-clause-rest c =

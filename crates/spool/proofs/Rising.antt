@@ -1,0 +1,21 @@
+-- What holds of every spool, from the entries of its map.
+use Rattle.std.proofs.Common.{◌≡◌, ℕ, zero, suc, ◌+◌, ◌<◌, List, [], ◌∷◌, map, length, subst, arith, add-one, slice_index}
+use Rattle.spool.specs.Spooled.{SpooledRecord}
+use Rattle.spool.specs.Jobs.{SpoolRecord, Keyed, jobs_of}
+use Rattle.spool.specs.Spool.{IsSpool}
+use Rattle.spool.proofs.Unfinished.{AreFew}
+
+abbrev ids_of : List (ℕ × SpooledRecord) → List ℕ
+ids_of es = map (λ s. s.job.id) (jobs_of es)
+
+ids_rise : (low next : ℕ) (es : List (ℕ × SpooledRecord)) → Keyed es low next → (k : ℕ) → k + 1 < length (ids_of es) → slice_index (ids_of es) k < slice_index (ids_of es) (k + 1)
+ids_rise low next [] keyed k within = absurd (omega (arith, within))
+ids_rise low next (e ∷ []) keyed k within = absurd (omega (arith, within))
+ids_rise low next (e ∷ f ∷ es) keyed zero within = omega (arith, keyed.0, keyed.3.0, keyed.3.1)
+ids_rise low next (e ∷ f ∷ es) keyed (suc k) within =
+    let later : slice_index (ids_of (f ∷ es)) k < slice_index (ids_of (f ∷ es)) (k + 1) = ids_rise e.0 next (f ∷ es) keyed.3 k (omega (arith, within)) in
+    simp add-one (simp add-one at later)
+
+pub is_spool : (next : ℕ) (es : List (ℕ × SpooledRecord)) (spool : SpoolRecord) → Keyed es 0 next → AreFew es → record { jobs = jobs_of es; next = next } ≡ spool → IsSpool spool
+is_spool next es spool keyed few view =
+    subst (λ (s : SpoolRecord). IsSpool s) view (record { rising = ids_rise 0 next es keyed; few_unfinished = few })
