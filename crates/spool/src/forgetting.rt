@@ -26,7 +26,7 @@ impl SpooledJob {
     }
 
     /// Whether it was finished later than another; of one moment, the greater id is the later.
-    fn is_later(&self, other: &SpooledJob) -> bool
+    pub fn is_later(&self, other: &SpooledJob) -> bool
         ensures { result ≡ is_later self.now other.now }
     {
         let end = self.end();
