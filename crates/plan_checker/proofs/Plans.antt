@@ -9,6 +9,7 @@ use Rattle.prices.specs.declared.plan.Stranded.{Stranded}
 use Rattle.prices.specs.Plan.{PlanRecord}
 use Rattle.prices.specs.Way.{IsWay}
 use Rattle.prices.specs.Total.{IsBest, total_of}
+use Rattle.prices.specs.Prices.{IsProved}
 use Rattle.prices.specs.Timetable.{Slot, IsTimetable, slots_total}
 use Rattle.prices.proofs.Names.{way_from_parts}
 use Rattle.prices.proofs.Timetables.{best_of_timetables}
@@ -92,6 +93,13 @@ yes_in_proved plan proved place below d v verdict =
     let found : slice_get plan.classes place ≡ Some class = slice_get-get_or plan.classes place d below in
     let proof = yes_from_proved class.problem class.priced.way class.priced.prices class.priced.total (proved.proved place d below) (beside_at plan place) (proved.once place class found) (proved.waits place class found) in
     only_yes (beside_at plan place) class.problem class.priced.way class.priced.prices class.priced.total proof v (verdict class found)
+
+-- a proved plan has the verdict yes at each class
+pub yes_above_in_proved : (plan : PlanRecord) → IsProvedPlan plan → YesAbove plan (length plan.classes)
+yes_above_in_proved plan proved place below class found =
+    let same : get_or plan.classes place class ≡ class = get_or_from_slice_get plan.classes place class class found in
+    let proof : IsProved class.problem class.priced.way class.priced.prices class.priced.total = subst (λ (k : PlannedClass). IsProved k.problem k.priced.way k.priced.prices k.priced.total) same (proved.proved place class below) in
+    yes_from_proved class.problem class.priced.way class.priced.prices class.priced.total proof (beside_at plan place) (proved.once place class found) (proved.waits place class found)
 
 -- a fault isn't yes
 pub fault_is_no : (place : ℕ) (fault : Verdict) → No place fault ≡ AllYes → ⊥

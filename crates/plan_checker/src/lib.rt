@@ -10,6 +10,7 @@
 mod beside;
 mod class_verdict;
 mod fairness;
+mod laws;
 mod plan_text;
 mod plan_verdict;
 mod text;
@@ -17,6 +18,7 @@ mod totals;
 mod verdict;
 
 pub use class_verdict::check_class;
+pub use laws::proved_plan_is_yes;
 pub use plan_text::PlanText;
 pub use plan_verdict::{check_plan, has_one_list_each};
 pub use text::{ReadError, TextFault, read_plan_text, write_plan_text};
