@@ -3,9 +3,9 @@ use Rattle.std.proofs.Common.{◌≡◌, ℕ, ◌+◌, ◌<◌, ◌≤◌, List,
 use Rattle.std.specs.Prelude.{slice_get}
 use Rattle.std.proofs.lemmas.List.{get_or-take, length-take}
 use Rattle.std.proofs.lemmas.Option.{get_or_from_slice_get, slice_get-get_or, slice_get_within}
+use Rattle.base_types.specs.declared.needs.Stranded.{Stranded}
 use Rattle.cost_table.specs.Class.{IsClass}
 use Rattle.prices.specs.declared.plan.PlannedClass.{PlannedClass}
-use Rattle.prices.specs.declared.plan.Stranded.{Stranded}
 use Rattle.prices.specs.Plan.{PlanRecord}
 use Rattle.prices.specs.Way.{IsWay}
 use Rattle.prices.specs.Total.{IsBest, total_of}

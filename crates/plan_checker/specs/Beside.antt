@@ -1,8 +1,8 @@
 -- What stands beside a class in its plan: the classes above it, and the stranded jobs.
 use Rattle.std.specs.Prelude.{◌≡◌, ℕ, suc, List, [], Some, length, All, Contains, slice_get}
+use Rattle.base_types.specs.declared.needs.Stranded.{Stranded}
 use Rattle.cost_table.specs.Class.{Class}
 use Rattle.prices.specs.declared.plan.PlannedClass.{PlannedClass}
-use Rattle.prices.specs.declared.plan.Stranded.{Stranded}
 use Rattle.prices.specs.Way.{IsWay}
 use Rattle.prices.specs.Waits.{waits_after}
 

@@ -5,7 +5,7 @@ use Rattle.std.specs.List.{list_all, slice_split}
 use Rattle.std.specs.Str.{bytes_eq}
 use Rattle.base_types.specs.declared.limits.TheConstants.Limits.{HIGHEST_PRIORITY, LAST_JOB_ID, WAIT, AMOUNT}
 use Rattle.base_types.specs.Forms.{is_name}
-use Rattle.prices.specs.declared.plan.Stranded.{Stranded}
+use Rattle.base_types.specs.declared.needs.Stranded.{Stranded}
 use Rattle.plan_checker.specs.declared.text.fault.TextFault.{TextFault}
 use Rattle.plan_checker.specs.declared.text.fault.TextFault.TheVariants.{BadLine, OutOfRange}
 use Rattle.plan_checker.specs.declared.text.line.Line.{Line}

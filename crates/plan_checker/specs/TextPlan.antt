@@ -4,8 +4,8 @@ use Rattle.std.specs.List.{list_all, slice_split}
 use Rattle.std.specs.Option.{option_map_or}
 use Rattle.std.specs.Str.{bytes_eq}
 use Rattle.base_types.specs.declared.limits.TheConstants.Limits.{HIGHEST_PRIORITY, DEFAULT_PRIORITY, UNFINISHED_JOBS, DEVICES, JOB_TIME, WAIT}
+use Rattle.base_types.specs.declared.needs.Stranded.{Stranded}
 use Rattle.cost_table.specs.Class.{Class}
-use Rattle.prices.specs.declared.plan.Stranded.{Stranded}
 use Rattle.prices.specs.declared.plan.PlannedClass.{PlannedClass}
 use Rattle.plan_checker.specs.declared.text.fault.TextFault.{TextFault}
 use Rattle.plan_checker.specs.declared.text.fault.TextFault.TheVariants.{BadLine, OutOfRange, NoEnd}

@@ -4,8 +4,8 @@ use Rattle.std.specs.List.{flat_map}
 use Rattle.std.specs.Fmt.{decimal, signed_decimal}
 use Rattle.base_types.specs.declared.needs.Cause.{Cause}
 use Rattle.base_types.specs.declared.needs.Cause.TheVariants as causes
+use Rattle.base_types.specs.declared.needs.Stranded.{Stranded}
 use Rattle.prices.specs.declared.plan.PlannedClass.{PlannedClass}
-use Rattle.prices.specs.declared.plan.Stranded.{Stranded}
 use Rattle.plan_checker.specs.PlanText.{NamedPlan}
 use Rattle.plan_checker.specs.TextLine.{Said, SaysPlan, SaysDevice, SaysClass, SaysJob, SaysWait, SaysWay, SaysTotal, SaysJobPrices, SaysPlacePrices, SaysStranded, SaysEnd}
 

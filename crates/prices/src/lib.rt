@@ -14,11 +14,12 @@ mod way_start;
 mod way_total;
 mod way_waits;
 
+pub use base_types::Stranded;
 pub use laws::{
     best_at_most_timetables, fair_is_best, fair_prices_bounded, timetable_no_better,
     way_is_timetable,
 };
-pub use plan::{Plan, PlannedClass, Stranded};
+pub use plan::{Plan, PlannedClass};
 pub use price_lists::{PlacePrices, PricedWay, Prices};
 pub use way::{Queue, Way};
 pub use way_facts::{all_able, all_named, is_way, names_known, none_twice};

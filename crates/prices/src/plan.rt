@@ -1,16 +1,9 @@
 ghost use Rattle.std.specs.Prelude.{◌≡◌};
 
 use crate::price_lists::PricedWay;
-use base_types::{Cause, JobId, Priority};
+use base_types::{Priority, Stranded};
 use cost_table::ClassProblem;
 use std::marker::Model;
-
-/// A ready job that no device can print, and why.
-#[derive(Clone, Copy, Debug, PartialEq, Eq)]
-pub struct Stranded {
-    pub job: JobId,
-    pub cause: Cause,
-}
 
 /// The jobs of one priority: their problem, and a way with its prices and total.
 #[derive(Debug, Drop)]
