@@ -1,0 +1,4 @@
+pub mod Heads
+pub mod Sections
+pub mod Steps
+pub mod Fronts

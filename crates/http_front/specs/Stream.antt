@@ -1,0 +1,168 @@
+-- What an HTTP client's stream of bytes gives (RFC 9112): its exchanges in order, up to the first request that is refused. The bytes of a body are told one by one, so that it does not matter in which parts they come.
+use Rattle.std.specs.Prelude.{ℕ, ◌≡◌, ◌==◌, ◌<◌, ◌+◌, ◌-◌, ◌||◌, nat_le, Bool, false, suc, zero, if◌then◌else◌, List, [], ◌∷◌, ◌++◌, map, take, drop, MatchBool, length, not, Option, Some, None, Result, Ok, Err}
+use Rattle.base_types.specs.FirstLine.{first_line_of}
+use Rattle.base_types.specs.declared.line.FirstLine.{FirstLine}
+use Rattle.base_types.specs.declared.line.FirstLine.TheVariants.{Whole, TooLong, Unfinished}
+use Rattle.base_types.specs.declared.limits.TheConstants.Limits.{HTTP_HEAD_BYTES, HTTP_BODY_BYTES, HTTP_CHUNK_LINE_BYTES, HTTP_TRAILER_BYTES}
+use Rattle.http_front.specs.declared.refusal.Refusal.{Refusal}
+use Rattle.http_front.specs.declared.refusal.Refusal.TheVariants.{BadRequest, ContentTooLarge, HeadTooLarge}
+use Rattle.http_front.specs.declared.item.HttpItem.{HttpItem}
+use Rattle.http_front.specs.declared.item.HttpItem.TheVariants as item
+use Rattle.http_front.specs.declared.awaited.Request.{Request}
+use Rattle.http_front.specs.declared.awaited.Framing.{Framing}
+use Rattle.http_front.specs.declared.awaited.Framing.TheVariants.{Length, Chunked}
+use Rattle.http_front.specs.declared.awaited.Following.{Following}
+use Rattle.http_front.specs.declared.awaited.Following.TheVariants.{Close, Chunk}
+use Rattle.http_front.specs.declared.awaited.Awaited.{Awaited}
+use Rattle.http_front.specs.declared.awaited.Awaited.TheVariants.{Head, Invitation, Body, Size, Trailer, Nothing}
+use Rattle.http_front.specs.Section.{section_in}
+use Rattle.http_front.specs.declared.chunk.ChunkEnd.{ChunkEnd}
+use Rattle.http_front.specs.declared.chunk.ChunkEnd.TheVariants as end
+use Rattle.http_front.specs.declared.reader.Step.{Step}
+use Rattle.http_front.specs.declared.reader.Step.TheVariants as step
+use Rattle.http_front.specs.Chunk.{IsSizeOf, chunk_end}
+use Rattle.http_front.specs.Head.{Asks}
+
+-- what a stream says
+pub data Said : Type 0 where
+  HasHead : (closes : Bool) → Said
+  Invites : Said
+  HasByte : ℕ → Said
+  EndsBody : Said
+  IsRefused : Refusal → Said
+
+-- what an item says, with the part that is lent
+abbrev pub said_by : HttpItem → List ℕ → List Said
+said_by (item.Head closes) part = HasHead closes ∷ []
+said_by item.Continue part = Invites ∷ []
+said_by item.BodyPart part = map HasByte part
+said_by item.BodyEnd part = EndsBody ∷ []
+said_by (item.Refuse refusal) part = IsRefused refusal ∷ []
+
+-- the front of bytes: what it says, what follows it, and what is awaited then; or too little to tell
+pub data Front : Type 0 where
+  Goes : (said : List Said) (rest : List ℕ) (next : Awaited) → Front
+  Waits : Front
+
+abbrev pub refused : Refusal → List ℕ → Front
+refused refusal rest = Goes (IsRefused refusal ∷ []) rest Nothing
+
+abbrev pub body_by : Framing → Bool → Awaited
+body_by (Length count) closes = Body count (Close closes)
+body_by Chunked closes = Size HTTP_BODY_BYTES closes
+
+abbrev pub after_head : Request → Awaited
+after_head request = if request.invites then Invitation request.framing request.closes else body_by request.framing request.closes
+
+abbrev pub begun : Result Request Refusal → List ℕ → Front
+begun (Ok request) rest = Goes (HasHead request.closes ∷ []) rest (after_head request)
+begun (Err refusal) rest = refused refusal rest
+
+-- what follows a connection's last reply is dropped
+abbrev pub after_body : Bool → Awaited
+after_body closes = if closes then Nothing else Head
+
+-- a head of at most so many bytes
+abbrev pub HeadIn : List ℕ → FirstLine → Front → Type 0
+HeadIn bytes (Whole count) front = (asked : Result Request Refusal) × Asks (take count bytes) asked × (front ≡ begun asked (drop count bytes))
+HeadIn bytes TooLong front = front ≡ refused HeadTooLarge bytes
+HeadIn bytes Unfinished front = front ≡ Waits
+
+-- line ends before a head are dropped (RFC 9112, section 2.2)
+abbrev pub is_line_end : ℕ → Bool
+is_line_end byte = (byte == 13) || (byte == 10)
+
+-- a head's first line begins at the front
+abbrev pub begins_head : List ℕ → Bool
+begins_head [] = false
+begins_head (byte ∷ bytes) = not (is_line_end byte)
+
+abbrev pub AtHead : List ℕ → Front → Type 0
+AtHead [] front = front ≡ Waits
+AtHead (byte ∷ bytes) front =
+    MatchBool (is_line_end byte) (front ≡ Goes [] bytes Head) (HeadIn (byte ∷ bytes) (section_in HTTP_HEAD_BYTES (byte ∷ bytes)) front)
+
+abbrev pub chunk_front : ℕ → Bool → List ℕ → ChunkEnd → Front
+chunk_front room closes bytes end.Whole = Goes [] (drop 2 bytes) (Size room closes)
+chunk_front room closes bytes end.Broken = refused BadRequest bytes
+chunk_front room closes bytes end.Unfinished = Waits
+
+abbrev pub following : Following → List ℕ → Front
+following (Close closes) bytes = Goes (EndsBody ∷ []) bytes (after_body closes)
+following (Chunk room closes) bytes = chunk_front room closes bytes (chunk_end bytes)
+
+abbrev pub byte_of : ℕ → Following → List ℕ → Front
+byte_of count next [] = Waits
+byte_of count next (byte ∷ bytes) = Goes (HasByte byte ∷ []) bytes (Body (count - 1) next)
+
+-- so many bytes of a body, and what follows them
+abbrev pub body_front : ℕ → Following → List ℕ → Front
+body_front count next bytes = if count == 0 then following next bytes else byte_of count next bytes
+
+-- the last chunk has size 0; the chunks together have at most as many bytes as a body may have
+abbrev pub sized : Option ℕ → ℕ → Bool → List ℕ → Front
+sized None room closes rest = refused BadRequest rest
+sized (Some size) room closes rest =
+    if size == 0 then Goes [] rest (Trailer closes)
+    else if nat_le size room then Goes [] rest (Body size (Chunk (room - size) closes))
+    else refused ContentTooLarge rest
+
+abbrev pub SizeIn : List ℕ → ℕ → Bool → FirstLine → Front → Type 0
+SizeIn bytes room closes (Whole count) front = (size : Option ℕ) × IsSizeOf (take (count + 1) bytes) size × (front ≡ sized size room closes (drop (count + 1) bytes))
+SizeIn bytes room closes TooLong front = front ≡ refused BadRequest bytes
+SizeIn bytes room closes Unfinished front = front ≡ Waits
+
+-- the trailer section isn't looked at (RFC 9112, section 7.1.2)
+abbrev pub trailer_front : Bool → List ℕ → FirstLine → Front
+trailer_front closes bytes (Whole count) = Goes (EndsBody ∷ []) (drop count bytes) (after_body closes)
+trailer_front closes bytes TooLong = refused BadRequest bytes
+trailer_front closes bytes Unfinished = Waits
+
+-- what stands at the front of bytes
+abbrev pub FrontIs : Awaited → List ℕ → Front → Type 0
+FrontIs Head bytes front = AtHead bytes front
+FrontIs (Invitation framing closes) bytes front = front ≡ Goes (Invites ∷ []) bytes (body_by framing closes)
+FrontIs (Body count next) bytes front = front ≡ body_front count next bytes
+FrontIs (Size room closes) bytes front = SizeIn bytes room closes (first_line_of HTTP_CHUNK_LINE_BYTES bytes) front
+FrontIs (Trailer closes) bytes front = front ≡ trailer_front closes bytes (section_in HTTP_TRAILER_BYTES bytes)
+FrontIs Nothing bytes front = front ≡ Waits
+
+-- bytes say this in so many steps, and then there is too little to tell, or nothing counts any more
+abbrev pub SaysIn : ℕ → Awaited → List ℕ → List Said → Type 0
+SaysIn zero awaited bytes said = (said ≡ []) × FrontIs awaited bytes Waits
+SaysIn (suc steps) awaited bytes said =
+    (first : List Said) × (rest : List ℕ) × (next : Awaited) × (later : List Said)
+    × FrontIs awaited bytes (Goes first rest next) × (said ≡ first ++ later) × SaysIn steps next rest later
+
+abbrev pub Says : Awaited → List ℕ → List Said → Type 0
+Says awaited bytes said = (steps : ℕ) × SaysIn steps awaited bytes said
+
+-- what a whole stream of bytes says
+abbrev pub Exchanges : List ℕ → List Said → Type 0
+Exchanges stream said = Says Head stream said
+
+-- a reader: the part of a body that it lends, the bytes that it hasn't read, and what it awaits
+pub record HttpState : Type 0 where
+  pub part : List ℕ
+  pub rest : List ℕ
+  pub awaited : Awaited
+
+-- The reader was fed this stream and has given this: whatever comes yet, the whole says this and then what the reader will hear.
+abbrev pub Stands : List ℕ → List Said → HttpState → Type 0
+Stands stream given reader =
+    (coming : List ℕ) (said : List Said) → Says reader.awaited (reader.rest ++ coming) said → Exchanges (stream ++ coming) (given ++ said)
+
+-- from one state the reader came to another and said this, of the same stream
+abbrev pub Advances : HttpState → List Said → HttpState → Type 0
+Advances old said new = (stream : List ℕ) (given : List Said) → Stands stream given old → Stands stream (given ++ said) new
+
+-- what one step of the reader came to: only bytes that say nothing are passed without an item
+abbrev pub Steps : HttpState → Step → HttpState → Type 0
+Steps old (step.Gives said) new = Advances old (said_by said new.part) new
+Steps old step.Passes new = Advances old [] new × (length new.rest < length old.rest)
+Steps old step.Waits new = (new ≡ old) × FrontIs old.awaited old.rest Waits
+
+-- what an answer of the reader says of the stream that it was fed, and where the reader stands then
+abbrev pub Answers : HttpState → Option HttpItem → HttpState → Type 0
+Answers old (Some said) new = Advances old (said_by said new.part) new
+Answers old None new = Advances old [] new × ((stream : List ℕ) (given : List Said) → Stands stream given old → Exchanges stream given)

@@ -1,0 +1,169 @@
+ghost use Rattle.std.specs.Prelude.{◌≡◌, codes, map};
+ghost use Rattle.httparse.specs.Borrowed.{header_parts};
+ghost use Rattle.http_front.specs.Head.{is_chunked, coded, within_limit, counted, framing_of, is_ipp, is_plain, is_plain_ipp, closes_after, is_empty, expecting, judged, Asks};
+ghost use Rattle.http_front.specs.Fields.{first_of};
+
+use crate::awaited::{Framing, Request};
+use crate::fields::{all_have, any_lists, count_of, first_of};
+use crate::refusal::Refusal;
+use crate::words::{is_word, length_in, media_type};
+use base_types::Limits;
+use httparse::{EMPTY_HEADER, Header, Status};
+
+const FIELDS: usize = Limits::HTTP_FIELDS;
+
+/// What the bytes of a head ask.
+pub(crate) fn read_head(head: &[u8]) -> Result<Request, Refusal>
+    ensures { Asks head.now result }
+{
+    let mut fields = [EMPTY_HEADER; FIELDS];
+    let mut request = httparse::Request::new(&mut fields);
+    let Ok(Status::Complete(length)) = request.parse(head) else {
+        return Err(Refusal::BadRequest);
+    };
+    if length != head.len() || request.headers.len() > FIELDS {
+        return Err(Refusal::BadRequest);
+    }
+    let (Some(method), Some(minor)) = (request.method, request.version) else {
+        return Err(Refusal::BadRequest);
+    };
+    judged(method.as_bytes(), minor, request.headers)
+}
+
+/// What a head of a method, a minor version and fields asks.
+fn judged(method: &[u8], minor: u8, fields: &[Header]) -> Result<Request, Refusal>
+    ensures { result ≡ judged method.now minor (map header_parts fields.now) }
+{
+    if minor == 1 && count_of(b"host", fields) != 1 {
+        return Err(Refusal::BadRequest);
+    }
+    if method != b"POST".as_slice() {
+        return Err(Refusal::MethodNotAllowed);
+    }
+    let framing = framing_of(minor, fields)?;
+    if !is_plain_ipp(fields) {
+        return Err(Refusal::UnsupportedMediaType);
+    }
+    expecting(minor, fields, framing)
+}
+
+/// How the length of the body is told.
+fn framing_of(minor: u8, fields: &[Header]) -> Result<Framing, Refusal>
+    ensures { result ≡ framing_of minor (map header_parts fields.now) }
+{
+    if count_of(b"transfer-encoding", fields) > 0 {
+        return coded(minor, fields);
+    }
+    counted(fields)
+}
+
+/// The framing by a transfer coding.
+fn coded(minor: u8, fields: &[Header]) -> Result<Framing, Refusal>
+    ensures { result ≡ coded minor (map header_parts fields.now) }
+{
+    if minor == 0 || count_of(b"content-length", fields) > 0 {
+        return Err(Refusal::BadRequest);
+    }
+    if !is_chunked(fields) {
+        return Err(Refusal::NotImplemented);
+    }
+    Ok(Framing::Chunked)
+}
+
+/// Whether the transfer coding is chunked.
+fn is_chunked(fields: &[Header]) -> bool
+    ensures { result ≡ is_chunked (map header_parts fields.now) }
+{
+    if count_of(b"transfer-encoding", fields) != 1 {
+        return false;
+    }
+    match first_of(b"transfer-encoding", fields) {
+        Some(value) => is_word(value, b"chunked"),
+        None => false,
+    }
+}
+
+/// The framing by a length.
+fn counted(fields: &[Header]) -> Result<Framing, Refusal>
+    ensures { result ≡ counted (map header_parts fields.now) (first_of (codes "content-length") (map header_parts fields.now)) }
+{
+    let Some(value) = first_of(b"content-length", fields) else {
+        return Ok(Framing::Length(0));
+    };
+    if !all_have(b"content-length", value, fields) {
+        return Err(Refusal::BadRequest);
+    }
+    within_limit(length_in(value))
+}
+
+/// A length within the limit.
+fn within_limit(length: Option<u32>) -> Result<Framing, Refusal>
+    ensures { result ≡ within_limit length }
+{
+    match length {
+        None => Err(Refusal::BadRequest),
+        Some(count) if count as usize > Limits::HTTP_BODY_BYTES => Err(Refusal::ContentTooLarge),
+        Some(count) => Ok(Framing::Length(count)),
+    }
+}
+
+/// Whether the body is IPP, and not compressed.
+fn is_plain_ipp(fields: &[Header]) -> bool
+    ensures { result ≡ is_plain_ipp (map header_parts fields.now) }
+{
+    is_ipp(fields) && is_plain(fields)
+}
+
+/// Whether the body is IPP.
+fn is_ipp(fields: &[Header]) -> bool
+    ensures { result ≡ is_ipp (map header_parts fields.now) }
+{
+    match first_of(b"content-type", fields) {
+        Some(value) => is_word(media_type(value), b"application/ipp"),
+        None => false,
+    }
+}
+
+/// Whether the body isn't compressed.
+fn is_plain(fields: &[Header]) -> bool
+    ensures { result ≡ is_plain (map header_parts fields.now) }
+{
+    match first_of(b"content-encoding", fields) {
+        Some(value) => is_word(value, b"identity"),
+        None => true,
+    }
+}
+
+/// What is asked where the framing is known.
+fn expecting(minor: u8, fields: &[Header], framing: Framing) -> Result<Request, Refusal>
+    ensures { result ≡ expecting minor (map header_parts fields.now) framing (first_of (codes "expect") (map header_parts fields.now)) }
+{
+    let closes = closes_after(minor, fields);
+    let invites = match first_of(b"expect", fields) {
+        None => false,
+        Some(value) if is_word(value, b"100-continue") => minor == 1 && !is_empty(framing),
+        Some(_) => return Err(Refusal::ExpectationFailed),
+    };
+    Ok(Request {
+        framing,
+        invites,
+        closes,
+    })
+}
+
+/// Whether the connection closes after the reply.
+fn closes_after(minor: u8, fields: &[Header]) -> bool
+    ensures { result ≡ closes_after minor (map header_parts fields.now) }
+{
+    minor == 0 || any_lists(b"connection", b"close", fields)
+}
+
+/// Whether there are no bytes of a body.
+fn is_empty(framing: Framing) -> bool
+    ensures { result ≡ is_empty framing }
+{
+    match framing {
+        Framing::Length(count) => count == 0,
+        Framing::Chunked => false,
+    }
+}

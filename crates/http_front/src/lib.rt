@@ -1,0 +1,25 @@
+//! What an HTTP client asks (RFC 9110, RFC 9112): requests with their bodies from any cutting of
+//! its stream of bytes, and the heads of the replies.
+//!
+//! It promises that an [`HttpReader`] gives exactly the exchanges of the whole stream that it was
+//! fed, in order, up to the first request that is refused. It knows nothing of what the bodies say,
+//! and answers nothing by itself.
+#![tactic(auto)]
+
+mod awaited;
+mod chunk;
+mod fields;
+mod head;
+mod item;
+mod reader;
+mod refusal;
+mod reply;
+mod section;
+#[cfg(test)]
+mod tests;
+mod words;
+
+pub use item::HttpItem;
+pub use reader::HttpReader;
+pub use refusal::Refusal;
+pub use reply::{write_head, write_refusal};

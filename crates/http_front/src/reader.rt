@@ -1,0 +1,361 @@
+ghost use Rattle.std.specs.Prelude.{◌≡◌, ◌≤◌, ◌<◌, ◌+◌, ◌++◌, [], List, ℕ, OnOk, OnErr, true, take, drop, length as length_of};
+ghost use Rattle.http_front.specs.Stream.{Said, Stands, Answers, Steps, after_body, body_by, after_head, begins_head};
+ghost use Rattle.base_types.specs.FirstLine.{first_line_of};
+ghost use Rattle.base_types.specs.declared.line.FirstLine.TheVariants.{Whole};
+ghost use Rattle.http_front.specs.Section.{section_in};
+
+use crate::awaited::{Awaited, Following, Framing, Request};
+use crate::chunk::{ChunkEnd, chunk_end, size_in};
+use crate::head::read_head;
+use crate::item::HttpItem;
+use crate::refusal::Refusal;
+use crate::section::section_in;
+use base_types::{FirstLine, Limits, drop_front, first_line};
+use std::alloc::{AllocError, Global};
+use std::marker::Model;
+
+/// A reader of what an HTTP client sends, in pieces of any length. In clauses it is a record of the
+/// part of a body that it lends, what it still has to read, and what it awaits.
+///
+/// After a request that is refused, and after one whose connection closes, it gives nothing more,
+/// and what it is fed is dropped.
+#[derive(Debug, Drop)]
+pub struct HttpReader {
+    buffer: Vec<u8>,
+    /// Where the part that is lent begins in the buffer.
+    part: usize,
+    /// How many bytes of the buffer are read.
+    start: usize,
+    awaited: Awaited,
+}
+
+impl Model for HttpReader {
+    ghost use Rattle.std.specs.Prelude.{◌≤◌, drop, length, slice_range};
+    ghost use Rattle.http_front.specs.Stream.{HttpState};
+
+    ghost Value = { HttpState };
+
+    ghost view = { λ r. record { part = slice_range r.buffer.items r.part r.start; rest = drop r.start r.buffer.items; awaited = r.awaited } };
+
+    ghost invariant = { λ r. (r.part ≤ r.start) × (r.start ≤ length r.buffer.items) };
+}
+
+/// What one step of a reader came to.
+#[derive(Clone, Copy, Debug, PartialEq, Eq)]
+pub(crate) enum Step {
+    Gives(HttpItem),
+    /// Bytes were read that say nothing by themselves.
+    Passes,
+    /// There is too little to tell.
+    Waits,
+}
+
+impl HttpReader {
+    /// A reader of a new connection.
+    pub fn new(alloc: Global) -> HttpReader
+        ensures { Stands [] [] result }
+    {
+        HttpReader {
+            buffer: Vec::new(alloc),
+            part: 0,
+            start: 0,
+            awaited: Awaited::Head,
+        }
+    }
+
+    /// Takes the next bytes of the connection. The part that was lent is given back.
+    ///
+    /// Where there is no memory, none of them is taken.
+    pub fn feed(&mut self, piece: &[u8]) -> Result<(), AllocError>
+        ensures fed { OnOk result ((stream : List ℕ) (given : List Said) → Stands stream given self.old → Stands (stream ++ piece.now) given self.new) }
+        ensures err { OnErr result (self.new ≡ record self.old { part = [] }) }
+    {
+        if let Awaited::Nothing = self.awaited() {
+            return Ok(());
+        }
+        self.append(piece)
+    }
+
+    /// The next item. Where it is a part of a body, `part` lends the bytes.
+    pub fn next_item(&mut self) -> Option<HttpItem>
+        ensures { Answers self.old result self.new }
+    {
+        loop {
+            match self.step() {
+                Step::Gives(item) => return Some(item),
+                Step::Passes => {}
+                Step::Waits => return None,
+            }
+        }
+    }
+
+    /// The bytes of the part of a body that the last item was.
+    pub fn part(&self) -> &[u8]
+        ensures { result.now ≡ self.now.part }
+    {
+        &self.buffer[self.part..self.start]
+    }
+
+    /// One step: at most one item.
+    fn step(&mut self) -> Step
+        ensures { Steps self.old result self.new }
+    {
+        match self.awaited() {
+            Awaited::Head => self.step_head(),
+            Awaited::Invitation(framing, closes) => {
+                self.pass(0, body_by(framing, closes));
+                Step::Gives(HttpItem::Continue)
+            }
+            Awaited::Body(count, next) => self.step_body(count, next),
+            Awaited::Size(room, closes) => self.step_size(room, closes),
+            Awaited::Trailer(closes) => self.step_trailer(closes),
+            Awaited::Nothing => Step::Waits,
+        }
+    }
+
+    /// Drops a byte of a line end before a head, or reads the head.
+    fn step_head(&mut self) -> Step
+        requires { self.old.awaited ≡ Awaited.Head }
+        ensures { Steps self.old result self.new }
+    {
+        if self.rest().is_empty() {
+            return Step::Waits;
+        }
+        if !begins_head(self.rest()) {
+            self.pass(1, Awaited::Head);
+            return Step::Passes;
+        }
+        self.step_lines()
+    }
+
+    /// Reads a head, once its lines are there.
+    fn step_lines(&mut self) -> Step
+        requires head { self.old.awaited ≡ Awaited.Head }
+        requires begins { begins_head self.old.rest ≡ true }
+        ensures { Steps self.old result self.new }
+    {
+        match section_in(self.rest(), Limits::HTTP_HEAD_BYTES) {
+            FirstLine::Unfinished => Step::Waits,
+            FirstLine::TooLong => self.refuse(0, Refusal::HeadTooLarge),
+            FirstLine::Whole(count) => self.take_head(count),
+        }
+    }
+
+    /// Reads the head of so many bytes.
+    fn take_head(&mut self, count: usize) -> Step
+        requires head { self.old.awaited ≡ Awaited.Head }
+        requires begins { begins_head self.old.rest ≡ true }
+        requires whole { section_in Limits.HTTP_HEAD_BYTES self.old.rest ≡ Whole count }
+        requires within { count ≤ length_of self.old.rest }
+        ensures { Steps self.old result self.new }
+    {
+        match read_head(&self.rest()[..count]) {
+            Err(refusal) => self.refuse(count, refusal),
+            Ok(request) => {
+                self.pass(count, after_head(request));
+                Step::Gives(HttpItem::Head {
+                    closes: request.closes,
+                })
+            }
+        }
+    }
+
+    /// Lends those bytes of a body that are there, or reads what follows the last.
+    fn step_body(&mut self, count: u32, next: Following) -> Step
+        requires { self.old.awaited ≡ Awaited.Body count next }
+        ensures { Steps self.old result self.new }
+    {
+        if count == 0 {
+            return self.step_following(next);
+        }
+        let length = self.rest().len().min(count as usize);
+        if length == 0 {
+            return Step::Waits;
+        }
+        self.lend(length, Awaited::Body(count - length as u32, next));
+        Step::Gives(HttpItem::BodyPart)
+    }
+
+    /// Reads what follows the bytes of a body, or of a chunk.
+    fn step_following(&mut self, next: Following) -> Step
+        requires { self.old.awaited ≡ Awaited.Body 0 next }
+        ensures { Steps self.old result self.new }
+    {
+        match next {
+            Following::Close(closes) => {
+                self.pass(0, after_body(closes));
+                Step::Gives(HttpItem::BodyEnd)
+            }
+            Following::Chunk(room, closes) => self.end_chunk(room, closes),
+        }
+    }
+
+    /// Reads the end of a chunk.
+    fn end_chunk(&mut self, room: u32, closes: bool) -> Step
+        requires { self.old.awaited ≡ Awaited.Body 0 (Following.Chunk room closes) }
+        ensures { Steps self.old result self.new }
+    {
+        match chunk_end(self.rest()) {
+            ChunkEnd::Unfinished => Step::Waits,
+            ChunkEnd::Broken => self.refuse(0, Refusal::BadRequest),
+            ChunkEnd::Whole => {
+                self.pass(2, Awaited::Size(room, closes));
+                Step::Passes
+            }
+        }
+    }
+
+    /// Reads the line before a chunk.
+    fn step_size(&mut self, room: u32, closes: bool) -> Step
+        requires { self.old.awaited ≡ Awaited.Size room closes }
+        ensures { Steps self.old result self.new }
+    {
+        match first_line(self.rest(), Limits::HTTP_CHUNK_LINE_BYTES) {
+            FirstLine::Unfinished => Step::Waits,
+            FirstLine::TooLong => self.refuse(0, Refusal::BadRequest),
+            FirstLine::Whole(count) => self.take_size(count, room, closes),
+        }
+    }
+
+    /// Reads the line, of so many bytes and a line feed, before a chunk.
+    fn take_size(&mut self, count: usize, room: u32, closes: bool) -> Step
+        requires size { self.old.awaited ≡ Awaited.Size room closes }
+        requires whole { first_line_of Limits.HTTP_CHUNK_LINE_BYTES self.old.rest ≡ Whole count }
+        requires within { count < length_of self.old.rest }
+        ensures { Steps self.old result self.new }
+    {
+        let Some(size) = size_in(&self.rest()[..count + 1]) else {
+            return self.refuse(count + 1, Refusal::BadRequest);
+        };
+        if size == 0 {
+            self.pass(count + 1, Awaited::Trailer(closes));
+            return Step::Passes;
+        }
+        if size > u64::from(room) {
+            return self.refuse(count + 1, Refusal::ContentTooLarge);
+        }
+        let size = size as u32;
+        self.pass(
+            count + 1,
+            Awaited::Body(size, Following::Chunk(room - size, closes)),
+        );
+        Step::Passes
+    }
+
+    /// Drops the fields after the last chunk.
+    fn step_trailer(&mut self, closes: bool) -> Step
+        requires { self.old.awaited ≡ Awaited.Trailer closes }
+        ensures { Steps self.old result self.new }
+    {
+        match section_in(self.rest(), Limits::HTTP_TRAILER_BYTES) {
+            FirstLine::Unfinished => Step::Waits,
+            FirstLine::TooLong => self.refuse(0, Refusal::BadRequest),
+            FirstLine::Whole(count) => {
+                self.pass(count, after_body(closes));
+                Step::Gives(HttpItem::BodyEnd)
+            }
+        }
+    }
+
+    /// The bytes that are not read yet.
+    fn rest(&self) -> &[u8]
+        ensures { result.now ≡ self.now.rest }
+    {
+        &self.buffer[self.start..]
+    }
+
+    /// What is read next.
+    fn awaited(&self) -> Awaited
+        ensures { result ≡ self.now.awaited }
+    {
+        self.awaited
+    }
+
+    /// Goes past so many bytes.
+    fn pass(&mut self, count: usize, awaited: Awaited)
+        requires { count ≤ length_of self.old.rest }
+        ensures { self.new ≡ record { part = []; rest = drop count self.old.rest; awaited = awaited } }
+    {
+        self.start = self.start + count;
+        self.part = self.start;
+        self.awaited = awaited;
+    }
+
+    /// Goes past so many bytes, and lends them.
+    fn lend(&mut self, count: usize, awaited: Awaited)
+        requires { count ≤ length_of self.old.rest }
+        ensures { self.new ≡ record { part = take count self.old.rest; rest = drop count self.old.rest; awaited = awaited } }
+    {
+        self.part = self.start;
+        self.start = self.start + count;
+        self.awaited = awaited;
+    }
+
+    /// Goes past so many bytes, after which nothing counts any more.
+    fn refuse(&mut self, count: usize, refusal: Refusal) -> Step
+        requires { count ≤ length_of self.old.rest }
+        ensures state { self.new ≡ record { part = []; rest = drop count self.old.rest; awaited = Awaited.Nothing } }
+        ensures answer { result ≡ Step.Gives (HttpItem.Refuse refusal) }
+    {
+        self.pass(count, Awaited::Nothing);
+        Step::Gives(HttpItem::Refuse(refusal))
+    }
+
+    /// Keeps these bytes to be read.
+    fn append(&mut self, piece: &[u8]) -> Result<(), AllocError>
+        ensures ok { OnOk result (self.new ≡ record { part = []; rest = self.old.rest ++ piece.now; awaited = self.old.awaited }) }
+        ensures err { OnErr result (self.new ≡ record self.old { part = [] }) }
+    {
+        self.forget_read();
+        self.buffer.extend_from_slice(piece)
+    }
+
+    /// Gives the room of what is read to what comes.
+    fn forget_read(&mut self)
+        ensures { self.new ≡ record self.old { part = [] } }
+    {
+        drop_front(&mut self.buffer, self.start);
+        self.start = 0;
+        self.part = 0;
+    }
+}
+
+/// What is read after a head.
+fn after_head(request: Request) -> Awaited
+    ensures { result ≡ after_head request }
+{
+    if request.invites {
+        return Awaited::Invitation(request.framing, request.closes);
+    }
+    body_by(request.framing, request.closes)
+}
+
+/// How a body is read.
+fn body_by(framing: Framing, closes: bool) -> Awaited
+    ensures { result ≡ body_by framing closes }
+{
+    match framing {
+        Framing::Length(count) => Awaited::Body(count, Following::Close(closes)),
+        Framing::Chunked => Awaited::Size(Limits::HTTP_BODY_BYTES as u32, closes),
+    }
+}
+
+/// What is read after a body.
+fn after_body(closes: bool) -> Awaited
+    ensures { result ≡ after_body closes }
+{
+    if closes {
+        return Awaited::Nothing;
+    }
+    Awaited::Head
+}
+
+/// Whether a head's first line begins at the front.
+fn begins_head(bytes: &[u8]) -> bool
+    ensures { result ≡ begins_head bytes.now }
+{
+    match bytes {
+        [] | [b'\r' | b'\n', ..] => false,
+        _ => true,
+    }
+}

@@ -1,0 +1,18 @@
+/// Why a request is refused: the status of the reply (RFC 9110, section 15.5 and 15.6).
+#[derive(Clone, Copy, Debug, PartialEq, Eq)]
+pub enum Refusal {
+    /// 400: a head, a framing or a chunk that breaks the grammar.
+    BadRequest,
+    /// 405: a method other than POST.
+    MethodNotAllowed,
+    /// 413: a body above the limit.
+    ContentTooLarge,
+    /// 415: a body that is no IPP, or is compressed.
+    UnsupportedMediaType,
+    /// 417: an expectation other than `100-continue`.
+    ExpectationFailed,
+    /// 431: a head above the limit.
+    HeadTooLarge,
+    /// 501: a transfer coding other than `chunked`.
+    NotImplemented,
+}

@@ -1,0 +1,42 @@
+ghost use Rattle.std.specs.Prelude.{◌≡◌, true};
+ghost use Rattle.http_front.specs.Section.{empty_line, empty_line_end, section_in};
+
+use base_types::FirstLine;
+
+/// The lines up to the first empty one, where these have at most so many bytes.
+pub(crate) fn section_in(bytes: &[u8], most: usize) -> FirstLine
+    ensures { result ≡ section_in most bytes.now }
+{
+    let front = &bytes[..most.min(bytes.len())];
+    match empty_line_end(front) {
+        Some(end) => FirstLine::Whole(end),
+        None if bytes.len() < most => FirstLine::Unfinished,
+        None => FirstLine::TooLong,
+    }
+}
+
+/// Where the first empty line ends.
+fn empty_line_end(bytes: &[u8]) -> Option<usize>
+    ensures { result ≡ empty_line_end true 0 bytes.now }
+{
+    let mut begins = true;
+    for i in 0..bytes.len() {
+        let length = empty_line(&bytes[i..]);
+        if begins && length > 0 {
+            return Some(i + length);
+        }
+        begins = bytes[i] == b'\n';
+    }
+    None
+}
+
+/// The bytes of the empty line at the front, 0 where there is none.
+fn empty_line(bytes: &[u8]) -> usize
+    ensures { result ≡ empty_line bytes.now }
+{
+    match bytes {
+        [b'\n', ..] => 1,
+        [b'\r', b'\n', ..] => 2,
+        _ => 0,
+    }
+}

@@ -1,0 +1,215 @@
+use crate::{HttpItem, HttpReader, Refusal, write_head, write_refusal};
+use std::alloc::{AllocError, Global};
+use std::test::Fail;
+
+/// Adds what an item says, in a few words; a part of a body as its bytes.
+fn tell(text: &mut Vec<u8>, item: HttpItem, part: &[u8]) -> Result<(), AllocError> {
+    match item {
+        HttpItem::Head { closes: false } => text.extend_from_slice(b"head "),
+        HttpItem::Head { closes: true } => text.extend_from_slice(b"last head "),
+        HttpItem::Continue => text.extend_from_slice(b"continue "),
+        HttpItem::BodyPart => text.extend_from_slice(part),
+        HttpItem::BodyEnd => text.extend_from_slice(b" end "),
+        HttpItem::Refuse(refusal) => text.extend_from_slice(word(refusal)),
+    }
+}
+
+fn word(refusal: Refusal) -> &'static [u8] {
+    match refusal {
+        Refusal::BadRequest => b"400",
+        Refusal::MethodNotAllowed => b"405",
+        Refusal::ContentTooLarge => b"413",
+        Refusal::UnsupportedMediaType => b"415",
+        Refusal::ExpectationFailed => b"417",
+        Refusal::HeadTooLarge => b"431",
+        Refusal::NotImplemented => b"501",
+    }
+}
+
+/// Adds what the reader gives, until there is no more.
+fn listen(reader: &mut HttpReader, text: &mut Vec<u8>) -> Result<(), AllocError> {
+    for _ in 0..64 {
+        let Some(item) = reader.next_item() else {
+            return Ok(());
+        };
+        tell(text, item, reader.part())?;
+    }
+    Ok(())
+}
+
+/// What a reader gives that is fed two pieces.
+fn heard(alloc: Global, first: &[u8], second: &[u8]) -> Result<Vec<u8>, AllocError> {
+    let mut reader = HttpReader::new(alloc);
+    let mut text = Vec::new(alloc);
+    reader.feed(first)?;
+    listen(&mut reader, &mut text)?;
+    reader.feed(second)?;
+    listen(&mut reader, &mut text)?;
+    Ok(text)
+}
+
+/// Whether a reader gives this of a stream that is cut at each place.
+fn is_heard(alloc: Global, stream: &[u8], wanted: &[u8]) -> Result<bool, AllocError> {
+    for cut in 0..stream.len() + 1 {
+        let (first, second) = stream.split_at(cut);
+        if heard(alloc, first, second)?.as_slice() != wanted {
+            return Ok(false);
+        }
+    }
+    Ok(true)
+}
+
+/// One request after the other, and a client that waits to be told to go on, as CUPS's `lp` does.
+#[test]
+fn http_exchange(rt: HostRuntime) -> Result<(), Fail> {
+    let alloc = rt.alloc();
+    let rows: [(&[u8], &[u8]); 5] = [
+        (
+            b"POST /printers/lab HTTP/1.1\r\nHost: localhost\r\nContent-Type: application/ipp\r\nContent-Length: 5\r\n\r\nhello\r\nPOST / HTTP/1.1\nHOST: b\nCONTENT-TYPE: Application/IPP ; a=b\n\n",
+            b"head hello end head  end ",
+        ),
+        (
+            b"POST /printers/lab HTTP/1.1\r\nHost: localhost\r\nContent-Type: application/ipp\r\nTransfer-Encoding: chunked\r\nExpect: 100-continue\r\n\r\n5\r\nhello\r\n0\r\n\r\n",
+            b"head continue hello end ",
+        ),
+        (
+            b"POST /printers/lab HTTP/1.1\r\nContent-Type: application/ipp\r\nDate: Sun, 22 Nov 2026 10:00:00 GMT\r\nHost: localhost:631\r\nUser-Agent: CUPS/2.4.7 (Linux; x86_64) IPP/2.0\r\nExpect: 100-continue\r\nTransfer-Encoding: chunked\r\n\r\n3\r\nhel\r\n2;a=b\r\nlo\r\n00\r\nA: b\r\n\r\nPOST",
+            b"head continue hello end ",
+        ),
+        (
+            b"POST / HTTP/1.0\r\nContent-Type: application/ipp\r\nContent-Length: 2\r\nExpect: 100-continue\r\n\r\nabc",
+            b"last head ab end ",
+        ),
+        (
+            b"POST / HTTP/1.1\r\nHost: a\r\nConnection: keep-alive, Close\r\nContent-Type: application/ipp\r\nContent-Length: 1\r\nContent-Length: 1\r\n\r\nabc",
+            b"last head a end ",
+        ),
+    ];
+    for (stream, wanted) in rows {
+        assert!(rt; is_heard(alloc, stream, wanted)?);
+    }
+    Ok(())
+}
+
+#[test]
+fn refused_heads(rt: HostRuntime) -> Result<(), Fail> {
+    let alloc = rt.alloc();
+    let rows: [(&[u8], &[u8]); 14] = [
+        (b"\n\nPOST / HTTP/1.1\r\nHost a\r\n\r\n", b"400"),
+        (b"GET / HTTP/1.1\r\n\r\n", b"400"),
+        (b"GET / HTTP/1.1\r\nHost: a\r\nHost: a\r\n\r\n", b"400"),
+        (b"GET / HTTP/1.1\r\nHost: a\r\n\r\nPOST", b"405"),
+        (
+            b"POST / HTTP/1.1\r\nHost: a\r\nContent-Length: 5\r\nTransfer-Encoding: chunked\r\n\r\n",
+            b"400",
+        ),
+        (
+            b"POST / HTTP/1.0\r\nTransfer-Encoding: chunked\r\n\r\n",
+            b"400",
+        ),
+        (
+            b"POST / HTTP/1.0\r\nContent-Length: 5\r\nContent-Length: 05\r\n\r\n",
+            b"400",
+        ),
+        (
+            b"POST / HTTP/1.0\r\nContent-Length: 00000000000000000005\r\n\r\n",
+            b"400",
+        ),
+        (
+            b"POST / HTTP/1.1\r\nHost: a\r\nTransfer-Encoding: gzip, chunked\r\n\r\n",
+            b"501",
+        ),
+        (
+            b"POST / HTTP/1.0\r\nContent-Length: 16842753\r\n\r\n",
+            b"413",
+        ),
+        (
+            b"POST / HTTP/1.0\r\nContent-Type: text/plain\r\n\r\n",
+            b"415",
+        ),
+        (b"POST / HTTP/1.0\r\nContent-Length: 5\r\n\r\n", b"415"),
+        (
+            b"POST / HTTP/1.0\r\nContent-Type: application/ipp\r\nContent-Encoding: gzip\r\n\r\n",
+            b"415",
+        ),
+        (
+            b"POST / HTTP/1.0\r\nContent-Type: application/ipp\r\nExpect: 200-ok\r\n\r\n",
+            b"417",
+        ),
+    ];
+    for (stream, wanted) in rows {
+        assert!(rt; is_heard(alloc, stream, wanted)?);
+    }
+    Ok(())
+}
+
+/// The head of a request that comes in chunks.
+const CHUNKED: &[u8] =
+    b"POST / HTTP/1.1\r\nHost: a\r\nContent-Type: application/ipp\r\nTransfer-Encoding: chunked\r\n\r\n";
+
+#[test]
+fn refused_chunks(rt: HostRuntime) -> Result<(), Fail> {
+    let alloc = rt.alloc();
+    let rows: [(&[u8], &[u8]); 7] = [
+        (b"x\r\n", b"head 400"),
+        (b"1\nab", b"head 400"),
+        (b"1\r\nab\r\n0\r\n\r\n", b"head a400"),
+        (b"1\r\na\rb", b"head a400"),
+        (b"1010001\r\na", b"head 413"),
+        (b"1\r\na\r\n1010000\r\na", b"head a413"),
+        (&[b'0'; 257], b"head 400"),
+    ];
+    for (chunks, wanted) in rows {
+        assert!(rt; heard(alloc, CHUNKED, chunks)?.as_slice() == wanted);
+    }
+    Ok(())
+}
+
+/// A head with so many fields besides its Host.
+fn with_fields(alloc: Global, count: u32) -> Result<Vec<u8>, AllocError> {
+    let mut head = Vec::from_slice(alloc, b"GET / HTTP/1.1\r\nHost: a\r\n")?;
+    for _ in 0..count {
+        head.extend_from_slice(b"A: b\r\n")?;
+    }
+    head.extend_from_slice(b"\r\n")?;
+    Ok(head)
+}
+
+#[test]
+fn limits(rt: HostRuntime) -> Result<(), Fail> {
+    let alloc = rt.alloc();
+    assert!(rt; heard(alloc, &[b'A'; 8191], b"")?.is_empty());
+    assert!(rt; heard(alloc, &[b'A'; 8191], b"A")?.as_slice() == b"431".as_slice());
+    assert!(rt; heard(alloc, &with_fields(alloc, 63)?, b"")?.as_slice() == b"405".as_slice());
+    assert!(rt; heard(alloc, &with_fields(alloc, 64)?, b"")?.as_slice() == b"400".as_slice());
+    Ok(())
+}
+
+#[test]
+fn heads_of_replies(rt: HostRuntime) -> Result<(), Fail> {
+    let mut output = Vec::new(rt.alloc());
+    write_head(170, false, &mut output)?;
+    assert!(rt;
+        output.as_slice()
+            == b"HTTP/1.1 200 OK\r\nContent-Type: application/ipp\r\nContent-Length: 170\r\n\r\n".as_slice()
+    );
+    output.clear();
+    write_head(72, true, &mut output)?;
+    assert!(rt;
+        output.as_slice()
+            == b"HTTP/1.1 200 OK\r\nContent-Type: application/ipp\r\nContent-Length: 72\r\nConnection: close\r\n\r\n".as_slice()
+    );
+    output.clear();
+    write_refusal(Refusal::BadRequest, &mut output)?;
+    assert!(rt;
+        output.as_slice()
+            == b"HTTP/1.1 400 Bad Request\r\nContent-Length: 0\r\nConnection: close\r\n\r\n".as_slice()
+    );
+    output.clear();
+    write_refusal(Refusal::MethodNotAllowed, &mut output)?;
+    assert!(rt;
+        output.as_slice()
+            == b"HTTP/1.1 405 Method Not Allowed\r\nAllow: POST\r\nContent-Length: 0\r\nConnection: close\r\n\r\n".as_slice()
+    );
+    Ok(())
+}
