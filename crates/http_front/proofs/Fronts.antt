@@ -69,9 +69,11 @@ pub waits_head : (old : HttpState) → old.awaited ≡ Head → begins_head old.
 waits_head old is begins lines = waits old Head is (at_lines old.rest Waits begins (subst (λ s. HeadIn old.rest s Waits) (sym lines) refl))
 
 pub refuses_long : (old : HttpState) → old.awaited ≡ Head → begins_head old.rest ≡ true → section_in HTTP_HEAD_BYTES old.rest ≡ TooLong → Steps old (step.Gives (item.Refuse HeadTooLarge)) (behind old 0 Nothing)
-refuses_long old is begins lines =
-    goes old Head (IsRefused HeadTooLarge ∷ []) 0 Nothing is
-    (λ coming. at_lines (old.rest ++ coming) _ (begins_grown old.rest coming begins) (subst (λ s. HeadIn (old.rest ++ coming) s (Goes (IsRefused HeadTooLarge ∷ []) (old.rest ++ coming) Nothing)) (sym (section_long HTTP_HEAD_BYTES old.rest coming lines)) refl))
+refuses_long old is begins lines = (
+  goes old Head (IsRefused HeadTooLarge ∷ []) 0 Nothing is
+      (λ coming. at_lines (old.rest ++ coming) _ (begins_grown old.rest coming begins) (subst (λ s. HeadIn (old.rest ++ coming) s (Goes (IsRefused HeadTooLarge ∷ []) (old.rest ++ coming) Nothing)) (sym (section_long HTTP_HEAD_BYTES old.rest coming lines)) refl)),
+  refl,
+)
 
 head_whole : (bytes coming : List ℕ) (count : ℕ) (asked : Result Request Refusal) → begins_head bytes ≡ true → section_in HTTP_HEAD_BYTES bytes ≡ Whole count → Asks (take count bytes) asked → AtHead (bytes ++ coming) (begun asked (drop count bytes ++ coming))
 head_whole bytes coming count asked begins lines asks =
@@ -82,16 +84,23 @@ head_whole bytes coming count asked begins lines asks =
     at_lines (bytes ++ coming) _ (begins_grown bytes coming begins) (subst (λ s. HeadIn (bytes ++ coming) s (begun asked (drop count bytes ++ coming))) (sym (section_whole HTTP_HEAD_BYTES bytes coming count lines)) head)
 
 pub refuses_head : (old : HttpState) (count : ℕ) (refusal : Refusal) → old.awaited ≡ Head → begins_head old.rest ≡ true → section_in HTTP_HEAD_BYTES old.rest ≡ Whole count → Asks (take count old.rest) (Err refusal) → Steps old (step.Gives (item.Refuse refusal)) (behind old count Nothing)
-refuses_head old count refusal is begins lines asks =
-    goes old Head (IsRefused refusal ∷ []) count Nothing is (λ coming. head_whole old.rest coming count (Err refusal) begins lines asks)
+refuses_head old count refusal is begins lines asks = (
+  goes old Head (IsRefused refusal ∷ []) count Nothing is (λ coming. head_whole old.rest coming count (Err refusal) begins lines asks),
+  refl,
+)
 
 pub takes_head : (old : HttpState) (count : ℕ) (request : Request) → old.awaited ≡ Head → begins_head old.rest ≡ true → section_in HTTP_HEAD_BYTES old.rest ≡ Whole count → Asks (take count old.rest) (Ok request) → Steps old (step.Gives (item.Head request.closes)) (behind old count (after_head request))
-takes_head old count request is begins lines asks =
-    goes old Head (HasHead request.closes ∷ []) count (after_head request) is (λ coming. head_whole old.rest coming count (Ok request) begins lines asks)
+takes_head old count request is begins lines asks = (
+  goes old Head (HasHead request.closes ∷ []) count (after_head request) is (λ coming. head_whole old.rest coming count (Ok request) begins lines asks),
+  tt,
+)
 
 -- the client is told to go on
 pub invites : (old : HttpState) (framing : Framing) (closes : Bool) → old.awaited ≡ Invitation framing closes → Steps old (step.Gives item.Continue) (behind old 0 (body_by framing closes))
-invites old framing closes is = goes old (Invitation framing closes) (Invites ∷ []) 0 (body_by framing closes) is (λ coming. refl)
+invites old framing closes is = (
+  goes old (Invitation framing closes) (Invites ∷ []) 0 (body_by framing closes) is (λ coming. refl),
+  tt,
+)
 
 -- the line before a chunk
 
@@ -113,9 +122,11 @@ pub waits_size : (old : HttpState) (room : ℕ) (closes : Bool) → old.awaited 
 waits_size old room closes is line = waits old (Size room closes) is (subst (λ l. SizeIn old.rest room closes l Waits) (sym line) refl)
 
 pub refuses_long_size : (old : HttpState) (room : ℕ) (closes : Bool) → old.awaited ≡ Size room closes → first_line_of HTTP_CHUNK_LINE_BYTES old.rest ≡ TooLong → Steps old (step.Gives (item.Refuse BadRequest)) (behind old 0 Nothing)
-refuses_long_size old room closes is line =
-    goes old (Size room closes) (IsRefused BadRequest ∷ []) 0 Nothing is
-    (λ coming. subst (λ l. SizeIn (old.rest ++ coming) room closes l (Goes (IsRefused BadRequest ∷ []) (old.rest ++ coming) Nothing)) (sym (too_long_grown HTTP_CHUNK_LINE_BYTES old.rest coming line)) refl)
+refuses_long_size old room closes is line = (
+  goes old (Size room closes) (IsRefused BadRequest ∷ []) 0 Nothing is
+      (λ coming. subst (λ l. SizeIn (old.rest ++ coming) room closes l (Goes (IsRefused BadRequest ∷ []) (old.rest ++ coming) Nothing)) (sym (too_long_grown HTTP_CHUNK_LINE_BYTES old.rest coming line)) refl),
+  refl,
+)
 
 -- which front a size makes
 sized_as : (old : HttpState) (count room : ℕ) (closes : Bool) (size : Option ℕ) (said : List Said) (next : Awaited) → old.awaited ≡ Size room closes → first_line_of HTTP_CHUNK_LINE_BYTES old.rest ≡ Whole count → IsSizeOf (take (count + 1) old.rest) size → ((rest : List ℕ) → sized size room closes rest ≡ Goes said rest next) → Advances old said (behind old (count + 1) next)
@@ -124,7 +135,10 @@ sized_as old count room closes size said next is line tells same =
     (λ coming. subst (λ front. FrontIs (Size room closes) (old.rest ++ coming) front) (same (drop (count + 1) old.rest ++ coming)) (size_front old.rest coming count room closes size line tells))
 
 pub refuses_size : (old : HttpState) (count room : ℕ) (closes : Bool) → old.awaited ≡ Size room closes → first_line_of HTTP_CHUNK_LINE_BYTES old.rest ≡ Whole count → IsSizeOf (take (count + 1) old.rest) None → Steps old (step.Gives (item.Refuse BadRequest)) (behind old (count + 1) Nothing)
-refuses_size old count room closes is line tells = sized_as old count room closes None _ Nothing is line tells (λ rest. refl)
+refuses_size old count room closes is line tells = (
+  sized_as old count room closes None _ Nothing is line tells (λ rest. refl),
+  refl,
+)
 
 pub last_size : (old : HttpState) (count room : ℕ) (closes : Bool) (size : ℕ) → old.awaited ≡ Size room closes → first_line_of HTTP_CHUNK_LINE_BYTES old.rest ≡ Whole count → IsSizeOf (take (count + 1) old.rest) (Some size) → size ≡ 0 → Steps old step.Passes (behind old (count + 1) (Trailer closes))
 last_size old count room closes size is line tells none =
@@ -136,8 +150,10 @@ last_size old count room closes size is line tells none =
 pub large_size : (old : HttpState) (count room : ℕ) (closes : Bool) (size : ℕ) → old.awaited ≡ Size room closes → first_line_of HTTP_CHUNK_LINE_BYTES old.rest ≡ Whole count → IsSizeOf (take (count + 1) old.rest) (Some size) → room < size → Steps old (step.Gives (item.Refuse ContentTooLarge)) (behind old (count + 1) Nothing)
 large_size old count room closes size is line tells large =
     let test : (size == 0) ≡ false = grind (arith, large) in
-    let over : nat_le size room ≡ false = grind (arith, large) in
-    sized_as old count room closes (Some size) _ Nothing is line tells (λ rest. rw (test, over) refl)
+    let over : nat_le size room ≡ false = grind (arith, large) in (
+      sized_as old count room closes (Some size) _ Nothing is line tells (λ rest. rw (test, over) refl),
+      refl,
+    )
 
 pub some_size : (old : HttpState) (count room : ℕ) (closes : Bool) (size : ℕ) → old.awaited ≡ Size room closes → first_line_of HTTP_CHUNK_LINE_BYTES old.rest ≡ Whole count → IsSizeOf (take (count + 1) old.rest) (Some size) → 0 < size → size ≤ room → Steps old step.Passes (behind old (count + 1) (Body size (Chunk (room - size) closes)))
 some_size old count room closes size is line tells some fits =
@@ -173,9 +189,11 @@ pub waits_chunk : (old : HttpState) (room : ℕ) (closes : Bool) → old.awaited
 waits_chunk old room closes is at = waits old (Body 0 (Chunk room closes)) is (ap (λ e. chunk_front room closes old.rest e) (sym at))
 
 pub breaks_chunk : (old : HttpState) (room : ℕ) (closes : Bool) → old.awaited ≡ Body 0 (Chunk room closes) → chunk_end old.rest ≡ end.Broken → Steps old (step.Gives (item.Refuse BadRequest)) (behind old 0 Nothing)
-breaks_chunk old room closes is at =
-    goes old (Body 0 (Chunk room closes)) (IsRefused BadRequest ∷ []) 0 Nothing is
-    (λ coming. ap (λ e. chunk_front room closes (old.rest ++ coming) e) (sym (broken_grown old.rest coming at)))
+breaks_chunk old room closes is at = (
+  goes old (Body 0 (Chunk room closes)) (IsRefused BadRequest ∷ []) 0 Nothing is
+      (λ coming. ap (λ e. chunk_front room closes (old.rest ++ coming) e) (sym (broken_grown old.rest coming at))),
+  refl,
+)
 
 pub ends_chunk : (old : HttpState) (room : ℕ) (closes : Bool) → old.awaited ≡ Body 0 (Chunk room closes) → chunk_end old.rest ≡ end.Whole → Steps old step.Passes (behind old 2 (Size room closes))
 ends_chunk old room closes is at =
@@ -188,7 +206,10 @@ ends_chunk old room closes is at =
     )
 
 pub ends_body : (old : HttpState) (closes : Bool) → old.awaited ≡ Body 0 (Close closes) → Steps old (step.Gives item.BodyEnd) (behind old 0 (after_body closes))
-ends_body old closes is = goes old (Body 0 (Close closes)) (EndsBody ∷ []) 0 (after_body closes) is (λ coming. refl)
+ends_body old closes is = (
+  goes old (Body 0 (Close closes)) (EndsBody ∷ []) 0 (after_body closes) is (λ coming. refl),
+  tt,
+)
 
 -- the trailer section
 
@@ -196,13 +217,17 @@ pub waits_trailer : (old : HttpState) (closes : Bool) → old.awaited ≡ Traile
 waits_trailer old closes is lines = waits old (Trailer closes) is (ap (λ s. trailer_front closes old.rest s) (sym lines))
 
 pub refuses_trailer : (old : HttpState) (closes : Bool) → old.awaited ≡ Trailer closes → section_in HTTP_TRAILER_BYTES old.rest ≡ TooLong → Steps old (step.Gives (item.Refuse BadRequest)) (behind old 0 Nothing)
-refuses_trailer old closes is lines =
-    goes old (Trailer closes) (IsRefused BadRequest ∷ []) 0 Nothing is
-    (λ coming. ap (λ s. trailer_front closes (old.rest ++ coming) s) (sym (section_long HTTP_TRAILER_BYTES old.rest coming lines)))
+refuses_trailer old closes is lines = (
+  goes old (Trailer closes) (IsRefused BadRequest ∷ []) 0 Nothing is
+      (λ coming. ap (λ s. trailer_front closes (old.rest ++ coming) s) (sym (section_long HTTP_TRAILER_BYTES old.rest coming lines))),
+  refl,
+)
 
 pub ends_trailer : (old : HttpState) (closes : Bool) (count : ℕ) → old.awaited ≡ Trailer closes → section_in HTTP_TRAILER_BYTES old.rest ≡ Whole count → Steps old (step.Gives item.BodyEnd) (behind old count (after_body closes))
-ends_trailer old closes count is lines =
-    goes old (Trailer closes) (EndsBody ∷ []) count (after_body closes) is
-    (λ coming.
-    let rest : drop count (old.rest ++ coming) ≡ drop count old.rest ++ coming = drop-append-le count old.rest coming (section_within HTTP_TRAILER_BYTES old.rest count lines) in
-    ap (λ r. Goes (EndsBody ∷ []) r (after_body closes)) (sym rest) ∙ ap (λ s. trailer_front closes (old.rest ++ coming) s) (sym (section_whole HTTP_TRAILER_BYTES old.rest coming count lines)))
+ends_trailer old closes count is lines = (
+  goes old (Trailer closes) (EndsBody ∷ []) count (after_body closes) is
+      (λ coming.
+      let rest : drop count (old.rest ++ coming) ≡ drop count old.rest ++ coming = drop-append-le count old.rest coming (section_within HTTP_TRAILER_BYTES old.rest count lines) in
+      ap (λ r. Goes (EndsBody ∷ []) r (after_body closes)) (sym rest) ∙ ap (λ s. trailer_front closes (old.rest ++ coming) s) (sym (section_whole HTTP_TRAILER_BYTES old.rest coming count lines))),
+  tt,
+)

@@ -1,5 +1,5 @@
 -- What an HTTP client's stream of bytes gives (RFC 9112): its exchanges in order, up to the first request that is refused. The bytes of a body are told one by one, so that it does not matter in which parts they come.
-use Rattle.std.specs.Prelude.{ℕ, ◌≡◌, ◌==◌, ◌<◌, ◌+◌, ◌-◌, ◌||◌, nat_le, Bool, false, suc, zero, if◌then◌else◌, List, [], ◌∷◌, ◌++◌, map, take, drop, MatchBool, length, not, Option, Some, None, Result, Ok, Err}
+use Rattle.std.specs.Prelude.{ℕ, ◌≡◌, ◌==◌, ◌<◌, ◌+◌, ◌-◌, ◌||◌, nat_le, Bool, false, suc, zero, if◌then◌else◌, List, [], ◌∷◌, ◌++◌, map, take, drop, MatchBool, length, not, Option, Some, None, Result, Ok, Err, ⊤}
 use Rattle.base_types.specs.FirstLine.{first_line_of}
 use Rattle.base_types.specs.declared.line.FirstLine.{FirstLine}
 use Rattle.base_types.specs.declared.line.FirstLine.TheVariants.{Whole, TooLong, Unfinished}
@@ -156,13 +156,22 @@ Stands stream given reader =
 abbrev pub Advances : HttpState → List Said → HttpState → Type 0
 Advances old said new = (stream : List ℕ) (given : List Said) → Stands stream given old → Stands stream (given ++ said) new
 
+-- nothing counts any more: the reader gives nothing, and drops what it is fed
+abbrev pub IsOver : HttpState → Type 0
+IsOver reader = reader.awaited ≡ Nothing
+
+-- nothing counts after a refusal
+abbrev pub Stops : HttpItem → HttpState → Type 0
+Stops (item.Refuse refusal) new = IsOver new
+Stops said new = ⊤
+
 -- what one step of the reader came to: only bytes that say nothing are passed without an item
 abbrev pub Steps : HttpState → Step → HttpState → Type 0
-Steps old (step.Gives said) new = Advances old (said_by said new.part) new
+Steps old (step.Gives said) new = Advances old (said_by said new.part) new × Stops said new
 Steps old step.Passes new = Advances old [] new × (length new.rest < length old.rest)
 Steps old step.Waits new = (new ≡ old) × FrontIs old.awaited old.rest Waits
 
 -- what an answer of the reader says of the stream that it was fed, and where the reader stands then
 abbrev pub Answers : HttpState → Option HttpItem → HttpState → Type 0
-Answers old (Some said) new = Advances old (said_by said new.part) new
+Answers old (Some said) new = Advances old (said_by said new.part) new × Stops said new
 Answers old None new = Advances old [] new × ((stream : List ℕ) (given : List Said) → Stands stream given old → Exchanges stream given)

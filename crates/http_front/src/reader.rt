@@ -1,5 +1,5 @@
-ghost use Rattle.std.specs.Prelude.{◌≡◌, ◌≤◌, ◌<◌, ◌+◌, ◌++◌, [], List, ℕ, OnOk, OnErr, true, take, drop, length as length_of};
-ghost use Rattle.http_front.specs.Stream.{Said, Stands, Answers, Steps, after_body, body_by, after_head, begins_head};
+ghost use Rattle.std.specs.Prelude.{◌≡◌, ◌≤◌, ◌<◌, ◌+◌, ◌++◌, [], List, ℕ, OnOk, OnErr, None, true, take, drop, length as length_of};
+ghost use Rattle.http_front.specs.Stream.{Said, Stands, Answers, Steps, IsOver, after_body, body_by, after_head, begins_head};
 ghost use Rattle.base_types.specs.FirstLine.{first_line_of};
 ghost use Rattle.base_types.specs.declared.line.FirstLine.TheVariants.{Whole};
 ghost use Rattle.http_front.specs.Section.{section_in};
@@ -69,6 +69,7 @@ impl HttpReader {
     pub fn feed(&mut self, piece: &[u8]) -> Result<(), AllocError>
         ensures fed { OnOk result ((stream : List ℕ) (given : List Said) → Stands stream given self.old → Stands (stream ++ piece.now) given self.new) }
         ensures err { OnErr result (self.new ≡ record self.old { part = [] }) }
+        ensures over { IsOver self.old → self.new ≡ self.old }
     {
         if let Awaited::Nothing = self.awaited() {
             return Ok(());
@@ -78,8 +79,12 @@ impl HttpReader {
 
     /// The next item. Where it is a part of a body, `part` lends the bytes.
     pub fn next_item(&mut self) -> Option<HttpItem>
-        ensures { Answers self.old result self.new }
+        ensures answer { Answers self.old result self.new }
+        ensures over { IsOver self.old → (result ≡ None) × (self.new ≡ self.old) }
     {
+        if let Awaited::Nothing = self.awaited() {
+            return None;
+        }
         loop {
             match self.step() {
                 Step::Gives(item) => return Some(item),

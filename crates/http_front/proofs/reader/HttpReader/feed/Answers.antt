@@ -18,3 +18,6 @@ returns-in-Nothing-clause-fed c =
 
 pub returns-clause-fed : goal.returns-clause-fed
 returns-clause-fed c = fed_by c.args.self.now c.append.new.self c.args.piece.now c.append.result c.append.ensures.ok
+
+pub returns-clause-over : goal.returns-clause-over
+returns-clause-over c = λ over. absurd (c.in_default.not-Nothing (c.awaited.ensures ∙ over))

@@ -12,4 +12,4 @@ returns c =
     let is : size ≡ min (length old.rest) c.args.count = search (rules, c.min-length.ensures, c.rest.ensures) in
     let within : size ≤ length old.rest = omega (arith, is) in
     let fits : size ≤ c.args.count = omega (arith, is) in
-    subst (λ new. Steps old (step.Gives item.BodyPart) new) (sym c.lend.ensures) (lends old c.args.count c.args.next size c.requires within fits)
+    subst (λ new. Steps old (step.Gives item.BodyPart) new) (sym c.lend.ensures) (lends old c.args.count c.args.next size c.requires within fits, tt)
