@@ -169,7 +169,7 @@ broken_one : (first : ℕ) (coming : List ℕ) → chunk_end (first ∷ []) ≡ 
 broken_one first [] is = is
 broken_one first (second ∷ coming) is = grind (arith, is)
 
-broken_grown : (bytes coming : List ℕ) → chunk_end bytes ≡ end.Broken → chunk_end (bytes ++ coming) ≡ end.Broken
+pub broken_grown : (bytes coming : List ℕ) → chunk_end bytes ≡ end.Broken → chunk_end (bytes ++ coming) ≡ end.Broken
 broken_grown [] coming is = absurd (let no : end.Unfinished ≡ end.Broken = is in (cc))
 broken_grown (first ∷ []) coming is = broken_one first coming is
 broken_grown (first ∷ second ∷ bytes) coming is = is
@@ -177,7 +177,7 @@ broken_grown (first ∷ second ∷ bytes) coming is = is
 whole_one : (first : ℕ) → chunk_end (first ∷ []) ≡ end.Whole → ⊥
 whole_one first is = grind (arith, is)
 
-whole_grown : (bytes coming : List ℕ) → chunk_end bytes ≡ end.Whole → (chunk_end (bytes ++ coming) ≡ end.Whole) × (2 ≤ length bytes)
+pub whole_grown : (bytes coming : List ℕ) → chunk_end bytes ≡ end.Whole → (chunk_end (bytes ++ coming) ≡ end.Whole) × (2 ≤ length bytes)
 whole_grown [] coming is = absurd (let no : end.Unfinished ≡ end.Whole = is in (cc))
 whole_grown (first ∷ []) coming is = absurd (whole_one first is)
 whole_grown (first ∷ second ∷ bytes) coming is = (is, omega arith)

@@ -2,3 +2,4 @@ pub mod Heads
 pub mod Sections
 pub mod Steps
 pub mod Fronts
+pub mod Laws

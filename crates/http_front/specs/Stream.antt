@@ -141,6 +141,14 @@ Says awaited bytes said = (steps : ℕ) × SaysIn steps awaited bytes said
 abbrev pub Exchanges : List ℕ → List Said → Type 0
 Exchanges stream said = Says Head stream said
 
+-- a stream says one thing
+abbrev pub SaysOne : Type 0
+SaysOne = (stream : List ℕ) (given said : List Said) → Exchanges stream given → Exchanges stream said → given ≡ said
+
+-- what a stream says stays at the front where more comes
+abbrev pub StaysInFront : Type 0
+StaysInFront = (stream more : List ℕ) (given said : List Said) → Exchanges stream given → Exchanges (stream ++ more) said → (later : List Said) × (said ≡ given ++ later)
+
 -- a reader: the part of a body that it lends, the bytes that it hasn't read, and what it awaits
 pub record HttpState : Type 0 where
   pub part : List ℕ

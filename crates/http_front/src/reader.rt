@@ -1,5 +1,5 @@
 ghost use Rattle.std.specs.Prelude.{◌≡◌, ◌≤◌, ◌<◌, ◌+◌, ◌++◌, [], List, ℕ, OnOk, OnErr, None, true, take, drop, length as length_of};
-ghost use Rattle.http_front.specs.Stream.{Said, Stands, Answers, Steps, IsOver, after_body, body_by, after_head, begins_head};
+ghost use Rattle.http_front.specs.Stream.{Said, SaysOne, StaysInFront, Stands, Answers, Steps, IsOver, after_body, body_by, after_head, begins_head};
 ghost use Rattle.base_types.specs.FirstLine.{first_line_of};
 ghost use Rattle.base_types.specs.declared.line.FirstLine.TheVariants.{Whole};
 ghost use Rattle.http_front.specs.Section.{section_in};
@@ -53,7 +53,11 @@ pub(crate) enum Step {
 impl HttpReader {
     /// A reader of a new connection.
     pub fn new(alloc: Global) -> HttpReader
-        ensures { Stands [] [] result }
+        ensures stands { Stands [] [] result }
+
+        // Two laws, of any stream.
+        ensures one { SaysOne }
+        ensures front { StaysInFront }
     {
         HttpReader {
             buffer: Vec::new(alloc),
