@@ -71,7 +71,7 @@ front_one Nothing bytes a b x y = x ∙ sym y
 
 -- the front stays where more comes
 
-goes_is : (said told : List Said) (rest left : List ℕ) (next after : Awaited) → Goes said rest next ≡ Goes told left after → (said ≡ told) × (rest ≡ left) × (next ≡ after)
+pub goes_is : (said told : List Said) (rest left : List ℕ) (next after : Awaited) → Goes said rest next ≡ Goes told left after → (said ≡ told) × (rest ≡ left) × (next ≡ after)
 goes_is said told rest left next after same = ((cc), (cc), (cc))
 
 abbrev MoreOf : List ℕ → Front → Front → Type 0

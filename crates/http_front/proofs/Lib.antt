@@ -3,3 +3,4 @@ pub mod Sections
 pub mod Steps
 pub mod Fronts
 pub mod Laws
+pub mod Orders

@@ -5,3 +5,4 @@ pub mod Fields
 pub mod Head
 pub mod Stream
 pub mod Reply
+pub mod Order

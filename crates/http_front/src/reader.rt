@@ -3,6 +3,7 @@ ghost use Rattle.http_front.specs.Stream.{Said, SaysOne, StaysInFront, Stands, A
 ghost use Rattle.base_types.specs.FirstLine.{first_line_of};
 ghost use Rattle.base_types.specs.declared.line.FirstLine.TheVariants.{Whole};
 ghost use Rattle.http_front.specs.Section.{section_in};
+ghost use Rattle.http_front.specs.Order.{SaysInOrder};
 
 use crate::awaited::{Awaited, Following, Framing, Request};
 use crate::chunk::{ChunkEnd, chunk_end, size_in};
@@ -55,8 +56,9 @@ impl HttpReader {
     pub fn new(alloc: Global) -> HttpReader
         ensures stands { Stands [] [] result }
 
-        // Two laws, of any stream.
+        // Three laws, of any stream.
         ensures one { SaysOne }
+        ensures order { SaysInOrder }
         ensures front { StaysInFront }
     {
         HttpReader {
