@@ -6,6 +6,7 @@
 //! and answers nothing by itself.
 #![tactic(auto)]
 
+mod after;
 mod awaited;
 mod chunk;
 mod fields;

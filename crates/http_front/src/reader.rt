@@ -5,7 +5,8 @@ ghost use Rattle.base_types.specs.declared.line.FirstLine.TheVariants.{Whole};
 ghost use Rattle.http_front.specs.Section.{section_in};
 ghost use Rattle.http_front.specs.Order.{SaysInOrder};
 
-use crate::awaited::{Awaited, Following, Framing, Request};
+use crate::after::{after_body, after_head, begins_head, body_by};
+use crate::awaited::{Awaited, Following};
 use crate::chunk::{ChunkEnd, chunk_end, size_in};
 use crate::head::read_head;
 use crate::item::HttpItem;
@@ -328,45 +329,5 @@ impl HttpReader {
         drop_front(&mut self.buffer, self.start);
         self.start = 0;
         self.part = 0;
-    }
-}
-
-/// What is read after a head.
-fn after_head(request: Request) -> Awaited
-    ensures { result ≡ after_head request }
-{
-    if request.invites {
-        return Awaited::Invitation(request.framing, request.closes);
-    }
-    body_by(request.framing, request.closes)
-}
-
-/// How a body is read.
-fn body_by(framing: Framing, closes: bool) -> Awaited
-    ensures { result ≡ body_by framing closes }
-{
-    match framing {
-        Framing::Length(count) => Awaited::Body(count, Following::Close(closes)),
-        Framing::Chunked => Awaited::Size(Limits::HTTP_BODY_BYTES as u32, closes),
-    }
-}
-
-/// What is read after a body.
-fn after_body(closes: bool) -> Awaited
-    ensures { result ≡ after_body closes }
-{
-    if closes {
-        return Awaited::Nothing;
-    }
-    Awaited::Head
-}
-
-/// Whether a head's first line begins at the front.
-fn begins_head(bytes: &[u8]) -> bool
-    ensures { result ≡ begins_head bytes.now }
-{
-    match bytes {
-        [] | [b'\r' | b'\n', ..] => false,
-        _ => true,
     }
 }
