@@ -7,3 +7,4 @@ pub mod TextWords
 pub mod TextProblems
 pub mod TextParts
 pub mod TextLines
+pub mod TextSound

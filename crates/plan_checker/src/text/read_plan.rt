@@ -1,4 +1,6 @@
-ghost use Rattle.std.specs.Prelude.{◌≡◌, map};
+ghost use Rattle.std.specs.Prelude.{◌≡◌, All, IfOk, map};
+ghost use Rattle.plan_checker.specs.Plan.{HasOneListEach};
+ghost use Rattle.plan_checker.specs.TextWriting.{HasOneEach};
 ghost use Rattle.plan_checker.specs.TextReading.{Gives};
 ghost use Rattle.plan_checker.specs.TextPlan.{Leaves, heard_by, nothing_heard, line_next, lines_next, ended, plan_from, plan_in, plan_at};
 
@@ -13,15 +15,19 @@ use base_types::{Limits, Priority};
 use prices::Plan;
 use std::alloc::Global;
 
-/// The plan that a text is.
+/// The plan that a text is. Each of its classes has a wait, a queue and a list of place prices for
+/// each device, so it may be judged and written.
 ///
 /// # Errors
 ///
 /// The fault of the first faulty line: a line is judged by itself, first for its form and then for
 /// its ranges, and then by those before it. A text that ends before the line `end` has no end.
 /// Otherwise want of memory.
+#[tactic(auto, using(crate::proofs::TextSound::judged_since, crate::proofs::TextSound::written_since))]
 pub fn read_plan_text(alloc: Global, text: &[u8]) -> Result<PlanText, ReadError>
-    ensures { Gives (λ plan. plan) result (plan_at text.now) }
+    ensures plan { Gives (λ plan. plan) result (plan_at text.now) }
+    ensures judged { IfOk result (λ named. All HasOneListEach named.plan.classes) }
+    ensures written { IfOk result (λ named. All (HasOneEach named.devices) named.plan.classes) }
 {
     let parts = parts(alloc, text)?;
     read_parts(alloc, &parts)
