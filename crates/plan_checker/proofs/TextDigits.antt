@@ -1,12 +1,11 @@
 -- One digit more of a number.
-use Rattle.std.specs.Prelude.{ℕ, ◌≡◌, ◌+◌, ◌-◌, ◌*◌, ◌<◌, ◌≤◌, Bool, true, false, IsTrue, List, [], ◌∷◌, length, take, drop, min, slice_index_or}
+use Rattle.std.specs.Prelude.{ℕ, ◌≡◌, ◌+◌, ◌-◌, ◌*◌, ◌<◌, ◌≤◌, IsTrue, List, length, take, drop, slice_index_or}
 use Rattle.std.specs.Char.{is_ascii_digit, digit_value}
 use Rattle.std.specs.Str.{all_ascii_digits}
 use Rattle.std.specs.Str.Parse.{digits_value}
-use Rattle.std.proofs.Common.{rules, arith}
+use Rattle.std.proofs.Common.{rules}
 use Rattle.std.proofs.lemmas.List.{at_drop_more}
 use Rattle.std.proofs.lemmas.Str.{digit_value_digit}
-use Rattle.std.specs.Int.{IsInRange}
 use Rattle.std.proofs.lemmas.Int.Digits.{digits_value_more}
 
 pub rest_digits : (word : List ℕ) (i : ℕ) → i < length word → IsTrue (all_ascii_digits (drop i word)) → IsTrue (is_ascii_digit (slice_index_or word i 0)) × IsTrue (all_ascii_digits (drop (i + 1) word))

@@ -1,9 +1,6 @@
 -- The parts of a text: whole lines, and what follows the last line feed.
-use Rattle.std.proofs.Common.{◌≡◌, ℕ, zero, suc, ◌-◌, ◌<◌, List, [], ◌∷◌, length, map, take, get_or, slice_index_or, Err, refl, arith, sub-one, rules}
-use Rattle.std.proofs.lemmas.Grind.{common_steps}
-use Rattle.base_types.specs.declared.limits.TheConstants.Limits.{DEFAULT_PRIORITY}
+use Rattle.std.proofs.Common.{◌≡◌, ℕ, zero, suc, ◌-◌, ◌<◌, List, [], ◌∷◌, length, map, take, get_or, slice_index_or, Err, refl, arith}
 use Rattle.plan_checker.specs.declared.text.fault.TextFault.TheVariants.{NoEnd}
-use Rattle.plan_checker.specs.TextReading.{◌>>=◌}
 use Rattle.plan_checker.specs.TextPlan.{plan_in, plan_from, ended}
 
 pub no_parts : {A : Type 0} (f : A → List ℕ) (parts : List A) → length parts ≡ 0 → plan_in (map f parts) ≡ Err NoEnd

@@ -1,5 +1,5 @@
 -- The words of a line, counted.
-use Rattle.std.proofs.Common.{◌≡◌, ◌≢◌, ℕ, suc, ◌+◌, ◌<◌, List, [], ◌∷◌, length, map, drop, get_or, Ok, Err, refl, arith}
+use Rattle.std.proofs.Common.{◌≡◌, ◌≢◌, ℕ, ◌<◌, List, [], ◌∷◌, length, map, drop, get_or, Ok, Err, refl, arith}
 use Rattle.plan_checker.specs.declared.text.fault.TextFault.TheVariants.{BadLine}
 use Rattle.plan_checker.specs.TextLine.{Said, only_word, first_word, alone_at}
 

@@ -1,13 +1,13 @@
 -- The lines of a plan's text, each by itself. The form of all its words is judged first, then the
 -- ranges of its numbers; which line may follow which is judged elsewhere.
-use Rattle.std.specs.Prelude.{ℕ, ℤ, ◌&&◌, Bool, true, false, List, [], ◌∷◌, Option, Some, None, Result, Ok, Err, if◌then◌else◌, codes, ◌==◌}
+use Rattle.std.specs.Prelude.{ℕ, ℤ, ◌&&◌, List, [], ◌∷◌, Option, Result, Ok, Err, if◌then◌else◌, codes, ◌==◌}
 use Rattle.std.specs.List.{list_all, slice_split}
 use Rattle.std.specs.Str.{bytes_eq}
 use Rattle.base_types.specs.declared.limits.TheConstants.Limits.{HIGHEST_PRIORITY, LAST_JOB_ID, WAIT, AMOUNT}
 use Rattle.base_types.specs.Forms.{is_name}
 use Rattle.base_types.specs.declared.needs.Stranded.{Stranded}
 use Rattle.plan_checker.specs.declared.text.fault.TextFault.{TextFault}
-use Rattle.plan_checker.specs.declared.text.fault.TextFault.TheVariants.{BadLine, OutOfRange}
+use Rattle.plan_checker.specs.declared.text.fault.TextFault.TheVariants.{BadLine}
 use Rattle.plan_checker.specs.declared.text.line.Line.{Line}
 use Rattle.plan_checker.specs.declared.text.line.Line.TheVariants as lines
 use Rattle.plan_checker.specs.TextReading.{◌>>=◌}

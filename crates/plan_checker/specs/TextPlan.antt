@@ -1,7 +1,6 @@
 -- The text of a plan as a whole: which line may follow which, and the plan that the lines make.
-use Rattle.std.specs.Prelude.{◌≡◌, ◌==◌, ◌&&◌, ◌||◌, ◌+◌, ◌-◌, not, ℕ, ℤ, Bool, true, false, List, [], ◌∷◌, ◌++◌, length, take, slice_index_or, nat_le, nat_lt, Result, Ok, Err, Option, Some, None, if◌then◌else◌, map}
+use Rattle.std.specs.Prelude.{◌≡◌, ◌==◌, ◌&&◌, ◌+◌, ◌-◌, not, ℕ, ℤ, Bool, true, List, [], ◌∷◌, ◌++◌, length, take, slice_index_or, nat_le, nat_lt, Result, Ok, Err, Option, Some, None, if◌then◌else◌}
 use Rattle.std.specs.List.{list_all, slice_split}
-use Rattle.std.specs.Option.{option_map_or}
 use Rattle.std.specs.Str.{bytes_eq}
 use Rattle.base_types.specs.declared.limits.TheConstants.Limits.{HIGHEST_PRIORITY, DEFAULT_PRIORITY, UNFINISHED_JOBS, DEVICES, JOB_TIME, WAIT}
 use Rattle.base_types.specs.declared.needs.Stranded.{Stranded}

@@ -1,10 +1,9 @@
 -- The words of a plan's text. A number is decimal without leading zeros, and may have any length;
 -- a word that has the form of a number and is out of its range is told apart from one that has not.
-use Rattle.std.specs.Prelude.{◌≡◌, ◌==◌, ◌&&◌, ◌||◌, not, ℕ, ℤ, pos, neg_ℤ, Bool, true, false, List, [], ◌∷◌, length, drop, slice_index, nat_lt, Result, Ok, Err, Option, Some, None, if◌then◌else◌, codes}
-use Rattle.std.specs.List.{list_all}
+use Rattle.std.specs.Prelude.{◌==◌, ◌&&◌, ◌||◌, not, ℕ, ℤ, pos, neg_ℤ, Bool, List, [], ◌∷◌, length, drop, slice_index, nat_lt, Result, Ok, Err, Option, Some, None, if◌then◌else◌, codes}
 use Rattle.std.specs.Str.{all_ascii_digits, bytes_eq}
 use Rattle.std.specs.Str.Parse.{digits_value}
-use Rattle.base_types.specs.declared.limits.TheConstants.Limits.{JOB_TIME, LAST_JOB_ID, AMOUNT}
+use Rattle.base_types.specs.declared.limits.TheConstants.Limits.{JOB_TIME, AMOUNT}
 use Rattle.base_types.specs.declared.needs.Cause.{Cause}
 use Rattle.base_types.specs.declared.needs.Cause.TheVariants as causes
 use Rattle.plan_checker.specs.declared.text.fault.TextFault.{TextFault}

@@ -1,4 +1,4 @@
-use Rattle.std.proofs.Common.{◌≡◌, ◌-◌, ◌^◌, IsTrue, min, take, drop}
+use Rattle.std.proofs.Common.{◌≡◌, IsTrue, min, take, drop}
 use Rattle.std.specs.Str.{all_ascii_digits}
 use Rattle.std.specs.Str.Parse.{digits_value}
 use Rattle.plan_checker.proofs.text.number.capped_value.Given as goal

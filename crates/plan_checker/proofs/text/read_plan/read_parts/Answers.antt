@@ -1,4 +1,4 @@
-use Rattle.std.proofs.Common.{◌≡◌, ℕ, ◌<◌, length, List, [], Bor, arith, sym}
+use Rattle.std.proofs.Common.{ℕ, ◌<◌, length, List, [], Bor, arith, sym}
 use Rattle.std.proofs.lemmas.Bool.{eqb-false}
 use Rattle.plan_checker.proofs.TextParts.{some_parts}
 use Rattle.plan_checker.proofs.text.read_plan.read_parts.Goals as goal
