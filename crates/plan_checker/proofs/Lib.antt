@@ -8,3 +8,6 @@ pub mod TextProblems
 pub mod TextParts
 pub mod TextLines
 pub mod TextSound
+pub mod TextAgain
+pub mod TextSaid
+pub mod TextBack

@@ -8,3 +8,4 @@ pub mod TextWord
 pub mod TextLine
 pub mod TextPlan
 pub mod TextWriting
+pub mod TextRanges

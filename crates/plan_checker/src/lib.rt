@@ -4,7 +4,7 @@
 //! solver, so anyone's plan may be put before it. A yes means that no way, and no timetable with
 //! gaps, does better; any other verdict names the first fault. The times, the first waits and the
 //! lists of jobs are taken as given. A plan comes as a text, which is read or refused for its first
-//! faulty line, and is written as one. It finds no plan.
+//! faulty line, and is written as one; a text that was written is read back. It finds no plan.
 #![tactic(auto)]
 
 mod beside;
@@ -20,8 +20,8 @@ mod verdict;
 pub use class_verdict::check_class;
 pub use laws::proved_plan_is_yes;
 pub use plan_text::PlanText;
-pub use plan_verdict::{check_plan, has_one_list_each};
-pub use text::{ReadError, TextFault, read_plan_text, write_plan_text};
+pub use plan_verdict::{check_plan, has_one_each, has_one_list_each};
+pub use text::{ReadError, TextFault, read_plan_text, text_read_back, write_plan_text};
 pub use verdict::{PlanVerdict, Verdict};
 
 #[cfg(test)]
