@@ -1,5 +1,5 @@
-ghost use Rattle.std.specs.Prelude.{◌≡◌, ◌≤◌, IfOk, OnOk, vec_len};
-ghost use Rattle.std.specs.Io.KnownBytes.{Consumes, IsAtEnd};
+ghost use Rattle.std.specs.Prelude.{MatchResult};
+ghost use Rattle.printd.specs.Input.{IsWhole, StopsAt};
 
 use std::alloc::Global;
 use std::io::Read;
@@ -21,9 +21,9 @@ pub fn read_whole<R: Read>(
     most_bytes: usize,
     most_reads: u32,
 ) -> Result<Vec<u8>, InputFault>
-    ensures whole { IfOk result (λ v. Consumes (R.remaining reader.old) (R.remaining reader.new) v.items) }
-    ensures end { OnOk result (IsAtEnd (R.remaining reader.new)) }
-    ensures bound { IfOk result (λ v. vec_len v ≤ most_bytes) }
+    ensures { MatchResult result
+        (λ bytes. IsWhole most_bytes (R.remaining reader.old) (R.remaining reader.new) bytes.items)
+        (λ fault. StopsAt most_bytes (R.remaining reader.old) (R.remaining reader.new) fault) }
 {
     let mut bytes = Vec::new(alloc);
     let mut buffer = [0u8; 4096];

@@ -1,6 +1,8 @@
-//! The program: `printd replay` reads a trace from standard input and writes what the server does.
+//! The program: `printd replay` reads a trace from standard input and writes what the server does,
+//! and `printd check` reads the text of a plan and writes the verdict on it.
 #![tactic(auto)]
 
+mod check;
 mod engine;
 mod input;
 mod lines;
@@ -12,6 +14,7 @@ mod request;
 mod trace;
 mod words;
 
+use crate::check::run_check;
 use crate::replay::run_replay;
 use crate::words::{Asked, read_words};
 use std::alloc::AllocError;
@@ -49,6 +52,9 @@ fn asked(rt: &HostRuntime) -> Result<Asked, u8> {
 fn main(rt: HostRuntime) -> ExitCode {
     let status = match asked(&rt) {
         Ok(Asked::Replay) => run_replay(rt.alloc(), &mut rt.reader(), &mut io::writer(&rt)),
+        Ok(Asked::Check { starts }) => {
+            run_check(rt.alloc(), &mut rt.reader(), &mut io::writer(&rt), starts)
+        }
         Err(status) => status,
     };
     ExitCode::from(status)

@@ -1,3 +1,5 @@
+mod checks;
+mod plans;
 mod rows;
 
 use crate::lines::decimal;

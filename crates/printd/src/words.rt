@@ -1,5 +1,5 @@
 use clap::error::ErrorKind;
-use clap::{ArgMatches, Command, Error};
+use clap::{Arg, ArgAction, ArgMatches, Command, Error};
 use std::alloc::{AllocError, Global};
 use std::io::Write;
 
@@ -8,12 +8,19 @@ use std::io::Write;
 pub enum Asked {
     /// Replay a trace from standard input.
     Replay,
+    /// Judge the text of a plan from standard input, and where the starts are asked for tell when
+    /// each job starts.
+    Check { starts: bool },
 }
 
 fn command<'a>(alloc: Global) -> Result<Command<'a>, AllocError> {
+    let starts = Arg::new(alloc, "starts")
+        .long("starts")
+        .action(ArgAction::SetTrue);
     Command::new(alloc, "printd")
         .subcommand_required(true)
-        .subcommand(Command::new(alloc, "replay"))
+        .subcommand(Command::new(alloc, "replay"))?
+        .subcommand(Command::new(alloc, "check").arg(starts)?)
 }
 
 fn parse<'a>(alloc: Global, words: &'a [&'a str]) -> Result<ArgMatches<'a>, Error> {
@@ -21,9 +28,12 @@ fn parse<'a>(alloc: Global, words: &'a [&'a str]) -> Result<ArgMatches<'a>, Erro
 }
 
 fn meaning(found: &ArgMatches<'_>) -> Option<Asked> {
-    let (name, _) = found.subcommand()?;
+    let (name, inner) = found.subcommand()?;
     match name {
         "replay" => Some(Asked::Replay),
+        "check" => Some(Asked::Check {
+            starts: inner.get_flag("starts"),
+        }),
         _ => None,
     }
 }
