@@ -1,8 +1,6 @@
 -- What a device does over time: whether it runs, which job it has, and for how long.
-use Rattle.std.specs.Prelude.{ℕ, ◌≡◌, ◌+◌, ◌-◌, ◌*◌, ◌≤◌, ◌==◌, if◌then◌else◌, Option, Some, None}
+use Rattle.std.specs.Prelude.{ℕ, ◌+◌, ◌-◌, ◌≤◌, Option, Some, None}
 use Rattle.base_types.specs.declared.limits.TheConstants.Limits.{JOB_TIME}
-use Rattle.base_types.specs.declared.device.Printing.{Printing}
-use Rattle.base_types.specs.declared.device.Interrupted.{Interrupted}
 use Rattle.base_types.specs.declared.device.Activity.{Activity}
 use Rattle.base_types.specs.declared.device.Activity.TheVariants.{Running, Stopped}
 

@@ -1,8 +1,13 @@
--- The plan that a dispatch lends.
-use Rattle.std.specs.Prelude.{Option, None, is_some, if◌then◌else◌}
-use Rattle.dispatcher.specs.Plan.{PlanRecord}
+-- What a dispatch lends.
+use Rattle.std.specs.Prelude.{List, [], Option, None, if◌then◌else◌}
+use Rattle.prices.specs.Plan.{PlanRecord}
 use Rattle.dispatcher.specs.declared.dispatch.Dispatched.{Dispatched}
+use Rattle.dispatcher.specs.declared.started.Started.{Started}
 
 -- the plan, if one was made
 abbrev pub plan_of : Dispatched → Option PlanRecord
-plan_of made = if is_some made.started then made.last.now else None
+plan_of made = if made.planned then made.state.now.plan else None
+
+-- the jobs that began
+abbrev pub started_of : Dispatched → List Started
+started_of made = if made.planned then made.state.now.begun else []

@@ -1,5 +1,5 @@
 -- The state of a server that starts.
-use Rattle.std.specs.Prelude.{ℕ, true, List, [], map, None}
+use Rattle.std.specs.Prelude.{ℕ, true, false, List, [], length, map, replicate, None}
 use Rattle.base_types.specs.Device.{Device}
 use Rattle.base_types.specs.declared.device.Medium.{Medium}
 use Rattle.base_types.specs.declared.device.Activity.TheVariants.{Stopped}
@@ -20,12 +20,14 @@ opening_device entry = record {
   activity = Stopped None;
 }
 
--- no jobs and no plan; the first job will have the id 1
-abbrev pub opening : ServerSettings → State
-opening settings = record {
+-- no jobs and no plan, and no printer paused; the first job will have this id
+abbrev pub opening : ServerSettings → ℕ → State
+opening settings first = record {
   settings = settings;
+  paused = replicate (length settings.printers) false;
   devices = map opening_device settings.devices;
-  jobs = record { jobs = []; next = 1 };
+  spool = record { jobs = []; next = first };
   last = 0;
   plan = None;
+  begun = [];
 }

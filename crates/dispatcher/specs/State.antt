@@ -1,25 +1,33 @@
 -- The state of the core, and how a part of it changes.
-use Rattle.std.specs.Prelude.{ℕ, zero, suc, ◌≡◌, ◌≤◌, ◌<◌, List, [], ◌∷◌, All, length, map, Option, None, slice_set, slice_index_or}
+use Rattle.std.specs.Prelude.{ℕ, zero, suc, Bool, List, [], ◌∷◌, All, map, Option}
 use Rattle.std.specs.List.{list_any}
 use Rattle.std.specs.Str.{bytes_eq}
 use Rattle.base_types.specs.Device.{Device}
 use Rattle.base_types.specs.declared.device.Medium.{Medium}
 use Rattle.base_types.specs.declared.device.Activity.{Activity}
 use Rattle.settings_file.specs.Settings.{ServerSettings}
+use Rattle.spool.specs.Jobs.{SpoolRecord}
+use Rattle.prices.specs.Plan.{PlanRecord}
+use Rattle.dispatcher.specs.declared.started.Started.{Started}
 use Rattle.dispatcher.specs.Activity.{KeepsTime}
-use Rattle.dispatcher.specs.Jobs.{JobsRecord}
-use Rattle.dispatcher.specs.Plan.{PlanRecord}
 
 pub record State : Type 0 where
   -- the settings, which never change
   pub settings : ServerSettings
+  -- whether each printer of the settings is paused, in their order
+  pub paused : List Bool
   -- one for each device of the settings, in their order
   pub devices : List Device
-  pub jobs : JobsRecord
+  pub spool : SpoolRecord
   -- the last moment
   pub last : ℕ
-  -- the last plan, once one was made
+  -- the last plan, once one was made, and what began with it
   pub plan : Option PlanRecord
+  pub begun : List Started
+
+-- the devices of each printer, by their places
+abbrev pub sets_of : ServerSettings → List (List ℕ)
+sets_of settings = map (λ p. p.devices) settings.printers
 
 -- each device's job takes no longer than any job may
 abbrev pub AllKeepTime : ℕ → List Device → Type 0

@@ -1,4 +1,4 @@
-ghost use Rattle.std.specs.Prelude.{◌≡◌, ◌≤◌};
+ghost use Rattle.std.specs.Prelude.{◌≡◌, ◌≤◌, ℕ};
 ghost use Rattle.dispatcher.specs.Activity.{idle, job_on, KeepsTime, running_from, stopped_at, taking, wait_of};
 
 use base_types::{Activity, Interrupted, JobId, Limits, Moment, Printing};
@@ -77,7 +77,8 @@ pub fn idle(activity: Activity) -> Activity
 
 /// How long the device is taken from a moment on, in ms.
 pub fn wait_of(activity: Activity, now: Moment) -> u64
-    ensures { result ≡ wait_of now activity }
+    ensures value { result ≡ wait_of now activity }
+    ensures short { (last : ℕ) → last ≤ now → KeepsTime last activity → result ≤ Limits.JOB_TIME }
 {
     match activity {
         Activity::Running(Some(printing)) => printing.end.saturating_sub(now.millis()),

@@ -1,16 +1,15 @@
-ghost use Rattle.std.specs.Prelude.{◌≡◌, ◌≢◌, ◌≤◌, Some, IfOk, OnErr};
-ghost use Rattle.dispatcher.specs.Step.{Step, PrintsJob, Reported, status_of};
+ghost use Rattle.std.specs.Prelude.{◌≡◌, ◌≢◌, ◌≤◌, Some, IfOk, IsOk, OnErr};
+ghost use Rattle.dispatcher.specs.Step.{Step, PrintsJob, Reported, Ticks, TakesNoMemory, status_of};
 
 use crate::attributes::new_job_group;
-use crate::event::{Event, PrintJob, Target};
-use crate::job::Document;
-use crate::job_list::{NewJob, SpoolRefusal};
+use crate::event::{Event, JobTemplate, PrintJob, Target};
 use crate::reply::{Answer, IppAnswer, Reply};
-use crate::state::Core;
+use crate::state::CoreState;
 use crate::status::Status;
 use base_types::{DeviceId, Limits, Moment, PrinterId, Priority, Report, Sides, Text};
 use ipp_codec::Group;
 use settings_file::PrinterSettings;
+use spool::{Document, NewJob, SpoolRefusal};
 use std::alloc::{AllocError, Global};
 
 /// Why a job isn't taken, in the order in which it is looked for.
@@ -60,6 +59,18 @@ fn answered(alloc: Global, status: Status) -> Reply
     }
 }
 
+/// No answer, and these documents.
+fn unanswered(alloc: Global, documents: Vec<Document>) -> Reply
+    ensures answer { result.answer ≡ Answer.Nothing }
+    ensures documents { result.documents.items ≡ documents.items }
+{
+    Reply {
+        answer: Answer::Nothing,
+        cancels: Vec::new(alloc),
+        documents,
+    }
+}
+
 /// Whether two document formats are the same: up to a `;`, without blanks around, in any case of
 /// ASCII letters (RFC 8011, section 5.1.10).
 fn is_same_format(asked: &[u8], known: &[u8]) -> bool {
@@ -79,20 +90,32 @@ fn without_blanks(bytes: &[u8]) -> &[u8] {
     }
 }
 
-impl Core {
+impl CoreState {
     /// Acts on an event, at a moment or, where that is earlier, at the last one.
     ///
     /// After want of memory the event is dropped and the state is as it was. A report takes no
     /// memory.
-    pub fn apply(&mut self, event: Event, moment: Moment) -> Result<Reply, AllocError>
+    pub(crate) fn apply(&mut self, event: Event, moment: Moment) -> Result<Reply, AllocError>
         ensures ok { IfOk result (λ reply. Step self.old event moment reply self.new) }
         ensures err { OnErr result (self.new ≡ self.old) }
+        ensures light { TakesNoMemory event → IsOk result }
     {
         let now = moment.later(self.last);
         match event {
             Event::PrintJob(request) => self.print_job(request, now),
             Event::Report(device, report) => Ok(self.act_on(device, &report, now)),
+            Event::Tick => Ok(self.tick(now)),
         }
+    }
+
+    /// Time goes on: jobs whose documents stopped coming in are aborted.
+    fn tick(&mut self, now: Moment) -> Reply
+        requires { self.old.last ≤ now }
+        ensures { Ticks now self.old result self.new }
+    {
+        self.advance(now);
+        self.spool.expire(now);
+        unanswered(self.alloc, Vec::new(self.alloc))
     }
 
     /// Acts on a device's report.
@@ -101,11 +124,7 @@ impl Core {
         ensures { Reported now device report.now self.old result self.new }
     {
         let documents = self.report(device.place(), report, now);
-        Reply {
-            answer: Answer::Nothing,
-            cancels: Vec::new(self.alloc),
-            documents,
-        }
+        unanswered(self.alloc, documents)
     }
 
     /// Takes the job of a Print-Job request, or says why not.
@@ -132,7 +151,7 @@ impl Core {
     {
         let alloc = self.alloc;
         let groups = self.next_job_groups()?;
-        match self.jobs.submit(job) {
+        match self.spool.submit(job) {
             Ok(_) => {
                 self.advance(now);
                 Ok(accepted(alloc, groups))
@@ -146,7 +165,7 @@ impl Core {
                     self.advance(now);
                     Ok(answered(alloc, Refusal::Busy.status()))
                 }
-                SpoolRefusal::OutOfMemory => Err(AllocError),
+                _ => Err(AllocError),
             },
         }
     }
@@ -155,7 +174,7 @@ impl Core {
     fn next_job_groups(&self) -> Result<Vec<Group>, AllocError> {
         let alloc = self.alloc;
         let mut groups = Vec::new(alloc);
-        if let Some(id) = self.jobs.next_id() {
+        if let Some(id) = self.spool.next_id() {
             let settings = &self.settings;
             groups.push(new_job_group(alloc, &settings.uri_base, id)?)?;
         }
@@ -179,7 +198,7 @@ impl Core {
         if request.octets.len() > Limits::JOB_OCTETS {
             return Ok(Asked::Refused(Refusal::TooLarge));
         }
-        if self.jobs.is_full() {
+        if self.spool.is_full() {
             return Ok(Asked::Refused(Refusal::Busy));
         }
         let job = self.new_job(place, printer, format, request, now)?;
@@ -229,7 +248,8 @@ impl Core {
         }
     }
 
-    /// The job of a request's document: one-sided, one copy, on the printer's default media.
+    /// The job of a request's document. What its template doesn't say has the defaults: the normal
+    /// priority, one side, one copy, the printer's media.
     fn new_job(
         &self,
         place: usize,
@@ -239,23 +259,43 @@ impl Core {
         now: Moment,
     ) -> Result<NewJob, AllocError> {
         let alloc = self.alloc;
-        let format = format.copied(alloc)?;
-        let media = printer.media_default.copied(alloc)?;
+        let PrintJob {
+            target: _target,
+            user,
+            job_name,
+            impressions,
+            compression: _compression,
+            format: _format,
+            template,
+            octets,
+        } = request;
+        let JobTemplate {
+            priority,
+            sides,
+            media,
+            copies,
+            held,
+        } = template;
         let mut documents = Vec::with_capacity(alloc, 1)?;
         documents.push(Document {
-            format,
-            octets: request.octets,
+            format: format.copied(alloc)?,
+            contents: octets,
         })?;
+        let media = match media {
+            Some(media) => media,
+            None => printer.media_default.copied(alloc)?,
+        };
         Ok(NewJob {
             created: now,
             printer: PrinterId::new(place),
-            owner: request.user,
-            name: request.job_name,
-            priority: Priority::normal(),
-            sides: Sides::One,
+            owner: user,
+            name: job_name,
+            priority: priority.unwrap_or(Priority::normal()),
+            sides: sides.unwrap_or(Sides::One),
             media,
-            copies: 1,
-            impressions: request.impressions,
+            copies: copies.unwrap_or(1),
+            held,
+            impressions,
             documents,
         })
     }

@@ -1,151 +1,131 @@
-ghost use Rattle.std.specs.Prelude.{◌≡◌, ◌≤◌, IfOk, IfSome, OnOk, OnErr, MatchOption, Some, None, true, false, IsOk, is_some, if◌then◌else◌};
+ghost use Rattle.std.specs.Prelude.{◌≡◌, ◌≤◌, max, IfOk, IfSome, OnOk, OnErr, true, false, IsOk, is_some};
 ghost use Rattle.std.specs.Option.{option_copied};
-ghost use Rattle.dispatcher.specs.Dispatch.{Dispatches, IsPlan, has_ready_job, started_all, marked_state};
+ghost use Rattle.dispatcher.specs.GoodPlan.{IsGoodPlan, is_some_job};
+ghost use Rattle.dispatcher.specs.Ready.{ready_of};
+ghost use Rattle.dispatcher.specs.Dispatch.{DispatchedAs, marked_state};
+ghost use Rattle.dispatcher.specs.Dispatched.{plan_of, started_of};
 
-use crate::plan::{ClassPlan, Plan, Queue};
-use crate::planning::is_pending;
-use crate::state::Core;
-use base_types::{DeviceId, JobId, Moment};
+use crate::server_core::Core;
+use crate::started::Started;
+use crate::starting::starts_of;
+use crate::state::CoreState;
+use assignment::Planner;
+use base_types::Moment;
+use prices::Plan;
 use std::alloc::AllocError;
 
-/// A job that a device begins.
-#[derive(Clone, Copy, Debug, PartialEq, Eq)]
-pub struct Started {
-    pub job: JobId,
-    pub device: DeviceId,
-}
-
 /// What a dispatch did.
-#[derive(Debug, Drop)]
+#[derive(Clone, Copy, Debug)]
 pub struct Dispatched<'a> {
-    last: &'a Option<Plan>,
-    started: Option<Vec<Started>>,
+    state: &'a CoreState,
+    planned: bool,
 }
 
 impl Dispatched<'_> {
-    ghost use Rattle.dispatcher.specs.Dispatched.{plan_of};
-
     /// The plan, if one was made.
     pub fn plan(&self) -> Option<&Plan>
         ensures { option_copied result ≡ plan_of self.now }
     {
-        if self.started.is_some() {
-            self.last.as_ref()
+        if self.planned {
+            let state = self.state;
+            state.plan.as_ref()
         } else {
             None
         }
     }
 
     /// The jobs that began, by device.
-    pub fn started(&self) -> &[Started] {
-        match &self.started {
-            Some(started) => started,
-            None => &[],
+    pub fn started(&self) -> &[Started]
+        ensures { result.now ≡ started_of self.now }
+    {
+        if self.planned {
+            let state = self.state;
+            &state.begun
+        } else {
+            &[]
         }
     }
 }
 
-impl Core {
-    ghost use Rattle.dispatcher.specs.Dispatched.{plan_of};
+impl<P: Planner + Drop> Core<P> {
+    ghost use Rattle.std.specs.Borrow.{sem};
+    ghost use Rattle.dispatcher.specs.Lending.{EndsDispatched};
 
     /// Plans the ready jobs and starts what can start, at a moment or, where that is earlier, at the
-    /// last one. Where no job is ready it makes no plan, changes nothing and takes no memory.
+    /// last one.
     ///
-    /// After want of memory the state is as it was.
+    /// Where no job is ready, no plan is made, nothing changes and no memory is taken. Else each
+    /// priority class, from the highest down and given when the classes above leave each device free,
+    /// has the least total of estimated completion times among all ways to assign its ready jobs to
+    /// capable devices and order them; its prices prove this to the checker alone, and every ready job
+    /// without a capable device is named with its cause. The plan is kept, and each idle running device
+    /// starts the first job of its list.
+    ///
+    /// The only error is want of memory; the state is then as it was.
     pub fn dispatch(&mut self, moment: Moment) -> Result<Dispatched<'_>, AllocError>
-        ensures idle { has_ready_job self.old ≡ false → IsOk result }
-        ensures planned { IfOk result (λ made. is_some (plan_of made) ≡ has_ready_job self.old) }
-        ensures good { IfOk result (λ made. IfSome (plan_of made) (λ plan. IsPlan plan self.old)) }
+        ensures idle { is_some_job (ready_of self.old) ≡ false → IsOk result }
+        ensures planned { IfOk result (λ made. is_some (plan_of made) ≡ is_some_job (ready_of self.old)) }
+        ensures good { IfOk result (λ made. IfSome (plan_of made) (λ plan. IsGoodPlan (max moment self.old.last) self.old plan)) }
+        ensures* ends { sem 𝓛 (EndsDispatched P.row (max moment self.entry.now.last) self.entry result) }
     {
-        let now = moment.later(self.last);
-        let started = self.plan_if_ready(now)?;
+        let now = moment.later(self.state.last);
+        let planned = self.state.dispatch_if_ready(&self.planner, now)?;
         Ok(Dispatched {
-            last: &self.plan,
-            started,
+            state: &self.state,
+            planned,
         })
     }
+}
 
-    /// Plans and starts, if a job is ready: the jobs that begin.
-    fn plan_if_ready(&mut self, now: Moment) -> Result<Option<Vec<Started>>, AllocError>
+impl CoreState {
+    /// Plans the ready jobs and starts what can start, where a job is ready: whether one is.
+    fn dispatch_if_ready<P: Planner>(
+        &mut self,
+        planner: &P,
+        now: Moment,
+    ) -> Result<bool, AllocError>
         requires { self.old.last ≤ now }
-        ensures idle { has_ready_job self.old ≡ false → IsOk result }
-        ensures ok { IfOk result (λ started. Dispatches now self.old (if is_some started then self.new.plan else None) self.new) }
+        ensures idle { is_some_job (ready_of self.old) ≡ false → IsOk result }
+        ensures ok { IfOk result (λ planned. DispatchedAs now self.old planned self.new) }
         ensures err { OnErr result (self.new ≡ self.old) }
     {
         if self.has_ready_job() {
-            let started = self.plan_and_start(now)?;
-            Ok(Some(started))
+            self.plan_and_start(planner, now)?;
+            Ok(true)
         } else {
-            Ok(None)
+            Ok(false)
         }
     }
 
-    /// Whether a job may be planned.
-    fn has_ready_job(&self) -> bool
-        ensures { result ≡ has_ready_job self.now }
-    {
-        self.jobs.jobs().iter().any(|job| is_pending(job.state))
-    }
-
-    /// Keeps the time, and marks the ready jobs as the plan says.
-    fn mark(&mut self, now: Moment, plan: &Plan)
-        requires { self.old.last ≤ now }
-        ensures { self.new ≡ marked_state now plan.now self.old }
-    {
-        self.advance(now);
-        self.jobs.mark(&plan.stranded);
-    }
-
-    /// Each free device begins the first job of its list, class by class.
-    fn start_classes(&mut self, classes: &[ClassPlan])
-        ensures { self.new ≡ started_all self.old.last classes.now self.old }
-    {
-        for class in classes {
-            self.start(&class.queues);
-        }
-    }
-
-    /// Plans and starts, where a job is ready: the jobs that begin.
-    fn plan_and_start(&mut self, now: Moment) -> Result<Vec<Started>, AllocError>
+    /// Plans the ready jobs and starts what can start, where a job is ready.
+    fn plan_and_start<P: Planner>(&mut self, planner: &P, now: Moment) -> Result<(), AllocError>
         requires later { self.old.last ≤ now }
-        requires ready { has_ready_job self.old ≡ true }
-        ensures ok { OnOk result (MatchOption self.new.plan ⊥ (λ plan. Dispatches now self.old (Some plan) self.new)) }
+        requires ready { is_some_job (ready_of self.old) ≡ true }
+        ensures ok { OnOk result (DispatchedAs now self.old true self.new) }
         ensures err { OnErr result (self.new ≡ self.old) }
     {
-        let plan = self.plain_plan(now)?;
-        let started = self.starts_of(&plan.classes)?;
-        self.mark(now, &plan);
-        self.start_classes(&plan.classes);
-        self.plan = Some(plan);
-        Ok(started)
-    }
-
-    /// The jobs that begin when these classes are started.
-    fn starts_of(&self, classes: &[ClassPlan]) -> Result<Vec<Started>, AllocError> {
-        let mut started = Vec::with_capacity(self.alloc, self.devices.len())?;
-        for class in classes {
-            for place in 0..class.queues.len() {
-                self.add_start(place, &class.queues[place], &mut started)?;
-            }
-        }
-        Ok(started)
-    }
-
-    /// Adds the first job of the list of the device at a place, if that is free.
-    fn add_start(
-        &self,
-        place: usize,
-        queue: &Queue,
-        started: &mut Vec<Started>,
-    ) -> Result<(), AllocError> {
-        if let Some(first) = queue.placed.first() {
-            if self.is_free_at(place) {
-                started.push(Started {
-                    job: first.job,
-                    device: DeviceId::new(place),
-                })?;
-            }
-        }
+        let plan = self.good_plan(planner, now)?;
+        let starts = starts_of(self.alloc, plan.classes(), &self.devices)?;
+        self.keep(now, plan);
+        self.begin_all(&starts);
+        self.note_begun(starts);
         Ok(())
+    }
+
+    /// Keeps what began with the last plan.
+    fn note_begun(&mut self, starts: Vec<Started>)
+        ensures { self.new ≡ record self.old { begun = starts.items } }
+    {
+        self.begun = starts;
+    }
+
+    /// Keeps the plan, and marks the ready jobs as stranded or not, as it says.
+    fn keep(&mut self, now: Moment, plan: Plan)
+        requires { self.old.last ≤ now }
+        ensures { self.new ≡ marked_state now plan self.old }
+    {
+        self.advance(now);
+        self.spool.mark(&self.paused, plan.stranded());
+        self.plan = Some(plan);
     }
 }

@@ -1,8 +1,13 @@
 //! The core of the server: jobs, devices, and which device prints which job.
 //!
 //! [`Core::apply`] takes one event and gives its reply; [`Core::dispatch`] then plans the ready jobs
-//! and starts what can start. Nothing here reads a clock, a socket or a byte of a protocol: an event
-//! comes with its moment, and all that a request says stands in it.
+//! and starts what can start. Whenever it makes a plan, each priority class, from the highest down and
+//! given when the classes above leave each device free, has the least total of estimated completion
+//! times among all ways to assign its ready jobs to capable devices and order them; its prices prove
+//! this to the checker alone, and every job without a capable device is named.
+//!
+//! Nothing here reads a clock, a socket or a byte of a protocol: an event comes with its moment, and
+//! all that a request says stands in it. Real times are not spoken of, only estimates.
 #![tactic(auto)]
 
 mod activity;
@@ -10,24 +15,20 @@ mod apply;
 mod attributes;
 mod dispatch;
 mod event;
-mod job;
-mod job_change;
-mod job_list;
 mod opening;
-mod plan;
 mod planning;
+mod ready;
 mod reply;
 mod report;
+mod server_core;
+mod started;
 mod starting;
 mod state;
 mod status;
 
-pub use dispatch::{Dispatched, Started};
-pub use event::{Event, PrintJob, Target};
-pub use job::{Document, Job, JobState};
-pub use job_change::{JobChange, StateRefusal, job_step};
-pub use job_list::{JobList, NewJob, Refused, SpoolRefusal};
-pub use plan::{ClassPlan, Placed, Plan, Queue, Stranded};
+pub use dispatch::Dispatched;
+pub use event::{Event, JobTemplate, PrintJob, Target};
 pub use reply::{Answer, Cancel, IppAnswer, Reply};
-pub use state::Core;
+pub use server_core::Core;
+pub use started::Started;
 pub use status::Status;

@@ -1,60 +1,63 @@
-ghost use Rattle.std.specs.Prelude.{◌≡◌, IfOk, map, option_map, slice_get};
+ghost use Rattle.std.specs.Prelude.{◌≡◌, ◌≤◌, IfOk, length, map, option_map, replicate, false, slice_get};
 ghost use Rattle.std.specs.Option.{option_copied};
+ghost use Rattle.settings_file.specs.Settings.{MeetsLimits};
+ghost use Rattle.spool.specs.Jobs.{job_at, spooled_at};
+ghost use Rattle.dispatcher.specs.State.{sets_of};
 ghost use Rattle.dispatcher.specs.Opening.{opening, opening_device, loaded_medium};
-ghost use Rattle.dispatcher.specs.Jobs.{job_at};
 
-use crate::job::{Document, Job};
-use crate::job_list::JobList;
-use crate::state::Core;
-use base_types::{Activity, DeviceId, DeviceNow, JobId, Medium, Moment, Text};
-use settings_file::{DeviceSettings, Settings};
+use crate::state::CoreState;
+use base_types::{Activity, DeviceId, DeviceNow, JobId, Medium, Moment, PrinterSet, Text};
+use settings_file::{DeviceSettings, PrinterSettings, Settings};
+use spool::Spool;
 use std::alloc::{AllocError, Global};
 
-impl Core {
-    /// The core of a server that starts: no jobs, no plan, and each device stopped, idle and with all
-    /// media of its settings loaded.
-    pub fn new(alloc: Global, settings: Settings) -> Result<Core, AllocError>
-        ensures { IfOk result (λ core. core ≡ opening settings) }
+impl CoreState {
+    /// The state of a server that starts: no jobs, no plan, no printer paused, and each device
+    /// stopped, idle and with all media of its settings loaded.
+    pub(crate) fn new(
+        alloc: Global,
+        settings: Settings,
+        first: JobId,
+    ) -> Result<CoreState, AllocError>
+        requires { MeetsLimits settings }
+        ensures { IfOk result (λ state. state ≡ opening settings first) }
     {
         let devices = opening_devices(alloc, &settings.devices)?;
-        Ok(Core {
+        let printers = printer_sets(alloc, &settings.printers)?;
+        let paused = none_paused(alloc, settings.printers.len())?;
+        Ok(CoreState {
             settings,
+            printers,
+            paused,
             devices,
-            jobs: JobList::new(alloc),
+            spool: Spool::new(alloc, first),
             last: Moment::start(),
             plan: None,
+            begun: Vec::new(alloc),
             alloc,
         })
     }
+}
 
-    /// The settings that it was made with.
-    pub fn settings(&self) -> &Settings
-        ensures { result.now ≡ self.now.settings }
-    {
-        &self.settings
-    }
+/// No printer of so many is paused.
+fn none_paused(alloc: Global, printers: usize) -> Result<Vec<bool>, AllocError>
+    ensures { IfOk result (λ paused. paused.items ≡ replicate printers false) }
+{
+    let mut paused = Vec::new(alloc);
+    paused.resize(printers, false)?;
+    Ok(paused)
+}
 
-    /// The job of this id, if it is kept.
-    pub fn job(&self, id: JobId) -> Option<&Job>
-        ensures { option_copied result ≡ job_at id self.now.jobs.jobs }
-    {
-        self.jobs.get(id)
+/// The devices of each of these printers.
+fn printer_sets(alloc: Global, settings: &[PrinterSettings]) -> Result<Vec<PrinterSet>, AllocError>
+    ensures { IfOk result (λ sets. sets.items ≡ map (λ p. p.devices) settings.now) }
+{
+    let mut sets = Vec::with_capacity(alloc, settings.len())?;
+    for printer in settings {
+        let devices = Vec::from_slice(alloc, printer.devices.devices())?;
+        sets.push(PrinterSet::new(devices))?;
     }
-
-    /// What the device at a place of the settings is now.
-    pub fn device(&self, id: DeviceId) -> Option<&DeviceNow>
-        ensures { option_copied result ≡ slice_get self.now.devices id }
-    {
-        self.devices.get(id.place())
-    }
-
-    /// The documents of a job that it still has.
-    pub fn documents(&self, id: JobId) -> Option<&[Document]>
-        ensures { option_map (λ d. d.now) result ≡ option_map (λ j. j.documents) (job_at id self.now.jobs.jobs) }
-    {
-        let job = self.jobs.get(id)?;
-        Some(job.documents.as_slice())
-    }
+    Ok(sets)
 }
 
 /// The devices of these settings, as they start.

@@ -1,160 +1,135 @@
-ghost use Rattle.std.specs.Prelude.{◌≡◌, ◌++◌, ◌∷◌, [], IfOk, OnOk, slice_get};
-ghost use Rattle.std.specs.Option.{option_copied};
-ghost use Rattle.dispatcher.specs.Marked.{is_pending};
-ghost use Rattle.dispatcher.specs.Dispatch.{stranding, stranded_among, stranded_jobs};
+ghost use Rattle.std.specs.Prelude.{◌≡◌, ◌≤◌, ◌+◌, ℕ, List, suc, true, map, All, IfOk, unwrap_or};
+ghost use Rattle.base_types.specs.declared.limits.TheConstants.Limits.{JOB_TIME};
+ghost use Rattle.spool.specs.Spool.{IsSpool};
+ghost use Rattle.dispatcher.specs.Ready.{class_of};
+ghost use Rattle.dispatcher.specs.GoodPlan.{IsGoodPlan, is_some_job, job_of_class, waits_of};
+ghost use Rattle.dispatcher.specs.Planned.{PlannedAbove, is_some_class_job};
 
 use crate::activity::wait_of;
-use crate::job::{Job, JobState};
-use crate::plan::{ClassPlan, Placed, Plan, Queue, Stranded};
-use crate::state::Core;
-use base_types::{Cause, Moment, Priority};
-use capabilities::{able, stranded_cause};
-use cost_table::time;
-use settings_file::PrinterSettings;
+use crate::state::CoreState;
+use assignment::Planner;
+use base_types::{Limits, Moment, Priority};
+use cost_table::{ClassJob, build};
+use plan_checker::proved_plan_is_yes;
+use prices::{Plan, PlannedClass, best_at_most_timetables, waits_after};
 use std::alloc::AllocError;
 
-/// Whether a job in this state may be planned.
-pub(crate) fn is_pending(state: JobState) -> bool
-    ensures { result ≡ is_pending state }
+/// The classes planned so far, the highest first, and when each device is free after them, in ms.
+#[derive(Drop)]
+struct Planned {
+    classes: Vec<PlannedClass>,
+    waits: Vec<u64>,
+}
+
+/// The next lower priority, if there is one.
+fn below(priority: Priority) -> Option<Priority>
+    ensures { suc (unwrap_or result 0) ≡ priority }
 {
-    match state {
-        JobState::Pending => true,
-        JobState::Held
-        | JobState::Processing
-        | JobState::Stopped
-        | JobState::Canceled
-        | JobState::Aborted
-        | JobState::Completed => false,
+    Priority::new(priority.level() - 1)
+}
+
+/// Whether there is a job among these.
+fn has_job(jobs: &[ClassJob<'_>]) -> bool
+    ensures { result ≡ is_some_class_job jobs.now }
+{
+    match jobs {
+        [] => false,
+        [_, ..] => true,
     }
 }
 
-/// The total of the completion times of a list, on a device that is free after a wait, in ms.
-///
-/// Within the limits it lies far below 2^64.
-fn total_of(wait: u64, queue: &[Placed]) -> u64 {
-    let mut free = wait;
-    let mut total = 0u64;
-    for placed in queue {
-        free = free.saturating_add(placed.time);
-        total = total.saturating_add(free);
-    }
-    total
-}
-
-impl Core {
-    /// The plan of the ready jobs: each, by rising id, at the end of the list of its printer's first
-    /// able device; and those that no device can print.
-    pub(crate) fn plain_plan(&self, now: Moment) -> Result<Plan, AllocError>
-        ensures { IfOk result (λ plan. plan.stranded ≡ stranded_jobs self.now) }
+impl CoreState {
+    /// A good plan of the ready jobs for a moment that is not before the last one. The only error is
+    /// want of memory.
+    pub(crate) fn good_plan<P: Planner>(&self, planner: &P, now: Moment) -> Result<Plan, AllocError>
+        requires { self.now.last ≤ now }
+        ensures { IfOk result (λ plan. IsGoodPlan now self.now plan) }
     {
-        let mut queues = self.empty_queues()?;
-        let mut stranded = Vec::new(self.alloc);
-        for job in self.jobs.jobs() {
-            self.consider(job, &mut queues, &mut stranded)?;
-        }
-        let classes = self.classes_of(queues, now)?;
-        Ok(Plan { classes, stranded })
+        let classes = self.planned_classes(planner, now)?;
+        let stranded = self.stranded()?;
+        let plan = Plan { classes, stranded };
+        proved_plan_is_yes(&plan);
+        Ok(plan)
     }
 
-    /// Puts a job in a list or among the stranded ones, if it is ready.
-    fn consider(
+    /// The classes of all priorities that have one, the highest first, each planned best.
+    fn planned_classes<P: Planner>(
         &self,
-        job: &Job,
-        queues: &mut Vec<Queue>,
-        stranded: &mut Vec<Stranded>,
-    ) -> Result<(), AllocError>
-        ensures { OnOk result (stranded.new.items ≡ stranded.old.items ++ stranded_among self.now.settings.printers self.now.devices (job.now ∷ [])) }
+        planner: &P,
+        now: Moment,
+    ) -> Result<Vec<PlannedClass>, AllocError>
+        requires { self.now.last ≤ now }
+        ensures { IfOk result (λ classes. (waits : List ℕ) × PlannedAbove self.now now 0 classes.items waits) }
     {
-        if !is_pending(job.state) {
-            return Ok(());
-        }
-        match self.stranding(job) {
-            Some(entry) => stranded.push(entry)?,
-            None => self.place(job, queues)?,
-        }
-        Ok(())
-    }
-
-    /// The job, where no device can print it.
-    fn stranding(&self, job: &Job) -> Option<Stranded>
-        ensures { result ≡ stranding self.now.settings.printers self.now.devices job.now }
-    {
-        let id = job.id;
-        let cause = match self.printer_of(job) {
-            Some(printer) => stranded_cause(&job.needs, &printer.devices, &self.devices),
-            None => Some(Cause::NoDevice),
+        let mut planned = Planned {
+            classes: Vec::new(self.alloc),
+            waits: self.waits(now)?,
         };
-        cause.map(|cause| Stranded { job: id, cause })
+        let mut next = Priority::new(Limits::HIGHEST_PRIORITY);
+        while let Some(priority) = next {
+            planned = self.plan_class(planner, now, priority, planned)?;
+            next = below(priority);
+        }
+        Ok(planned.classes)
     }
 
-    /// The settings of the job's printer.
-    fn printer_of(&self, job: &Job) -> Option<&PrinterSettings>
-        ensures { option_copied result ≡ slice_get self.now.settings.printers job.now.needs.printer }
+    /// When each device is free, in ms from a moment.
+    fn waits(&self, now: Moment) -> Result<Vec<u64>, AllocError>
+        requires { self.now.last ≤ now }
+        ensures waits { IfOk result (λ waits. waits.items ≡ waits_of now self.now) }
+        ensures short { IfOk result (λ waits. All (λ wait. wait ≤ JOB_TIME) waits.items) }
     {
-        let settings = &self.settings;
-        let needs = &job.needs;
-        settings.printers.get(needs.printer.place())
-    }
-
-    /// No job in any list.
-    fn empty_queues(&self) -> Result<Vec<Queue>, AllocError> {
-        let mut queues = Vec::with_capacity(self.alloc, self.devices.len())?;
-        for _device in &self.devices {
-            queues.push(Queue {
-                placed: Vec::new(self.alloc),
-            })?;
+        let mut waits = Vec::with_capacity(self.alloc, self.devices.len())?;
+        for device in &self.devices {
+            waits.push(wait_of(device.activity, now))?;
         }
-        Ok(queues)
+        Ok(waits)
     }
 
-    /// Puts a job at the end of the list of the first device that is able.
-    fn place(&self, job: &Job, queues: &mut Vec<Queue>) -> Result<(), AllocError> {
-        let Some(printer) = self.printer_of(job) else {
-            return Ok(());
-        };
-        for device in printer.devices.devices() {
-            if let Some(now) = self.devices.get(device.place()) {
-                if able(&job.needs, *device, now, &printer.devices) {
-                    let placed = Placed {
-                        job: job.id,
-                        time: time(&job.needs, now),
-                    };
-                    return add(queues, device.place(), placed);
-                }
-            }
+    /// Plans the class of a priority below those planned so far, if it has a job.
+    fn plan_class<P: Planner>(
+        &self,
+        planner: &P,
+        now: Moment,
+        priority: Priority,
+        planned: Planned,
+    ) -> Result<Planned, AllocError>
+        requires { PlannedAbove self.now now priority planned.classes.items planned.waits.items }
+        ensures { IfOk result (λ next. (below : ℕ) → suc below ≡ priority → PlannedAbove self.now now below next.classes.items next.waits.items) }
+    {
+        let jobs = self.class_jobs(priority)?;
+        if has_job(&jobs) {
+            self.plan_jobs(planner, now, priority, &jobs, planned)
+        } else {
+            Ok(planned)
         }
-        Ok(())
     }
 
-    /// The class of these lists, if a job stands in one: all jobs have one priority.
-    fn classes_of(&self, queues: Vec<Queue>, now: Moment) -> Result<Vec<ClassPlan>, AllocError> {
-        let mut classes = Vec::new(self.alloc);
-        if queues.iter().any(|queue| !queue.placed.is_empty()) {
-            let total = self.total(&queues, now);
-            classes.push(ClassPlan {
-                priority: Priority::normal(),
-                queues,
-                total,
-            })?;
-        }
-        Ok(classes)
+    /// Plans the jobs of a class of a priority below those planned so far.
+    fn plan_jobs<P: Planner>(
+        &self,
+        planner: &P,
+        now: Moment,
+        priority: Priority,
+        jobs: &[ClassJob<'_>],
+        planned: Planned,
+    ) -> Result<Planned, AllocError>
+        requires above { PlannedAbove self.now now priority planned.classes.items planned.waits.items }
+        requires jobs { jobs.now ≡ map job_of_class (class_of self.now priority) }
+        requires some { is_some_job (class_of self.now priority) ≡ true }
+        requires spool { IsSpool self.now.spool }
+        ensures { IfOk result (λ next. (below : ℕ) → suc below ≡ priority → PlannedAbove self.now now below next.classes.items next.waits.items) }
+    {
+        let Planned { mut classes, waits } = planned;
+        let problem = build(self.alloc, jobs, &self.devices, &self.printers, waits)?;
+        let priced = planner.plan_class(&problem)?;
+        best_at_most_timetables(&problem, &priced.way);
+        let waits = waits_after(self.alloc, &problem, &priced.way)?;
+        classes.push(PlannedClass {
+            priority,
+            problem,
+            priced,
+        })?;
+        Ok(Planned { classes, waits })
     }
-
-    /// The total of the completion times of these lists, in ms.
-    fn total(&self, queues: &[Queue], now: Moment) -> u64 {
-        let mut total = 0u64;
-        for (queue, device) in queues.iter().zip(&self.devices) {
-            let wait = wait_of(device.activity, now);
-            total = total.saturating_add(total_of(wait, &queue.placed));
-        }
-        total
-    }
-}
-
-/// Puts a job at the end of the list at a place.
-fn add(queues: &mut Vec<Queue>, place: usize, placed: Placed) -> Result<(), AllocError> {
-    if let Some(queue) = queues.get_mut(place) {
-        queue.placed.push(placed)?;
-    }
-    Ok(())
 }

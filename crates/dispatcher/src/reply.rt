@@ -1,7 +1,7 @@
-use crate::job::Document;
 use crate::status::Status;
 use base_types::{DeviceId, JobId};
 use ipp_codec::{Attribute, Group};
+use spool::Document;
 
 /// A cancel to send: the device still has the job.
 #[derive(Clone, Copy, Debug, PartialEq, Eq)]
@@ -24,7 +24,7 @@ pub struct IppAnswer {
 #[derive(Drop)]
 pub enum Answer {
     Ipp(IppAnswer),
-    /// A device's report is not answered.
+    /// A device's report and a tick are not answered.
     Nothing,
 }
 

@@ -1,14 +1,22 @@
 ghost use Rattle.std.specs.Prelude.{◌≡◌, ◌≤◌, ◌<◌, length, IfSome};
 ghost use Rattle.dispatcher.specs.Activity.{KeepsTime};
-ghost use Rattle.dispatcher.specs.Report.{has_job, change_of, time_left, relieved, left_of, paged, activity_after, jobs_after, documents_out, hands_out, refitted, Reports};
+ghost use Rattle.dispatcher.specs.Report.{has_job, said_of_job, time_left, without_job, left_of, paged, activity_after, jobs_after, jobs_told, documents_out, documents_told, refitted, Reports};
 ghost use Rattle.dispatcher.specs.State.{with_device};
 ghost use Rattle.cost_table.specs.Time.{rate_of};
 
 use crate::activity::{idle, job_on, running_from, stopped_at, taking};
-use crate::job::Document;
-use crate::job_change::JobChange;
-use crate::state::Core;
+use crate::state::CoreState;
 use base_types::{Activity, DeviceNow, JobId, Limits, Moment, Needs, Report, Sides};
+use spool::Document;
+
+/// What a device says of the job that it has.
+#[derive(Clone, Copy, Debug, PartialEq, Eq)]
+enum JobReport {
+    Stops,
+    Proceeds,
+    IsDone,
+    Fails,
+}
 
 /// Whether the device has the job of this number.
 fn has_job(activity: Activity, number: u32) -> bool
@@ -20,16 +28,16 @@ fn has_job(activity: Activity, number: u32) -> bool
     }
 }
 
-/// The change that a report brings to the job that the device has.
-fn change_of(report: &Report, activity: Activity) -> Option<JobChange>
-    ensures { result ≡ change_of report.now activity }
+/// What a report says of the job that the device has.
+fn said_of_job(report: &Report, activity: Activity) -> Option<JobReport>
+    ensures { result ≡ said_of_job report.now activity }
 {
     match (report, activity) {
-        (Report::Ready, Activity::Stopped(_)) => Some(JobChange::Continue),
-        (Report::Stop, Activity::Running(_)) => Some(JobChange::Stop),
-        (Report::Done { job }, _) if has_job(activity, *job) => Some(JobChange::Done),
-        (Report::Fail { job }, _) if has_job(activity, *job) => Some(JobChange::Fail),
-        (Report::Gone, _) => Some(JobChange::Fail),
+        (Report::Ready, Activity::Stopped(_)) => Some(JobReport::Proceeds),
+        (Report::Stop, Activity::Running(_)) => Some(JobReport::Stops),
+        (Report::Done { job }, _) if has_job(activity, *job) => Some(JobReport::IsDone),
+        (Report::Fail { job }, _) if has_job(activity, *job) => Some(JobReport::Fails),
+        (Report::Gone, _) => Some(JobReport::Fails),
         _ => None,
     }
 }
@@ -57,8 +65,8 @@ fn time_left(needs: &Needs, device: &DeviceNow, printed: u32) -> u64
 }
 
 /// What a device does without the job of this number, if it has that.
-fn relieved(activity: Activity, number: u32) -> Activity
-    ensures { result ≡ relieved number activity }
+fn without_job(activity: Activity, number: u32) -> Activity
+    ensures { result ≡ without_job number activity }
 {
     match activity {
         Activity::Running(printing) => {
@@ -70,11 +78,11 @@ fn relieved(activity: Activity, number: u32) -> Activity
     }
 }
 
-impl Core {
+impl CoreState {
     /// What a device does after a report.
     fn activity_after(&self, report: &Report, device: &DeviceNow, now: Moment) -> Activity
         requires { KeepsTime now device.now.activity }
-        ensures activity { result ≡ activity_after now report.now self.now.jobs.jobs device.now }
+        ensures activity { result ≡ activity_after now report.now self.now.spool.jobs device.now }
         ensures in_time { KeepsTime now result }
     {
         let activity = device.activity;
@@ -83,7 +91,7 @@ impl Core {
             Report::Ready => running_from(activity, now),
             Report::Stop => stopped_at(activity, now),
             Report::Pages { job, printed } => self.paged(*job, *printed, device, now),
-            Report::Done { job } | Report::Fail { job } => relieved(activity, *job),
+            Report::Done { job } | Report::Fail { job } => without_job(activity, *job),
             Report::Gone => stopped_at(idle(activity), now),
         }
     }
@@ -91,7 +99,7 @@ impl Core {
     /// What a device does of whose job so many impressions are printed.
     fn paged(&self, number: u32, printed: u32, device: &DeviceNow, now: Moment) -> Activity
         requires { KeepsTime now device.now.activity }
-        ensures activity { result ≡ paged now number printed self.now.jobs.jobs device.now }
+        ensures activity { result ≡ paged now number printed self.now.spool.jobs device.now }
         ensures in_time { KeepsTime now result }
     {
         let activity = device.activity;
@@ -104,14 +112,14 @@ impl Core {
 
     /// The time left of the device's job, if it has the job of this number.
     fn left_of(&self, number: u32, printed: u32, device: &DeviceNow) -> Option<u64>
-        ensures value { result ≡ left_of number printed self.now.jobs.jobs device.now }
+        ensures value { result ≡ left_of number printed self.now.spool.jobs device.now }
         ensures bound { IfSome result (λ left. left ≤ Limits.JOB_TIME) }
     {
         let id = job_on(device.activity)?;
         if id.number() != number {
             return None;
         }
-        let job = self.jobs.get(id)?;
+        let job = self.spool.get(id)?;
         let needs = &job.needs;
         Some(time_left(needs, device, printed))
     }
@@ -127,10 +135,10 @@ impl Core {
             return Vec::new(self.alloc);
         };
         let job = job_on(device.activity);
-        let change = change_of(report, device.activity);
+        let said = said_of_job(report, device.activity);
         let next = core.activity_after(report, device, now);
         self.refit(place, report, next);
-        self.settle(job, change, now)
+        self.settle(job, said, now)
     }
 
     /// The device at a place holds the media that the report names, or does this from now on.
@@ -147,34 +155,27 @@ impl Core {
     }
 
     /// Changes the job that a report is about, if any, and gives the documents that it hands out.
-    fn settle(
-        &mut self,
-        job: Option<JobId>,
-        change: Option<JobChange>,
-        now: Moment,
-    ) -> Vec<Document>
-        ensures jobs { self.new ≡ record self.old { jobs = jobs_after now job change self.old.jobs } }
-        ensures documents { result.items ≡ documents_out job change self.old.jobs.jobs }
+    fn settle(&mut self, job: Option<JobId>, said: Option<JobReport>, now: Moment) -> Vec<Document>
+        ensures jobs { self.new ≡ record self.old { spool = record self.old.spool { jobs = jobs_after now job said self.old.spool.jobs } } }
+        ensures documents { result.items ≡ documents_out job said self.old.spool.jobs }
     {
-        let (Some(id), Some(change)) = (job, change) else {
-            return Vec::new(self.alloc);
-        };
-        let documents = if hands_out(change) {
-            self.jobs.take_documents(id)
-        } else {
-            Vec::new(self.alloc)
-        };
-        self.jobs.change(id, change, now);
-        documents
+        match (job, said) {
+            (Some(id), Some(said)) => self.tell(id, said, now),
+            _ => Vec::new(self.alloc),
+        }
     }
-}
 
-/// Whether the job's documents go with the change.
-fn hands_out(change: JobChange) -> bool
-    ensures { result ≡ hands_out change }
-{
-    match change {
-        JobChange::Done | JobChange::Fail => true,
-        JobChange::Start | JobChange::Stop | JobChange::Continue => false,
+    /// The device that has a job said this of it: the documents that the job hands out.
+    fn tell(&mut self, id: JobId, said: JobReport, now: Moment) -> Vec<Document>
+        ensures jobs { self.new ≡ record self.old { spool = record self.old.spool { jobs = jobs_told id said now self.old.spool.jobs } } }
+        ensures documents { result.items ≡ documents_told id said self.old.spool.jobs }
+    {
+        match said {
+            JobReport::Stops => self.spool.stop(id, now),
+            JobReport::Proceeds => self.spool.proceed(id, now),
+            JobReport::IsDone => return self.spool.done(id, now),
+            JobReport::Fails => return self.spool.fail(id, now),
+        }
+        Vec::new(self.alloc)
     }
 }

@@ -1,48 +1,55 @@
-ghost use Rattle.std.specs.Prelude.{◌≡◌, ◌≤◌, ◌<◌, IfOk, length, None, [], map};
+ghost use Rattle.std.specs.Prelude.{◌≡◌, ◌≤◌, ◌<◌, IfOk, length, None, Some, [], map};
 ghost use Rattle.std.specs.List.{list_any};
 ghost use Rattle.std.specs.Str.{bytes_eq};
-ghost use Rattle.std.specs.Option.{option_copied};
 ghost use Rattle.dispatcher.specs.Activity.{KeepsTime};
 ghost use Rattle.dispatcher.specs.State.{with_device, doing, holding, loaded_if};
-ghost use Rattle.dispatcher.specs.Jobs.{job_at};
 
-use crate::job::{Document, Job};
-use crate::job_list::JobList;
-use crate::plan::Plan;
-use base_types::{Activity, DeviceId, DeviceNow, JobId, Medium, Moment, Text};
-use settings_file::{DeviceSettings, Settings};
-use std::alloc::{AllocError, Global};
+use crate::started::Started;
+use base_types::{Activity, DeviceNow, Medium, Moment, PrinterSet, Text};
+use prices::Plan;
+use settings_file::Settings;
+use spool::Spool;
+use std::alloc::Global;
 use std::marker::Model;
 
-/// The core: settings, devices, jobs, the last moment and the last plan. In clauses it is a record
-/// of these.
+/// All that the core knows but how to plan: settings, printers, devices, jobs, the last moment and the
+/// last plan. In clauses it is a record of these.
 #[derive(Debug, Drop)]
-pub struct Core {
+pub(crate) struct CoreState {
     pub(crate) settings: Settings,
+    /// The devices of each printer.
+    pub(crate) printers: Vec<PrinterSet>,
+    pub(crate) paused: Vec<bool>,
     pub(crate) devices: Vec<DeviceNow>,
-    pub(crate) jobs: JobList,
+    pub(crate) spool: Spool,
     pub(crate) last: Moment,
     pub(crate) plan: Option<Plan>,
+    /// What began with the last plan.
+    pub(crate) begun: Vec<Started>,
     pub(crate) alloc: Global,
 }
 
-impl Model for Core {
-    ghost use Rattle.dispatcher.specs.State.{State, AllKeepTime};
+impl Model for CoreState {
+    ghost use Rattle.std.specs.Prelude.{◌≡◌, ◌≤◌, length};
+    ghost use Rattle.base_types.specs.declared.limits.TheConstants.Limits.{DEVICES};
+    ghost use Rattle.dispatcher.specs.State.{State, AllKeepTime, sets_of};
 
     ghost Value = { State };
 
     ghost view = { λ c. record {
       settings = c.settings;
+      paused = c.paused.items;
       devices = c.devices.items;
-      jobs = c.jobs;
+      spool = c.spool;
       last = c.last;
       plan = c.plan;
+      begun = c.begun.items;
     } };
 
-    ghost invariant = { λ c. AllKeepTime c.last c.devices.items };
+    ghost invariant = { λ c. AllKeepTime c.last c.devices.items × (length c.devices.items ≤ DEVICES) × (c.printers.items ≡ sets_of c.settings) };
 }
 
-impl Core {
+impl CoreState {
     /// The time goes on, up to a moment that is not before the last one.
     pub(crate) fn advance(&mut self, now: Moment)
         requires { self.old.last ≤ now }

@@ -1,5 +1,6 @@
 //! One event with the dispatch that follows it.
 use crate::replies::{Asked, ipp_event, ipp_refusal, ipp_reply};
+use assignment::Planner;
 use base_types::{DeviceId, Moment, Report};
 use dispatcher::{Answer, Core, Dispatched, Event};
 use std::alloc::{AllocError, Global};
@@ -22,9 +23,9 @@ pub enum Served {
 /// Acts on one IPP body, and gives its reply; a dispatch follows its event.
 ///
 /// After want of memory the event and its dispatch, the dispatch, or the reply are missing.
-pub fn serve_body<N: Notes>(
+pub fn serve_body<P: Planner, N: Notes>(
     alloc: Global,
-    core: &mut Core,
+    core: &mut Core<P>,
     body: &[u8],
     notes: &mut N,
     moment: Moment,
@@ -51,8 +52,8 @@ fn reply_bytes(alloc: Global, answer: Answer, request_id: u32) -> Result<Vec<u8>
 }
 
 /// Acts on a device's report; a dispatch follows it.
-pub fn report<N: Notes>(
-    core: &mut Core,
+pub fn report<P: Planner, N: Notes>(
+    core: &mut Core<P>,
     device: DeviceId,
     report: Report,
     notes: &mut N,
@@ -62,9 +63,19 @@ pub fn report<N: Notes>(
     Ok(())
 }
 
+/// Acts on a tick; a dispatch follows it.
+pub fn tick<P: Planner, N: Notes>(
+    core: &mut Core<P>,
+    notes: &mut N,
+    moment: Moment,
+) -> Result<(), AllocError> {
+    act(core, Event::Tick, notes, moment)?;
+    Ok(())
+}
+
 /// Acts on an event, and dispatches unless it is a query.
-fn act<N: Notes>(
-    core: &mut Core,
+fn act<P: Planner, N: Notes>(
+    core: &mut Core<P>,
     event: Event,
     notes: &mut N,
     moment: Moment,

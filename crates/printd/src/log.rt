@@ -1,7 +1,8 @@
 //! What a trace's output says of a dispatch.
 use crate::engine::Notes;
 use base_types::{Cause, Text};
-use dispatcher::{Dispatched, Plan, Started};
+use dispatcher::{Dispatched, Started};
+use prices::Plan;
 use std::alloc::{AllocError, Global};
 
 /// The plan line of a dispatch, and the jobs that it started.
@@ -58,13 +59,13 @@ impl Log {
 /// The line of a plan: each class with its total, then each stranded job with its cause.
 fn plan_line(alloc: Global, plan: &Plan) -> Result<String, AllocError> {
     let mut line = String::from_str(alloc, "plan")?;
-    for class in &plan.classes {
+    for class in plan.classes() {
         let priority = class.priority.level();
-        let total = class.total;
+        let total = class.priced.total;
         let word = format!(in alloc; " {priority}:{total}")?;
         line.push_str(word.as_str())?;
     }
-    for stranded in &plan.stranded {
+    for stranded in plan.stranded() {
         let job = stranded.job.number();
         let cause = cause_name(stranded.cause);
         let word = format!(in alloc; " -{job}:{cause}")?;

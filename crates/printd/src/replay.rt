@@ -1,13 +1,14 @@
 //! A trace, run.
-use crate::engine::{Served, report, serve_body};
+use crate::engine::{Served, report, serve_body, tick};
 use crate::input::{InputFault, read_whole};
 use crate::lines::next_line;
 use crate::log::Log;
 use crate::output::write_front;
 use crate::trace::{Line, read_line};
+use assignment::Lazy;
 use base_types::{Limits, Moment, Text};
 use dispatcher::Core;
-use settings_file::{Key, Settings, SettingsFault, read_settings, write_fault};
+use settings_file::{Settings, SettingsFault, read_settings, write_fault};
 use std::alloc::{AllocError, Global};
 use std::io::{Read, Write};
 
@@ -90,14 +91,8 @@ fn read_run(alloc: Global, settings: &[u8]) -> Result<Run, SettingsFault> {
         return Err(SettingsFault::NotToml);
     };
     let settings = read_settings(alloc, text)?;
-    if settings.devices.len() > 1 {
-        return Err(SettingsFault::OutOfRange(Key::Device));
-    }
-    if settings.printers.len() > 1 {
-        return Err(SettingsFault::OutOfRange(Key::Printer));
-    }
     let names = device_names(alloc, &settings)?;
-    let core = Core::new(alloc, settings)?;
+    let core = Core::new(alloc, settings, Lazy::new(alloc))?;
     Ok(Run {
         alloc,
         core,
@@ -119,7 +114,7 @@ fn device_names(alloc: Global, settings: &Settings) -> Result<Vec<Text>, AllocEr
 #[derive(Drop)]
 struct Run {
     alloc: Global,
-    core: Core,
+    core: Core<Lazy>,
     names: Vec<Text>,
     moment: Moment,
 }
@@ -161,6 +156,7 @@ impl Run {
             Line::Device(device, line) => {
                 report(&mut self.core, device, line, &mut log, self.moment)?;
             }
+            Line::Tick => tick(&mut self.core, &mut log, self.moment)?,
         }
         log.write(&self.names, output)
     }

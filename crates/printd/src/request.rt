@@ -2,8 +2,9 @@
 ghost use Rattle.std.specs.Prelude.{◌<◌, IfSome, length};
 
 use base_types::Text;
-use dispatcher::{PrintJob, Target};
+use dispatcher::{JobTemplate, PrintJob, Target};
 use ipp_codec::{AttributeView, GroupTag, GroupView, MessageView, ValueTag, ValueView};
+use spool::Octets;
 use std::alloc::{AllocError, Global};
 
 /// Why a head is no request that the server acts on.
@@ -160,7 +161,8 @@ pub fn print_job(
         impressions: impressions(group)?,
         compression: copied(alloc, group, b"compression", ValueTag::KEYWORD)?,
         format: copied(alloc, group, b"document-format", ValueTag::MIME_MEDIA_TYPE)?,
-        octets: Vec::from_slice(alloc, document)?,
+        template: JobTemplate::new(),
+        octets: Octets::new(Vec::from_slice(alloc, document)?),
     })
 }
 

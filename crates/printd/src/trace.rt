@@ -14,6 +14,8 @@ pub enum Line {
     Ipp(Vec<u8>),
     /// A device reports.
     Device(DeviceId, Report),
+    /// Time goes on.
+    Tick,
 }
 
 /// The line that a text is, where the devices have these names, if it is one.
@@ -21,6 +23,9 @@ pub fn read_line(alloc: Global, text: &[u8], devices: &[Text]) -> Result<Option<
     let Ok(text) = std::str::from_utf8(text) else {
         return Ok(None);
     };
+    if text == "tick" {
+        return Ok(Some(Line::Tick));
+    }
     let Some((word, rest)) = text.split_once(' ') else {
         return Ok(None);
     };

@@ -1,6 +1,4 @@
-use Rattle.std.proofs.Common.{◌≡◌, ◌∙◌, ◌<◌, sym, ap, subst, List, get_or, set, length, map, rules}
 use Rattle.std.proofs.lemmas.List.Edits.{map_over_more}
-use Rattle.base_types.specs.declared.device.Medium.{Medium}
 use Rattle.dispatcher.specs.State.{loaded_if}
 use Rattle.dispatcher.proofs.state.load.Goals as goal
 

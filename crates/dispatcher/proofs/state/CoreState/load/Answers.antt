@@ -1,16 +1,16 @@
-use Rattle.std.proofs.Common.{◌≡◌, ◌∙◌, ◌<◌, sym, ap, subst, List, get_or, set, length, map, arith}
+use Rattle.std.proofs.Common.{◌≡◌, ◌∙◌, ◌<◌, ap, List, set, length, map, arith}
 use Rattle.std.specs.Vec.{with_items}
 use Rattle.std.proofs.lemmas.List.{with_items_is}
 use Rattle.base_types.specs.declared.device.Medium.{Medium}
 use Rattle.base_types.specs.Device.{Device}
 use Rattle.dispatcher.specs.State.{State, with_device, holding, loaded_if}
 use Rattle.dispatcher.proofs.Devices.{set_one}
-use Rattle.dispatcher.proofs.state.Core.load.Goals as goal
+use Rattle.dispatcher.proofs.state.CoreState.load.Goals as goal
 
 pub returns : goal.returns
 returns c =
     let inside : c.args.place < length c.self.inside.devices.items = rw (ap (λ (s : State). s.devices) c.self.view_is) c.requires in
-    let state : List Device → State = λ (ds : List Device). record { settings = c.self.inside.settings; devices = ds; jobs = c.self.inside.jobs; last = c.self.inside.last; plan = c.self.inside.plan } in
+    let state : List Device → State = λ (ds : List Device). record { settings = c.self.inside.settings; paused = c.self.inside.paused.items; devices = ds; spool = c.self.inside.spool; last = c.self.inside.last; plan = c.self.inside.plan; begun = c.self.inside.begun.items } in
     let written : Device → State = λ (d : Device). state (set c.self.inside.devices.items c.args.place (holding c.args.names.now d)) in
     let same : length c.load.new.media ≡ c.device.inside.media.len = omega (arith, c.load.auto.media, c.device.inside.media.ok.0, ap (λ (ms : List Medium). length ms) c.deref_mut.ensures.value) in
     let loaded : (with_items c.device.inside.media c.load.new.media).items ≡ map (loaded_if c.args.names.now) c.device.inside.media.items =

@@ -1,13 +1,13 @@
-use Rattle.std.proofs.Common.{◌≡◌, ◌∙◌, ◌<◌, sym, ap, subst, List, get_or, set, length}
+use Rattle.std.proofs.Common.{◌∙◌, ◌<◌, ap, List, set, length}
 use Rattle.base_types.specs.Device.{Device}
 use Rattle.dispatcher.specs.State.{State, with_device, doing}
 use Rattle.dispatcher.proofs.Devices.{set_one}
-use Rattle.dispatcher.proofs.state.Core.set_activity.Goals as goal
+use Rattle.dispatcher.proofs.state.CoreState.set_activity.Goals as goal
 
 pub returns : goal.returns
 returns c =
     let inside : c.args.place < length c.self.inside.devices.items = rw (ap (λ (s : State). s.devices) c.self.view_is) c.requires.inside in
-    let state : List Device → State = λ (ds : List Device). record { settings = c.self.inside.settings; devices = ds; jobs = c.self.inside.jobs; last = c.self.inside.last; plan = c.self.inside.plan } in
+    let state : List Device → State = λ (ds : List Device). record { settings = c.self.inside.settings; paused = c.self.inside.paused.items; devices = ds; spool = c.self.inside.spool; last = c.self.inside.last; plan = c.self.inside.plan; begun = c.self.inside.begun.items } in
     let written : Device → State = λ (d : Device). state (set c.self.inside.devices.items c.args.place (doing c.args.activity d)) in
     ap written c.device.view_is
     ∙ (ap written c.index_mut-device.ensures.value

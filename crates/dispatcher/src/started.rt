@@ -1,0 +1,10 @@
+use base_types::{DeviceId, JobId};
+
+/// A job that a device begins.
+#[derive(Clone, Copy, Debug, PartialEq, Eq)]
+pub struct Started {
+    pub job: JobId,
+    pub device: DeviceId,
+    /// How long it takes there, as estimated, in ms: at most [`base_types::Limits::JOB_TIME`].
+    pub time: u64,
+}
