@@ -9,7 +9,7 @@ use Rattle.base_types.specs.Forms.{is_name}
 use Rattle.base_types.specs.Ranges.{IsJobId}
 use Rattle.cost_table.specs.Time.{IsTime}
 use Rattle.prices.specs.declared.plan.PlannedClass.{PlannedClass}
-use Rattle.prices.specs.declared.plan.Stranded.{Stranded}
+use Rattle.base_types.specs.declared.needs.Stranded.{Stranded}
 use Rattle.plan_checker.specs.declared.text.fault.TextFault.{TextFault}
 use Rattle.plan_checker.specs.declared.text.stage.Stage.{Stage}
 use Rattle.plan_checker.specs.declared.text.stage.Stage.TheVariants as stages

@@ -4,7 +4,7 @@ use Rattle.std.proofs.lemmas.Bool.{and_parts, eqb-true, not-false}
 use Rattle.std.proofs.lemmas.List.Elements.{All-append, All-cons, All-nil}
 use Rattle.base_types.specs.declared.limits.TheConstants.Limits.{DEVICES, DEFAULT_PRIORITY}
 use Rattle.prices.specs.declared.plan.PlannedClass.{PlannedClass}
-use Rattle.prices.specs.declared.plan.Stranded.{Stranded}
+use Rattle.base_types.specs.declared.needs.Stranded.{Stranded}
 use Rattle.plan_checker.specs.declared.text.fault.TextFault.{TextFault}
 use Rattle.plan_checker.specs.declared.text.fault.TextFault.TheVariants.{BadLine, OutOfRange, NoEnd}
 use Rattle.plan_checker.specs.declared.text.stage.Stage.TheVariants as stages

@@ -5,7 +5,7 @@ use Rattle.base_types.specs.Forms.{is_name}
 use Rattle.base_types.specs.Ranges.{IsJobId, IsPriority}
 use Rattle.cost_table.specs.Class.{IsClass}
 use Rattle.prices.specs.declared.plan.PlannedClass.{PlannedClass}
-use Rattle.prices.specs.declared.plan.Stranded.{Stranded}
+use Rattle.base_types.specs.declared.needs.Stranded.{Stranded}
 use Rattle.plan_checker.specs.PlanText.{NamedPlan}
 
 abbrev pub IsPrice : ℤ → Type 0

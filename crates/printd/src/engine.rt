@@ -23,7 +23,7 @@ pub enum Served {
 /// Acts on one IPP body, and gives its reply; a dispatch follows its event.
 ///
 /// After want of memory the event and its dispatch, the dispatch, or the reply are missing.
-pub fn serve_body<P: Planner, N: Notes>(
+pub fn serve_body<P: Planner + Drop, N: Notes>(
     alloc: Global,
     core: &mut Core<P>,
     body: &[u8],
@@ -52,7 +52,7 @@ fn reply_bytes(alloc: Global, answer: Answer, request_id: u32) -> Result<Vec<u8>
 }
 
 /// Acts on a device's report; a dispatch follows it.
-pub fn report<P: Planner, N: Notes>(
+pub fn report<P: Planner + Drop, N: Notes>(
     core: &mut Core<P>,
     device: DeviceId,
     report: Report,
@@ -64,7 +64,7 @@ pub fn report<P: Planner, N: Notes>(
 }
 
 /// Acts on a tick; a dispatch follows it.
-pub fn tick<P: Planner, N: Notes>(
+pub fn tick<P: Planner + Drop, N: Notes>(
     core: &mut Core<P>,
     notes: &mut N,
     moment: Moment,
@@ -74,7 +74,7 @@ pub fn tick<P: Planner, N: Notes>(
 }
 
 /// Acts on an event, and dispatches unless it is a query.
-fn act<P: Planner, N: Notes>(
+fn act<P: Planner + Drop, N: Notes>(
     core: &mut Core<P>,
     event: Event,
     notes: &mut N,
