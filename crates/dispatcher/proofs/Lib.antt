@@ -5,3 +5,4 @@ pub mod Building
 pub mod Priorities
 pub mod Checked
 pub mod Starts
+pub mod Runs

@@ -10,3 +10,4 @@ pub mod Dispatch
 pub mod Dispatched
 pub mod Lending
 pub mod Step
+pub mod Run

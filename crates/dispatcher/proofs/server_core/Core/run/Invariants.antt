@@ -1,0 +1,11 @@
+use Rattle.std.proofs.Common.{◌≡◌, ◌+◌, ◌≤◌, length}
+use Rattle.std.specs.Vec.Iter.{into_iter_items}
+use Rattle.dispatcher.specs.Run.{Run}
+use Rattle.dispatcher.proofs.server_core.Core.run.Given as goal
+
+abbrev pub invariant-loop-timed : goal.invariant-loop-timed
+invariant-loop-timed g l =
+    (goal.iterator-loop-timed g).can_next l.timed-iterator
+    × (goal.iterator-loop-timed g).is_finite l.timed-iterator
+    × Run l.initial.self l.yielded l.outcomes.items l.self
+    × (length l.outcomes.items + length (into_iter_items l.timed-iterator) ≤ l.outcomes.cap)

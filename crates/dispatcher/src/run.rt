@@ -1,0 +1,69 @@
+ghost use Rattle.std.specs.Prelude.{◌≡◌, IfOk, OnErr};
+ghost use Rattle.dispatcher.specs.Run.{Comes, Run};
+
+use crate::event::Event;
+use crate::reply::Reply;
+use crate::server_core::Core;
+use assignment::Planner;
+use base_types::Moment;
+use std::alloc::{AllocError, Global};
+
+/// An event, and the moment at which it comes.
+#[derive(Debug, Drop)]
+pub struct Timed {
+    pub event: Event,
+    pub moment: Moment,
+}
+
+/// What becomes of an event.
+#[derive(Drop)]
+pub enum Outcome {
+    /// It was dropped for want of memory, and nothing changed.
+    Dropped,
+    /// It was a query, and answered.
+    Queried(Reply),
+    /// It was answered; the dispatch that follows was refused for want of memory and changed nothing.
+    Undispatched(Reply),
+    /// It was answered, and a dispatch followed, which may have found no job ready.
+    Dispatched(Reply),
+}
+
+impl<P: Planner + Drop> Core<P> {
+    /// Acts on an event, and dispatches unless it is a query.
+    pub fn handle(&mut self, timed: Timed) -> Outcome
+        ensures { Comes self.old timed result self.new }
+    {
+        let Timed { event, moment } = timed;
+        let is_query = event.is_query();
+        let Ok(reply) = self.apply(event, moment) else {
+            return Outcome::Dropped;
+        };
+        if is_query {
+            return Outcome::Queried(reply);
+        }
+        match self.dispatch(moment) {
+            Ok(_made) => Outcome::Dispatched(reply),
+            Err(_) => Outcome::Undispatched(reply),
+        }
+    }
+
+    /// Acts on events, one after the other, each followed by a dispatch unless it is a query.
+    ///
+    /// For every list of requests, moments and device reports, whenever a plan is made, each priority
+    /// class, from the highest down and given when the classes above leave each device free, has the
+    /// least total of estimated completion times among all ways to assign its ready jobs to capable
+    /// devices and order them; its prices prove this to the checker alone, and every job without a
+    /// capable device is named.
+    ///
+    /// The only error is want of memory for the answers, before anything happens.
+    pub fn run(&mut self, alloc: Global, events: Vec<Timed>) -> Result<Vec<Outcome>, AllocError>
+        ensures ok { IfOk result (λ outcomes. Run self.old events.items outcomes.items self.new) }
+        ensures err { OnErr result (self.new ≡ self.old) }
+    {
+        let mut outcomes = Vec::with_capacity(alloc, events.len())?;
+        for timed in events {
+            outcomes.push_reserved(self.handle(timed));
+        }
+        Ok(outcomes)
+    }
+}
