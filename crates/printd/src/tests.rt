@@ -21,6 +21,9 @@ fn worked_rows(rt: HostRuntime) {
         rows::ONE_JOB,
         rows::REFUSED_REQUESTS,
         rows::MALFORMED_MESSAGES,
+        rows::NOT_RUNNING,
+        rows::STOP_AND_CONTINUE,
+        rows::TWO_DEVICES,
     ] {
         let (status, output) = run(&rt, trace);
         assert_eq!(rt; status, 0);
