@@ -7,3 +7,4 @@ pub mod Together
 pub mod Offered
 pub mod PrinterAttribute
 pub mod PrinterShown
+pub mod Created

@@ -8,6 +8,7 @@
 #![tactic(auto)]
 
 mod attribute;
+mod created;
 mod job_attribute;
 mod job_shown;
 mod offered;
@@ -18,6 +19,7 @@ mod requested;
 mod state;
 mod together;
 
+pub use created::created_job_attributes;
 pub use job_attribute::JobAttribute;
 pub use job_shown::{JobShown, job_attributes, job_uri, printer_uri};
 pub use printer::Printer;

@@ -1,0 +1,32 @@
+ghost use Rattle.std.specs.Prelude.{◌≡◌, IfOk};
+ghost use Rattle.ipp_codec.specs.Owned.{group_owned};
+ghost use Rattle.printer_objects.specs.Created.{created_attributes};
+
+use crate::attribute::{bytes, enumerated, number, reasons};
+use crate::job_shown::job_uri;
+use base_types::{JobId, Text};
+use ipp_codec::{Group, GroupTag, ValueTag};
+use job_objects::{JobReasons, JobState};
+use std::alloc::{AllocError, Global};
+
+/// What the creation of a job is answered with (RFC 8011, section 4.2.1.2): the job group with the
+/// URI, the id, the state and the reasons that the job has or will have.
+///
+/// The only error is want of memory.
+pub fn created_job_attributes(
+    alloc: Global,
+    uri_base: &Text,
+    id: JobId,
+    state: JobState,
+    why: JobReasons,
+) -> Result<Group, AllocError>
+    ensures { IfOk result (λ group. group_owned group ≡ created_attributes uri_base.now id state why) }
+{
+    let mut group = Group::new(alloc, GroupTag::JOB);
+    let uri = job_uri(alloc, uri_base, id)?;
+    group.push(bytes(alloc, "job-uri", ValueTag::URI, &uri)?)?;
+    group.push(number(alloc, "job-id", u64::from(id.number()))?)?;
+    group.push(enumerated(alloc, "job-state", state.code())?)?;
+    group.push(reasons(alloc, "job-state-reasons", why)?)?;
+    Ok(group)
+}
