@@ -6,3 +6,4 @@ pub mod Priorities
 pub mod Checked
 pub mod Starts
 pub mod Runs
+pub mod KnownFormats

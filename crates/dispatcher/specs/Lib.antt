@@ -9,5 +9,6 @@ pub mod Planned
 pub mod Dispatch
 pub mod Dispatched
 pub mod Lending
+pub mod PrintJob
 pub mod Step
 pub mod Run

@@ -12,11 +12,12 @@
 
 mod activity;
 mod apply;
-mod attributes;
 mod dispatch;
 mod event;
+mod formats;
 mod opening;
 mod planning;
+mod print_job;
 mod ready;
 mod reply;
 mod report;

@@ -1,7 +1,12 @@
+ghost use Rattle.std.specs.Prelude.{◌≡◌, []};
+ghost use Rattle.ipp_codec.specs.Owned.{groups_owned};
+ghost use Rattle.dispatcher.specs.PrintJob.{Replies};
+
 use crate::status::Status;
 use base_types::{DeviceId, JobId};
 use ipp_codec::{Attribute, Group};
 use spool::Document;
+use std::alloc::Global;
 
 /// A cancel to send: the device still has the job.
 #[derive(Clone, Copy, Debug, PartialEq, Eq)]
@@ -36,4 +41,34 @@ pub struct Reply {
     pub cancels: Vec<Cancel>,
     /// Documents that the core has no use for any more.
     pub documents: Vec<Document>,
+}
+
+impl Reply {
+    /// A status and groups, and nothing else.
+    pub(crate) fn answered(alloc: Global, status: Status, groups: Vec<Group>) -> Reply
+        ensures { Replies status (groups_owned groups.items) result }
+    {
+        Reply {
+            answer: Answer::Ipp(IppAnswer {
+                status,
+                unsupported: Vec::new(alloc),
+                groups,
+            }),
+            cancels: Vec::new(alloc),
+            documents: Vec::new(alloc),
+        }
+    }
+
+    /// No answer, and these documents.
+    pub(crate) fn unanswered(alloc: Global, documents: Vec<Document>) -> Reply
+        ensures answer { result.answer ≡ Answer.Nothing }
+        ensures cancels { result.cancels.items ≡ [] }
+        ensures documents { result.documents.items ≡ documents.items }
+    {
+        Reply {
+            answer: Answer::Nothing,
+            cancels: Vec::new(alloc),
+            documents,
+        }
+    }
 }

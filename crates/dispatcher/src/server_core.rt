@@ -48,12 +48,12 @@ impl<P: Planner + Drop> Core<P> {
 
     /// Acts on an event, at a moment or, where that is earlier, at the last one.
     ///
-    /// After want of memory the event is dropped and the state is as it was. A report and a tick take no
-    /// memory.
+    /// After want of memory the event is dropped and the state is as it was. A report, a tick and a
+    /// Print-Job that is refused take no memory.
     pub fn apply(&mut self, event: Event, moment: Moment) -> Result<Reply, AllocError>
         ensures ok { IfOk result (λ reply. Step self.old event moment reply self.new) }
         ensures err { OnErr result (self.new ≡ self.old) }
-        ensures light { TakesNoMemory event → IsOk result }
+        ensures light { TakesNoMemory event moment self.old → IsOk result }
     {
         self.state.apply(event, moment)
     }

@@ -1,0 +1,27 @@
+-- The search of a format among the devices of a printer.
+use Rattle.std.proofs.Common.{◌≡◌, ◌∙◌, ℕ, suc, ◌+◌, ◌<◌, Bool, List, [], ◌∷◌, ◌++◌, length, get_or, drop, find, Some, None, if◌then◌else◌, sym, ap, drop-cons, add-one}
+use Rattle.std.specs.List.{flat_map}
+use Rattle.std.specs.Option.{option_or}
+use Rattle.std.proofs.lemmas.List.Folds.{find-append}
+
+-- the search from a place on: there, else behind it
+pub find_from : {X A : Type 0} (p : A → Bool) (f : X → List A) (xs : List X) (i : ℕ) (x : X) → i < length xs → x ≡ get_or xs i x → find p (flat_map f (drop i xs)) ≡ option_or (find p (f x)) (find p (flat_map f (drop (i + 1) xs)))
+find_from {X} p f xs i x inside is =
+    ap (λ (ys : List X). find p (flat_map f ys)) (drop-cons xs i x inside)
+    ∙ (find-append p (f (get_or xs i x)) (flat_map f (drop (suc i) xs))
+    ∙ (ap (λ (y : X). option_or (find p (f y)) (find p (flat_map f (drop (suc i) xs)))) (sym is)
+    ∙ ap (λ (n : ℕ). option_or (find p (f x)) (find p (flat_map f (drop n xs)))) (sym (add-one i))))
+
+-- found there
+pub found_at : {X A : Type 0} (p : A → Bool) (f : X → List A) (xs : List X) (i : ℕ) (x : X) (found : A) → i < length xs → x ≡ get_or xs i x → Some found ≡ find p (f x) → Some found ≡ find p (flat_map f (drop i xs))
+found_at p f xs i x found inside is here =
+    sym (find_from p f xs i x inside is ∙ ap (λ o. option_or o (find p (flat_map f (drop (i + 1) xs)))) (sym here))
+
+-- not there
+pub not_at : {X A : Type 0} (p : A → Bool) (f : X → List A) (xs : List X) (i : ℕ) (x : X) → i < length xs → x ≡ get_or xs i x → None ≡ find p (f x) → find p (flat_map f (drop i xs)) ≡ find p (flat_map f (drop (i + 1) xs))
+not_at p f xs i x inside is none =
+    find_from p f xs i x inside is ∙ ap (λ o. option_or o (find p (flat_map f (drop (i + 1) xs)))) (sym none)
+
+-- a search that ends with a default
+pub find_or_default : {A : Type 0} (p : A → Bool) (xs : List A) (d : A) → find p (xs ++ d ∷ []) ≡ option_or (find p xs) (if p d then Some d else None)
+find_or_default p xs d = find-append p xs (d ∷ [])

@@ -1,0 +1,147 @@
+-- What a Print-Job request comes to (RFC 8011, section 4.2.1): why it is refused, else the job that it
+-- makes, and what it is answered.
+use Rattle.std.specs.Prelude.{ℕ, ◌≡◌, ◌+◌, ◌==◌, ◌||◌, not, nat_lt, Bool, false, if◌then◌else◌, List, [], ◌∷◌, ◌++◌, find, position, reverse, length, Option, Some, None, unwrap_or, slice_get, Result, Ok, Err, MatchResult, codes}
+use Rattle.std.specs.List.{before_first, flat_map}
+use Rattle.std.specs.Option.{option_map_or}
+use Rattle.std.specs.Str.{bytes_eq, str_eq_ignore_ascii_case}
+use Rattle.base_types.specs.Device.{Device}
+use Rattle.base_types.specs.declared.limits.TheConstants.Limits.{DEFAULT_PRIORITY, JOB_OCTETS}
+use Rattle.base_types.specs.declared.needs.Sides.TheVariants.{One}
+use Rattle.settings_file.specs.Settings.{PrinterEntry}
+use Rattle.ipp_codec.specs.Message.{IppGroup}
+use Rattle.ipp_codec.specs.Owned.{groups_owned}
+use Rattle.printer_objects.specs.Created.{created_group}
+use Rattle.spool.specs.Submission.{Submission, spooled_of}
+use Rattle.spool.specs.Calls.{is_full, paused_at}
+use Rattle.dispatcher.specs.declared.event.PrintJob.{PrintJob}
+use Rattle.dispatcher.specs.declared.event.Target.{Target}
+use Rattle.dispatcher.specs.declared.event.Target.TheVariants.{Named, First, Unknown}
+use Rattle.dispatcher.specs.declared.reply.Answer.{Answer}
+use Rattle.dispatcher.specs.declared.reply.Answer.TheVariants as Says
+use Rattle.dispatcher.specs.declared.reply.Reply.{Reply}
+use Rattle.dispatcher.specs.declared.status.Status.{Status}
+use Rattle.dispatcher.specs.declared.status.Status.TheVariants as Went
+use Rattle.dispatcher.specs.State.{State}
+
+-- ---- what the request asks for
+
+-- the place of the printer that printer-uri names (section 4.1.5): the first of that name, or the first of all
+abbrev pub place_of : Target → List PrinterEntry → Option ℕ
+place_of (Named name) printers = position (λ p. bytes_eq name p.name) printers
+place_of First printers = Some 0
+place_of Unknown printers = None
+
+-- compression is given and is not `none` (section 4.2.1.1)
+abbrev pub is_compressed : Option (List ℕ) → Bool
+is_compressed compression = option_map_or (λ c. not (bytes_eq c (codes "none"))) compression false
+
+-- ---- the document format (section 5.1.10)
+
+-- a space or a tab
+abbrev pub is_blank : ℕ → Bool
+is_blank byte = (byte == 32) || (byte == 9)
+
+-- from the first byte that is no blank
+abbrev pub from_word : List ℕ → List ℕ
+from_word [] = []
+from_word (byte ∷ bytes) = if is_blank byte then from_word bytes else byte ∷ bytes
+
+-- without the blanks around it
+unfoldable pub trimmed : List ℕ → List ℕ
+trimmed text = reverse (from_word (reverse (from_word text)))
+
+-- a format without its parameters: up to a `;`
+unfoldable pub plain_format : List ℕ → List ℕ
+plain_format format = trimmed (before_first (λ byte. byte == 59) format)
+
+-- in any case of ASCII letters
+unfoldable pub is_same_format : List ℕ → List ℕ → Bool
+is_same_format asked known = str_eq_ignore_ascii_case (plain_format asked) known
+
+-- the formats of the device at a place, if there is one
+abbrev pub formats_at : List Device → ℕ → List (List ℕ)
+formats_at devices place = option_map_or (λ d. d.formats) (slice_get devices place) []
+
+-- the formats of a printer: those of its devices in their order, then its default
+abbrev pub formats_of : List Device → PrinterEntry → List (List ℕ)
+formats_of devices printer = flat_map (formats_at devices) printer.devices ++ printer.format_default ∷ []
+
+-- the settings' spelling of the format asked for, if the printer has it; without document-format the default
+abbrev pub format_of : List Device → PrinterEntry → Option (List ℕ) → Option (List ℕ)
+format_of devices printer None = Some printer.format_default
+format_of devices printer (Some asked) = find (is_same_format asked) (formats_of devices printer)
+
+-- ---- the job
+
+-- the job of the document; what the template doesn't say has the default (section 5.2)
+abbrev pub submission_of : PrintJob → ℕ → ℕ → PrinterEntry → List ℕ → Submission
+submission_of request now place printer format = record {
+  created = now;
+  printer = place;
+  owner = request.user;
+  name = request.job_name;
+  priority = unwrap_or request.template.priority DEFAULT_PRIORITY;
+  sides = unwrap_or request.template.sides One;
+  media = unwrap_or request.template.media printer.media_default;
+  copies = unwrap_or request.template.copies 1;
+  held = request.template.held;
+  impressions = request.impressions;
+  documents = record { format = format; contents = request.octets } ∷ [];
+}
+
+-- ---- the job that a request makes, or the status of the first reason against it
+
+-- the job is too large, or the server is busy
+abbrev pub admitted : State → Submission → ℕ → Result Submission Status
+admitted old job octets =
+    if nat_lt JOB_OCTETS octets then Err Went.TooLarge
+    else if is_full old.spool then Err Went.Busy
+    else Ok job
+
+-- the document is compressed, or its format isn't supported
+abbrev pub asked_of_printer : PrintJob → ℕ → State → ℕ → PrinterEntry → Result Submission Status
+asked_of_printer request now old place printer =
+    if is_compressed request.compression then Err Went.CompressionNotSupported
+    else option_map_or (λ format. admitted old (submission_of request now place printer format) (length request.octets)) (format_of old.devices printer request.format) (Err Went.FormatNotSupported)
+
+-- the printer is unknown
+abbrev pub asked_at : PrintJob → ℕ → State → ℕ → Result Submission Status
+asked_at request now old place = option_map_or (asked_of_printer request now old place) (slice_get old.settings.printers place) (Err Went.NotFound)
+
+abbrev pub asked_of : PrintJob → ℕ → State → Result Submission Status
+asked_of request now old = option_map_or (asked_at request now old) (place_of request.target old.settings.printers) (Err Went.NotFound)
+
+-- ---- the answer
+
+-- an answer of just this status and these groups
+abbrev pub IsAnswer : Status → List IppGroup → Answer → Type 0
+IsAnswer status groups (Says.Ipp answer) = (answer.status ≡ status) × (answer.unsupported.items ≡ []) × (groups_owned answer.groups.items ≡ groups)
+IsAnswer status groups Says.Nothing = ⊥
+
+-- a reply of just this status and these groups: no cancels, no documents
+pub record Replies (status : Status) (groups : List IppGroup) (reply : Reply) : Type 0 where
+  pub answer : IsAnswer status groups reply.answer
+  pub cancels : reply.cancels.items ≡ []
+  pub documents : reply.documents.items ≡ []
+
+-- the group that shows a job that is taken next, before any dispatch (section 4.2.1.2)
+abbrev pub group_of : State → Submission → IppGroup
+group_of old job = created_group old.settings.uri_base (spooled_of job old.spool.next false).job (paused_at old.paused job.printer)
+
+-- the job is answered, and kept under the next id
+pub record TakesJob (now : ℕ) (old : State) (job : Submission) (reply : Reply) (new : State) : Type 0 where
+  pub replies : Replies Went.Ok (group_of old job ∷ []) reply
+  pub state : new ≡ record old {
+    last = now;
+    spool = record { jobs = old.spool.jobs ++ spooled_of job old.spool.next false ∷ []; next = old.spool.next + 1 };
+  }
+
+-- the status alone is answered
+pub record RefusesJob (now : ℕ) (old : State) (status : Status) (reply : Reply) (new : State) : Type 0 where
+  pub replies : Replies status [] reply
+  pub state : new ≡ record old { last = now }
+
+-- one reply and one state after it
+abbrev pub PrintsJob : ℕ → PrintJob → State → Reply → State → Type 0
+PrintsJob now request old reply new =
+    MatchResult (asked_of request now old) (λ job. TakesJob now old job reply new) (λ status. RefusesJob now old status reply new)
