@@ -63,7 +63,15 @@ fn is_heard(alloc: Global, stream: &[u8], wanted: &[u8]) -> Result<bool, AllocEr
 #[test]
 fn http_exchange(rt: HostRuntime) -> Result<(), Fail> {
     let alloc = rt.alloc();
-    let rows: [(&[u8], &[u8]); 5] = [
+    let rows: [(&[u8], &[u8]); 7] = [
+        (
+            b"POST /printers/lab HTTP/1.1\r\nHost: localhost\r\nContent-Type: application/ipp\r\nContent-Length: 125\r\n\r\n\x01\x01\x00\x02\x00\x00\x00\x01\x01G\x00\x12attributes-charset\x00\x05utf-8H\x00\x1battributes-natural-language\x00\x02enE\x00\x0bprinter-uri\x00 ipp://localhost:631/printers/lab\x03hello",
+            b"head \x01\x01\x00\x02\x00\x00\x00\x01\x01G\x00\x12attributes-charset\x00\x05utf-8H\x00\x1battributes-natural-language\x00\x02enE\x00\x0bprinter-uri\x00 ipp://localhost:631/printers/lab\x03hello end ",
+        ),
+        (
+            b"POST /printers/lab HTTP/1.1\r\nHost: localhost\r\nContent-Type: application/ipp\r\nTransfer-Encoding: chunked\r\nExpect: 100-continue\r\n\r\n7d\r\n\x01\x01\x00\x02\x00\x00\x00\x01\x01G\x00\x12attributes-charset\x00\x05utf-8H\x00\x1battributes-natural-language\x00\x02enE\x00\x0bprinter-uri\x00 ipp://localhost:631/printers/lab\x03hello\r\n0\r\n\r\n",
+            b"head continue \x01\x01\x00\x02\x00\x00\x00\x01\x01G\x00\x12attributes-charset\x00\x05utf-8H\x00\x1battributes-natural-language\x00\x02enE\x00\x0bprinter-uri\x00 ipp://localhost:631/printers/lab\x03hello end ",
+        ),
         (
             b"POST /printers/lab HTTP/1.1\r\nHost: localhost\r\nContent-Type: application/ipp\r\nContent-Length: 5\r\n\r\nhello\r\nPOST / HTTP/1.1\nHOST: b\nCONTENT-TYPE: Application/IPP ; a=b\n\n",
             b"head hello end head  end ",
