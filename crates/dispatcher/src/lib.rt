@@ -27,6 +27,8 @@ mod started;
 mod starting;
 mod state;
 mod status;
+#[cfg(test)]
+mod tests;
 
 pub use dispatch::Dispatched;
 pub use event::{Event, JobTemplate, PrintJob, Target};

@@ -1,0 +1,225 @@
+ghost use Rattle.std.specs.Option.{ForSome};
+ghost use Rattle.base_types.specs.Ranges.{IsCopies};
+
+mod best;
+mod full;
+mod reports;
+
+use crate::{
+    Answer, Core, Dispatched, Event, JobTemplate, PrintJob, Reply, Started, Status, Target,
+};
+use assignment::Lazy;
+use base_types::{Cause, DeviceId, Limits, Moment, Priority, Report, Sides, Text};
+use prices::Plan;
+use settings_file::read_settings;
+use spool::Octets;
+use std::alloc::{AllocError, Global};
+use std::test::Fail;
+
+/// The places of two devices.
+const A: usize = 0;
+
+const B: usize = 1;
+
+/// A job that a Print-Job asks for.
+#[derive(Clone, Copy)]
+struct Asked {
+    /// The printer, where it isn't the first one.
+    printer: Option<&'static str>,
+    priority: u8,
+    impressions: u32,
+    copies: u32,
+    sides: Sides,
+}
+
+/// One impression on one side, of normal priority.
+const LETTER: Asked = Asked {
+    printer: None,
+    priority: 50,
+    impressions: 1,
+    copies: 1,
+    sides: Sides::One,
+};
+
+/// What happens in a row.
+#[derive(Clone, Copy)]
+enum Happens {
+    Print(Asked),
+    Ready(usize),
+    Stop(usize),
+    Pages(usize, u32, u32),
+    Done(usize, u32),
+    /// The device has this medium alone.
+    Media(usize, &'static str),
+    Tick,
+}
+
+/// What a dispatch comes to.
+#[derive(Clone, Copy)]
+enum Comes {
+    /// None is asked for.
+    Undispatched,
+    /// No plan, and no start.
+    NoPlan,
+    Plan {
+        /// The priority and the total of each class.
+        classes: &'static [(u8, u64)],
+        stranded: &'static [(u32, Cause)],
+        /// One of these jobs begins on the device.
+        started: &'static [(&'static [u32], usize)],
+    },
+}
+
+/// What happens at a moment, and what the dispatch after it comes to.
+#[derive(Clone, Copy)]
+struct Row {
+    millis: u64,
+    happens: Happens,
+    comes: Comes,
+}
+
+fn at(millis: u64) -> Moment {
+    Moment::new(millis).unwrap_or(Moment::start())
+}
+
+/// So many copies, if there can be so many.
+fn copies_in_range(copies: u32) -> Option<u32>
+    ensures { ForSome result IsCopies }
+{
+    if copies >= 1 && copies <= Limits::COPIES {
+        Some(copies)
+    } else {
+        None
+    }
+}
+
+/// The core of a server with these settings.
+fn opened(alloc: Global, text: &str) -> Result<Core<Lazy>, Fail> {
+    let settings = read_settings(alloc, text)?;
+    let core = Core::new(alloc, settings, Lazy::new(alloc))?;
+    Ok(core)
+}
+
+/// The printer that a job asks for.
+fn target_of(alloc: Global, asked: Asked) -> Result<Target, AllocError> {
+    match asked.printer {
+        Some(name) => Ok(Target::Named(Text::copy_of(alloc, name.as_bytes())?)),
+        None => Ok(Target::First),
+    }
+}
+
+/// Anna's Print-Job of five octets.
+fn print_job(alloc: Global, asked: Asked) -> Result<Event, AllocError> {
+    let target = target_of(alloc, asked)?;
+    let user = Text::copy_of(alloc, b"anna")?;
+    let job_name = Text::copy_of(alloc, b"letter")?;
+    let bytes = Vec::from_slice(alloc, b"hello")?;
+    Ok(Event::PrintJob(PrintJob {
+        target,
+        user,
+        job_name,
+        impressions: Some(asked.impressions),
+        compression: None,
+        format: None,
+        template: JobTemplate {
+            priority: Priority::new(asked.priority),
+            sides: Some(asked.sides),
+            media: None,
+            copies: copies_in_range(asked.copies),
+            held: false,
+        },
+        octets: Octets::new(bytes),
+    }))
+}
+
+/// A device has this medium alone.
+fn media(alloc: Global, name: &str) -> Result<Report, AllocError> {
+    let mut names = Vec::with_capacity(alloc, 1)?;
+    names.push(Text::copy_of(alloc, name.as_bytes())?)?;
+    Ok(Report::Media(names))
+}
+
+fn event_of(alloc: Global, happens: Happens) -> Result<Event, AllocError> {
+    let (place, report) = match happens {
+        Happens::Print(asked) => return print_job(alloc, asked),
+        Happens::Tick => return Ok(Event::Tick),
+        Happens::Ready(place) => (place, Report::Ready),
+        Happens::Stop(place) => (place, Report::Stop),
+        Happens::Pages(place, job, printed) => (place, Report::Pages { job, printed }),
+        Happens::Done(place, job) => (place, Report::Done { job }),
+        Happens::Media(place, name) => (place, media(alloc, name)?),
+    };
+    Ok(Event::Report(DeviceId::new(place), report))
+}
+
+fn status_of(reply: &Reply) -> Option<Status> {
+    match &reply.answer {
+        Answer::Ipp(answer) => Some(answer.status),
+        Answer::Nothing => None,
+    }
+}
+
+/// Whether a plan has these classes and these stranded jobs.
+fn is_plan(plan: &Plan, classes: &[(u8, u64)], stranded: &[(u32, Cause)]) -> bool {
+    let planned = plan
+        .classes()
+        .iter()
+        .map(|class| (class.priority.level(), class.priced.total));
+    let left = plan
+        .stranded()
+        .iter()
+        .map(|left| (left.job.number(), left.cause));
+    planned.eq(classes.iter().copied()) && left.eq(stranded.iter().copied())
+}
+
+/// Whether it is one of these jobs that begins, on this device.
+fn is_start(started: &Started, wanted: &(&[u32], usize)) -> bool {
+    let (jobs, place) = *wanted;
+    started.device.place() == place && jobs.contains(&started.job.number())
+}
+
+/// Whether these began.
+fn are_starts(started: &[Started], wanted: &[(&[u32], usize)]) -> bool {
+    started.len() == wanted.len()
+        && started
+            .iter()
+            .zip(wanted)
+            .all(|(started, wanted)| is_start(started, wanted))
+}
+
+/// Whether a dispatch came to this.
+fn is_as(made: &Dispatched<'_>, comes: Comes) -> bool {
+    match (made.plan(), comes) {
+        (
+            Some(plan),
+            Comes::Plan {
+                classes,
+                stranded,
+                started,
+            },
+        ) => is_plan(plan, classes, stranded) && are_starts(made.started(), started),
+        (None, Comes::NoPlan) => made.started().is_empty(),
+        _ => false,
+    }
+}
+
+/// Whether a dispatch at a moment comes to this.
+fn dispatches(core: &mut Core<Lazy>, millis: u64, comes: Comes) -> Result<bool, AllocError> {
+    if matches!(comes, Comes::Undispatched) {
+        return Ok(true);
+    }
+    let made = core.dispatch(at(millis))?;
+    Ok(is_as(&made, comes))
+}
+
+/// Plays rows in order, up to the first that comes to something else than it says: that one's place.
+fn miss(alloc: Global, core: &mut Core<Lazy>, rows: &[Row]) -> Result<Option<usize>, AllocError> {
+    for (place, row) in rows.iter().enumerate() {
+        let event = event_of(alloc, row.happens)?;
+        core.apply(event, at(row.millis))?;
+        if !dispatches(core, row.millis, row.comes)? {
+            return Ok(Some(place));
+        }
+    }
+    Ok(None)
+}
