@@ -18,19 +18,25 @@ is_query (Is.PrintJob request) = false
 is_query (Is.Report device report) = false
 is_query Is.Tick = false
 
--- What becomes of an event. A dispatch may choose any good plan; one that is refused for want of memory
--- changes nothing, and none is refused where no job is ready.
-abbrev pub Comes : State → Timed → Outcome → State → Type 0
-Comes old timed Dropped new = new ≡ old
-Comes old timed (Queried reply) new = (is_query timed.event ≡ true) × Step old timed.event timed.moment reply new
-Comes old timed (Undispatched reply) new = (is_query timed.event ≡ false) × Step old timed.event timed.moment reply new × (ready_of new ≢ [])
-Comes old timed (Dispatched reply) new =
+-- what a listener hears of a dispatch: how its plan and what began change it
+abbrev pub Hearing : Type 0 → Type 1
+Hearing L = L → Option PlanRecord → List Started → L → Type 0
+
+-- What becomes of an event. A dispatch may choose any good plan, which the listener hears; one that is
+-- refused for want of memory changes nothing, and none is refused where no job is ready.
+abbrev pub Comes : {L : Type 0} → Hearing L → State → L → Timed → Outcome → State → L → Type 0
+Comes hears old listener timed Dropped new listener' = (new ≡ old) × (listener' ≡ listener)
+Comes hears old listener timed (Queried reply) new listener' = (is_query timed.event ≡ true) × Step old timed.event timed.moment reply new × (listener' ≡ listener)
+Comes hears old listener timed (Undispatched reply) new listener' =
+    (is_query timed.event ≡ false) × Step old timed.event timed.moment reply new × (ready_of new ≢ []) × (listener' ≡ listener)
+Comes hears old listener timed (Dispatched reply) new listener' =
     (is_query timed.event ≡ false) × (mid : State) × Step old timed.event timed.moment reply mid
-    × (plan : Option PlanRecord) × (started : List Started) × Dispatches (max timed.moment mid.last) mid plan started new
+    × (plan : Option PlanRecord) × (started : List Started) × Dispatches (max timed.moment mid.last) mid plan started new × hears listener plan started listener'
 
 -- each event in turn
-abbrev pub Run : State → List Timed → List Outcome → State → Type 0
-Run old [] [] new = new ≡ old
-Run old (timed ∷ events) (outcome ∷ outcomes) new = (mid : State) × Comes old timed outcome mid × Run mid events outcomes new
-Run old [] (outcome ∷ outcomes) new = ⊥
-Run old (timed ∷ events) [] new = ⊥
+abbrev pub Run : {L : Type 0} → Hearing L → State → L → List Timed → List Outcome → State → L → Type 0
+Run hears old listener [] [] new listener' = (new ≡ old) × (listener' ≡ listener)
+Run {L} hears old listener (timed ∷ events) (outcome ∷ outcomes) new listener' =
+    (mid : State) × (heard : L) × Comes hears old listener timed outcome mid heard × Run hears mid heard events outcomes new listener'
+Run hears old listener [] (outcome ∷ outcomes) new listener' = ⊥
+Run hears old listener (timed ∷ events) [] new listener' = ⊥

@@ -33,7 +33,7 @@ mod tests;
 pub use dispatch::Dispatched;
 pub use event::{Event, JobTemplate, PrintJob, Target};
 pub use reply::{Answer, Cancel, IppAnswer, Reply};
-pub use run::{Outcome, Timed};
+pub use run::{Listener, Outcome, Timed};
 pub use server_core::Core;
 pub use started::Started;
 pub use status::Status;

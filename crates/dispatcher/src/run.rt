@@ -1,6 +1,10 @@
-ghost use Rattle.std.specs.Prelude.{◌≡◌, IfOk, OnErr};
+ghost use Rattle.std.specs.Prelude.{◌≡◌, List, Option, IfOk, OnErr};
+ghost use Rattle.prices.specs.Plan.{PlanRecord};
+ghost use Rattle.dispatcher.specs.declared.started.Started.{Started};
+ghost use Rattle.dispatcher.specs.Dispatched.{plan_of, started_of};
 ghost use Rattle.dispatcher.specs.Run.{Comes, Run};
 
+use crate::dispatch::Dispatched;
 use crate::event::Event;
 use crate::reply::Reply;
 use crate::server_core::Core;
@@ -28,10 +32,19 @@ pub enum Outcome {
     Dispatched(Reply),
 }
 
+/// Who hears of dispatches. What each changes of the listener is the listener's own relation.
+pub trait Listener {
+    ghost hears: { Self → Option PlanRecord → List Started → Self → Type 0 };
+
+    /// A dispatch was made: its plan, where a job was ready, and the jobs that began.
+    fn dispatched(&mut self, made: &Dispatched<'_>)
+        ensures { hears self.old (plan_of made.now) (started_of made.now) self.new };
+}
+
 impl<P: Planner + Drop> Core<P> {
-    /// Acts on an event, and dispatches unless it is a query.
-    pub fn handle(&mut self, timed: Timed) -> Outcome
-        ensures { Comes self.old timed result self.new }
+    /// Acts on an event, and dispatches unless it is a query; the listener hears of the dispatch.
+    pub fn handle<L: Listener>(&mut self, timed: Timed, listener: &mut L) -> Outcome
+        ensures { Comes L.hears self.old listener.old timed result self.new listener.new }
     {
         let Timed { event, moment } = timed;
         let is_query = event.is_query();
@@ -42,12 +55,16 @@ impl<P: Planner + Drop> Core<P> {
             return Outcome::Queried(reply);
         }
         match self.dispatch(moment) {
-            Ok(_made) => Outcome::Dispatched(reply),
+            Ok(made) => {
+                listener.dispatched(&made);
+                Outcome::Dispatched(reply)
+            }
             Err(_) => Outcome::Undispatched(reply),
         }
     }
 
-    /// Acts on events, one after the other, each followed by a dispatch unless it is a query.
+    /// Acts on events, one after the other, each followed by a dispatch unless it is a query. It
+    /// answers what becomes of each; the listener hears each plan, and what begins with it.
     ///
     /// For every list of requests, moments and device reports, whenever a plan is made, each priority
     /// class, from the highest down and given when the classes above leave each device free, has the
@@ -56,13 +73,18 @@ impl<P: Planner + Drop> Core<P> {
     /// capable device is named.
     ///
     /// The only error is want of memory for the answers, before anything happens.
-    pub fn run(&mut self, alloc: Global, events: Vec<Timed>) -> Result<Vec<Outcome>, AllocError>
-        ensures ok { IfOk result (λ outcomes. Run self.old events.items outcomes.items self.new) }
-        ensures err { OnErr result (self.new ≡ self.old) }
+    pub fn run<L: Listener>(
+        &mut self,
+        alloc: Global,
+        events: Vec<Timed>,
+        listener: &mut L,
+    ) -> Result<Vec<Outcome>, AllocError>
+        ensures ok { IfOk result (λ outcomes. Run L.hears self.old listener.old events.items outcomes.items self.new listener.new) }
+        ensures err { OnErr result ((self.new ≡ self.old) × (listener.new ≡ listener.old)) }
     {
         let mut outcomes = Vec::with_capacity(alloc, events.len())?;
         for timed in events {
-            outcomes.push_reserved(self.handle(timed));
+            outcomes.push_reserved(self.handle(timed, listener));
         }
         Ok(outcomes)
     }

@@ -4,6 +4,7 @@ ghost use Rattle.base_types.specs.Ranges.{IsCopies};
 mod best;
 mod full;
 mod reports;
+mod runs;
 
 use crate::{
     Answer, Core, Dispatched, Event, JobTemplate, PrintJob, Reply, Started, Status, Target,

@@ -8,7 +8,7 @@ use base_types::{Activity, Cause, DeviceId, JobId, Sides};
 use job_objects::JobState;
 use std::test::Fail;
 
-const ONE_DEVICE: &str = "version = 1\n\
+pub(crate) const ONE_DEVICE: &str = "version = 1\n\
 uri_base = \"ipp://localhost:631\"\n\
 [[device]]\n\
 name = \"A\"\n\
