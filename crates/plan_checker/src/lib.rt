@@ -21,7 +21,9 @@ pub use class_verdict::check_class;
 pub use laws::proved_plan_is_yes;
 pub use plan_text::PlanText;
 pub use plan_verdict::{check_plan, has_one_each, has_one_list_each};
-pub use text::{ReadError, TextFault, read_plan_text, text_read_back, write_plan_text};
+pub use text::{
+    ReadError, TextFault, read_plan_text, text_read_back, write_named_plan, write_plan_text,
+};
 pub use verdict::{PlanVerdict, Verdict};
 
 #[cfg(test)]

@@ -1,6 +1,6 @@
-ghost use Rattle.std.specs.Prelude.{◌≡◌, ◌++◌, All, IfOk, OnOk, OnErr, codes, length, map};
+ghost use Rattle.std.specs.Prelude.{◌≡◌, ◌++◌, IfOk, OnOk, OnErr, codes, length, map};
 ghost use Rattle.plan_checker.specs.TextLine.{SaysPlan, SaysDevice, SaysClass, SaysJob, SaysWait, SaysWay, SaysTotal, SaysJobPrices, SaysPlacePrices, SaysStranded, SaysEnd};
-ghost use Rattle.plan_checker.specs.TextWriting.{line_text, lines_text, job_lines, way_lines, place_price_lines, device_lines, stranded_lines, class_job_lines, class_way_lines, class_price_lines, class_lines, classes_lines, plan_text, HasOneEach};
+ghost use Rattle.plan_checker.specs.TextWriting.{line_text, lines_text, job_lines, way_lines, place_price_lines, device_lines, stranded_lines, class_job_lines, class_way_lines, class_price_lines, class_lines, classes_lines, plan_text};
 
 use crate::plan_text::PlanText;
 use crate::text::write_word::{
@@ -8,26 +8,35 @@ use crate::text::write_word::{
 };
 use base_types::{JobId, Text};
 use cost_table::Row;
-use prices::{PlacePrices, PlannedClass, Queue, Stranded};
+use prices::{PlacePrices, Plan, PlannedClass, Queue, Stranded};
 use std::alloc::{AllocError, Global};
 
-/// Appends the text of a plan, which has a way and place prices for each device. Where there is no
-/// memory, nothing is appended.
+/// Appends the text of a plan with the names of its devices. Where there is no memory, nothing is
+/// appended.
 pub fn write_plan_text(
     alloc: Global,
     plan: &PlanText,
     output: &mut Vec<u8>,
 ) -> Result<(), AllocError>
-    requires { All (HasOneEach plan.now.devices) plan.now.plan.classes }
     ensures ok { OnOk result (output.new.items ≡ output.old.items ++ plan_text plan.now) }
     ensures err { OnErr result (output.new.items ≡ output.old.items) }
 {
-    let text = text_of(
-        alloc,
-        plan.devices(),
-        plan.plan().classes(),
-        plan.plan().stranded(),
-    )?;
+    write_named_plan(alloc, plan.devices(), plan.plan(), output)
+}
+
+/// Appends the text of a plan whose devices have these names. Where a class has fewer lists than
+/// there are names, or more, the rest is left out; a plan of the core has one for each device. Where
+/// there is no memory, nothing is appended.
+pub fn write_named_plan(
+    alloc: Global,
+    devices: &[Text],
+    plan: &Plan,
+    output: &mut Vec<u8>,
+) -> Result<(), AllocError>
+    ensures ok { OnOk result (output.new.items ≡ output.old.items ++ plan_text (record { devices = devices.now; plan = plan.now })) }
+    ensures err { OnErr result (output.new.items ≡ output.old.items) }
+{
+    let text = text_of(alloc, devices, plan.classes(), plan.stranded())?;
     output.extend_from_slice(&text)
 }
 
@@ -39,7 +48,6 @@ fn text_of(
     classes: &[PlannedClass],
     stranded: &[Stranded],
 ) -> Result<Vec<u8>, AllocError>
-    requires { All (HasOneEach devices.now) classes.now }
     ensures { IfOk result (λ text. text.items ≡ plan_text (record { devices = devices.now; plan = record { classes = classes.now; stranded = stranded.now } })) }
 {
     let mut text = Vec::from_slice(alloc, b"plan\n")?;
@@ -123,11 +131,15 @@ fn put_ways(
     devices: &[Text],
     queues: &[Queue],
 ) -> Result<(), AllocError>
-    requires { length queues.now ≡ length devices.now }
     ensures { OnOk result (output.new.items ≡ output.old.items ++ lines_text (way_lines devices.now queues.now)) }
 {
-    for (place, device) in devices.iter().enumerate() {
-        put_way(alloc, output, device, &queues[place])?;
+    let mut rest = queues;
+    for device in devices {
+        let [queue, more @ ..] = rest else {
+            return Ok(());
+        };
+        put_way(alloc, output, device, queue)?;
+        rest = more;
     }
     Ok(())
 }
@@ -172,11 +184,15 @@ fn put_places(
     devices: &[Text],
     lists: &[PlacePrices],
 ) -> Result<(), AllocError>
-    requires { length lists.now ≡ length devices.now }
     ensures { OnOk result (output.new.items ≡ output.old.items ++ lines_text (place_price_lines devices.now lists.now)) }
 {
-    for (place, device) in devices.iter().enumerate() {
-        put_place_prices(alloc, output, device, &lists[place])?;
+    let mut rest = lists;
+    for device in devices {
+        let [prices, more @ ..] = rest else {
+            return Ok(());
+        };
+        put_place_prices(alloc, output, device, prices)?;
+        rest = more;
     }
     Ok(())
 }
@@ -209,7 +225,6 @@ fn put_class_ways(
     devices: &[Text],
     class: &PlannedClass,
 ) -> Result<(), AllocError>
-    requires { HasOneEach devices.now class.now }
     ensures { OnOk result (output.new.items ≡ output.old.items ++ lines_text (class_way_lines devices.now class.now)) }
 {
     put_wait(alloc, output, class.problem.waits())?;
@@ -223,7 +238,6 @@ fn put_class_prices(
     devices: &[Text],
     class: &PlannedClass,
 ) -> Result<(), AllocError>
-    requires { HasOneEach devices.now class.now }
     ensures { OnOk result (output.new.items ≡ output.old.items ++ lines_text (class_price_lines devices.now class.now)) }
 {
     let prices = &class.priced.prices;
@@ -239,7 +253,6 @@ fn put_class(
     devices: &[Text],
     class: &PlannedClass,
 ) -> Result<(), AllocError>
-    requires { HasOneEach devices.now class.now }
     ensures { OnOk result (output.new.items ≡ output.old.items ++ lines_text (class_lines devices.now class.now)) }
 {
     put_class_jobs(alloc, output, class)?;
@@ -255,7 +268,6 @@ fn put_classes(
     devices: &[Text],
     classes: &[PlannedClass],
 ) -> Result<(), AllocError>
-    requires { All (HasOneEach devices.now) classes.now }
     ensures { OnOk result (output.new.items ≡ output.old.items ++ lines_text (classes_lines devices.now classes.now)) }
 {
     for class in classes {

@@ -2,5 +2,5 @@ use Rattle.std.proofs.Common.{◌≡◌, ◌++◌, drop}
 use Rattle.plan_checker.specs.TextWriting.{lines_text, place_price_lines}
 use Rattle.plan_checker.proofs.text.write_plan.put_places.Given as goal
 
-abbrev pub invariant-loop-place : goal.invariant-loop-place
-invariant-loop-place l = l.output.items ++ lines_text (place_price_lines (drop l.place l.devices) (drop l.place l.lists)) ≡ l.initial.output.items ++ lines_text (place_price_lines l.devices l.lists)
+abbrev pub invariant-loop-device : goal.invariant-loop-device
+invariant-loop-device l = l.output.items ++ lines_text (place_price_lines (drop l.device-index l.devices) l.rest) ≡ l.initial.output.items ++ lines_text (place_price_lines l.devices l.lists)
