@@ -4,3 +4,4 @@ pub mod Steps
 pub mod Fronts
 pub mod Laws
 pub mod Orders
+pub mod Replies

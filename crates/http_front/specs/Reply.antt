@@ -1,22 +1,62 @@
--- The heads of replies (RFC 9112, section 4; RFC 9110, section 15). A refusal has no body, and closes the connection.
-use Rattle.std.specs.Prelude.{ℕ, ◌++◌, Bool, true, false, List, codes, decimal}
+-- The heads of replies (RFC 9112, section 4; RFC 9110, section 15). A reply of 200 has a body; a refusal has none, and closes the connection.
+use Rattle.std.specs.Prelude.{ℕ, ◌≡◌, ◌==◌, ◌++◌, ◌⊎◌, if◌then◌else◌, Bool, true, false, List, [], codes, decimal}
+use Rattle.http.specs.StatusCode.{code_digits}
 use Rattle.http_front.specs.declared.refusal.Refusal.{Refusal}
 use Rattle.http_front.specs.declared.refusal.Refusal.TheVariants.{BadRequest, MethodNotAllowed, ContentTooLarge, UnsupportedMediaType, ExpectationFailed, HeadTooLarge, NotImplemented}
 
-abbrev pub ok_ending : Bool → List ℕ
-ok_ending true = codes "\r\nConnection: close\r\n\r\n"
-ok_ending false = codes "\r\n\r\n"
+-- the status of a refusal
+abbrev pub status_of : Refusal → ℕ
+status_of BadRequest = 400
+status_of MethodNotAllowed = 405
+status_of ContentTooLarge = 413
+status_of UnsupportedMediaType = 415
+status_of ExpectationFailed = 417
+status_of HeadTooLarge = 431
+status_of NotImplemented = 501
 
--- the head of a reply with a body of so many bytes
-abbrev pub ok_head : ℕ → Bool → List ℕ
-ok_head length closes = codes "HTTP/1.1 200 OK\r\nContent-Type: application/ipp\r\nContent-Length: " ++ (decimal length ++ ok_ending closes)
+-- the status of some reply: 200, or that of a refusal
+abbrev pub IsReplyStatus : ℕ → Type 0
+IsReplyStatus status = (status ≡ 200) ⊎ ((refusal : Refusal) × (status ≡ status_of refusal))
 
--- the reply to a request that is refused
-abbrev pub refusal_head : Refusal → List ℕ
-refusal_head BadRequest = codes "HTTP/1.1 400 Bad Request\r\nContent-Length: 0\r\nConnection: close\r\n\r\n"
-refusal_head MethodNotAllowed = codes "HTTP/1.1 405 Method Not Allowed\r\nAllow: POST\r\nContent-Length: 0\r\nConnection: close\r\n\r\n"
-refusal_head ContentTooLarge = codes "HTTP/1.1 413 Content Too Large\r\nContent-Length: 0\r\nConnection: close\r\n\r\n"
-refusal_head UnsupportedMediaType = codes "HTTP/1.1 415 Unsupported Media Type\r\nContent-Length: 0\r\nConnection: close\r\n\r\n"
-refusal_head ExpectationFailed = codes "HTTP/1.1 417 Expectation Failed\r\nContent-Length: 0\r\nConnection: close\r\n\r\n"
-refusal_head HeadTooLarge = codes "HTTP/1.1 431 Request Header Fields Too Large\r\nContent-Length: 0\r\nConnection: close\r\n\r\n"
-refusal_head NotImplemented = codes "HTTP/1.1 501 Not Implemented\r\nContent-Length: 0\r\nConnection: close\r\n\r\n"
+-- RFC 9110, section 15; RFC 6585, section 5
+abbrev pub phrase : ℕ → List ℕ
+phrase status =
+    if status == 200 then codes "OK"
+    else if status == 400 then codes "Bad Request"
+    else if status == 405 then codes "Method Not Allowed"
+    else if status == 413 then codes "Content Too Large"
+    else if status == 415 then codes "Unsupported Media Type"
+    else if status == 417 then codes "Expectation Failed"
+    else if status == 431 then codes "Request Header Fields Too Large"
+    else if status == 501 then codes "Not Implemented"
+    else []
+
+abbrev pub status_line : ℕ → List ℕ
+status_line status = codes "HTTP/1.1 " ++ (code_digits status ++ (codes " " ++ (phrase status ++ codes "\r\n")))
+
+-- the field that only replies of this status have
+abbrev pub own_field : ℕ → List ℕ
+own_field status =
+    if status == 200 then codes "Content-Type: application/ipp\r\n"
+    else if status == 405 then codes "Allow: POST\r\n"
+    else []
+
+-- what stands before the length
+abbrev pub opening : ℕ → List ℕ
+opening status = status_line status ++ (own_field status ++ codes "Content-Length: ")
+
+-- what follows the length
+abbrev pub ending : Bool → List ℕ
+ending true = codes "\r\nConnection: close\r\n\r\n"
+ending false = codes "\r\n\r\n"
+
+abbrev pub lines : ℕ → ℕ → Bool → List ℕ
+lines status length closes = opening status ++ (decimal length ++ ending closes)
+
+-- the head of a reply: a length and whether it closes are asked of 200 alone
+abbrev pub head : ℕ → ℕ → Bool → List ℕ
+head status length closes = if status == 200 then lines status length closes else lines status 0 true
+
+-- the interim head that tells a client to go on (RFC 9110, section 15.2.1)
+abbrev pub continue_head : List ℕ
+continue_head = codes "HTTP/1.1 100 Continue\r\n\r\n"

@@ -23,4 +23,4 @@ mod words;
 pub use item::HttpItem;
 pub use reader::HttpReader;
 pub use refusal::Refusal;
-pub use reply::{write_head, write_refusal};
+pub use reply::{continue_head, write_head};

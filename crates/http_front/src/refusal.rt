@@ -1,3 +1,8 @@
+ghost use Rattle.std.specs.Prelude.{◌≡◌};
+ghost use Rattle.http_front.specs.Reply.{IsReplyStatus, status_of};
+
+use http::StatusCode;
+
 /// Why a request is refused: the status of the reply (RFC 9110, section 15.5 and 15.6).
 #[derive(Clone, Copy, Debug, PartialEq, Eq)]
 pub enum Refusal {
@@ -15,4 +20,22 @@ pub enum Refusal {
     HeadTooLarge,
     /// 501: a transfer coding other than `chunked`.
     NotImplemented,
+}
+
+impl Refusal {
+    /// The status of the reply.
+    pub fn status(self) -> StatusCode
+        ensures number { result ≡ status_of self }
+        ensures reply { IsReplyStatus result }
+    {
+        match self {
+            Refusal::BadRequest => StatusCode::BAD_REQUEST,
+            Refusal::MethodNotAllowed => StatusCode::METHOD_NOT_ALLOWED,
+            Refusal::ContentTooLarge => StatusCode::PAYLOAD_TOO_LARGE,
+            Refusal::UnsupportedMediaType => StatusCode::UNSUPPORTED_MEDIA_TYPE,
+            Refusal::ExpectationFailed => StatusCode::EXPECTATION_FAILED,
+            Refusal::HeadTooLarge => StatusCode::REQUEST_HEADER_FIELDS_TOO_LARGE,
+            Refusal::NotImplemented => StatusCode::NOT_IMPLEMENTED,
+        }
+    }
 }

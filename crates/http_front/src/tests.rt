@@ -1,4 +1,5 @@
-use crate::{HttpItem, HttpReader, Refusal, write_head, write_refusal};
+use crate::{HttpItem, HttpReader, Refusal, continue_head, write_head};
+use http::StatusCode;
 use std::alloc::{AllocError, Global};
 use std::test::Fail;
 
@@ -196,28 +197,62 @@ fn limits(rt: HostRuntime) -> Result<(), Fail> {
 #[test]
 fn heads_of_replies(rt: HostRuntime) -> Result<(), Fail> {
     let mut output = Vec::new(rt.alloc());
-    write_head(170, false, &mut output)?;
+    write_head(StatusCode::OK, 170, false, &mut output)?;
     assert!(rt;
         output.as_slice()
             == b"HTTP/1.1 200 OK\r\nContent-Type: application/ipp\r\nContent-Length: 170\r\n\r\n".as_slice()
     );
     output.clear();
-    write_head(72, true, &mut output)?;
+    write_head(StatusCode::OK, 72, true, &mut output)?;
     assert!(rt;
         output.as_slice()
             == b"HTTP/1.1 200 OK\r\nContent-Type: application/ipp\r\nContent-Length: 72\r\nConnection: close\r\n\r\n".as_slice()
     );
-    output.clear();
-    write_refusal(Refusal::BadRequest, &mut output)?;
-    assert!(rt;
-        output.as_slice()
-            == b"HTTP/1.1 400 Bad Request\r\nContent-Length: 0\r\nConnection: close\r\n\r\n".as_slice()
-    );
-    output.clear();
-    write_refusal(Refusal::MethodNotAllowed, &mut output)?;
-    assert!(rt;
-        output.as_slice()
-            == b"HTTP/1.1 405 Method Not Allowed\r\nAllow: POST\r\nContent-Length: 0\r\nConnection: close\r\n\r\n".as_slice()
-    );
+    assert!(rt; continue_head() == b"HTTP/1.1 100 Continue\r\n\r\n".as_slice());
+    Ok(())
+}
+
+/// The head of the reply to a request that is refused, asked for with a length and to stay open.
+fn refusal_head(alloc: Global, refusal: Refusal) -> Result<Vec<u8>, AllocError> {
+    let mut output = Vec::new(alloc);
+    write_head(refusal.status(), 170, false, &mut output)?;
+    Ok(output)
+}
+
+#[test]
+fn heads_of_refusals(rt: HostRuntime) -> Result<(), Fail> {
+    let rows: [(Refusal, &[u8]); 7] = [
+        (
+            Refusal::BadRequest,
+            b"HTTP/1.1 400 Bad Request\r\nContent-Length: 0\r\nConnection: close\r\n\r\n",
+        ),
+        (
+            Refusal::MethodNotAllowed,
+            b"HTTP/1.1 405 Method Not Allowed\r\nAllow: POST\r\nContent-Length: 0\r\nConnection: close\r\n\r\n",
+        ),
+        (
+            Refusal::ContentTooLarge,
+            b"HTTP/1.1 413 Content Too Large\r\nContent-Length: 0\r\nConnection: close\r\n\r\n",
+        ),
+        (
+            Refusal::UnsupportedMediaType,
+            b"HTTP/1.1 415 Unsupported Media Type\r\nContent-Length: 0\r\nConnection: close\r\n\r\n",
+        ),
+        (
+            Refusal::ExpectationFailed,
+            b"HTTP/1.1 417 Expectation Failed\r\nContent-Length: 0\r\nConnection: close\r\n\r\n",
+        ),
+        (
+            Refusal::HeadTooLarge,
+            b"HTTP/1.1 431 Request Header Fields Too Large\r\nContent-Length: 0\r\nConnection: close\r\n\r\n",
+        ),
+        (
+            Refusal::NotImplemented,
+            b"HTTP/1.1 501 Not Implemented\r\nContent-Length: 0\r\nConnection: close\r\n\r\n",
+        ),
+    ];
+    for (refusal, wanted) in rows {
+        assert!(rt; refusal_head(rt.alloc(), refusal)?.as_slice() == wanted);
+    }
     Ok(())
 }
