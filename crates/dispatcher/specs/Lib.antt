@@ -9,6 +9,7 @@ pub mod Planned
 pub mod Dispatch
 pub mod Dispatched
 pub mod Lending
+pub mod Template
 pub mod PrintJob
 pub mod Step
 pub mod Run

@@ -1,8 +1,7 @@
 ghost use Rattle.std.specs.Prelude.{◌≡◌, false};
-ghost use Rattle.std.specs.Option.{ForSome};
-ghost use Rattle.base_types.specs.Ranges.{IsCopies};
 
-use base_types::{DeviceId, Priority, Report, Sides, Text};
+use crate::template::JobTemplate;
+use base_types::{DeviceId, Report, Text};
 use spool::Octets;
 
 /// Which printer a request's printer-uri names.
@@ -14,32 +13,6 @@ pub enum Target {
     First,
     /// Nothing that this server has.
     Unknown,
-}
-
-/// The job template attributes of a request that the printer supports (RFC 8011, section 5.2).
-#[derive(Debug, Drop)]
-pub struct JobTemplate {
-    pub priority: Option<Priority>,
-    pub sides: Option<Sides>,
-    pub media: Option<Text>,
-    /// 1 to [`base_types::Limits::COPIES`].
-    pub copies: Option<u32>,
-    ghost copies_in_range: { ForSome copies IsCopies },
-    /// Whether job-hold-until is indefinite.
-    pub held: bool,
-}
-
-impl JobTemplate {
-    /// Nothing is asked for.
-    pub fn new() -> JobTemplate {
-        JobTemplate {
-            priority: None,
-            sides: None,
-            media: None,
-            copies: None,
-            held: false,
-        }
-    }
 }
 
 /// A Print-Job request (RFC 8011, section 4.2.1): what the server reads of it.

@@ -27,13 +27,15 @@ mod started;
 mod starting;
 mod state;
 mod status;
+mod template;
 #[cfg(test)]
 mod tests;
 
 pub use dispatch::Dispatched;
-pub use event::{Event, JobTemplate, PrintJob, Target};
+pub use event::{Event, PrintJob, Target};
 pub use reply::{Answer, Cancel, IppAnswer, Reply};
 pub use run::{Listener, Outcome, Timed};
 pub use server_core::Core;
 pub use started::Started;
 pub use status::Status;
+pub use template::JobTemplate;

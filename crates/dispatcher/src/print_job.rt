@@ -6,11 +6,12 @@ ghost use Rattle.job_objects.specs.Reasons.{one};
 ghost use Rattle.spool.specs.Calls.{new_refusal, paused_at};
 ghost use Rattle.dispatcher.specs.PrintJob.{PrintsJob, TakesJob, RefusesJob, place_of, is_compressed, format_of, asked_of, submission_of, group_of};
 
-use crate::event::{JobTemplate, PrintJob, Target};
+use crate::event::{PrintJob, Target};
 use crate::formats::format_of;
 use crate::reply::Reply;
 use crate::state::CoreState;
 use crate::status::Status;
+use crate::template::JobTemplate;
 use base_types::{Limits, Moment, PrinterId, Priority, Sides, Text};
 use ipp_codec::Group;
 use job_objects::{JobReasons, JobState, Reason};
