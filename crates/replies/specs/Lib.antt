@@ -1,0 +1,7 @@
+pub mod Known
+pub mod Attributes
+pub mod Request
+pub mod Target
+pub mod PrintJob
+pub mod Asked
+pub mod Reply

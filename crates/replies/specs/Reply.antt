@@ -1,0 +1,51 @@
+-- The bytes of a reply (RFC 8011, section 4.1.4.2).
+use Rattle.std.specs.Prelude.{ℕ, ◌≡◌, ◌++◌, Bool, true, false, if◌then◌else◌, List, [], ◌∷◌, codes}
+use Rattle.ipp_codec.specs.Message.{plain, IppAttribute, IppGroup, IppMessage}
+use Rattle.ipp_codec.specs.Spelling.{spelling}
+use Rattle.ipp_codec.specs.Grammar.{IsMessage}
+use Rattle.ipp_codec.specs.Owned.{attributes_owned, groups_owned}
+use Rattle.dispatcher.specs.declared.reply.IppAnswer.{IppAnswer}
+use Rattle.dispatcher.specs.declared.status.Status.{Status}
+use Rattle.dispatcher.specs.declared.status.Status.TheVariants.{OkIgnoredOrSubstituted}
+use Rattle.dispatcher.specs.Status.{code_of}
+
+-- one value
+abbrev pub alone : List ℕ → ℕ → List ℕ → IppAttribute
+alone name tag bytes = record { name = name; first = plain tag bytes; others = [] }
+
+-- the charset and the natural language of the reply
+abbrev pub opening_group : IppGroup
+opening_group = record {
+  tag = 1;
+  attributes = alone (codes "attributes-charset") 0x47 (codes "utf-8") ∷ alone (codes "attributes-natural-language") 0x48 (codes "en") ∷ [];
+}
+
+-- whether the status tells that something isn't supported (section 4.1.7)
+abbrev pub tells_unsupported : Status → Bool
+tells_unsupported OkIgnoredOrSubstituted = true
+tells_unsupported _ = false
+
+-- what isn't supported, if there is any
+abbrev pub unsupported_group : List IppAttribute → List IppGroup
+unsupported_group [] = []
+unsupported_group (attribute ∷ attributes) = record { tag = 5; attributes = attribute ∷ attributes } ∷ []
+
+abbrev pub unsupported_of : Status → List IppAttribute → List IppGroup
+unsupported_of status attributes = if tells_unsupported status then unsupported_group attributes else []
+
+-- a reply of version 1.1, with these groups behind the first
+abbrev pub reply_of : Status → ℕ → List IppGroup → IppMessage
+reply_of status id groups = record { major = 1; minor = 1; code = code_of status; request_id = id; groups = opening_group ∷ groups }
+
+-- a status alone
+abbrev pub refusal_bytes : Status → ℕ → List ℕ
+refusal_bytes status id = spelling (reply_of status id [])
+
+abbrev pub message_of : IppAnswer → ℕ → IppMessage
+message_of answer id =
+    reply_of answer.status id (unsupported_of answer.status (attributes_owned answer.unsupported.items) ++ groups_owned answer.groups.items)
+
+-- the spelling of the answer where it has one, else its status alone
+pub record IsReply (answer : IppAnswer) (id : ℕ) (bytes : List ℕ) : Type 0 where
+  pub spelt : IsMessage (message_of answer id) → bytes ≡ spelling (message_of answer id)
+  pub refused : ¬ (IsMessage (message_of answer id)) → bytes ≡ refusal_bytes answer.status id

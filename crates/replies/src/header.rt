@@ -1,0 +1,46 @@
+//! The header of a body.
+ghost use Rattle.std.specs.Prelude.{◌≡◌};
+ghost use Rattle.replies.specs.Asked.{header_of, refused_by};
+
+use dispatcher::Status;
+
+/// The code of Print-Job (RFC 8011, section 5.4.15).
+const PRINT_JOB: u16 = 0x0002;
+
+/// The first eight bytes of a request (RFC 8010, section 3.1.1), without the version's minor number.
+#[derive(Clone, Copy, Debug, PartialEq, Eq)]
+pub(crate) struct Header {
+    pub major: u8,
+    /// The operation's code.
+    pub operation: u16,
+    /// The number that the reply repeats.
+    pub request_id: u32,
+}
+
+/// The header of a body that has a whole one.
+pub(crate) fn header_of(body: &[u8]) -> Option<Header>
+    ensures { result ≡ header_of body.now }
+{
+    let [major, _, high, low, id_3, id_2, id_1, id_0, ..] = body else {
+        return None;
+    };
+    Some(Header {
+        major: *major,
+        operation: u16::from_be_bytes([*high, *low]),
+        request_id: u32::from_be_bytes([*id_3, *id_2, *id_1, *id_0]),
+    })
+}
+
+/// The status of a header that is refused: of another version, or of an operation that doesn't
+/// exist.
+pub(crate) fn refused_by(header: Header) -> Option<Status>
+    ensures { result ≡ refused_by header }
+{
+    if header.major != 1 && header.major != 2 {
+        return Some(Status::VersionNotSupported);
+    }
+    match header.operation {
+        PRINT_JOB => None,
+        _ => Some(Status::OperationNotSupported),
+    }
+}

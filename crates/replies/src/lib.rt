@@ -1,0 +1,23 @@
+//! What IPP bodies ask of the core, and what its answers are in bytes (RFC 8011).
+//!
+//! [`ipp_event`] says exactly which bodies are events, and with which status each other body is
+//! answered; [`ipp_reply`] and [`ipp_refusal`] say each byte of a reply. Only Print-Job exists so
+//! far. Nothing here knows what the core does with an event, nor over which wire a body comes.
+//! `docs/IPP.md` has the rules for someone who writes a client.
+#![tactic(auto)]
+
+mod asked;
+mod attributes;
+mod header;
+mod print_job;
+mod refusal;
+mod reply;
+mod request;
+mod syntax;
+mod target;
+#[cfg(test)]
+mod tests;
+
+pub use asked::{Asked, ipp_event};
+pub use refusal::ipp_refusal;
+pub use reply::ipp_reply;

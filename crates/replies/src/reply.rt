@@ -1,0 +1,68 @@
+//! Answers as bytes.
+ghost use Rattle.std.specs.Prelude.{◌≡◌, ◌∷◌, IfOk};
+ghost use Rattle.ipp_codec.specs.Owned.{attributes_owned, group_owned, groups_owned, message_owned};
+ghost use Rattle.replies.specs.Reply.{opening_group, tells_unsupported, unsupported_of, message_of, IsReply};
+
+use crate::refusal::ipp_refusal;
+use dispatcher::{IppAnswer, Status};
+use ipp_codec::{
+    Attribute, EncodeFault, Group, GroupTag, Message, Value, ValueTag, Version, encode,
+};
+use std::alloc::{AllocError, Global};
+
+/// The bytes of an answer, under a request-id (RFC 8011, section 4.1.4.2). The error is want of
+/// memory.
+pub fn ipp_reply(alloc: Global, answer: IppAnswer, request_id: u32) -> Result<Vec<u8>, AllocError>
+    ensures { IfOk result (λ bytes. IsReply answer request_id bytes.items) }
+{
+    let status = answer.status;
+    let message = message_of(alloc, answer, request_id)?;
+    let mut bytes = Vec::new(alloc);
+    match encode(&message, &mut bytes) {
+        Ok(()) => Ok(bytes),
+        // No answer of this server has a part outside the grammar.
+        Err(EncodeFault::Unspellable) => Vec::from_slice(alloc, &ipp_refusal(status, request_id)),
+        Err(EncodeFault::OutOfMemory) => Err(AllocError),
+    }
+}
+
+/// The message of an answer.
+fn message_of(alloc: Global, answer: IppAnswer, request_id: u32) -> Result<Message, AllocError>
+    ensures { IfOk result (λ message. message_owned message ≡ message_of answer request_id) }
+{
+    let IppAnswer {
+        status,
+        unsupported,
+        mut groups,
+    } = answer;
+    let version = Version { major: 1, minor: 1 };
+    let mut message = Message::new(alloc, version, status.code(), request_id);
+    message.push(opening_group(alloc)?)?;
+    if tells_unsupported(status) && !unsupported.is_empty() {
+        message.push(Group {
+            tag: GroupTag::UNSUPPORTED,
+            attributes: unsupported,
+        })?;
+    }
+    message.groups.append(&mut groups)?;
+    Ok(message)
+}
+
+/// Whether the status tells that something isn't supported.
+fn tells_unsupported(status: Status) -> bool
+    ensures { result ≡ tells_unsupported status }
+{
+    matches!(status, Status::OkIgnoredOrSubstituted)
+}
+
+/// The operation group of every reply: its charset and natural language.
+fn opening_group(alloc: Global) -> Result<Group, AllocError>
+    ensures { IfOk result (λ group. group_owned group ≡ opening_group) }
+{
+    let mut group = Group::new(alloc, GroupTag::OPERATION);
+    let charset = Value::copy_of(alloc, ValueTag::CHARSET, b"utf-8")?;
+    group.push(Attribute::new(alloc, b"attributes-charset", charset)?)?;
+    let language = Value::copy_of(alloc, ValueTag::NATURAL_LANGUAGE, b"en")?;
+    group.push(Attribute::new(alloc, b"attributes-natural-language", language)?)?;
+    Ok(group)
+}
