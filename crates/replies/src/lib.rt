@@ -1,14 +1,15 @@
 //! What IPP bodies ask of the core, and what its answers are in bytes (RFC 8011).
 //!
 //! [`ipp_event`] says exactly which bodies are events, and with which status each other body is
-//! answered; [`ipp_reply`] and [`ipp_refusal`] say each byte of a reply. Only Print-Job exists so
-//! far. Nothing here knows what the core does with an event, nor over which wire a body comes.
+//! answered; a body asks one thing ([`one_asked`]). [`ipp_reply`] and [`ipp_refusal`] say each byte
+//! of a reply. Only Print-Job exists so far. Nothing here knows what the core does with an event, nor over which wire a body comes.
 //! `docs/IPP.md` has the rules for someone who writes a client.
 #![tactic(auto)]
 
 mod asked;
 mod attributes;
 mod header;
+mod law;
 mod print_job;
 mod refusal;
 mod reply;
@@ -19,5 +20,6 @@ mod target;
 mod tests;
 
 pub use asked::{Asked, ipp_event};
+pub use law::one_asked;
 pub use refusal::ipp_refusal;
 pub use reply::ipp_reply;
