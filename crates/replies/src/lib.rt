@@ -2,8 +2,8 @@
 //!
 //! [`ipp_event`] says exactly which bodies are events, and with which status each other body is
 //! answered; a body asks one thing ([`one_asked`]). [`ipp_reply`] and [`ipp_refusal`] say each byte
-//! of a reply. Only Print-Job exists so far. Nothing here knows what the core does with an event, nor over which wire a body comes.
-//! `docs/IPP.md` has the rules for someone who writes a client.
+//! of a reply. Only Print-Job exists so far. Nothing here knows what the core does with an event,
+//! nor over which wire a body comes. `docs/IPP.md` has the rules for someone who writes a client.
 #![tactic(auto)]
 
 mod asked;
