@@ -17,11 +17,7 @@ use Rattle.plan_checker.specs.PlanText.{NamedPlan}
 use Rattle.plan_checker.specs.Plan.{IsPlanVerdict}
 use Rattle.plan_checker.specs.TextPlan.{plan_at}
 use Rattle.printd.specs.Input.{IsWhole, GaveMore}
-
--- what is written, and the exit status
-pub record Said : Type 0 where
-  pub text : List ℕ
-  pub status : ℕ
+use Rattle.printd.specs.Said.{Said, refused_as}
 
 abbrev pub fault_name : TextFault → List ℕ
 fault_name BadLine = codes "BadLine"
@@ -65,10 +61,6 @@ priority_at classes place = slice_index (map (λ class. class.priority) classes)
 abbrev pub said_of : Bool → NamedPlan → PlanVerdict → Said
 said_of starts named Yes = record { text = codes "yes\n" ++ (if starts then plan_starts named.devices named.plan.classes else []); status = 0 }
 said_of starts named (No place fault) = record { text = codes "no " ++ (verdict_name fault ++ (codes " class " ++ (decimal (priority_at named.plan.classes place) ++ codes "\n"))); status = 1 }
-
--- what is said of a text that is refused
-abbrev pub refused_as : List ℕ → Said
-refused_as name = record { text = codes "refused " ++ (name ++ codes "\n"); status = 2 }
 
 -- what is said of a text: the verdict on the plan that it is, or its first fault
 abbrev pub IsSaidOf : Bool → List ℕ → Said → Type 0

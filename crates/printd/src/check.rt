@@ -4,10 +4,13 @@ ghost use Rattle.std.specs.Fmt.{decimal};
 ghost use Rattle.prices.specs.Prices.{IsProved};
 ghost use Rattle.prices.specs.Timetable.{Slot};
 ghost use Rattle.plan_checker.specs.Plan.{HasOneListEach, IsPlanVerdict};
-ghost use Rattle.printd.specs.Check.{Said, fault_name, verdict_name, start_line, job_start, job_starts, plan_starts, priority_at, said_of, refused_as, IsSaidOf, IsAnswer, Checks};
+ghost use Rattle.printd.specs.Said.{Said, refused_as};
+ghost use Rattle.printd.specs.Printed.{name_at};
+ghost use Rattle.printd.specs.Check.{fault_name, verdict_name, start_line, job_start, job_starts, plan_starts, priority_at, said_of, IsSaidOf, IsAnswer, Checks};
 
 use crate::input::{InputFault, read_whole};
 use crate::output::write_front;
+use crate::print::name_of;
 use base_types::{DeviceId, JobId, Limits, Text};
 use cost_table::ClassProblem;
 use plan_checker::{
@@ -212,16 +215,6 @@ fn put_slot(
     let time = class.time(job, device).unwrap_or(0);
     let end = u128::from(start) + u128::from(time);
     put_start(alloc, output, job, name_of(devices, device), start, end)
-}
-
-/// The name of a device, empty where it has none.
-fn name_of(devices: &[Text], device: DeviceId) -> &[u8]
-    ensures { result.now ≡ slice_index_or devices.now device [] }
-{
-    match devices.get(device.place()) {
-        Some(name) => name.as_bytes(),
-        None => &[],
-    }
 }
 
 /// Appends a line of a start.

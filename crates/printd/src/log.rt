@@ -1,103 +1,102 @@
-//! What a trace's output says of a dispatch.
-use crate::engine::Notes;
-use base_types::{Cause, Text};
-use dispatcher::{Dispatched, Started};
-use prices::Plan;
-use std::alloc::{AllocError, Global};
+//! What was printed of dispatches.
+ghost use Rattle.std.specs.Prelude.{◌≡◌, ◌++◌, [], None, Some, IfOk, OnOk, OnErr, option_map};
+ghost use Rattle.dispatcher.specs.Dispatched.{plan_of, started_of};
+ghost use Rattle.printd.specs.Printed.{dispatch_lines};
 
-/// The plan line of a dispatch, and the jobs that it started.
+use crate::print::put_dispatch;
+use base_types::Text;
+use dispatcher::{Dispatched, Listener};
+use std::alloc::{AllocError, Global};
+use std::marker::Model;
+use std::mem;
+
+/// A listener that keeps what is printed of each dispatch. In clauses it is a record of whether the
+/// texts of plans are asked for, the names of the devices, and what was heard, unless memory was
+/// refused.
 #[derive(Drop)]
 pub struct Log {
     alloc: Global,
-    plan: Option<String>,
-    started: Vec<Started>,
-    out_of_memory: bool,
+    texts: bool,
+    names: Vec<Text>,
+    heard: Vec<u8>,
+    lost: bool,
 }
 
-impl Notes for Log {
+impl Model for Log {
+    ghost use Rattle.std.specs.Prelude.{Some, None, if◌then◌else◌};
+    ghost use Rattle.printd.specs.Log.{LogRecord};
+
+    ghost Value = { LogRecord };
+
+    ghost view = { λ l. record { texts = l.texts; names = l.names.items; heard = if l.lost then None else Some l.heard.items } };
+}
+
+impl Listener for Log {
+    ghost use Rattle.printd.specs.Log.{Hears};
+
+    ghost hears = { Hears };
+
     fn dispatched(&mut self, made: &Dispatched<'_>) {
         if self.keep(made).is_err() {
-            self.out_of_memory = true;
+            self.lose();
         }
     }
 }
 
 impl Log {
-    /// Nothing was told yet.
-    pub fn new(alloc: Global) -> Log {
+    /// Nothing was heard yet.
+    pub fn new(alloc: Global, texts: bool, names: Vec<Text>) -> Log
+        ensures { result ≡ record { texts = texts; names = names.items; heard = Some [] } }
+    {
         Log {
             alloc,
-            plan: None,
-            started: Vec::new(alloc),
-            out_of_memory: false,
+            texts,
+            names,
+            heard: Vec::new(alloc),
+            lost: false,
         }
     }
 
-    /// Keeps what a dispatch did.
-    fn keep(&mut self, made: &Dispatched<'_>) -> Result<(), AllocError> {
-        if let Some(plan) = made.plan() {
-            self.plan = Some(plan_line(self.alloc, plan)?);
-        }
-        self.started.extend_from_slice(made.started())
+    /// The names of the devices.
+    pub fn names(&self) -> &[Text]
+        ensures { result.now ≡ self.now.names }
+    {
+        &self.names
     }
 
-    /// Appends the plan line and a line for each job that started.
-    pub fn write(&self, names: &[Text], output: &mut Vec<u8>) -> Result<(), AllocError> {
-        if self.out_of_memory {
+    /// What was heard, which is then heard no more. The error is that memory was refused for some of
+    /// it.
+    pub fn take(&mut self) -> Result<Vec<u8>, AllocError>
+        ensures { IfOk result (λ text. (self.old.heard ≡ Some text.items) × (self.new ≡ record self.old { heard = Some [] })) }
+    {
+        if self.lost {
             return Err(AllocError);
         }
-        if let Some(line) = &self.plan {
-            output.extend_from_slice(line.as_bytes())?;
-        }
-        for started in &self.started {
-            write_start(self.alloc, *started, names, output)?;
-        }
-        Ok(())
+        let empty = Vec::new(self.alloc);
+        Ok(mem::replace(&mut self.heard, empty))
     }
-}
 
-/// The line of a plan: each class with its total, then each stranded job with its cause.
-fn plan_line(alloc: Global, plan: &Plan) -> Result<String, AllocError> {
-    let mut line = String::from_str(alloc, "plan")?;
-    for class in plan.classes() {
-        let priority = class.priority.level();
-        let total = class.priced.total;
-        let word = format!(in alloc; " {priority}:{total}")?;
-        line.push_str(word.as_str())?;
+    /// Keeps what is printed of a dispatch.
+    fn keep(&mut self, made: &Dispatched<'_>) -> Result<(), AllocError>
+        ensures ok { OnOk result (self.new ≡ record self.old { heard = option_map (λ text. text ++ dispatch_lines self.old.texts self.old.names (plan_of made.now) (started_of made.now)) self.old.heard }) }
+        ensures err { OnErr result (self.new ≡ self.old) }
+    {
+        let mut text = Vec::new(self.alloc);
+        put_dispatch(
+            self.alloc,
+            &mut text,
+            self.texts,
+            &self.names,
+            made.plan(),
+            made.started(),
+        )?;
+        self.heard.extend_from_slice(&text)
     }
-    for stranded in plan.stranded() {
-        let job = stranded.job.number();
-        let cause = cause_name(stranded.cause);
-        let word = format!(in alloc; " -{job}:{cause}")?;
-        line.push_str(word.as_str())?;
-    }
-    line.push_str("\n")?;
-    Ok(line)
-}
 
-/// The line of a job that starts.
-fn write_start(
-    alloc: Global,
-    started: Started,
-    names: &[Text],
-    output: &mut Vec<u8>,
-) -> Result<(), AllocError> {
-    let job = started.job.number();
-    let words = format!(in alloc; "start {job} ")?;
-    output.extend_from_slice(words.as_bytes())?;
-    if let Some(name) = names.get(started.device.place()) {
-        output.extend_from_slice(name.as_bytes())?;
-    }
-    output.extend_from_slice(b"\n")
-}
-
-/// The name of a cause.
-fn cause_name(cause: Cause) -> &'static str {
-    match cause {
-        Cause::NoDevice => "NoDevice",
-        Cause::Format => "Format",
-        Cause::Sides => "Sides",
-        Cause::Media => "Media",
-        Cause::Running => "Running",
+    /// Memory was refused.
+    fn lose(&mut self)
+        ensures { self.new ≡ record self.old { heard = None } }
+    {
+        self.lost = true;
     }
 }

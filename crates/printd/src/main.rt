@@ -3,14 +3,12 @@
 #![tactic(auto)]
 
 mod check;
-mod engine;
 mod input;
 mod lines;
 mod log;
 mod output;
+mod print;
 mod replay;
-mod replies;
-mod request;
 mod trace;
 mod words;
 
@@ -51,7 +49,9 @@ fn asked(rt: &HostRuntime) -> Result<Asked, u8> {
 
 fn main(rt: HostRuntime) -> ExitCode {
     let status = match asked(&rt) {
-        Ok(Asked::Replay) => run_replay(rt.alloc(), &mut rt.reader(), &mut io::writer(&rt)),
+        Ok(Asked::Replay { plans }) => {
+            run_replay(rt.alloc(), &mut rt.reader(), &mut io::writer(&rt), plans)
+        }
         Ok(Asked::Check { starts }) => {
             run_check(rt.alloc(), &mut rt.reader(), &mut io::writer(&rt), starts)
         }

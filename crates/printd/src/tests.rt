@@ -1,8 +1,8 @@
 mod checks;
 mod plans;
 mod rows;
+mod texts;
 
-use crate::lines::decimal;
 use crate::replay::run_replay;
 use crate::words::{Asked, read_words};
 use std::test::Fail;
@@ -11,7 +11,7 @@ use std::test::Fail;
 fn run(rt: &HostRuntime, trace: &str) -> (u8, Vec<u8>) {
     let mut output = Vec::new(rt.alloc());
     let mut input = trace.as_bytes();
-    let status = run_replay(rt.alloc(), &mut input, &mut output);
+    let status = run_replay(rt.alloc(), &mut input, &mut output, false);
     (status, output)
 }
 
@@ -24,6 +24,8 @@ fn worked_rows(rt: HostRuntime) {
         rows::NOT_RUNNING,
         rows::STOP_AND_CONTINUE,
         rows::TWO_DEVICES,
+        rows::CLOCK_NEVER_BACK,
+        rows::NO_DEVICE,
     ] {
         let (status, output) = run(&rt, trace);
         assert_eq!(rt; status, 0);
@@ -76,7 +78,7 @@ fn words(rt: HostRuntime) {
     let mut text = Vec::new(rt.alloc());
     assert_eq!(rt;
         read_words(rt.alloc(), &["printd", "replay"], &mut text),
-        Ok(Asked::Replay)
+        Ok(Asked::Replay { plans: false })
     );
     assert!(rt; text.is_empty());
     assert_eq!(rt;
@@ -84,12 +86,4 @@ fn words(rt: HostRuntime) {
         Err(2)
     );
     assert!(rt; !text.is_empty());
-}
-
-#[test]
-fn decimals(rt: HostRuntime) {
-    assert_eq!(rt; decimal("007", 9), Some(7));
-    assert_eq!(rt; decimal("10", 9), None);
-    assert_eq!(rt; decimal("+1", 9), None);
-    assert_eq!(rt; decimal("", 9), None);
 }

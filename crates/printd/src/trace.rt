@@ -1,11 +1,19 @@
-//! The lines of a trace.
-use crate::lines::decimal;
-use base_types::{DeviceId, Limits, Moment, Report, Text};
+//! What a line of a trace says.
+ghost use Rattle.std.specs.Prelude.{◌≡◌, ◌++◌, ◌-◌, ◌^◌, [], IfOk, IsTrue, min, codes, position};
+ghost use Rattle.std.specs.Char.{is_ascii_uppercase};
+ghost use Rattle.std.specs.List.{list_any};
+ghost use Rattle.std.specs.Str.{bytes_eq, all_ascii_digits};
+ghost use Rattle.std.specs.Str.Parse.{digits_value};
+ghost use Rattle.device_link.specs.Stream.{Stands};
+ghost use Rattle.printd.specs.Lines.{IsOneLine};
+ghost use Rattle.printd.specs.TraceLine.{Finds, IsMomentIn, IsBodyIn, IsReportIn, IsDeviceIn, IsLine};
+
+use base_types::{DeviceId, Moment, Report, Text, find_byte};
 use device_link::{LinkError, LinkReader};
 use hex::FromHexError;
 use std::alloc::{AllocError, Global};
 
-/// A line of a trace.
+/// A line of a trace, after the settings.
 #[derive(Drop)]
 pub enum Line {
     /// From now on it is this moment.
@@ -18,67 +26,139 @@ pub enum Line {
     Tick,
 }
 
-/// The line that a text is, where the devices have these names, if it is one.
-pub fn read_line(alloc: Global, text: &[u8], devices: &[Text]) -> Result<Option<Line>, AllocError> {
-    let Ok(text) = std::str::from_utf8(text) else {
-        return Ok(None);
-    };
-    if text == "tick" {
+/// What a line of a trace says, where the devices have these names; nothing where it is no such
+/// line.
+///
+/// The error is want of memory.
+pub fn read_line(alloc: Global, text: &[u8], devices: &[Text]) -> Result<Option<Line>, AllocError>
+    requires { IsOneLine text.now }
+    ensures { IfOk result (λ line. Finds (IsLine devices.now text.now) line) }
+{
+    if text == b"tick".as_slice() {
         return Ok(Some(Line::Tick));
     }
-    let Some((word, rest)) = text.split_once(' ') else {
-        return Ok(None);
-    };
-    match word {
-        "at" => Ok(read_moment(rest).map(|moment| Line::At(moment))),
-        "ipp" => Ok(read_body(alloc, rest)?.map(|body| Line::Ipp(body))),
-        "dev" => read_device_line(alloc, rest, devices),
-        _ => Ok(None),
+    if let Some(digits) = text.strip_prefix(b"at ") {
+        return Ok(read_moment(digits).map(|moment| Line::At(moment)));
+    }
+    if let Some(digits) = text.strip_prefix(b"ipp ") {
+        return Ok(read_body(alloc, digits)?.map(|body| Line::Ipp(body)));
+    }
+    match text.strip_prefix(b"dev ") {
+        Some(said) => read_device_line(alloc, said, devices),
+        None => Ok(None),
     }
 }
 
-/// A moment in decimal.
-fn read_moment(text: &str) -> Option<Moment> {
-    Moment::new(decimal(text, Limits::LAST_MOMENT)?)
+/// A moment in decimal digits.
+fn read_moment(digits: &[u8]) -> Option<Moment>
+    ensures { Finds (IsMomentIn digits.now) result }
+{
+    if digits.is_empty() || !is_decimal(digits) {
+        return None;
+    }
+    Moment::new(capped_value(digits))
+}
+
+/// Whether each byte is a decimal digit.
+fn is_decimal(word: &[u8]) -> bool
+    ensures { result ≡ all_ascii_digits word.now }
+{
+    for byte in word {
+        if !byte.is_ascii_digit() {
+            return false;
+        }
+    }
+    true
+}
+
+/// The number of decimal digits, or the greatest where it is above that.
+fn capped_value(word: &[u8]) -> u64
+    requires { IsTrue (all_ascii_digits word.now) }
+    ensures { result ≡ min (digits_value 10 word.now) (2 ^ 64 - 1) }
+{
+    let mut number: u64 = 0;
+    for byte in word {
+        let digit = u64::from(*byte - b'0');
+        number = number.saturating_mul(10).saturating_add(digit);
+    }
+    number
 }
 
 /// Bytes in lower-case hexadecimal digits, at least one byte.
-fn read_body(alloc: Global, text: &str) -> Result<Option<Vec<u8>>, AllocError> {
-    if text.is_empty() || text.bytes().any(|byte| byte.is_ascii_uppercase()) {
+fn read_body(alloc: Global, digits: &[u8]) -> Result<Option<Vec<u8>>, AllocError>
+    ensures { IfOk result (λ body. Finds (λ body. IsBodyIn digits.now body.items) body) }
+{
+    if digits.is_empty() || has_capital(digits) {
         return Ok(None);
     }
-    match hex::decode(alloc, text) {
+    match hex::decode(alloc, digits) {
         Ok(bytes) => Ok(Some(bytes)),
-        Err(FromHexError::OutOfMemory) => Err(AllocError),
-        Err(_) => Ok(None),
+        Err(error) => match error {
+            FromHexError::OutOfMemory => Err(AllocError),
+            _ => Ok(None),
+        },
     }
 }
 
-/// A device's name and its report.
+/// Whether an upper-case letter is among the digits.
+fn has_capital(digits: &[u8]) -> bool
+    ensures { result ≡ list_any is_ascii_uppercase digits.now }
+{
+    digits.iter().any(|byte| byte.is_ascii_uppercase())
+}
+
+/// A device's name, a space and a line that it writes.
 fn read_device_line(
     alloc: Global,
-    text: &str,
+    said: &[u8],
     devices: &[Text],
-) -> Result<Option<Line>, AllocError> {
-    let Some((name, line)) = text.split_once(' ') else {
+) -> Result<Option<Line>, AllocError>
+    requires { IsOneLine said.now }
+    ensures { IfOk result (λ line. Finds (IsLine devices.now (codes "dev " ++ said.now)) line) }
+{
+    let Some(end) = find_byte(said, b' ') else {
         return Ok(None);
     };
-    let Some(place) = devices.iter().position(|device| device.is(name.as_bytes())) else {
+    let Some(place) = place_of(devices, &said[..end]) else {
         return Ok(None);
     };
-    match read_report(alloc, name, line) {
-        Ok(report) => Ok(report.map(|report| Line::Device(DeviceId::new(place), report))),
+    let device = DeviceId::new(place);
+    let report = read_report(alloc, &said[end + 1..])?;
+    Ok(report.map(|report| Line::Device(device, report)))
+}
+
+/// The place of the first device of this name.
+fn place_of(devices: &[Text], name: &[u8]) -> Option<usize>
+    ensures { result ≡ position (λ device. bytes_eq device name.now) devices.now }
+{
+    devices.iter().position(|device| device.as_bytes() == name)
+}
+
+/// The report that a line is which a device writes once it has said its name.
+fn read_report(alloc: Global, line: &[u8]) -> Result<Option<Report>, AllocError>
+    requires { IsOneLine line.now }
+    ensures { IfOk result (λ report. Finds (IsReportIn line.now) report) }
+{
+    let mut reader = hear(alloc, line)?;
+    match reader.next_report() {
+        Ok(_) => {}
+        Err(LinkError::Fault(_)) => return Ok(None),
+        Err(LinkError::OutOfMemory) => return Err(AllocError),
+    }
+    match reader.next_report() {
+        Ok(report) => Ok(report),
         Err(LinkError::Fault(_)) => Ok(None),
         Err(LinkError::OutOfMemory) => Err(AllocError),
     }
 }
 
-/// The report that a line is which a device writes once it has said its name.
-fn read_report(alloc: Global, name: &str, line: &str) -> Result<Option<Report>, LinkError> {
+/// A reader that was fed a device's name and then a line.
+fn hear(alloc: Global, line: &[u8]) -> Result<LinkReader, AllocError>
+    ensures { IfOk result (λ reader. Stands (codes "HELLO device\n" ++ (line.now ++ codes "\n")) [] reader) }
+{
     let mut reader = LinkReader::new(alloc);
-    for part in ["HELLO ", name, "\n", line, "\n"] {
-        reader.feed(part.as_bytes())?;
-    }
-    let _hello = reader.next_report()?;
-    reader.next_report()
+    reader.feed(b"HELLO device\n")?;
+    reader.feed(line)?;
+    reader.feed(b"\n")?;
+    Ok(reader)
 }

@@ -6,20 +6,23 @@ use std::io::Write;
 /// What the program is asked to do.
 #[derive(Clone, Copy, Debug, PartialEq, Eq)]
 pub enum Asked {
-    /// Replay a trace from standard input.
-    Replay,
+    /// Replay a trace from standard input, and where the plans are asked for write the text of each.
+    Replay { plans: bool },
     /// Judge the text of a plan from standard input, and where the starts are asked for tell when
     /// each job starts.
     Check { starts: bool },
 }
 
 fn command<'a>(alloc: Global) -> Result<Command<'a>, AllocError> {
+    let plans = Arg::new(alloc, "plans")
+        .long("plans")
+        .action(ArgAction::SetTrue);
     let starts = Arg::new(alloc, "starts")
         .long("starts")
         .action(ArgAction::SetTrue);
     Command::new(alloc, "printd")
         .subcommand_required(true)
-        .subcommand(Command::new(alloc, "replay"))?
+        .subcommand(Command::new(alloc, "replay").arg(plans)?)?
         .subcommand(Command::new(alloc, "check").arg(starts)?)
 }
 
@@ -30,7 +33,9 @@ fn parse<'a>(alloc: Global, words: &'a [&'a str]) -> Result<ArgMatches<'a>, Erro
 fn meaning(found: &ArgMatches<'_>) -> Option<Asked> {
     let (name, inner) = found.subcommand()?;
     match name {
-        "replay" => Some(Asked::Replay),
+        "replay" => Some(Asked::Replay {
+            plans: inner.get_flag("plans"),
+        }),
         "check" => Some(Asked::Check {
             starts: inner.get_flag("starts"),
         }),

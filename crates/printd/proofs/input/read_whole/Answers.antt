@@ -1,4 +1,4 @@
-use Rattle.std.proofs.Common.{◌++◌, ◌-◌, ◌+◌, ◌≡◌, ◌<◌, ◌≤◌, ℕ, List, arith, length, length-append, take}
+use Rattle.std.proofs.Common.{◌++◌, ℕ, List, arith, length-append, take}
 use Rattle.printd.proofs.Known.{consumes_more}
 use Rattle.printd.proofs.input.read_whole.Goals as goal
 

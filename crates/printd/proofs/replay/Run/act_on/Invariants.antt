@@ -1,5 +1,13 @@
-use Rattle.std.proofs.Common.{length}
+use Rattle.std.proofs.Common.{◌≡◌, ◌≤◌, ◌+◌, ◌++◌, ℕ, suc, List, length}
+use Rattle.printd.specs.Lines.{lines_of}
+use Rattle.printd.proofs.Reach.{Reached}
 use Rattle.printd.proofs.replay.Run.act_on.Given as goal
 
-abbrev pub decreases-loop-line : goal.decreases-loop-line
-decreases-loop-line l = length l.rest
+abbrev pub invariant-loop-parts : goal.invariant-loop-parts
+invariant-loop-parts l =
+    (done : List ℕ) × (l.output.items ≡ l.initial.output.items ++ done)
+    × Reached l.initial.self.log.texts l.initial.self.log.names (suc l.before) (lines_of l.lines) (record { moment = l.initial.self.moment; state = l.initial.self.core }) done (suc l.number) (lines_of l.rest) (record { moment = l.self.moment; state = l.self.core })
+    × (l.self.log ≡ l.initial.self.log) × (l.number + length l.rest ≤ l.before + length l.lines)
+
+abbrev pub decreases-loop-parts : goal.decreases-loop-parts
+decreases-loop-parts l = length l.rest
