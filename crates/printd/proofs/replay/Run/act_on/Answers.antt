@@ -1,4 +1,4 @@
-use Rattle.std.proofs.Common.{arith, ◌++◌, ◌+◌, [], refl, sym, ap, ◌∙◌, append-nil, codes}
+use Rattle.std.proofs.Common.{arith, suc, ◌++◌, ◌+◌, [], refl, sym, ap, ◌∙◌, append-nil, codes}
 use Rattle.std.specs.Fmt.{decimal}
 use Rattle.std.proofs.lemmas.Result.{IfOk-weaker, on_err_weaker}
 use Rattle.printd.specs.Said.{refused_as, said_after}
@@ -25,7 +25,7 @@ returns-then-not-branch-clause-err c =
 pub loop-parts-preserved : goal.loop-parts-preserved
 loop-parts-preserved c =
     let inv = c.loop-parts.invariant in
-    let next = went_on _ _ _ _ _ _ _ _ _ _ _ _ _ _ _ _ _ _ c.in_ok-act.ensures.ok c.if-not-branch.false inv.3 inv.2 c.in-Some.ensures.lines inv.1 (omega arith) in
+    let next = went_on _ _ _ _ _ _ _ _ (suc (c.loop-parts.number + 1)) _ _ _ _ _ _ _ _ _ c.in_ok-act.ensures.ok c.if-not-branch.false inv.3 inv.2 c.in-Some.ensures.lines inv.1 (omega arith) in
     (next.0, next.1, next.2, next.3, omega (arith, inv.4, c.in-Some.ensures.shorter))
 
 pub returns-clause-ok : goal.returns-clause-ok
