@@ -1,5 +1,5 @@
 -- What the bytes of a value say by its tag (RFC 8010, section 3.9).
-use Rattle.std.specs.Prelude.{◌≡◌, ◌⊎◌, ◌<◌, ℕ, ℤ, List, [], ◌∷◌, ◌++◌, length, Option, Some, None, Bool, true, false, ◌==◌, ◌||◌, if◌then◌else◌}
+use Rattle.std.specs.Prelude.{◌≡◌, ◌⊎◌, ◌<◌, ℕ, ℤ, pos, negsuc, List, [], ◌∷◌, ◌++◌, length, Option, Some, None, Bool, true, false, ◌==◌, ◌||◌, if◌then◌else◌}
 use Rattle.std.specs.Int.{w32, to_be_bytes, from_be_bytes, cast_signed, cast_unsigned}
 use Rattle.ipp_codec.specs.Message.{IppValue, tag_of, bytes_in}
 use Rattle.ipp_codec.specs.Spelling.{counted}
@@ -20,6 +20,11 @@ integer_of bytes = if length bytes == 4 then Some (cast_signed w32 (from_be_byte
 -- an integer or a number of an enumeration
 abbrev pub integer_in : IppValue → Option ℤ
 integer_in v = if (tag_of v == 0x21) || (tag_of v == 0x23) then integer_of (bytes_in v) else None
+
+-- a number that isn't negative
+abbrev pub unsigned : ℤ → Option ℕ
+unsigned (pos number) = Some number
+unsigned (negsuc _) = None
 
 -- the truth value that one byte is
 abbrev pub boolean_of : List ℕ → Option Bool

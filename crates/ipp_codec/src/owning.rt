@@ -1,14 +1,14 @@
 //! Views made owned.
 ghost use Rattle.std.specs.Prelude.{◌≡◌, ◌<◌, length, IfOk};
 ghost use Rattle.ipp_codec.specs.Message.{members_in};
-ghost use Rattle.ipp_codec.specs.Owned.{value_owned, values_owned, members_owned, attributes_owned, groups_owned, message_owned};
-ghost use Rattle.ipp_codec.specs.Views.{level, value_shown, message_shown};
+ghost use Rattle.ipp_codec.specs.Owned.{value_owned, values_owned, members_owned, attributes_owned, group_owned, groups_owned, message_owned};
+ghost use Rattle.ipp_codec.specs.Views.{level, value_shown, group_shown, message_shown};
 
 use crate::element::BEGIN_COLLECTION;
 use crate::message::{Attribute, Group, Message};
 use crate::tag::{GroupTag, ValueTag};
 use crate::value::{Member, Value};
-use crate::view::{MessageView, ValueView};
+use crate::view::{GroupView, MessageView, ValueView};
 use crate::walk::{next_attribute, next_group, next_member, next_value};
 use std::alloc::{AllocError, Global};
 
@@ -89,6 +89,19 @@ fn own_groups(alloc: Global, bytes: &[u8]) -> Result<Vec<Group>, AllocError>
         owned.push(Group { tag, attributes })?;
     }
     Ok(owned)
+}
+
+impl<'a> GroupView<'a> {
+    /// A group of its own that says the same. The error is want of memory.
+    pub fn to_owned(&self, alloc: Global) -> Result<Group, AllocError>
+        ensures { IfOk result (λ group. group_owned group ≡ group_shown self.now) }
+    {
+        let attributes = own_attributes(alloc, self.rest)?;
+        Ok(Group {
+            tag: GroupTag::new(self.tag),
+            attributes,
+        })
+    }
 }
 
 impl<'a> MessageView<'a> {

@@ -7,7 +7,7 @@ use crate::element::counted_of;
 use crate::view::ValueView;
 
 /// The number that four bytes are, in two's complement.
-fn integer_of(bytes: &[u8]) -> Option<i32>
+pub(crate) fn integer_of(bytes: &[u8]) -> Option<i32>
     ensures { result ≡ integer_of bytes.now }
 {
     let [first, second, third, fourth] = bytes else {

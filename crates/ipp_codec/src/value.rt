@@ -1,10 +1,11 @@
 //! Values that own their bytes.
 ghost use Rattle.std.specs.Prelude.{◌≡◌, [], ◌∷◌, ◌++◌, map, IfOk, OnOk, OnErr};
-ghost use Rattle.ipp_codec.specs.Message.{plain, collection, members_of};
+ghost use Rattle.ipp_codec.specs.Message.{plain, collection, members_of, tag_of, bytes_in};
 ghost use Rattle.ipp_codec.specs.Owned.{value_owned, member_owned};
-ghost use Rattle.ipp_codec.specs.Typed.{bytes_of_integer, byte_of_boolean};
+ghost use Rattle.ipp_codec.specs.Typed.{bytes_of_integer, byte_of_boolean, integer_in};
 
 use crate::tag::ValueTag;
+use crate::typed::integer_of;
 use std::alloc::{AllocError, Global};
 
 /// A value: its tag and bytes, or a collection's members.
@@ -31,6 +32,16 @@ impl Value {
     {
         let bytes = Vec::from_slice(alloc, bytes)?;
         Ok(Value::Plain { tag, bytes })
+    }
+
+    /// A value of this tag without bytes; it takes no memory.
+    pub fn empty(alloc: Global, tag: ValueTag) -> Value
+        ensures { value_owned result ≡ plain tag [] }
+    {
+        Value::Plain {
+            tag,
+            bytes: Vec::new(alloc),
+        }
     }
 
     /// An integer (RFC 8010, section 3.9).
@@ -63,6 +74,38 @@ impl Value {
         ensures { value_owned result ≡ collection (members_of (map member_owned members.items)) }
     {
         Value::Collection(members)
+    }
+
+    /// Its tag, [`ValueTag::COLLECTION`] of a collection.
+    pub fn tag(&self) -> ValueTag
+        ensures { result ≡ tag_of (value_owned self.now) }
+    {
+        match self {
+            Value::Plain { tag, .. } => *tag,
+            Value::Collection(_) => ValueTag::COLLECTION,
+        }
+    }
+
+    /// Its bytes: none of a collection.
+    pub fn bytes(&self) -> &[u8]
+        ensures { result.now ≡ bytes_in (value_owned self.now) }
+    {
+        match self {
+            Value::Plain { bytes, .. } => bytes,
+            Value::Collection(_) => &[],
+        }
+    }
+
+    /// The number of an integer or an enum, if it is one of four bytes.
+    pub fn as_integer(&self) -> Option<i32>
+        ensures { result ≡ integer_in (value_owned self.now) }
+    {
+        let tag = self.tag();
+        if tag == ValueTag::INTEGER || tag == ValueTag::ENUM {
+            integer_of(self.bytes())
+        } else {
+            None
+        }
     }
 }
 

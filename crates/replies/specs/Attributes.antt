@@ -1,10 +1,10 @@
 -- What the attributes of a group say (RFC 8011, sections 4.1.4 and 5.1).
-use Rattle.std.specs.Prelude.{ℕ, ℤ, pos, negsuc, ◌+◌, ◌*◌, ◌==◌, Bool, true, if◌then◌else◌, List, [], ◌∷◌, drop, find, Option, Some, None, option_map}
+use Rattle.std.specs.Prelude.{ℕ, ◌+◌, ◌*◌, ◌==◌, Bool, true, if◌then◌else◌, List, [], ◌∷◌, drop, find, Option, Some, None, option_map}
 use Rattle.std.specs.List.{list_any}
 use Rattle.std.specs.Option.{option_map_or, option_and_then}
 use Rattle.std.specs.Str.{bytes_eq}
 use Rattle.ipp_codec.specs.Message.{IppValue, tag_of, bytes_in, IppAttribute, IppGroup}
-use Rattle.ipp_codec.specs.Typed.{integer_in}
+use Rattle.ipp_codec.specs.Typed.{integer_in, unsigned}
 
 abbrev pub first_of : List ℕ → List IppAttribute → Option IppValue
 first_of name attributes = option_map (λ attribute. attribute.first) (find (λ attribute. bytes_eq attribute.name name) attributes)
@@ -33,10 +33,6 @@ name_or name default group = option_map_or name_in (value_of name group) default
 -- the bytes of an attribute, where it is there
 abbrev pub bytes_of : List ℕ → IppGroup → Option (List ℕ)
 bytes_of name group = option_map bytes_in (value_of name group)
-
-abbrev pub unsigned : ℤ → Option ℕ
-unsigned (pos number) = Some number
-unsigned (negsuc _) = None
 
 -- the integer of an attribute, where it is there and isn't negative
 abbrev pub number_of : List ℕ → IppGroup → Option ℕ
