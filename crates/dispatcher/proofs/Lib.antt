@@ -7,3 +7,4 @@ pub mod Checked
 pub mod Starts
 pub mod Runs
 pub mod KnownFormats
+pub mod FirstOnes

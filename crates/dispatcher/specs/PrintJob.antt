@@ -1,14 +1,13 @@
 -- What a Print-Job request comes to (RFC 8011, section 4.2.1): why it is refused, else the job that it
 -- makes, and what it is answered.
-use Rattle.std.specs.Prelude.{ℕ, ◌≡◌, ◌+◌, ◌==◌, ◌||◌, not, nat_lt, Bool, false, if◌then◌else◌, List, [], ◌∷◌, ◌++◌, find, position, reverse, length, Option, Some, None, unwrap_or, slice_get, Result, Ok, Err, MatchResult, codes}
+use Rattle.std.specs.Prelude.{ℕ, ◌≡◌, ◌+◌, ◌==◌, ◌||◌, ◌&&◌, not, nat_lt, Bool, false, if◌then◌else◌, List, [], ◌∷◌, ◌++◌, find, position, reverse, length, Option, Some, None, slice_get, Result, Ok, Err, MatchResult, codes}
 use Rattle.std.specs.List.{before_first, flat_map}
 use Rattle.std.specs.Option.{option_map_or}
 use Rattle.std.specs.Str.{bytes_eq, str_eq_ignore_ascii_case}
 use Rattle.base_types.specs.Device.{Device}
-use Rattle.base_types.specs.declared.limits.TheConstants.Limits.{DEFAULT_PRIORITY, JOB_OCTETS}
-use Rattle.base_types.specs.declared.needs.Sides.TheVariants.{One}
+use Rattle.base_types.specs.declared.limits.TheConstants.Limits.{JOB_OCTETS}
 use Rattle.settings_file.specs.Settings.{PrinterEntry}
-use Rattle.ipp_codec.specs.Message.{IppGroup}
+use Rattle.ipp_codec.specs.Message.{IppAttribute, IppGroup}
 use Rattle.ipp_codec.specs.Owned.{groups_owned}
 use Rattle.printer_objects.specs.Created.{created_group}
 use Rattle.spool.specs.Submission.{Submission, spooled_of}
@@ -21,7 +20,11 @@ use Rattle.dispatcher.specs.declared.reply.Answer.TheVariants as Says
 use Rattle.dispatcher.specs.declared.reply.Reply.{Reply}
 use Rattle.dispatcher.specs.declared.status.Status.{Status}
 use Rattle.dispatcher.specs.declared.status.Status.TheVariants as Went
+use Rattle.dispatcher.specs.declared.print_job.Accepted.{Accepted}
+use Rattle.dispatcher.specs.declared.print_job.Refusal.{Refusal}
 use Rattle.dispatcher.specs.State.{State}
+use Rattle.dispatcher.specs.Template.{TemplateRecord, template_of, medium_of}
+use Rattle.dispatcher.specs.Unsupported.{unsupported_of}
 
 -- ---- what the request asks for
 
@@ -73,54 +76,64 @@ format_of devices printer (Some asked) = find (is_same_format asked) (formats_of
 
 -- ---- the job
 
--- the job of the document; what the template doesn't say has the default (section 5.2)
-abbrev pub submission_of : PrintJob → ℕ → ℕ → PrinterEntry → List ℕ → Submission
-submission_of request now place printer format = record {
+-- the job of the document, with what the job group comes to
+abbrev pub submission_of : PrintJob → ℕ → ℕ → List ℕ → List ℕ → TemplateRecord → Submission
+submission_of request now place format medium template = record {
   created = now;
   printer = place;
   owner = request.user;
   name = request.job_name;
-  priority = unwrap_or request.template.priority DEFAULT_PRIORITY;
-  sides = unwrap_or request.template.sides One;
-  media = unwrap_or request.template.media printer.media_default;
-  copies = unwrap_or request.template.copies 1;
-  held = request.template.held;
+  priority = template.priority;
+  sides = template.sides;
+  media = medium;
+  copies = template.copies;
+  held = template.held;
   impressions = request.impressions;
   documents = record { format = format; contents = request.octets } ∷ [];
 }
 
--- ---- the job that a request makes, or the status of the first reason against it
+-- ---- the job that a request makes, or the first reason against it
 
--- the job is too large, or the server is busy
-abbrev pub admitted : State → Submission → ℕ → Result Submission Status
-admitted old job octets =
-    if nat_lt JOB_OCTETS octets then Err Went.TooLarge
-    else if is_full old.spool then Err Went.Busy
-    else Ok job
+-- a status, and nothing that isn't supported
+abbrev pub refused : Status → Refusal
+refused status = record { status = status; unsupported = [] }
+
+-- something isn't supported and the request insists on it, the job is too large, or the server is busy
+abbrev pub admitted : PrintJob → State → Submission → List IppAttribute → Result Accepted Refusal
+admitted request old job unsupported =
+    if request.fidelity && not (length unsupported == 0) then Err (record { status = Went.AttributesNotSupported; unsupported = unsupported })
+    else if nat_lt JOB_OCTETS (length request.octets) then Err (refused Went.TooLarge)
+    else if is_full old.spool then Err (refused Went.Busy)
+    else Ok (record { job = job; unsupported = unsupported })
+
+-- by its job group, the format being known
+abbrev pub asked_of_format : PrintJob → ℕ → State → ℕ → PrinterEntry → List ℕ → Result Accepted Refusal
+asked_of_format request now old place printer format =
+    admitted request old (submission_of request now place format (medium_of old.devices printer request.template) (template_of old.devices printer request.template)) (unsupported_of old.devices printer request.template)
 
 -- the document is compressed, or its format isn't supported
-abbrev pub asked_of_printer : PrintJob → ℕ → State → ℕ → PrinterEntry → Result Submission Status
+abbrev pub asked_of_printer : PrintJob → ℕ → State → ℕ → PrinterEntry → Result Accepted Refusal
 asked_of_printer request now old place printer =
-    if is_compressed request.compression then Err Went.CompressionNotSupported
-    else option_map_or (λ format. admitted old (submission_of request now place printer format) (length request.octets)) (format_of old.devices printer request.format) (Err Went.FormatNotSupported)
+    if is_compressed request.compression then Err (refused Went.CompressionNotSupported)
+    else option_map_or (asked_of_format request now old place printer) (format_of old.devices printer request.format) (Err (refused Went.FormatNotSupported))
 
 -- the printer is unknown
-abbrev pub asked_at : PrintJob → ℕ → State → ℕ → Result Submission Status
-asked_at request now old place = option_map_or (asked_of_printer request now old place) (slice_get old.settings.printers place) (Err Went.NotFound)
+abbrev pub asked_at : PrintJob → ℕ → State → ℕ → Result Accepted Refusal
+asked_at request now old place = option_map_or (asked_of_printer request now old place) (slice_get old.settings.printers place) (Err (refused Went.NotFound))
 
-abbrev pub asked_of : PrintJob → ℕ → State → Result Submission Status
-asked_of request now old = option_map_or (asked_at request now old) (place_of request.target old.settings.printers) (Err Went.NotFound)
+abbrev pub asked_of : PrintJob → ℕ → State → Result Accepted Refusal
+asked_of request now old = option_map_or (asked_at request now old) (place_of request.target old.settings.printers) (Err (refused Went.NotFound))
 
 -- ---- the answer
 
--- an answer of just this status and these groups
-abbrev pub IsAnswer : Status → List IppGroup → Answer → Type 0
-IsAnswer status groups (Says.Ipp answer) = (answer.status ≡ status) × (answer.unsupported.items ≡ []) × (groups_owned answer.groups.items ≡ groups)
-IsAnswer status groups Says.Nothing = ⊥
+-- an answer of just this status, what isn't supported, and these groups
+abbrev pub IsAnswer : Status → List IppAttribute → List IppGroup → Answer → Type 0
+IsAnswer status unsupported groups (Says.Ipp answer) = (answer.status ≡ status) × (answer.unsupported ≡ unsupported) × (groups_owned answer.groups.items ≡ groups)
+IsAnswer status unsupported groups Says.Nothing = ⊥
 
--- a reply of just this status and these groups: no cancels, no documents
-pub record Replies (status : Status) (groups : List IppGroup) (reply : Reply) : Type 0 where
-  pub answer : IsAnswer status groups reply.answer
+-- a reply of just these: no cancels, no documents
+pub record Replies (status : Status) (unsupported : List IppAttribute) (groups : List IppGroup) (reply : Reply) : Type 0 where
+  pub answer : IsAnswer status unsupported groups reply.answer
   pub cancels : reply.cancels.items ≡ []
   pub documents : reply.documents.items ≡ []
 
@@ -128,20 +141,24 @@ pub record Replies (status : Status) (groups : List IppGroup) (reply : Reply) : 
 abbrev pub group_of : State → Submission → IppGroup
 group_of old job = created_group old.settings.uri_base (spooled_of job old.spool.next false).job (paused_at old.paused job.printer)
 
+-- how a job is taken, by what isn't supported (section 4.1.6)
+abbrev pub taken_with : List IppAttribute → Status
+taken_with unsupported = if length unsupported == 0 then Went.Ok else Went.OkIgnoredOrSubstituted
+
 -- the job is answered, and kept under the next id
-pub record TakesJob (now : ℕ) (old : State) (job : Submission) (reply : Reply) (new : State) : Type 0 where
-  pub replies : Replies Went.Ok (group_of old job ∷ []) reply
+pub record TakesJob (now : ℕ) (old : State) (accepted : Accepted) (reply : Reply) (new : State) : Type 0 where
+  pub replies : Replies (taken_with accepted.unsupported) accepted.unsupported (group_of old accepted.job ∷ []) reply
   pub state : new ≡ record old {
     last = now;
-    spool = record { jobs = old.spool.jobs ++ spooled_of job old.spool.next false ∷ []; next = old.spool.next + 1 };
+    spool = record { jobs = old.spool.jobs ++ spooled_of accepted.job old.spool.next false ∷ []; next = old.spool.next + 1 };
   }
 
--- the status alone is answered
-pub record RefusesJob (now : ℕ) (old : State) (status : Status) (reply : Reply) (new : State) : Type 0 where
-  pub replies : Replies status [] reply
+-- the refusal alone is answered
+pub record RefusesJob (now : ℕ) (old : State) (refusal : Refusal) (reply : Reply) (new : State) : Type 0 where
+  pub replies : Replies refusal.status refusal.unsupported [] reply
   pub state : new ≡ record old { last = now }
 
 -- one reply and one state after it
 abbrev pub PrintsJob : ℕ → PrintJob → State → Reply → State → Type 0
 PrintsJob now request old reply new =
-    MatchResult (asked_of request now old) (λ job. TakesJob now old job reply new) (λ status. RefusesJob now old status reply new)
+    MatchResult (asked_of request now old) (λ accepted. TakesJob now old accepted reply new) (λ refusal. RefusesJob now old refusal reply new)

@@ -1,5 +1,5 @@
 -- A run: events with their moments, each a step, and after each that is no query a dispatch.
-use Rattle.std.specs.Prelude.{ℕ, ◌≡◌, ◌≢◌, max, Bool, true, false, List, [], ◌∷◌, Option}
+use Rattle.std.specs.Prelude.{◌≡◌, ◌≢◌, max, Bool, true, false, List, [], ◌∷◌, Option}
 use Rattle.prices.specs.Plan.{PlanRecord}
 use Rattle.dispatcher.specs.declared.event.Event.{Event}
 use Rattle.dispatcher.specs.declared.event.Event.TheVariants as Is

@@ -11,6 +11,7 @@ code_of Is.NotPossible = 0x0404
 code_of Is.NotFound = 0x0406
 code_of Is.TooLarge = 0x0408
 code_of Is.FormatNotSupported = 0x040A
+code_of Is.AttributesNotSupported = 0x040B
 code_of Is.CharsetNotSupported = 0x040D
 code_of Is.CompressionNotSupported = 0x040F
 code_of Is.OperationNotSupported = 0x0501

@@ -1,15 +1,155 @@
--- What a request asks for by its job template attributes (RFC 8011, section 5.2).
-use Rattle.std.specs.Prelude.{ℕ, Bool, false, List, Option, None}
+-- What of a request's job group a printer supports, and what the job becomes by it (RFC 8011, section 5.2).
+use Rattle.std.specs.Prelude.{ℕ, ◌==◌, ◌||◌, not, nat_lt, Bool, true, false, if◌then◌else◌, List, [], ◌∷◌, find, Option, Some, None, is_some, option_map, unwrap_or, slice_get, codes}
+use Rattle.std.specs.List.{flat_map}
+use Rattle.std.specs.Option.{option_map_or, option_and_then}
+use Rattle.std.specs.Str.{bytes_eq}
+use Rattle.base_types.specs.Device.{Device}
+use Rattle.base_types.specs.declared.device.Medium.{Medium}
+use Rattle.base_types.specs.declared.limits.TheConstants.Limits.{COPIES, HIGHEST_PRIORITY, DEFAULT_PRIORITY}
 use Rattle.base_types.specs.declared.needs.Sides.{Sides}
+use Rattle.base_types.specs.declared.needs.Sides.TheVariants.{One, LongEdge, ShortEdge}
+use Rattle.ipp_codec.specs.Message.{IppValue, tag_of, bytes_in, IppAttribute}
+use Rattle.ipp_codec.specs.Typed.{integer_in, unsigned}
+use Rattle.printer_objects.specs.Offered.{prints_two_sided}
+use Rattle.settings_file.specs.Settings.{PrinterEntry}
+use Rattle.dispatcher.specs.declared.template_name.TemplateName.{TemplateName}
+use Rattle.dispatcher.specs.declared.template_name.TemplateName.TheVariants as Is
 
--- each of them where it is given; a job is held where job-hold-until is indefinite
+-- ---- the value of an attribute that has just one
+
+abbrev pub alone : IppValue → List IppValue → Option IppValue
+alone value [] = Some value
+alone value (other ∷ others) = None
+
+abbrev pub only_value : IppAttribute → Option IppValue
+only_value attribute = alone attribute.first attribute.others
+
+-- an integer that isn't negative
+abbrev pub number_of : IppValue → Option ℕ
+number_of value = if tag_of value == 0x21 then option_and_then unsigned (integer_in value) else None
+
+-- a keyword
+abbrev pub keyword_of : IppValue → Option (List ℕ)
+keyword_of value = if tag_of value == 0x44 then Some (bytes_in value) else None
+
+-- a keyword or a name without a language
+abbrev pub word_of : IppValue → Option (List ℕ)
+word_of value = if (tag_of value == 0x44) || (tag_of value == 0x42) then Some (bytes_in value) else None
+
+abbrev pub number : IppAttribute → Option ℕ
+number attribute = option_and_then number_of (only_value attribute)
+
+abbrev pub keyword : IppAttribute → Option (List ℕ)
+keyword attribute = option_and_then keyword_of (only_value attribute)
+
+abbrev pub word : IppAttribute → Option (List ℕ)
+word attribute = option_and_then word_of (only_value attribute)
+
+-- ---- what a supported attribute asks for
+
+-- 1 up to the most
+abbrev pub up_to : ℕ → ℕ → Option ℕ
+up_to most count = if nat_lt count 1 || nat_lt most count then None else Some count
+
+-- copies (section 5.2.5)
+abbrev pub copies_in : IppAttribute → Option ℕ
+copies_in attribute = option_and_then (up_to COPIES) (number attribute)
+
+-- job-priority (section 5.2.1)
+abbrev pub priority_in : IppAttribute → Option ℕ
+priority_in attribute = option_and_then (up_to HIGHEST_PRIORITY) (number attribute)
+
+-- whether the job is held, by the word of job-hold-until (section 5.2.2)
+abbrev pub hold_named : List ℕ → Option Bool
+hold_named word =
+    if bytes_eq word (codes "no-hold") then Some false
+    else if bytes_eq word (codes "indefinite") then Some true
+    else None
+
+abbrev pub hold_in : IppAttribute → Option Bool
+hold_in attribute = option_and_then hold_named (word attribute)
+
+-- the sides of a keyword (section 5.2.8), where a printer prints on two sides or on one alone
+abbrev pub sides_named : Bool → List ℕ → Option Sides
+sides_named two_sided word =
+    if bytes_eq word (codes "one-sided") then Some One
+    else if not two_sided then None
+    else if bytes_eq word (codes "two-sided-long-edge") then Some LongEdge
+    else if bytes_eq word (codes "two-sided-short-edge") then Some ShortEdge
+    else None
+
+-- sides: both sides where some device of the printer prints so
+abbrev pub sides_in : List Device → PrinterEntry → IppAttribute → Option Sides
+sides_in devices printer attribute = option_and_then (sides_named (prints_two_sided devices printer.devices)) (keyword attribute)
+
+-- the media of the device at a place, loaded or not, if there is one
+abbrev pub media_at : List Device → ℕ → List Medium
+media_at devices place = option_map_or (λ d. d.media) (slice_get devices place) []
+
+-- the first medium of the devices at these places that has this name
+abbrev pub medium_among : List Device → List ℕ → List ℕ → Option Medium
+medium_among devices places name = find (λ m. bytes_eq name m.name) (flat_map (media_at devices) places)
+
+-- the medium of a name: the printer's default, or one of its devices'
+abbrev pub medium_named : List Device → PrinterEntry → List ℕ → Option (List ℕ)
+medium_named devices printer name =
+    if bytes_eq name printer.media_default then Some printer.media_default
+    else option_map (λ m. m.name) (medium_among devices printer.devices name)
+
+-- media (section 5.2.11)
+abbrev pub medium_in : List Device → PrinterEntry → IppAttribute → Option (List ℕ)
+medium_in devices printer attribute = option_and_then (medium_named devices printer) (word attribute)
+
+-- ---- which attributes are supported
+
+-- the template attribute of a name
+abbrev pub template_name : List ℕ → Option TemplateName
+template_name name =
+    if bytes_eq name (codes "copies") then Some Is.Copies
+    else if bytes_eq name (codes "media") then Some Is.Media
+    else if bytes_eq name (codes "sides") then Some Is.Sides
+    else if bytes_eq name (codes "job-priority") then Some Is.JobPriority
+    else if bytes_eq name (codes "job-hold-until") then Some Is.JobHoldUntil
+    else None
+
+-- by its name, whether its value is supported
+abbrev pub supports : List Device → PrinterEntry → IppAttribute → Option TemplateName → Bool
+supports devices printer attribute (Some Is.Copies) = is_some (copies_in attribute)
+supports devices printer attribute (Some Is.Media) = is_some (medium_in devices printer attribute)
+supports devices printer attribute (Some Is.Sides) = is_some (sides_in devices printer attribute)
+supports devices printer attribute (Some Is.JobPriority) = is_some (priority_in attribute)
+supports devices printer attribute (Some Is.JobHoldUntil) = is_some (hold_in attribute)
+supports devices printer attribute None = false
+
+unfoldable pub is_supported : List Device → PrinterEntry → IppAttribute → Bool
+is_supported devices printer attribute = supports devices printer attribute (template_name attribute.name)
+
+-- ---- what a job becomes by the group
+
+-- the first of a name
+abbrev pub named : List ℕ → List IppAttribute → Option IppAttribute
+named name attributes = find (λ a. bytes_eq name a.name) attributes
+
+-- what the first attribute of a name asks for, if it is supported
+abbrev pub asked_by : {X : Type 0} → List ℕ → (IppAttribute → Option X) → List IppAttribute → Option X
+asked_by name value attributes = option_and_then value (named name attributes)
+
+-- all but the medium
 pub record TemplateRecord : Type 0 where
-  pub priority : Option ℕ
-  pub sides : Option Sides
-  pub media : Option (List ℕ)
-  pub copies : Option ℕ
+  pub priority : ℕ
+  pub sides : Sides
+  pub copies : ℕ
   pub held : Bool
 
--- nothing is asked for
-abbrev pub no_template : TemplateRecord
-no_template = record { priority = None; sides = None; media = None; copies = None; held = false }
+-- what isn't there or isn't supported has its default
+unfoldable pub template_of : List Device → PrinterEntry → List IppAttribute → TemplateRecord
+template_of devices printer attributes = record {
+  priority = unwrap_or (asked_by (codes "job-priority") priority_in attributes) DEFAULT_PRIORITY;
+  sides = unwrap_or (asked_by (codes "sides") (sides_in devices printer) attributes) One;
+  copies = unwrap_or (asked_by (codes "copies") copies_in attributes) 1;
+  held = unwrap_or (asked_by (codes "job-hold-until") hold_in attributes) false;
+}
+
+-- the medium; without one that is supported the printer's default
+unfoldable pub medium_of : List Device → PrinterEntry → List IppAttribute → List ℕ
+medium_of devices printer attributes = unwrap_or (asked_by (codes "media") (medium_in devices printer) attributes) printer.media_default

@@ -1,6 +1,6 @@
 ghost use Rattle.std.specs.Prelude.{◌≡◌, false};
 
-use crate::template::JobTemplate;
+use crate::request_attributes::RequestAttributes;
 use base_types::{DeviceId, Report, Text};
 use spool::Octets;
 
@@ -16,7 +16,7 @@ pub enum Target {
 }
 
 /// A Print-Job request (RFC 8011, section 4.2.1): what the server reads of it.
-#[derive(Debug, Drop)]
+#[derive(Drop)]
 pub struct PrintJob {
     pub target: Target,
     /// Who asks, as claimed: requesting-user-name.
@@ -28,13 +28,16 @@ pub struct PrintJob {
     pub compression: Option<Text>,
     /// document-format, where it is given.
     pub format: Option<Text>,
-    pub template: JobTemplate,
+    /// ipp-attribute-fidelity: whether it is refused where something of its template isn't supported.
+    pub fidelity: bool,
+    /// The attributes of the job group (RFC 8011, section 5.2).
+    pub template: RequestAttributes,
     /// The document data.
     pub octets: Octets,
 }
 
 /// What the core acts on: one request that is complete, or one report of a device.
-#[derive(Debug, Drop)]
+#[derive(Drop)]
 pub enum Event {
     PrintJob(PrintJob),
     Report(DeviceId, Report),

@@ -4,21 +4,37 @@ ghost use Rattle.std.specs.Str.{bytes_eq};
 ghost use Rattle.ipp_codec.specs.Owned.{groups_owned};
 ghost use Rattle.job_objects.specs.Reasons.{one};
 ghost use Rattle.spool.specs.Calls.{new_refusal, paused_at};
-ghost use Rattle.dispatcher.specs.PrintJob.{PrintsJob, TakesJob, RefusesJob, place_of, is_compressed, format_of, asked_of, submission_of, group_of};
+ghost use Rattle.dispatcher.specs.PrintJob.{PrintsJob, TakesJob, RefusesJob, place_of, is_compressed, format_of, refused, asked_of_format, asked_of, submission_of, taken_with, group_of};
 
 use crate::event::{PrintJob, Target};
 use crate::formats::format_of;
 use crate::reply::Reply;
+use crate::request_attributes::RequestAttributes;
 use crate::state::CoreState;
 use crate::status::Status;
-use crate::template::JobTemplate;
-use base_types::{Limits, Moment, PrinterId, Priority, Sides, Text};
+use crate::template::{JobTemplate, medium_of, template_of};
+use base_types::{Limits, Moment, PrinterId, Text};
 use ipp_codec::Group;
 use job_objects::{JobReasons, JobState, Reason};
 use printer_objects::created_job_attributes;
 use settings_file::PrinterSettings;
 use spool::{Document, NewJob, Octets};
 use std::alloc::{AllocError, Global};
+use std::mem;
+
+/// A job that nothing stands against, and what of its request isn't supported.
+#[derive(Drop)]
+pub(crate) struct Accepted {
+    pub(crate) job: NewJob,
+    pub(crate) unsupported: RequestAttributes,
+}
+
+/// The first reason against a request, and what of it isn't supported, if that is the reason.
+#[derive(Drop)]
+pub(crate) struct Refusal {
+    pub(crate) status: Status,
+    pub(crate) unsupported: RequestAttributes,
+}
 
 impl CoreState {
     /// Takes the job of a Print-Job request, or says why not.
@@ -29,32 +45,38 @@ impl CoreState {
         ensures light { IsErr (asked_of request now self.old) → IsOk result }
     {
         match self.asked_by(request, now)? {
-            Ok(job) => self.take(job, now),
-            Err(status) => Ok(self.refuse(status, now)),
+            Ok(accepted) => self.take(accepted, now),
+            Err(refusal) => Ok(self.refuse(refusal, now)),
         }
     }
 
-    /// Answers a status alone.
-    fn refuse(&mut self, status: Status, now: Moment) -> Reply
+    /// Answers a status and what isn't supported.
+    fn refuse(&mut self, refusal: Refusal, now: Moment) -> Reply
         requires { self.old.last ≤ now }
-        ensures { RefusesJob now self.old status result self.new }
+        ensures { RefusesJob now self.old refusal result self.new }
     {
+        let Refusal {
+            status,
+            unsupported,
+        } = refusal;
         self.advance(now);
-        Reply::answered(self.alloc, status, Vec::new(self.alloc))
+        Reply::answered(self.alloc, status, unsupported, Vec::new(self.alloc))
     }
 
     /// Takes a job that nothing stands against; it is answered with its URI, id and state.
-    fn take(&mut self, job: NewJob, now: Moment) -> Result<Reply, AllocError>
+    fn take(&mut self, accepted: Accepted, now: Moment) -> Result<Reply, AllocError>
         requires later { self.old.last ≤ now }
-        requires free { new_refusal self.old.spool job.documents ≡ None }
-        ensures ok { IfOk result (λ reply. TakesJob now self.old job reply self.new) }
+        requires free { new_refusal self.old.spool accepted.job.documents ≡ None }
+        ensures ok { IfOk result (λ reply. TakesJob now self.old accepted reply self.new) }
         ensures err { OnErr result (self.new ≡ self.old) }
     {
+        let Accepted { job, unsupported } = accepted;
+        let status = taken_with(&unsupported);
         let groups = self.groups_of(&job)?;
         match self.spool.submit(job) {
             Ok(_) => {
                 self.advance(now);
-                Ok(Reply::answered(self.alloc, Status::Ok, groups))
+                Ok(Reply::answered(self.alloc, status, unsupported, groups))
             }
             Err(_) => Err(AllocError),
         }
@@ -76,31 +98,106 @@ impl CoreState {
         Ok(groups)
     }
 
-    /// The job that a request asks for, or the status of the first reason against it.
-    fn asked_by(&self, request: PrintJob, now: Moment) -> Result<Result<NewJob, Status>, AllocError>
+    /// The job that a request asks for, or the first reason against it.
+    fn asked_by(
+        &self,
+        request: PrintJob,
+        now: Moment,
+    ) -> Result<Result<Accepted, Refusal>, AllocError>
         ensures ok { IfOk result (λ asked. asked ≡ asked_of request now self.now) }
         ensures err { OnErr result (IsOk (asked_of request now self.now)) }
+        ensures free { IfOk result (λ asked. IfOk asked (λ accepted. new_refusal self.now.spool accepted.job.documents ≡ None)) }
     {
         let Some(place) = self.place_of(&request.target) else {
-            return Ok(Err(Status::NotFound));
+            return Ok(Err(self.refusal(Status::NotFound)));
         };
         let Some(printer) = self.printer(place) else {
-            return Ok(Err(Status::NotFound));
+            return Ok(Err(self.refusal(Status::NotFound)));
         };
         if is_compressed(&request.compression) {
-            return Ok(Err(Status::CompressionNotSupported));
+            return Ok(Err(self.refusal(Status::CompressionNotSupported)));
         }
         let Some(format) = self.format_of(printer, &request.format) else {
-            return Ok(Err(Status::FormatNotSupported));
+            return Ok(Err(self.refusal(Status::FormatNotSupported)));
         };
+        self.asked_of_format(place, printer, format, request, now)
+    }
+
+    /// The job that a request asks of a printer that has its format, or the first reason against it.
+    fn asked_of_format(
+        &self,
+        place: usize,
+        printer: &PrinterSettings,
+        format: &Text,
+        request: PrintJob,
+        now: Moment,
+    ) -> Result<Result<Accepted, Refusal>, AllocError>
+        ensures ok { IfOk result (λ asked. asked ≡ asked_of_format request now self.now place printer.now format.now) }
+        ensures err { OnErr result (IsOk (asked_of_format request now self.now place printer.now format.now)) }
+        ensures free { IfOk result (λ asked. IfOk asked (λ accepted. new_refusal self.now.spool accepted.job.documents ≡ None)) }
+    {
+        let mut request = request;
+        let template = template_of(&self.devices, printer, &request.template);
+        let medium = medium_of(&self.devices, printer, &request.template);
+        let mut unsupported = mem::replace(
+            &mut request.template,
+            RequestAttributes::new(self.alloc),
+        );
+        unsupported.make_unsupported(self.alloc, &self.devices, printer);
+        if request.fidelity && !unsupported.is_empty() {
+            return Ok(Err(Refusal {
+                status: Status::AttributesNotSupported,
+                unsupported,
+            }));
+        }
         if request.octets.len() > Limits::JOB_OCTETS {
-            return Ok(Err(Status::TooLarge));
+            return Ok(Err(self.refusal(Status::TooLarge)));
         }
         if self.spool.is_full() {
-            return Ok(Err(Status::Busy));
+            return Ok(Err(self.refusal(Status::Busy)));
         }
-        let job = new_job(self.alloc, place, printer, format, request, now)?;
-        Ok(Ok(job))
+        let job = self.new_job(place, format, medium, template, request, now)?;
+        Ok(Ok(Accepted { job, unsupported }))
+    }
+
+    /// The job of a request's document, with what its job group comes to.
+    fn new_job(
+        &self,
+        place: usize,
+        format: &Text,
+        medium: &Text,
+        template: JobTemplate,
+        request: PrintJob,
+        now: Moment,
+    ) -> Result<NewJob, AllocError>
+        ensures { IfOk result (λ job. job ≡ submission_of request now place format.now medium.now template) }
+    {
+        let alloc = self.alloc;
+        let documents = one_document(alloc, format, request.octets)?;
+        let media = medium.copied(alloc)?;
+        Ok(NewJob {
+            created: now,
+            printer: PrinterId::new(place),
+            owner: request.user,
+            name: request.job_name,
+            priority: template.priority,
+            sides: template.sides,
+            media,
+            copies: template.copies,
+            held: template.held,
+            impressions: request.impressions,
+            documents,
+        })
+    }
+
+    /// A refusal of a status alone.
+    fn refusal(&self, status: Status) -> Refusal
+        ensures { result ≡ refused status }
+    {
+        Refusal {
+            status,
+            unsupported: RequestAttributes::new(self.alloc),
+        }
     }
 
     /// The place of the printer that a request names.
@@ -199,53 +296,15 @@ fn first_reasons(held: bool, printer_paused: bool) -> JobReasons
     }
 }
 
-/// The job of a request's document. What its template doesn't say has the defaults: the normal
-/// priority, one side, one copy, the printer's media.
-fn new_job(
-    alloc: Global,
-    place: usize,
-    printer: &PrinterSettings,
-    format: &Text,
-    request: PrintJob,
-    now: Moment,
-) -> Result<NewJob, AllocError>
-    ensures { IfOk result (λ job. job ≡ submission_of request now place printer.now format.now) }
+/// How a job is taken, by what isn't supported.
+fn taken_with(unsupported: &RequestAttributes) -> Status
+    ensures { result ≡ taken_with unsupported.now }
 {
-    let PrintJob {
-        target: _target,
-        user,
-        job_name,
-        impressions,
-        compression: _compression,
-        format: _format,
-        template,
-        octets,
-    } = request;
-    let JobTemplate {
-        priority,
-        sides,
-        media,
-        copies,
-        held,
-    } = template;
-    let documents = one_document(alloc, format, octets)?;
-    let media = match media {
-        Some(media) => media,
-        None => printer.media_default.copied(alloc)?,
-    };
-    Ok(NewJob {
-        created: now,
-        printer: PrinterId::new(place),
-        owner: user,
-        name: job_name,
-        priority: priority.unwrap_or(Priority::normal()),
-        sides: sides.unwrap_or(Sides::One),
-        media,
-        copies: copies.unwrap_or(1),
-        held,
-        impressions,
-        documents,
-    })
+    if unsupported.is_empty() {
+        Status::Ok
+    } else {
+        Status::OkIgnoredOrSubstituted
+    }
 }
 
 /// One document of this format.

@@ -2,9 +2,10 @@ ghost use Rattle.std.specs.Prelude.{◌≡◌, []};
 ghost use Rattle.ipp_codec.specs.Owned.{groups_owned};
 ghost use Rattle.dispatcher.specs.PrintJob.{Replies};
 
+use crate::request_attributes::RequestAttributes;
 use crate::status::Status;
 use base_types::{DeviceId, JobId};
-use ipp_codec::{Attribute, Group};
+use ipp_codec::Group;
 use spool::Document;
 use std::alloc::Global;
 
@@ -20,7 +21,7 @@ pub struct Cancel {
 pub struct IppAnswer {
     pub status: Status,
     /// What of the request isn't supported, as it came or with the tag for unsupported values.
-    pub unsupported: Vec<Attribute>,
+    pub unsupported: RequestAttributes,
     /// The groups of jobs or of the printer.
     pub groups: Vec<Group>,
 }
@@ -44,14 +45,19 @@ pub struct Reply {
 }
 
 impl Reply {
-    /// A status and groups, and nothing else.
-    pub(crate) fn answered(alloc: Global, status: Status, groups: Vec<Group>) -> Reply
-        ensures { Replies status (groups_owned groups.items) result }
+    /// A status, what isn't supported, and groups; nothing else.
+    pub(crate) fn answered(
+        alloc: Global,
+        status: Status,
+        unsupported: RequestAttributes,
+        groups: Vec<Group>,
+    ) -> Reply
+        ensures { Replies status unsupported (groups_owned groups.items) result }
     {
         Reply {
             answer: Answer::Ipp(IppAnswer {
                 status,
-                unsupported: Vec::new(alloc),
+                unsupported,
                 groups,
             }),
             cancels: Vec::new(alloc),

@@ -13,7 +13,7 @@ use base_types::Moment;
 use std::alloc::{AllocError, Global};
 
 /// An event, and the moment at which it comes.
-#[derive(Debug, Drop)]
+#[derive(Drop)]
 pub struct Timed {
     pub event: Event,
     pub moment: Moment,

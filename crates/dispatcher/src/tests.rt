@@ -1,16 +1,15 @@
-ghost use Rattle.std.specs.Option.{ForSome};
-ghost use Rattle.base_types.specs.Ranges.{IsCopies};
-
 mod best;
 mod full;
 mod reports;
 mod runs;
 
 use crate::{
-    Answer, Core, Dispatched, Event, JobTemplate, PrintJob, Reply, Started, Status, Target,
+    Answer, Core, Dispatched, Event, PrintJob, Reply, RequestAttribute, RequestAttributes, Started,
+    Status, Target,
 };
 use assignment::Lazy;
-use base_types::{Cause, DeviceId, Limits, Moment, Priority, Report, Sides, Text};
+use base_types::{Cause, DeviceId, Moment, Report, Sides, Text};
+use ipp_codec::{Attribute, Value, ValueTag};
 use prices::Plan;
 use settings_file::read_settings;
 use spool::Octets;
@@ -83,15 +82,30 @@ fn at(millis: u64) -> Moment {
     Moment::new(millis).unwrap_or(Moment::start())
 }
 
-/// So many copies, if there can be so many.
-fn copies_in_range(copies: u32) -> Option<u32>
-    ensures { ForSome result IsCopies }
-{
-    if copies >= 1 && copies <= Limits::COPIES {
-        Some(copies)
-    } else {
-        None
+/// The keyword of the sides.
+fn keyword_of(sides: Sides) -> &'static [u8] {
+    match sides {
+        Sides::One => b"one-sided",
+        Sides::LongEdge => b"two-sided-long-edge",
+        Sides::ShortEdge => b"two-sided-short-edge",
     }
+}
+
+/// An attribute of one integer.
+fn number(alloc: Global, name: &[u8], number: u32) -> Result<RequestAttribute, AllocError> {
+    let value = Value::integer(alloc, i32::try_from(number).unwrap_or(0))?;
+    Ok(RequestAttribute::new(Attribute::new(alloc, name, value)?))
+}
+
+/// The job group of a job.
+fn job_group(alloc: Global, asked: Asked) -> Result<RequestAttributes, AllocError> {
+    let sides = Value::copy_of(alloc, ValueTag::KEYWORD, keyword_of(asked.sides))?;
+    let sides = Attribute::new(alloc, b"sides", sides)?;
+    let mut attributes = Vec::with_capacity(alloc, 3)?;
+    attributes.push(number(alloc, b"job-priority", u32::from(asked.priority))?)?;
+    attributes.push(RequestAttribute::new(sides))?;
+    attributes.push(number(alloc, b"copies", asked.copies)?)?;
+    Ok(RequestAttributes::from_vec(attributes))
 }
 
 /// The core of a server with these settings.
@@ -114,6 +128,7 @@ fn print_job(alloc: Global, asked: Asked) -> Result<Event, AllocError> {
     let target = target_of(alloc, asked)?;
     let user = Text::copy_of(alloc, b"anna")?;
     let job_name = Text::copy_of(alloc, b"letter")?;
+    let template = job_group(alloc, asked)?;
     let bytes = Vec::from_slice(alloc, b"hello")?;
     Ok(Event::PrintJob(PrintJob {
         target,
@@ -122,13 +137,8 @@ fn print_job(alloc: Global, asked: Asked) -> Result<Event, AllocError> {
         impressions: Some(asked.impressions),
         compression: None,
         format: None,
-        template: JobTemplate {
-            priority: Priority::new(asked.priority),
-            sides: Some(asked.sides),
-            media: None,
-            copies: copies_in_range(asked.copies),
-            held: false,
-        },
+        fidelity: true,
+        template,
         octets: Octets::new(bytes),
     }))
 }

@@ -1,4 +1,5 @@
 pub mod Message
+pub mod Code
 pub mod Spelling
 pub mod Grammar
 pub mod Place

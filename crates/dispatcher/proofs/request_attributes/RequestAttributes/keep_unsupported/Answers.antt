@@ -1,0 +1,11 @@
+use Rattle.std.proofs.Common.{◌∙◌, Bool, List, ap, filter, not, rules}
+use Rattle.std.proofs.lemmas.Fn.{filter_same}
+use Rattle.ipp_codec.specs.Message.{IppAttribute}
+use Rattle.dispatcher.specs.Template.{is_supported}
+use Rattle.dispatcher.proofs.request_attributes.RequestAttributes.keep_unsupported.Goals as goal
+
+pub returns : goal.returns
+returns c =
+    let test : IppAttribute → Bool = λ a. not (is_supported c.args.devices.now c.args.printer.now a) in
+    filter_same _ test _ (λ x b f' k. search rules) _ _ c.retain.ensures.filtered
+    ∙ ap (λ (xs : List IppAttribute). filter test xs) c.self.view_is

@@ -1,0 +1,8 @@
+use Rattle.std.proofs.lemmas.List.Edits.{map_over_more}
+use Rattle.dispatcher.specs.Unsupported.{returned}
+use Rattle.dispatcher.proofs.request_attributes.make_returned.Goals as goal
+
+pub loop-attribute-preserved : goal.loop-attribute-preserved
+loop-attribute-preserved c =
+    rw (c.make_returned.ensures, ← c.attribute-item.is)
+    (map_over_more returned c.args.attributes.now c.loop-attribute.attributes c.loop-attribute.attribute-index c.attribute-item.result c.loop-attribute-test.true c.loop-attribute.invariant c.attribute-item.is)

@@ -1,0 +1,141 @@
+ghost use Rattle.std.specs.Prelude.{◌≡◌, ◌==◌, ◌<◌, [], map, filter, not, length};
+ghost use Rattle.std.specs.Option.{option_copied};
+ghost use Rattle.dispatcher.specs.Template.{named, is_supported};
+ghost use Rattle.dispatcher.specs.Unsupported.{is_among, is_again, first_ones, returned, unsupported_of};
+
+use crate::request_attribute::RequestAttribute;
+use crate::template::is_unsupported;
+use base_types::DeviceNow;
+use settings_file::PrinterSettings;
+use std::alloc::Global;
+use std::marker::Model;
+
+/// Attributes of a request, in their order. In clauses they are the list of what they say.
+#[derive(Drop)]
+pub struct RequestAttributes {
+    attributes: Vec<RequestAttribute>,
+}
+
+impl Model for RequestAttributes {
+    ghost use Rattle.std.specs.Prelude.{List};
+    ghost use Rattle.std.specs.Coded.{coded_list};
+    ghost use Rattle.ipp_codec.specs.Code.{attribute_code};
+    ghost use Rattle.ipp_codec.specs.Message.{IppAttribute};
+
+    ghost Value = { List IppAttribute };
+
+    ghost coded = { coded_list attribute_code };
+
+    ghost view = { λ a. a.attributes.items };
+}
+
+impl RequestAttributes {
+    /// None; it takes no memory.
+    pub fn new(alloc: Global) -> RequestAttributes
+        ensures { result ≡ [] }
+    {
+        RequestAttributes {
+            attributes: Vec::new(alloc),
+        }
+    }
+
+    /// These.
+    pub fn from_vec(attributes: Vec<RequestAttribute>) -> RequestAttributes
+        ensures { result ≡ attributes.items }
+    {
+        RequestAttributes { attributes }
+    }
+
+    /// The attributes themselves.
+    pub fn into_vec(self) -> Vec<RequestAttribute>
+        ensures { result.items ≡ self }
+    {
+        self.attributes
+    }
+
+    /// Whether there is none.
+    pub fn is_empty(&self) -> bool
+        ensures { result ≡ (length self.now == 0) }
+    {
+        self.attributes.is_empty()
+    }
+
+    /// The first of a name.
+    pub(crate) fn named(&self, name: &[u8]) -> Option<&RequestAttribute>
+        ensures { option_copied result ≡ named name.now self.now }
+    {
+        self.attributes
+            .iter()
+            .find(|attribute| name == attribute.name())
+    }
+
+    /// What is returned of a job group, in its order. It takes no memory.
+    #[tactic(auto, unfolding(crate::specs::Unsupported::unsupported_of))]
+    pub(crate) fn make_unsupported(
+        &mut self,
+        alloc: Global,
+        devices: &[DeviceNow],
+        printer: &PrinterSettings,
+    )
+        ensures { self.new ≡ unsupported_of devices.now printer.now self.old }
+    {
+        self.keep_first_ones();
+        self.keep_unsupported(devices, printer);
+        self.make_returned(alloc);
+    }
+
+    /// Keeps the first of each name.
+    fn keep_first_ones(&mut self)
+        ensures { self.new ≡ first_ones self.old }
+    {
+        let mut place = self.attributes.len();
+        while place > 0 {
+            place -= 1;
+            if self.is_again(place) {
+                self.attributes.remove(place);
+            }
+        }
+    }
+
+    /// Whether the attribute at a place has the name of one before it.
+    fn is_again(&self, place: usize) -> bool
+        requires { place < length self.now }
+        ensures { result ≡ is_again self.now place }
+    {
+        match self.attributes.get(place) {
+            Some(attribute) => is_among(attribute.name(), &self.attributes[..place]),
+            None => false,
+        }
+    }
+
+    /// Keeps what the printer doesn't support.
+    fn keep_unsupported(&mut self, devices: &[DeviceNow], printer: &PrinterSettings)
+        ensures { self.new ≡ filter (λ a. not (is_supported devices.now printer.now a)) self.old }
+    {
+        self.attributes
+            .retain(|attribute| is_unsupported(devices, printer, attribute));
+    }
+
+    /// Makes each what is returned of it.
+    fn make_returned(&mut self, alloc: Global)
+        ensures { self.new ≡ map returned self.old }
+    {
+        make_returned(&mut self.attributes, alloc);
+    }
+}
+
+/// Makes each what is returned of it.
+fn make_returned(attributes: &mut [RequestAttribute], alloc: Global)
+    ensures { attributes.new ≡ map returned attributes.old }
+{
+    for attribute in attributes.iter_mut() {
+        attribute.make_returned(alloc);
+    }
+}
+
+/// Whether one of these attributes has a name.
+fn is_among(name: &[u8], attributes: &[RequestAttribute]) -> bool
+    ensures { result ≡ is_among name.now attributes.now }
+{
+    attributes.iter().any(|attribute| name == attribute.name())
+}
