@@ -1,10 +1,10 @@
 -- What the attributes of a group say (RFC 8011, sections 4.1.4 and 5.1).
-use Rattle.std.specs.Prelude.{ℕ, ◌+◌, ◌*◌, ◌==◌, Bool, true, if◌then◌else◌, List, [], ◌∷◌, drop, find, Option, Some, None, option_map}
+use Rattle.std.specs.Prelude.{ℕ, ◌+◌, ◌*◌, ◌==◌, Bool, true, false, if◌then◌else◌, List, [], ◌∷◌, drop, find, Option, option_map, unwrap_or}
 use Rattle.std.specs.List.{list_any}
 use Rattle.std.specs.Option.{option_map_or, option_and_then}
 use Rattle.std.specs.Str.{bytes_eq}
 use Rattle.ipp_codec.specs.Message.{IppValue, tag_of, bytes_in, IppAttribute, IppGroup}
-use Rattle.ipp_codec.specs.Typed.{integer_in, unsigned}
+use Rattle.ipp_codec.specs.Typed.{integer_in, unsigned, boolean_in}
 
 abbrev pub first_of : List ℕ → List IppAttribute → Option IppValue
 first_of name attributes = option_map (λ attribute. attribute.first) (find (λ attribute. bytes_eq attribute.name name) attributes)
@@ -37,3 +37,7 @@ bytes_of name group = option_map bytes_in (value_of name group)
 -- the integer of an attribute, where it is there and isn't negative
 abbrev pub number_of : List ℕ → IppGroup → Option ℕ
 number_of name group = option_and_then unsigned (option_and_then integer_in (value_of name group))
+
+-- the truth of an attribute; false where it isn't there
+abbrev pub truth_of : List ℕ → IppGroup → Bool
+truth_of name group = unwrap_or (option_and_then boolean_in (value_of name group)) false

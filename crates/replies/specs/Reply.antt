@@ -3,10 +3,10 @@ use Rattle.std.specs.Prelude.{ℕ, ◌≡◌, ◌++◌, Bool, true, false, if◌
 use Rattle.ipp_codec.specs.Message.{plain, IppAttribute, IppGroup, IppMessage}
 use Rattle.ipp_codec.specs.Spelling.{spelling}
 use Rattle.ipp_codec.specs.Grammar.{IsMessage}
-use Rattle.ipp_codec.specs.Owned.{attributes_owned, groups_owned}
+use Rattle.ipp_codec.specs.Owned.{groups_owned}
 use Rattle.dispatcher.specs.declared.reply.IppAnswer.{IppAnswer}
 use Rattle.dispatcher.specs.declared.status.Status.{Status}
-use Rattle.dispatcher.specs.declared.status.Status.TheVariants.{OkIgnoredOrSubstituted}
+use Rattle.dispatcher.specs.declared.status.Status.TheVariants.{OkIgnoredOrSubstituted, AttributesNotSupported}
 use Rattle.dispatcher.specs.Status.{code_of}
 
 -- one value
@@ -23,6 +23,7 @@ opening_group = record {
 -- whether the status tells that something isn't supported (section 4.1.7)
 abbrev pub tells_unsupported : Status → Bool
 tells_unsupported OkIgnoredOrSubstituted = true
+tells_unsupported AttributesNotSupported = true
 tells_unsupported _ = false
 
 -- what isn't supported, if there is any
@@ -43,7 +44,7 @@ refusal_bytes status id = spelling (reply_of status id [])
 
 abbrev pub message_of : IppAnswer → ℕ → IppMessage
 message_of answer id =
-    reply_of answer.status id (unsupported_of answer.status (attributes_owned answer.unsupported.items) ++ groups_owned answer.groups.items)
+    reply_of answer.status id (unsupported_of answer.status answer.unsupported ++ groups_owned answer.groups.items)
 
 -- the spelling of the answer where it has one, else its status alone
 pub record IsReply (answer : IppAnswer) (id : ℕ) (bytes : List ℕ) : Type 0 where

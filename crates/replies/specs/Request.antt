@@ -1,13 +1,9 @@
--- Which messages are requests (RFC 8011, section 4.1.4): an operation group, which begins with the charset and the natural language, and no other group.
-use Rattle.std.specs.Prelude.{ℕ, ◌==◌, ◌&&◌, not, Bool, false, if◌then◌else◌, List, [], ◌∷◌, Option, Some, None, codes}
-use Rattle.std.specs.List.{list_any}
+-- Which messages are requests (RFC 8011, section 4.1.4): their first group is the operation group, which begins with the charset and the natural language. Of the groups behind it the first job group is looked at.
+use Rattle.std.specs.Prelude.{ℕ, ◌==◌, ◌&&◌, Bool, false, if◌then◌else◌, List, [], ◌∷◌, find, Option, Some, None, codes}
 use Rattle.std.specs.Option.{option_map_or}
 use Rattle.std.specs.Str.{bytes_eq, str_eq_ignore_ascii_case}
 use Rattle.ipp_codec.specs.Message.{tag_of, bytes_in, IppAttribute, IppGroup, IppMessage}
 use Rattle.replies.specs.Attributes.{value_of}
-
-abbrev pub holds_collection : IppAttribute → Bool
-holds_collection attribute = list_any (λ value. tag_of value == 0x34) (attribute.first ∷ attribute.others)
 
 -- an attribute of this name, whose first value has this tag
 abbrev pub is_named : List ℕ → ℕ → IppAttribute → Bool
@@ -19,18 +15,27 @@ begins_request (first ∷ second ∷ later) =
     is_named (codes "attributes-charset") 0x47 first && is_named (codes "attributes-natural-language") 0x48 second
 begins_request _ = false
 
--- the operation group of a request; no attribute that is read so far has a collection
 abbrev pub is_operation_group : IppGroup → Bool
-is_operation_group group =
-    (group.tag == 1) && not (list_any holds_collection group.attributes) && begins_request group.attributes
+is_operation_group group = (group.tag == 1) && begins_request group.attributes
 
 abbrev pub operation_group_in : List IppGroup → Option IppGroup
-operation_group_in (group ∷ []) = if is_operation_group group then Some group else None
-operation_group_in _ = None
+operation_group_in (group ∷ later) = if is_operation_group group then Some group else None
+operation_group_in [] = None
 
--- the one group of a request; none where the message is no request
+-- the first group of a request; none where the message is no request
 abbrev pub operation_group : IppMessage → Option IppGroup
 operation_group message = operation_group_in message.groups
+
+abbrev pub first_job_group : List IppGroup → Option IppGroup
+first_job_group groups = find (λ group. group.tag == 2) groups
+
+-- the job group: the first of its tag
+abbrev pub job_group : IppMessage → Option IppGroup
+job_group message = first_job_group message.groups
+
+-- the attributes of the job group, as they came; none where there is no such group
+abbrev pub job_attributes : IppMessage → List IppAttribute
+job_attributes message = option_map_or (λ group. group.attributes) (job_group message) []
 
 -- the charset is utf-8, in any case of ASCII letters
 abbrev pub is_utf8 : IppGroup → Bool

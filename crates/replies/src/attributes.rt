@@ -2,7 +2,7 @@
 ghost use Rattle.std.specs.Prelude.{◌≡◌, option_map, map, IfOk};
 ghost use Rattle.std.specs.List.{list_all};
 ghost use Rattle.ipp_codec.specs.Views.{value_shown, group_shown};
-ghost use Rattle.replies.specs.Attributes.{value_of, is_tagged, behind_language, name_in, name_or, bytes_of, number_of};
+ghost use Rattle.replies.specs.Attributes.{value_of, is_tagged, behind_language, name_in, name_or, bytes_of, number_of, truth_of};
 ghost use Rattle.replies.specs.Known.{known as named};
 
 use crate::syntax::Syntax;
@@ -108,4 +108,14 @@ pub(crate) fn number_of(group: &GroupView<'_>, name: &[u8]) -> Option<u32>
 {
     let number = value_of(group, name)?.as_integer()?;
     u32::try_from(number).ok()
+}
+
+/// The truth of an attribute; false where it isn't there.
+pub(crate) fn truth_of(group: &GroupView<'_>, name: &[u8]) -> bool
+    ensures { result ≡ truth_of name.now (group_shown group.now) }
+{
+    match value_of(group, name) {
+        Some(value) => value.as_boolean().unwrap_or(false),
+        None => false,
+    }
 }

@@ -3,13 +3,14 @@ ghost use Rattle.std.specs.Prelude.{◌≡◌, IfOk};
 ghost use Rattle.std.specs.List.{list_all};
 ghost use Rattle.ipp_codec.specs.Views.{value_shown, group_shown, message_shown};
 ghost use Rattle.replies.specs.Attributes.{is_tagged};
+ghost use Rattle.replies.specs.Request.{job_attributes};
 ghost use Rattle.replies.specs.PrintJob.{print_job_table, print_job_of, asked_in, request_of};
 
-use crate::attributes::{Known, are_tagged, bytes_of, name_or, number_of, value_of};
-use crate::request::{is_utf8, operation_group};
+use crate::attributes::{Known, are_tagged, bytes_of, name_or, number_of, truth_of, value_of};
+use crate::request::{is_utf8, job_attributes, operation_group};
 use crate::syntax::Syntax;
 use crate::target::target_of;
-use dispatcher::{JobTemplate, PrintJob, Status};
+use dispatcher::{PrintJob, RequestAttributes, Status};
 use ipp_codec::{GroupView, MessageView, ValueView};
 use spool::Octets;
 use std::alloc::{AllocError, Global};
@@ -55,18 +56,19 @@ pub(crate) fn request_of(
     ensures { IfOk result (λ request. request ≡ request_of (message_shown message.now) document.now) }
 {
     match operation_group(message) {
-        Some(group) => asked_in(alloc, &group, document),
+        Some(group) => asked_in(alloc, message, &group, document),
         None => Ok(Err(Status::BadRequest)),
     }
 }
 
-/// The request of an operation group.
+/// The request of a message with this operation group.
 fn asked_in(
     alloc: Global,
+    message: &MessageView<'_>,
     group: &GroupView<'_>,
     document: &[u8],
 ) -> Result<Result<PrintJob, Status>, AllocError>
-    ensures { IfOk result (λ request. request ≡ asked_in (group_shown group.now) document.now) }
+    ensures { IfOk result (λ request. request ≡ asked_in (group_shown group.now) (job_attributes (message_shown message.now)) document.now) }
 {
     if !is_utf8(group) {
         return Ok(Err(Status::CharsetNotSupported));
@@ -75,7 +77,10 @@ fn asked_in(
         return Ok(Err(Status::BadRequest));
     }
     match value_of(group, b"printer-uri") {
-        Some(uri) => Ok(Ok(print_job_of(alloc, group, document, &uri)?)),
+        Some(uri) => {
+            let template = job_attributes(alloc, message)?;
+            Ok(Ok(print_job_of(alloc, group, template, document, &uri)?))
+        }
         None => Ok(Err(Status::BadRequest)),
     }
 }
@@ -91,10 +96,11 @@ fn is_tagged(group: &GroupView<'_>) -> bool
 fn print_job_of(
     alloc: Global,
     group: &GroupView<'_>,
+    template: RequestAttributes,
     document: &[u8],
     uri: &ValueView<'_>,
 ) -> Result<PrintJob, AllocError>
-    ensures { IfOk result (λ request. request ≡ print_job_of (group_shown group.now) document.now (value_shown uri.now)) }
+    ensures { IfOk result (λ request. request ≡ print_job_of (group_shown group.now) template document.now (value_shown uri.now)) }
 {
     let uri = uri.bytes();
     Ok(PrintJob {
@@ -104,7 +110,8 @@ fn print_job_of(
         impressions: number_of(group, b"job-impressions"),
         compression: bytes_of(alloc, group, b"compression")?,
         format: bytes_of(alloc, group, b"document-format")?,
-        template: JobTemplate::new(),
+        fidelity: truth_of(group, b"ipp-attribute-fidelity"),
+        template,
         octets: Octets::new(Vec::from_slice(alloc, document)?),
     })
 }

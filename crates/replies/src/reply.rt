@@ -4,7 +4,7 @@ ghost use Rattle.ipp_codec.specs.Owned.{attributes_owned, group_owned, groups_ow
 ghost use Rattle.replies.specs.Reply.{opening_group, tells_unsupported, unsupported_of, message_of, IsReply};
 
 use crate::refusal::ipp_refusal;
-use dispatcher::{IppAnswer, Status};
+use dispatcher::{IppAnswer, RequestAttributes, Status};
 use ipp_codec::{
     Attribute, EncodeFault, Group, GroupTag, Message, Value, ValueTag, Version, encode,
 };
@@ -41,18 +41,35 @@ fn message_of(alloc: Global, answer: IppAnswer, request_id: u32) -> Result<Messa
     if tells_unsupported(status) && !unsupported.is_empty() {
         message.push(Group {
             tag: GroupTag::UNSUPPORTED,
-            attributes: unsupported,
+            attributes: attributes_of(alloc, unsupported)?,
         })?;
     }
     message.groups.append(&mut groups)?;
     Ok(message)
 }
 
+/// The attributes themselves.
+fn attributes_of(
+    alloc: Global,
+    unsupported: RequestAttributes,
+) -> Result<Vec<Attribute>, AllocError>
+    ensures { IfOk result (λ attributes. attributes_owned attributes.items ≡ unsupported) }
+{
+    let mut attributes = Vec::new(alloc);
+    for attribute in unsupported.into_vec() {
+        attributes.push(attribute.into_attribute())?;
+    }
+    Ok(attributes)
+}
+
 /// Whether the status tells that something isn't supported.
 fn tells_unsupported(status: Status) -> bool
     ensures { result ≡ tells_unsupported status }
 {
-    matches!(status, Status::OkIgnoredOrSubstituted)
+    matches!(
+        status,
+        Status::OkIgnoredOrSubstituted | Status::AttributesNotSupported
+    )
 }
 
 /// The operation group of every reply: its charset and natural language.

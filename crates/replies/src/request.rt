@@ -1,19 +1,20 @@
 //! Which messages are requests.
-ghost use Rattle.std.specs.Prelude.{◌≡◌, option_map};
-ghost use Rattle.std.specs.List.{list_any};
+ghost use Rattle.std.specs.Prelude.{◌≡◌, option_map, IfOk};
+ghost use Rattle.ipp_codec.specs.Owned.{attributes_owned};
 ghost use Rattle.ipp_codec.specs.Views.{attribute_shown, group_shown, message_shown};
-ghost use Rattle.replies.specs.Request.{holds_collection, is_named, begins_request, is_operation_group, operation_group, is_utf8};
+ghost use Rattle.replies.specs.Request.{is_named, begins_request, is_operation_group, operation_group, job_group, job_attributes, is_utf8};
 
 use crate::attributes::value_of;
-use ipp_codec::{AttributeView, GroupTag, GroupView, MessageView, ValueTag};
+use dispatcher::{RequestAttribute, RequestAttributes};
+use ipp_codec::{AttributeView, Group, GroupTag, GroupView, MessageView, ValueTag};
+use std::alloc::{AllocError, Global};
 
-/// The operation group of a request, which is its only group; none where the message is no request.
+/// The operation group of a request, which is its first group; none where the message is no request.
 pub(crate) fn operation_group<'a>(message: &MessageView<'a>) -> Option<GroupView<'a>>
     ensures { option_map group_shown result ≡ operation_group (message_shown message.now) }
 {
-    let mut groups = message.groups();
-    let group = groups.next()?;
-    if groups.next().is_none() && is_operation_group(&group) {
+    let group = message.groups().next()?;
+    if is_operation_group(&group) {
         Some(group)
     } else {
         None
@@ -24,25 +25,43 @@ pub(crate) fn operation_group<'a>(message: &MessageView<'a>) -> Option<GroupView
 fn is_operation_group(group: &GroupView<'_>) -> bool
     ensures { result ≡ is_operation_group (group_shown group.now) }
 {
-    group.tag() == GroupTag::OPERATION && !has_collection(group) && begins_request(group)
+    group.tag() == GroupTag::OPERATION && begins_request(group)
 }
 
-/// Whether a value of the group is a collection.
-fn has_collection(group: &GroupView<'_>) -> bool
-    ensures { result ≡ list_any holds_collection (group_shown group.now).attributes }
+/// The first job group.
+fn job_group<'a>(message: &MessageView<'a>) -> Option<GroupView<'a>>
+    ensures { option_map group_shown result ≡ job_group (message_shown message.now) }
 {
-    group
-        .attributes()
-        .any(|attribute| holds_collection(&attribute))
+    for group in message.groups() {
+        if group.tag() == GroupTag::JOB {
+            return Some(group);
+        }
+    }
+    None
 }
 
-/// Whether a value of the attribute is a collection.
-fn holds_collection(attribute: &AttributeView<'_>) -> bool
-    ensures { result ≡ holds_collection (attribute_shown attribute.now) }
+/// The attributes of the job group, as they came.
+pub(crate) fn job_attributes(
+    alloc: Global,
+    message: &MessageView<'_>,
+) -> Result<RequestAttributes, AllocError>
+    ensures { IfOk result (λ attributes. attributes ≡ job_attributes (message_shown message.now)) }
 {
-    attribute
-        .values()
-        .any(|value| value.tag() == ValueTag::COLLECTION)
+    match job_group(message) {
+        Some(group) => request_attributes(alloc, group.to_owned(alloc)?),
+        None => Ok(RequestAttributes::new(alloc)),
+    }
+}
+
+/// The attributes of a group.
+fn request_attributes(alloc: Global, group: Group) -> Result<RequestAttributes, AllocError>
+    ensures { IfOk result (λ attributes. attributes ≡ attributes_owned group.attributes.items) }
+{
+    let mut kept = Vec::new(alloc);
+    for attribute in group.attributes {
+        kept.push(RequestAttribute::new(attribute))?;
+    }
+    Ok(RequestAttributes::from_vec(kept))
 }
 
 /// Whether the group begins with the charset and the natural language.

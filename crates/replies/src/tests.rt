@@ -1,6 +1,6 @@
 //! A whole body, and a reply of a status alone.
 use super::*;
-use dispatcher::{Event, IppAnswer, PrintJob, Status, Target};
+use dispatcher::{Event, IppAnswer, PrintJob, RequestAttributes, Status, Target};
 use std::test::*;
 
 const BODY: &[u8] =
@@ -37,7 +37,7 @@ fn print_job_with_a_document(rt: HostRuntime) -> Result<(), Fail> {
 fn reply_of_a_status_alone(rt: HostRuntime) -> Result<(), Fail> {
     let answer = IppAnswer {
         status: Status::NotFound,
-        unsupported: Vec::new(rt.alloc()),
+        unsupported: RequestAttributes::new(rt.alloc()),
         groups: Vec::new(rt.alloc()),
     };
     let reply = ipp_reply(rt.alloc(), answer, 1)?;
