@@ -67,7 +67,7 @@ hold_named word =
     else None
 
 abbrev pub hold_in : IppAttribute → Option Bool
-hold_in attribute = option_and_then hold_named (word attribute)
+hold_in attribute = option_and_then hold_named (keyword attribute)
 
 -- the sides of a keyword (section 5.2.8), where a printer prints on two sides or on one alone
 abbrev pub sides_named : Bool → List ℕ → Option Sides

@@ -94,7 +94,7 @@ fn hold_named(word: &[u8]) -> Option<bool>
 fn hold_in(attribute: &RequestAttribute) -> Option<bool>
     ensures { result ≡ hold_in attribute.now }
 {
-    hold_named(attribute.word()?)
+    hold_named(attribute.keyword()?)
 }
 
 /// The sides of this keyword, if they are supported.
