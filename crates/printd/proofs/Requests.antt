@@ -1,7 +1,6 @@
 -- A request is answered.
 use Rattle.std.proofs.Common.{◌≡◌, ℕ, Bool, List, Option, Some, None, MatchOption, Result, Ok, Err, MatchResult, subst, inl, inr, max}
-use Rattle.ipp_codec.specs.Message.{IppGroup}
-use Rattle.spool.specs.Submission.{Submission}
+use Rattle.ipp_codec.specs.Message.{IppAttribute, IppGroup}
 use Rattle.dispatcher.specs.declared.event.Event.{Event}
 use Rattle.dispatcher.specs.declared.event.PrintJob.{PrintJob}
 use Rattle.dispatcher.specs.declared.reply.Answer.TheVariants as Says
@@ -15,13 +14,13 @@ use Rattle.replies.specs.Asked.{Asks, AsksUnder, Requests, answered, header_of, 
 use Rattle.printd.specs.Acting.{IsRequest}
 use Rattle.printd.specs.Replay.{Standing, Happens}
 
-says_something : (status : Status) (groups : List IppGroup) (reply : Reply) → Replies status groups reply → reply.answer ≡ Says.Nothing → ⊥
-says_something status groups reply replies nothing = subst (λ a. IsAnswer status groups a) nothing replies.answer
+says_something : (status : Status) (unsupported : List IppAttribute) (groups : List IppGroup) (reply : Reply) → Replies status unsupported groups reply → reply.answer ≡ Says.Nothing → ⊥
+says_something status unsupported groups reply replies nothing = subst (λ a. IsAnswer status unsupported groups a) nothing replies.answer
 
-printed_answer : (now : ℕ) (request : PrintJob) (old : State) (reply : Reply) (new : State) (asked : Result Submission Status)
-    → MatchResult asked (λ job. TakesJob now old job reply new) (λ status. RefusesJob now old status reply new) → reply.answer ≡ Says.Nothing → ⊥
-printed_answer now request old reply new (Ok job) taken nothing = says_something _ _ reply taken.replies nothing
-printed_answer now request old reply new (Err status) refused nothing = says_something _ _ reply refused.replies nothing
+printed_answer : (now : ℕ) (request : PrintJob) (old : State) (reply : Reply) (new : State) (asked : Result _ _)
+    → MatchResult asked (λ accepted. TakesJob now old accepted reply new) (λ refusal. RefusesJob now old refusal reply new) → reply.answer ≡ Says.Nothing → ⊥
+printed_answer now request old reply new (Ok accepted) taken nothing = says_something _ _ _ reply taken.replies nothing
+printed_answer now request old reply new (Err refusal) refused nothing = says_something _ _ _ reply refused.replies nothing
 
 stepped_answer : (event : Event) (moment : ℕ) (old : State) (reply : Reply) (new : State) → IsRequest event → Step old event moment reply new → reply.answer ≡ Says.Nothing → ⊥
 stepped_answer event moment old reply new is step nothing =

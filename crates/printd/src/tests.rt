@@ -26,6 +26,8 @@ fn worked_rows(rt: HostRuntime) {
         rows::TWO_DEVICES,
         rows::CLOCK_NEVER_BACK,
         rows::NO_DEVICE,
+        rows::UNSUPPORTED_TEMPLATE,
+        rows::TWO_PRIORITIES,
     ] {
         let (status, output) = run(&rt, trace);
         assert_eq!(rt; status, 0);
@@ -34,7 +36,7 @@ fn worked_rows(rt: HostRuntime) {
 }
 
 #[test]
-fn collections_are_refused(rt: HostRuntime) -> Result<(), Fail> {
+fn collections_are_passed_over(rt: HostRuntime) -> Result<(), Fail> {
     let (trace, _) = rows::ONE_JOB;
     let settings = trace.split_once("at 0").ok_or("no first moment")?.0;
     let mut longer = String::from_str(rt.alloc(), settings)?;
@@ -43,7 +45,7 @@ fn collections_are_refused(rt: HostRuntime) -> Result<(), Fail> {
     longer.push_str("\n")?;
     let (status, output) = run(&rt, longer.as_str());
     assert_eq!(rt; status, 0);
-    assert!(rt; output.as_slice().starts_with(b"reply 0101040000000001"));
+    assert!(rt; output.as_slice().starts_with(b"reply 0101000000000001"));
     Ok(())
 }
 

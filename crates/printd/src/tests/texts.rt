@@ -45,6 +45,8 @@ fn each_plan_is_proved(rt: HostRuntime) -> Result<(), Fail> {
         (rows::TWO_DEVICES, 10),
         (rows::CLOCK_NEVER_BACK, 2),
         (rows::NO_DEVICE, 1),
+        (rows::UNSUPPORTED_TEMPLATE, 1),
+        (rows::TWO_PRIORITIES, 10),
     ] {
         let mut output = Vec::new(alloc);
         let mut input = trace.as_bytes();
