@@ -28,6 +28,7 @@ fn worked_rows(rt: HostRuntime) {
         rows::NO_DEVICE,
         rows::UNSUPPORTED_TEMPLATE,
         rows::TWO_PRIORITIES,
+        rows::STRANDED_BY_MEDIA,
     ] {
         let (status, output) = run(&rt, trace);
         assert_eq!(rt; status, 0);
