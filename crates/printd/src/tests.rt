@@ -2,6 +2,7 @@ mod checks;
 mod plans;
 mod rows;
 mod texts;
+mod totals;
 
 use crate::replay::run_replay;
 use crate::words::{Asked, read_words};
