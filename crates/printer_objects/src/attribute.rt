@@ -1,8 +1,8 @@
 //! Attributes of the kinds that the tables have.
-ghost use Rattle.std.specs.Prelude.{◌≡◌, IfOk, pos, min};
+ghost use Rattle.std.specs.Prelude.{◌≡◌, IfOk, pos, min, [], ◌∷◌, codes};
 ghost use Rattle.ipp_codec.specs.Message.{plain};
 ghost use Rattle.ipp_codec.specs.Owned.{attribute_owned, value_owned};
-ghost use Rattle.printer_objects.specs.Attribute.{alone, number, enumerated, no_value, time, reasons_attribute, texts_attribute};
+ghost use Rattle.printer_objects.specs.Attribute.{alone, number, enumerated, keyword, no_value, time, reasons_attribute, texts_attribute};
 
 use base_types::{Moment, Text};
 use ipp_codec::{Attribute, Value, ValueTag};
@@ -25,6 +25,27 @@ pub(crate) fn bytes(
 {
     let value = Value::copy_of(alloc, tag, bytes)?;
     Attribute::new(alloc, name.as_bytes(), value)
+}
+
+/// One keyword (RFC 8010, section 3.9).
+pub(crate) fn keyword(alloc: Global, name: &str, word: &[u8]) -> Result<Attribute, AllocError>
+    ensures { IfOk result (λ a. attribute_owned a ≡ alone name.now (keyword word.now)) }
+{
+    bytes(alloc, name, ValueTag::KEYWORD, word)
+}
+
+/// The natural language of all texts of the server: English.
+pub(crate) fn english(alloc: Global, name: &str) -> Result<Attribute, AllocError>
+    ensures { IfOk result (λ a. attribute_owned a ≡ alone name.now (plain 0x48 (codes "en"))) }
+{
+    bytes(alloc, name, ValueTag::NATURAL_LANGUAGE, b"en")
+}
+
+/// One boolean, which is true.
+pub(crate) fn yes(alloc: Global, name: &str) -> Result<Attribute, AllocError>
+    ensures { IfOk result (λ a. attribute_owned a ≡ alone name.now (plain 0x22 (1 ∷ []))) }
+{
+    bytes(alloc, name, ValueTag::BOOLEAN, &[1])
 }
 
 /// One integer.

@@ -3,7 +3,7 @@ ghost use Rattle.ipp_codec.specs.Owned.{attribute_owned, group_owned};
 ghost use Rattle.printer_objects.specs.JobAttribute.{job_table, is_wanted};
 ghost use Rattle.printer_objects.specs.JobShown.{job_uri, printer_uri, hold_until, sides_keyword, k_octets, impressions_shown, job_shown};
 
-use crate::attribute::{bytes, enumerated, number, reasons, time};
+use crate::attribute::{bytes, enumerated, keyword, number, reasons, time};
 use crate::job_attribute::JobAttribute;
 use base_types::{JobId, Moment, Sides, Text};
 use ipp_codec::{Attribute, Group, GroupTag, ValueTag};
@@ -78,21 +78,12 @@ impl JobAttribute {
             JobAttribute::TimeAtCompleted => time(alloc, name, job.finished),
             JobAttribute::PrinterUpTime => time(alloc, name, Some(shown.moment)),
             JobAttribute::Copies => number(alloc, name, u64::from(job.needs.copies)),
-            JobAttribute::HoldUntil => {
-                bytes(
-                    alloc,
-                    name,
-                    ValueTag::KEYWORD,
-                    hold_until(job.held).as_bytes(),
-                )
-            }
+            JobAttribute::HoldUntil => keyword(alloc, name, hold_until(job.held).as_bytes()),
             JobAttribute::Priority => number(alloc, name, u64::from(job.priority.level())),
-            JobAttribute::Media => {
-                bytes(alloc, name, ValueTag::KEYWORD, job.needs.media.as_bytes())
-            }
+            JobAttribute::Media => keyword(alloc, name, job.needs.media.as_bytes()),
             JobAttribute::Sides => {
                 let sides = sides_keyword(job.needs.sides);
-                bytes(alloc, name, ValueTag::KEYWORD, sides.as_bytes())
+                keyword(alloc, name, sides.as_bytes())
             }
         }
     }

@@ -5,7 +5,7 @@ ghost use Rattle.ipp_codec.specs.Owned.{attribute_owned};
 ghost use Rattle.printer_objects.specs.Attribute.{alone};
 ghost use Rattle.printer_objects.specs.Offered.{operations_attribute, range, hold_untils_attribute, sides_attribute, prints_two_sided, is_two_sided};
 
-use crate::attribute::{bytes, enumerated};
+use crate::attribute::{bytes, enumerated, keyword};
 use base_types::{DeviceId, DeviceNow, Limits};
 use ipp_codec::{Attribute, Value, ValueTag};
 use std::alloc::{AllocError, Global};
@@ -43,7 +43,7 @@ pub(crate) fn copies(alloc: Global, name: &str) -> Result<Attribute, AllocError>
 pub(crate) fn hold_untils(alloc: Global, name: &str) -> Result<Attribute, AllocError>
     ensures { IfOk result (λ a. attribute_owned a ≡ hold_untils_attribute name.now) }
 {
-    let mut attribute = bytes(alloc, name, ValueTag::KEYWORD, b"no-hold")?;
+    let mut attribute = keyword(alloc, name, b"no-hold")?;
     let value = Value::copy_of(alloc, ValueTag::KEYWORD, b"indefinite")?;
     attribute.push(value)?;
     Ok(attribute)
@@ -53,7 +53,7 @@ pub(crate) fn hold_untils(alloc: Global, name: &str) -> Result<Attribute, AllocE
 pub(crate) fn sides(alloc: Global, name: &str, two_sided: bool) -> Result<Attribute, AllocError>
     ensures { IfOk result (λ a. attribute_owned a ≡ sides_attribute name.now two_sided) }
 {
-    let mut attribute = bytes(alloc, name, ValueTag::KEYWORD, b"one-sided")?;
+    let mut attribute = keyword(alloc, name, b"one-sided")?;
     if two_sided {
         let long = Value::copy_of(alloc, ValueTag::KEYWORD, b"two-sided-long-edge")?;
         attribute.push(long)?;

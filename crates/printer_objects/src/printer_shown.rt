@@ -3,7 +3,9 @@ ghost use Rattle.ipp_codec.specs.Owned.{attribute_owned, group_owned};
 ghost use Rattle.printer_objects.specs.PrinterAttribute.{is_wanted_of_printer, printer_table};
 ghost use Rattle.printer_objects.specs.PrinterShown.{printer_shown, supported_of};
 
-use crate::attribute::{MILLIS_PER_SECOND, bytes, enumerated, number, texts, time};
+use crate::attribute::{
+    MILLIS_PER_SECOND, bytes, english, enumerated, keyword, number, texts, time, yes,
+};
 use crate::job_shown::printer_uri;
 use crate::offered::{copies, hold_untils, operations, prints_two_sided, sides};
 use crate::printer::Printer;
@@ -62,16 +64,10 @@ impl PrinterAttribute {
                 let uri = printer_uri(alloc, shown.uri_base, &settings.name)?;
                 bytes(alloc, name, ValueTag::URI, &uri)
             }
-            PrinterAttribute::UriSecuritySupported => bytes(
+            PrinterAttribute::UriSecuritySupported => keyword(alloc, name, b"none"),
+            PrinterAttribute::UriAuthenticationSupported => keyword(
                 alloc,
                 name,
-                ValueTag::KEYWORD,
-                b"none",
-            ),
-            PrinterAttribute::UriAuthenticationSupported => bytes(
-                alloc,
-                name,
-                ValueTag::KEYWORD,
                 b"requesting-user-name",
             ),
             PrinterAttribute::Name => bytes(alloc, name, ValueTag::NAME, settings.name.as_bytes()),
@@ -81,34 +77,19 @@ impl PrinterAttribute {
             }
             PrinterAttribute::StateReasons => {
                 let reason = printer_reason(shown.printer, shown.busy);
-                bytes(alloc, name, ValueTag::KEYWORD, reason.keyword().as_bytes())
+                keyword(alloc, name, reason.keyword().as_bytes())
             }
-            PrinterAttribute::IppVersionsSupported => bytes(alloc, name, ValueTag::KEYWORD, b"1.1"),
+            PrinterAttribute::IppVersionsSupported => keyword(alloc, name, b"1.1"),
             PrinterAttribute::OperationsSupported => operations(alloc, name),
-            PrinterAttribute::MultipleDocumentJobsSupported => bytes(
-                alloc,
-                name,
-                ValueTag::BOOLEAN,
-                &[1],
-            ),
+            PrinterAttribute::MultipleDocumentJobsSupported => yes(alloc, name),
             PrinterAttribute::MultipleOperationTimeOut => {
                 let seconds = Limits::INCOMING_JOB_TIME / MILLIS_PER_SECOND;
                 number(alloc, name, seconds)
             }
             PrinterAttribute::CharsetConfigured => bytes(alloc, name, ValueTag::CHARSET, b"utf-8"),
             PrinterAttribute::CharsetSupported => bytes(alloc, name, ValueTag::CHARSET, b"utf-8"),
-            PrinterAttribute::NaturalLanguageConfigured => bytes(
-                alloc,
-                name,
-                ValueTag::NATURAL_LANGUAGE,
-                b"en",
-            ),
-            PrinterAttribute::GeneratedNaturalLanguageSupported => bytes(
-                alloc,
-                name,
-                ValueTag::NATURAL_LANGUAGE,
-                b"en",
-            ),
+            PrinterAttribute::NaturalLanguageConfigured => english(alloc, name),
+            PrinterAttribute::GeneratedNaturalLanguageSupported => english(alloc, name),
             PrinterAttribute::DocumentFormatDefault => bytes(
                 alloc,
                 name,
@@ -119,24 +100,14 @@ impl PrinterAttribute {
                 let formats = supported(alloc, Listed::Formats, shown, &settings.format_default)?;
                 texts(alloc, name, ValueTag::MIME_MEDIA_TYPE, &formats)
             }
-            PrinterAttribute::IsAcceptingJobs => bytes(alloc, name, ValueTag::BOOLEAN, &[1]),
+            PrinterAttribute::IsAcceptingJobs => yes(alloc, name),
             PrinterAttribute::QueuedJobCount => number(alloc, name, shown.queued as u64),
-            PrinterAttribute::PdlOverrideSupported => bytes(
-                alloc,
-                name,
-                ValueTag::KEYWORD,
-                b"not-attempted",
-            ),
+            PrinterAttribute::PdlOverrideSupported => keyword(alloc, name, b"not-attempted"),
             PrinterAttribute::UpTime => time(alloc, name, Some(shown.moment)),
-            PrinterAttribute::CompressionSupported => bytes(
-                alloc,
-                name,
-                ValueTag::KEYWORD,
-                b"none",
-            ),
+            PrinterAttribute::CompressionSupported => keyword(alloc, name, b"none"),
             PrinterAttribute::CopiesDefault => number(alloc, name, 1),
             PrinterAttribute::CopiesSupported => copies(alloc, name),
-            PrinterAttribute::HoldUntilDefault => bytes(alloc, name, ValueTag::KEYWORD, b"no-hold"),
+            PrinterAttribute::HoldUntilDefault => keyword(alloc, name, b"no-hold"),
             PrinterAttribute::HoldUntilSupported => hold_untils(alloc, name),
             PrinterAttribute::PriorityDefault => number(
                 alloc,
@@ -148,10 +119,9 @@ impl PrinterAttribute {
                 name,
                 u64::from(Limits::HIGHEST_PRIORITY),
             ),
-            PrinterAttribute::MediaDefault => bytes(
+            PrinterAttribute::MediaDefault => keyword(
                 alloc,
                 name,
-                ValueTag::KEYWORD,
                 settings.media_default.as_bytes(),
             ),
             PrinterAttribute::MediaSupported => {
@@ -167,7 +137,7 @@ impl PrinterAttribute {
                 )?;
                 texts(alloc, name, ValueTag::KEYWORD, &media)
             }
-            PrinterAttribute::SidesDefault => bytes(alloc, name, ValueTag::KEYWORD, b"one-sided"),
+            PrinterAttribute::SidesDefault => keyword(alloc, name, b"one-sided"),
             PrinterAttribute::SidesSupported => {
                 let two_sided = prints_two_sided(shown.devices, settings.devices.devices());
                 sides(alloc, name, two_sided)
