@@ -1,3 +1,3 @@
-mod Digits
+mod DigitValues
 pub mod Positions
 pub mod FirstLines

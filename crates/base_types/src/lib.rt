@@ -7,6 +7,7 @@
 
 mod bytes;
 mod device;
+mod digits;
 mod form;
 mod ids;
 mod limits;
@@ -17,8 +18,9 @@ mod priority;
 mod report;
 mod text;
 
-pub use bytes::{decimal, drop_front, find_byte};
+pub use bytes::{drop_front, find_byte};
 pub use device::{Activity, DeviceNow, Interrupted, Medium, PrinterSet, Printing};
+pub use digits::{all_digits, capped_value, decimal};
 pub use form::{is_format, is_media, is_name, is_uri_base};
 pub use ids::{DeviceId, JobId, PrinterId};
 pub use limits::Limits;

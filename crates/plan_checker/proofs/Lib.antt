@@ -2,7 +2,6 @@ pub mod Fair
 pub mod Proved
 pub mod Above
 pub mod Plans
-pub mod TextDigits
 pub mod TextWords
 pub mod TextProblems
 pub mod TextParts

@@ -1,14 +1,13 @@
 //! What a line of a trace says.
-ghost use Rattle.std.specs.Prelude.{◌≡◌, ◌++◌, ◌-◌, ◌^◌, [], IfOk, IsTrue, min, codes, position};
+ghost use Rattle.std.specs.Prelude.{◌≡◌, ◌++◌, [], IfOk, codes, position};
 ghost use Rattle.std.specs.Char.{is_ascii_uppercase};
 ghost use Rattle.std.specs.List.{list_any};
-ghost use Rattle.std.specs.Str.{bytes_eq, all_ascii_digits};
-ghost use Rattle.std.specs.Str.Parse.{digits_value};
+ghost use Rattle.std.specs.Str.{bytes_eq};
 ghost use Rattle.device_link.specs.Stream.{Stands};
 ghost use Rattle.printd.specs.Lines.{IsOneLine};
 ghost use Rattle.printd.specs.TraceLine.{Finds, IsMomentIn, IsBodyIn, IsReportIn, IsDeviceIn, IsLine};
 
-use base_types::{DeviceId, Moment, Report, Text, find_byte};
+use base_types::{DeviceId, Moment, Report, Text, all_digits, capped_value, find_byte};
 use device_link::{LinkError, LinkReader};
 use hex::FromHexError;
 use std::alloc::{AllocError, Global};
@@ -53,35 +52,10 @@ pub fn read_line(alloc: Global, text: &[u8], devices: &[Text]) -> Result<Option<
 fn read_moment(digits: &[u8]) -> Option<Moment>
     ensures { Finds (IsMomentIn digits.now) result }
 {
-    if digits.is_empty() || !is_decimal(digits) {
+    if digits.is_empty() || !all_digits(digits) {
         return None;
     }
-    Moment::new(capped_value(digits))
-}
-
-/// Whether each byte is a decimal digit.
-fn is_decimal(word: &[u8]) -> bool
-    ensures { result ≡ all_ascii_digits word.now }
-{
-    for byte in word {
-        if !byte.is_ascii_digit() {
-            return false;
-        }
-    }
-    true
-}
-
-/// The number of decimal digits, or the greatest where it is above that.
-fn capped_value(word: &[u8]) -> u64
-    requires { IsTrue (all_ascii_digits word.now) }
-    ensures { result ≡ min (digits_value 10 word.now) (2 ^ 64 - 1) }
-{
-    let mut number: u64 = 0;
-    for byte in word {
-        let digit = u64::from(*byte - b'0');
-        number = number.saturating_mul(10).saturating_add(digit);
-    }
-    number
+    Moment::new(capped_value(digits, u64::MAX))
 }
 
 /// Bytes in lower-case hexadecimal digits, at least one byte.

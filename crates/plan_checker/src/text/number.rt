@@ -1,11 +1,10 @@
-ghost use Rattle.std.specs.Prelude.{◌≡◌, ◌==◌, ◌<◌, ◌≤◌, ◌^◌, ◌+◌, IfOk, IsTrue, min};
+ghost use Rattle.std.specs.Prelude.{◌≡◌, ◌==◌, ◌<◌, ◌≤◌, ◌^◌, ◌+◌, IfOk, IsTrue};
 ghost use Rattle.std.specs.Str.{all_ascii_digits, bytes_eq};
-ghost use Rattle.std.specs.Str.Parse.{digits_value};
 ghost use Rattle.base_types.specs.Ranges.{IsJobId};
 ghost use Rattle.plan_checker.specs.TextWord.{is_number, number_at, is_dash, is_entry, entry_at, has_minus, is_price, price_at, cause_at};
 
 use crate::text::fault::TextFault;
-use base_types::{Cause, JobId, Limits};
+use base_types::{Cause, JobId, Limits, all_digits, capped_value};
 
 /// Whether a word is a number: decimal, without leading zeros.
 #[tactic(auto, unfolding(crate::specs::TextWord::is_number))]
@@ -14,17 +13,6 @@ pub(crate) fn is_number(word: &[u8]) -> bool
     ensures digits { IsTrue result → IsTrue (all_ascii_digits word.now) }
 {
     !word.is_empty() && all_digits(word) && (word[0] != b'0' || word.len() == 1)
-}
-
-fn all_digits(word: &[u8]) -> bool
-    ensures { result ≡ all_ascii_digits word.now }
-{
-    for byte in word {
-        if !byte.is_ascii_digit() {
-            return false;
-        }
-    }
-    true
 }
 
 /// The number that a word is, within a range.
@@ -43,19 +31,6 @@ pub(crate) fn read_number(word: &[u8], least: u64, most: u64) -> Result<u64, Tex
         return Err(TextFault::OutOfRange);
     }
     Ok(value)
-}
-
-/// The number of decimal digits, or the cap where it is above that.
-fn capped_value(word: &[u8], cap: u64) -> u64
-    requires digits { IsTrue (all_ascii_digits word.now) }
-    ensures { result ≡ min (digits_value 10 word.now) cap }
-{
-    let mut value = 0;
-    for byte in word {
-        let next = u128::from(value) * 10 + u128::from(*byte - b'0');
-        value = u128::from(cap).min(next) as u64;
-    }
-    value
 }
 
 /// A job's id.

@@ -34,8 +34,7 @@ start 1 A\n\
 
 /// With the first job begun, 127 wait behind it: 2 + 3 + .. + 128 = 8,255 times its time. The
 /// next request is answered that the server is busy, and the plan stays.
-const LAST: &str =
-    "plan 50:4948076718000000\n\
+const LAST: &str = "plan 50:4948076718000000\n\
 reply 010105070000000101470012617474726962757465732d6368617273657400057574662d3848001b617474726962757465732d6e61747572616c2d6c616e67756167650002656e03\n\
 plan 50:4948076718000000\n\
 ";
