@@ -9,7 +9,7 @@ use Rattle.dispatcher.specs.declared.run.Outcome.TheVariants.{Dropped, Queried, 
 use Rattle.dispatcher.specs.declared.started.Started.{Started}
 use Rattle.dispatcher.specs.State.{State}
 use Rattle.dispatcher.specs.Ready.{ready_of}
-use Rattle.dispatcher.specs.Step.{Step}
+use Rattle.dispatcher.specs.Step.{Step, TakesNoMemory}
 use Rattle.dispatcher.specs.Dispatch.{Dispatches}
 
 -- whether an event only asks
@@ -22,10 +22,11 @@ is_query Is.Tick = false
 abbrev pub Hearing : Type 0 → Type 1
 Hearing L = L → Option PlanRecord → List Started → L → Type 0
 
--- What becomes of an event. A dispatch may choose any good plan, which the listener hears; one that is
--- refused for want of memory changes nothing, and none is refused where no job is ready.
+-- What becomes of an event. None is dropped for want of memory where it takes none. A dispatch may choose
+-- any good plan, which the listener hears; one that is refused for want of memory changes nothing, and none
+-- is refused where no job is ready.
 abbrev pub Comes : {L : Type 0} → Hearing L → State → L → Timed → Outcome → State → L → Type 0
-Comes hears old listener timed Dropped new listener' = (new ≡ old) × (listener' ≡ listener)
+Comes hears old listener timed Dropped new listener' = (new ≡ old) × (listener' ≡ listener) × (TakesNoMemory timed.event timed.moment old → ⊥)
 Comes hears old listener timed (Queried reply) new listener' = (is_query timed.event ≡ true) × Step old timed.event timed.moment reply new × (listener' ≡ listener)
 Comes hears old listener timed (Undispatched reply) new listener' =
     (is_query timed.event ≡ false) × Step old timed.event timed.moment reply new × (ready_of new ≢ []) × (listener' ≡ listener)

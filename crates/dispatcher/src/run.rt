@@ -22,7 +22,8 @@ pub struct Timed {
 /// What becomes of an event.
 #[derive(Drop)]
 pub enum Outcome {
-    /// It was dropped for want of memory, and nothing changed.
+    /// It was dropped for want of memory, and nothing changed: never a tick, a device's report, or a
+    /// request that is refused.
     Dropped,
     /// It was a query, and answered.
     Queried(Reply),
