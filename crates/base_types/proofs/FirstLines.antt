@@ -1,9 +1,8 @@
 -- What the first line of bytes tells, also where more bytes follow.
-use Rattle.std.specs.Prelude.{ℕ, ◌≡◌, ◌==◌, ◌++◌, ◌+◌, ◌<◌, ◌≤◌, Bool, true, false, List, length, Option, Some, None, position, slice_index_or, nat_lt}
+use Rattle.std.specs.Prelude.{ℕ, ◌≡◌, ◌==◌, ◌++◌, ◌<◌, ◌≤◌, true, false, List, length, Option, Some, None, position, slice_index_or}
 use Rattle.std.proofs.Common.{rules, arith, refl}
 use Rattle.std.proofs.lemmas.List.Quantifiers.{position-Some}
 use Rattle.std.proofs.lemmas.List.{get_or_append_left, length-append}
-use Rattle.base_types.specs.declared.line.FirstLine.{FirstLine}
 use Rattle.base_types.specs.declared.line.FirstLine.TheVariants.{Whole, TooLong, Unfinished}
 use Rattle.base_types.specs.FirstLine.{line_of, first_line_of}
 use Rattle.base_types.proofs.Positions.{position_before, passes_late, each_fails}

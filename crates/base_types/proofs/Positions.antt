@@ -1,5 +1,5 @@
 -- The first byte that passes, where more bytes follow.
-use Rattle.std.specs.Prelude.{ℕ, ◌≡◌, ◌++◌, ◌⊎◌, ◌+◌, ◌<◌, ◌≤◌, Bool, true, false, List, length, take, drop, All, Option, Some, None, position, slice_index_or, nat_lt}
+use Rattle.std.specs.Prelude.{ℕ, ◌≡◌, ◌++◌, ◌⊎◌, ◌<◌, ◌≤◌, Bool, true, false, List, length, Some, None, position, slice_index_or}
 use Rattle.std.specs.List.{position_or_len}
 use Rattle.std.proofs.Common.{rules, arith, sym, ◌∙◌, inl, inr}
 use Rattle.std.proofs.lemmas.List.Sums.{fails_before_first, position_or_len_is}

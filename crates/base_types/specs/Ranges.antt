@@ -1,5 +1,5 @@
 -- The ranges of the server's numbers.
-use Rattle.std.specs.Prelude.{ℕ, ◌≤◌, ◌<◌}
+use Rattle.std.specs.Prelude.{ℕ, ◌≤◌}
 use Rattle.base_types.specs.declared.limits.TheConstants.Limits.{LAST_JOB_ID, LAST_MOMENT, HIGHEST_PRIORITY, IMPRESSIONS, COPIES, RATE, SETUP}
 
 -- an IPP job-id (RFC 8011, section 5.3.2)
