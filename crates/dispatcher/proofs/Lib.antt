@@ -6,5 +6,3 @@ pub mod Priorities
 pub mod Checked
 pub mod Starts
 pub mod Runs
-pub mod KnownFormats
-pub mod FirstOnes

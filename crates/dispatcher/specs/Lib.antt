@@ -9,8 +9,6 @@ pub mod Planned
 pub mod Dispatch
 pub mod Dispatched
 pub mod Lending
-pub mod Template
-pub mod Unsupported
 pub mod PrintJob
 pub mod Step
 pub mod Run

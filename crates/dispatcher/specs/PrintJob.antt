@@ -23,8 +23,8 @@ use Rattle.dispatcher.specs.declared.status.Status.TheVariants as Went
 use Rattle.dispatcher.specs.declared.print_job.Accepted.{Accepted}
 use Rattle.dispatcher.specs.declared.print_job.Refusal.{Refusal}
 use Rattle.dispatcher.specs.State.{State}
-use Rattle.dispatcher.specs.Template.{TemplateRecord, template_of, medium_of}
-use Rattle.dispatcher.specs.Unsupported.{unsupported_of}
+use Rattle.job_template.specs.Template.{TemplateRecord, template_of, medium_of}
+use Rattle.job_template.specs.Unsupported.{unsupported_of}
 
 -- ---- what the request asks for
 

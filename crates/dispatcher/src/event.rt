@@ -1,7 +1,7 @@
 ghost use Rattle.std.specs.Prelude.{◌≡◌, false};
 
-use crate::request_attributes::RequestAttributes;
 use base_types::{DeviceId, Report, Text};
+use job_template::RequestAttributes;
 use spool::Octets;
 
 /// Which printer a request's printer-uri names.

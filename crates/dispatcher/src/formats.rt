@@ -9,7 +9,7 @@ use settings_file::PrinterSettings;
 
 /// The format of a document, as the settings write it: the first of the printer's devices' that is
 /// the one asked for, or the printer's default. Without one asked for it is the default.
-#[tactic(auto, using(crate::proofs::KnownFormats::find_or_default))]
+#[tactic(auto, using(job_template::proofs::Searches::find_or_default))]
 pub(crate) fn format_of<'a>(
     devices: &'a [DeviceNow],
     printer: &'a PrinterSettings,

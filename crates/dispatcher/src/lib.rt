@@ -21,24 +21,18 @@ mod print_job;
 mod ready;
 mod reply;
 mod report;
-mod request_attribute;
-mod request_attributes;
 mod run;
 mod server_core;
 mod started;
 mod starting;
 mod state;
 mod status;
-mod template;
-mod template_name;
 #[cfg(test)]
 mod tests;
 
 pub use dispatch::Dispatched;
 pub use event::{Event, PrintJob, Target};
 pub use reply::{Answer, Cancel, IppAnswer, Reply};
-pub use request_attribute::RequestAttribute;
-pub use request_attributes::RequestAttributes;
 pub use run::{Listener, Outcome, Timed};
 pub use server_core::Core;
 pub use started::Started;

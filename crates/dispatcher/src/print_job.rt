@@ -9,13 +9,12 @@ ghost use Rattle.dispatcher.specs.PrintJob.{PrintsJob, TakesJob, RefusesJob, pla
 use crate::event::{PrintJob, Target};
 use crate::formats::format_of;
 use crate::reply::Reply;
-use crate::request_attributes::RequestAttributes;
 use crate::state::CoreState;
 use crate::status::Status;
-use crate::template::{JobTemplate, medium_of, template_of};
 use base_types::{Limits, Moment, PrinterId, Text};
 use ipp_codec::Group;
 use job_objects::{JobReasons, JobState, Reason};
+use job_template::{JobTemplate, RequestAttributes, medium_of, template_of};
 use printer_objects::created_job_attributes;
 use settings_file::PrinterSettings;
 use spool::{Document, NewJob, Octets};

@@ -2,10 +2,10 @@ ghost use Rattle.std.specs.Prelude.{◌≡◌, []};
 ghost use Rattle.ipp_codec.specs.Owned.{groups_owned};
 ghost use Rattle.dispatcher.specs.PrintJob.{Replies};
 
-use crate::request_attributes::RequestAttributes;
 use crate::status::Status;
 use base_types::{DeviceId, JobId};
 use ipp_codec::Group;
+use job_template::RequestAttributes;
 use spool::Document;
 use std::alloc::Global;
 

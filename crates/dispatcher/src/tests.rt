@@ -3,13 +3,11 @@ mod full;
 mod reports;
 mod runs;
 
-use crate::{
-    Answer, Core, Dispatched, Event, PrintJob, Reply, RequestAttribute, RequestAttributes, Started,
-    Status, Target,
-};
+use crate::{Answer, Core, Dispatched, Event, PrintJob, Reply, Started, Status, Target};
 use assignment::Lazy;
 use base_types::{Cause, DeviceId, Moment, Report, Sides, Text};
 use ipp_codec::{Attribute, Value, ValueTag};
+use job_template::{RequestAttribute, RequestAttributes};
 use prices::Plan;
 use settings_file::read_settings;
 use spool::Octets;

@@ -10,8 +10,9 @@ use crate::attributes::{Known, are_tagged, bytes_of, name_or, number_of, truth_o
 use crate::request::{is_utf8, job_attributes, operation_group};
 use crate::syntax::Syntax;
 use crate::target::target_of;
-use dispatcher::{PrintJob, RequestAttributes, Status};
+use dispatcher::{PrintJob, Status};
 use ipp_codec::{GroupView, MessageView, ValueView};
+use job_template::RequestAttributes;
 use spool::Octets;
 use std::alloc::{AllocError, Global};
 

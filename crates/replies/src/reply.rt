@@ -4,10 +4,11 @@ ghost use Rattle.ipp_codec.specs.Owned.{attributes_owned, group_owned, groups_ow
 ghost use Rattle.replies.specs.Reply.{opening_group, tells_unsupported, unsupported_of, message_of, IsReply};
 
 use crate::refusal::ipp_refusal;
-use dispatcher::{IppAnswer, RequestAttributes, Status};
+use dispatcher::{IppAnswer, Status};
 use ipp_codec::{
     Attribute, EncodeFault, Group, GroupTag, Message, Value, ValueTag, Version, encode,
 };
+use job_template::RequestAttributes;
 use std::alloc::{AllocError, Global};
 
 /// The bytes of an answer, under a request-id (RFC 8011, section 4.1.4.2). The error is want of

@@ -5,8 +5,8 @@ ghost use Rattle.ipp_codec.specs.Views.{attribute_shown, group_shown, message_sh
 ghost use Rattle.replies.specs.Request.{is_named, begins_request, is_operation_group, operation_group, job_group, job_attributes, is_utf8};
 
 use crate::attributes::value_of;
-use dispatcher::{RequestAttribute, RequestAttributes};
 use ipp_codec::{AttributeView, Group, GroupTag, GroupView, MessageView, ValueTag};
+use job_template::{RequestAttribute, RequestAttributes};
 use std::alloc::{AllocError, Global};
 
 /// The operation group of a request, which is its first group; none where the message is no request.

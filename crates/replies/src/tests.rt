@@ -1,6 +1,7 @@
 //! A whole body, and a reply of a status alone.
 use super::*;
-use dispatcher::{Event, IppAnswer, PrintJob, RequestAttributes, Status, Target};
+use dispatcher::{Event, IppAnswer, PrintJob, Status, Target};
+use job_template::RequestAttributes;
 use std::test::*;
 
 const BODY: &[u8] =

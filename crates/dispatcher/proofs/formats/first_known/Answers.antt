@@ -1,7 +1,7 @@
 use Rattle.std.proofs.Common.{◌≡◌, ◌∙◌, sym, ap, arith, Some, None, find}
 use Rattle.std.specs.Option.{option_copied}
 use Rattle.dispatcher.specs.PrintJob.{is_same_format, formats_at}
-use Rattle.dispatcher.proofs.KnownFormats.{found_at, not_at}
+use Rattle.job_template.proofs.Searches.{found_at, not_at}
 use Rattle.dispatcher.proofs.formats.first_known.Goals as goal
 
 pub returns-in-Some : goal.returns-in-Some

@@ -2,9 +2,9 @@ use Rattle.std.proofs.Common.{◌≡◌, ◌∙◌, Bool, sym, ap, arith, Some, 
 use Rattle.std.specs.Option.{option_copied}
 use Rattle.std.specs.Str.{bytes_eq}
 use Rattle.base_types.specs.declared.device.Medium.{Medium}
-use Rattle.dispatcher.specs.Template.{media_at}
-use Rattle.dispatcher.proofs.KnownFormats.{found_at, not_at}
-use Rattle.dispatcher.proofs.template.medium_among.Goals as goal
+use Rattle.job_template.specs.Template.{media_at}
+use Rattle.job_template.proofs.Searches.{found_at, not_at}
+use Rattle.job_template.proofs.template.medium_among.Goals as goal
 
 pub returns-in-Some : goal.returns-in-Some
 returns-in-Some c =

@@ -1,8 +1,8 @@
 use Rattle.std.proofs.Common.{◌∙◌, ◌-◌, List, sym, ap, arith}
 use Rattle.std.specs.List.{remove}
 use Rattle.ipp_codec.specs.Message.{IppAttribute}
-use Rattle.dispatcher.proofs.FirstOnes.{kept_again, kept_on}
-use Rattle.dispatcher.proofs.request_attributes.RequestAttributes.keep_first_ones.Goals as goal
+use Rattle.job_template.proofs.FirstOnes.{kept_again, kept_on}
+use Rattle.job_template.proofs.request_attributes.RequestAttributes.keep_first_ones.Goals as goal
 
 pub loop-place-preserved-then-is_again : goal.loop-place-preserved-then-is_again
 loop-place-preserved-then-is_again c = (

@@ -1,5 +1,5 @@
 ghost use Rattle.std.specs.Prelude.{◌≡◌};
-ghost use Rattle.dispatcher.specs.Template.{template_name};
+ghost use Rattle.job_template.specs.Template.{template_name};
 
 /// The job template attributes that this server knows (RFC 8011, section 5.2).
 #[derive(Clone, Copy, Debug, PartialEq, Eq)]

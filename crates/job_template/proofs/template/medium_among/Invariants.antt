@@ -1,8 +1,8 @@
 use Rattle.std.proofs.Common.{◌≡◌, drop, find}
 use Rattle.std.specs.List.{flat_map}
 use Rattle.std.specs.Str.{bytes_eq}
-use Rattle.dispatcher.specs.Template.{media_at}
-use Rattle.dispatcher.proofs.template.medium_among.Given as goal
+use Rattle.job_template.specs.Template.{media_at}
+use Rattle.job_template.proofs.template.medium_among.Given as goal
 
 abbrev pub invariant-loop-place : goal.invariant-loop-place
 invariant-loop-place l =

@@ -1,4 +1,4 @@
--- The search of a format among the devices of a printer.
+-- The first that passes, among what each entry of a list has.
 use Rattle.std.proofs.Common.{◌≡◌, ◌∙◌, ℕ, suc, ◌+◌, ◌<◌, Bool, List, [], ◌∷◌, ◌++◌, length, get_or, drop, find, Some, None, if◌then◌else◌, sym, ap, drop-cons, add-one}
 use Rattle.std.specs.List.{flat_map}
 use Rattle.std.specs.Option.{option_or}

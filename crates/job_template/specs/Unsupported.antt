@@ -6,7 +6,7 @@ use Rattle.std.specs.Str.{bytes_eq}
 use Rattle.base_types.specs.Device.{Device}
 use Rattle.ipp_codec.specs.Message.{plain, IppAttribute}
 use Rattle.settings_file.specs.Settings.{PrinterEntry}
-use Rattle.dispatcher.specs.Template.{template_name, is_supported}
+use Rattle.job_template.specs.Template.{template_name, is_supported}
 
 -- whether one of these has a name
 abbrev pub is_among : List ℕ → List IppAttribute → Bool

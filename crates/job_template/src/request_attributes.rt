@@ -1,7 +1,7 @@
 ghost use Rattle.std.specs.Prelude.{◌≡◌, ◌==◌, ◌<◌, [], map, filter, not, length};
 ghost use Rattle.std.specs.Option.{option_copied};
-ghost use Rattle.dispatcher.specs.Template.{named, is_supported};
-ghost use Rattle.dispatcher.specs.Unsupported.{is_among, is_again, first_ones, returned, unsupported_of};
+ghost use Rattle.job_template.specs.Template.{named, is_supported};
+ghost use Rattle.job_template.specs.Unsupported.{is_among, is_again, first_ones, returned, unsupported_of};
 
 use crate::request_attribute::RequestAttribute;
 use crate::template::is_unsupported;
@@ -71,7 +71,7 @@ impl RequestAttributes {
 
     /// What is returned of a job group, in its order. It takes no memory.
     #[tactic(auto, unfolding(crate::specs::Unsupported::unsupported_of))]
-    pub(crate) fn make_unsupported(
+    pub fn make_unsupported(
         &mut self,
         alloc: Global,
         devices: &[DeviceNow],

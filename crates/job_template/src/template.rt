@@ -4,7 +4,7 @@ ghost use Rattle.std.specs.Prelude.{◌≡◌, find, not, false, unwrap_or, slic
 ghost use Rattle.std.specs.Option.{option_copied};
 ghost use Rattle.std.specs.Str.{bytes_eq};
 ghost use Rattle.printer_objects.specs.Offered.{prints_two_sided, is_two_sided};
-ghost use Rattle.dispatcher.specs.Template.{up_to, copies_in, priority_in, hold_named, hold_in, sides_named, sides_in, media_at, medium_among, medium_named, medium_in, supports, is_supported, asked_by, template_of, medium_of};
+ghost use Rattle.job_template.specs.Template.{up_to, copies_in, priority_in, hold_named, hold_in, sides_named, sides_in, media_at, medium_among, medium_named, medium_in, supports, is_supported, asked_by, template_of, medium_of};
 ghost use Rattle.base_types.specs.Ranges.{IsCopies};
 
 use crate::request_attribute::RequestAttribute;
@@ -17,18 +17,18 @@ use std::marker::Model;
 /// What the job template asks for, but its medium; what isn't there or isn't supported has its
 /// default. In clauses it is a record of the same fields.
 #[derive(Debug, Drop)]
-pub(crate) struct JobTemplate {
-    pub(crate) priority: Priority,
-    pub(crate) sides: Sides,
+pub struct JobTemplate {
+    pub priority: Priority,
+    pub sides: Sides,
     /// 1 to [`base_types::Limits::COPIES`].
-    pub(crate) copies: u32,
+    pub copies: u32,
     /// Whether job-hold-until is indefinite.
-    pub(crate) held: bool,
+    pub held: bool,
 }
 
 impl Model for JobTemplate {
     ghost use Rattle.base_types.specs.Ranges.{IsCopies};
-    ghost use Rattle.dispatcher.specs.Template.{TemplateRecord};
+    ghost use Rattle.job_template.specs.Template.{TemplateRecord};
 
     ghost Value = { TemplateRecord };
 
@@ -247,7 +247,7 @@ fn supports(
 
 /// What a job group asks of a printer.
 #[tactic(auto, unfolding(crate::specs::Template::template_of))]
-pub(crate) fn template_of(
+pub fn template_of(
     devices: &[DeviceNow],
     printer: &PrinterSettings,
     attributes: &RequestAttributes,
@@ -309,7 +309,7 @@ fn is_held(attributes: &RequestAttributes) -> bool
 
 /// The medium of a job, as the settings write it.
 #[tactic(auto, unfolding(crate::specs::Template::medium_of))]
-pub(crate) fn medium_of<'a>(
+pub fn medium_of<'a>(
     devices: &'a [DeviceNow],
     printer: &'a PrinterSettings,
     attributes: &RequestAttributes,

@@ -12,8 +12,8 @@ use Rattle.ipp_codec.specs.Message.{IppValue, tag_of, bytes_in, IppAttribute}
 use Rattle.ipp_codec.specs.Typed.{integer_in, unsigned}
 use Rattle.printer_objects.specs.Offered.{prints_two_sided}
 use Rattle.settings_file.specs.Settings.{PrinterEntry}
-use Rattle.dispatcher.specs.declared.template_name.TemplateName.{TemplateName}
-use Rattle.dispatcher.specs.declared.template_name.TemplateName.TheVariants as Is
+use Rattle.job_template.specs.declared.template_name.TemplateName.{TemplateName}
+use Rattle.job_template.specs.declared.template_name.TemplateName.TheVariants as Is
 
 -- ---- the value of an attribute that has just one
 

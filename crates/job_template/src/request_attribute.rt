@@ -1,8 +1,8 @@
 ghost use Rattle.std.specs.Prelude.{◌≡◌, [], option_map};
 ghost use Rattle.ipp_codec.specs.Message.{plain};
 ghost use Rattle.ipp_codec.specs.Owned.{attribute_owned, value_owned};
-ghost use Rattle.dispatcher.specs.Template.{only_value, number, keyword, word};
-ghost use Rattle.dispatcher.specs.Unsupported.{returned};
+ghost use Rattle.job_template.specs.Template.{only_value, number, keyword, word};
+ghost use Rattle.job_template.specs.Unsupported.{returned};
 
 use crate::template_name::template_name;
 use ipp_codec::{Attribute, Value, ValueTag};

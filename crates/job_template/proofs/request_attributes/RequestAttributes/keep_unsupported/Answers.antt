@@ -1,8 +1,8 @@
 use Rattle.std.proofs.Common.{◌∙◌, Bool, List, ap, filter, not, rules}
 use Rattle.std.proofs.lemmas.Fn.{filter_same}
 use Rattle.ipp_codec.specs.Message.{IppAttribute}
-use Rattle.dispatcher.specs.Template.{is_supported}
-use Rattle.dispatcher.proofs.request_attributes.RequestAttributes.keep_unsupported.Goals as goal
+use Rattle.job_template.specs.Template.{is_supported}
+use Rattle.job_template.proofs.request_attributes.RequestAttributes.keep_unsupported.Goals as goal
 
 pub returns : goal.returns
 returns c =

@@ -5,7 +5,7 @@ use Rattle.std.specs.Option.{option_map_or}
 use Rattle.std.proofs.Math.Seq.{take-suc, take-append_seam}
 use Rattle.std.proofs.lemmas.List.{append_assoc, length-take-le}
 use Rattle.ipp_codec.specs.Message.{IppAttribute}
-use Rattle.dispatcher.specs.Unsupported.{is_among, is_again, first_behind}
+use Rattle.job_template.specs.Unsupported.{is_among, is_again, first_behind}
 
 -- what stands there once the attributes from a place on are the first ones
 abbrev pub kept_from : List IppAttribute → ℕ → List IppAttribute

@@ -1,0 +1,16 @@
+//! What of a request's job group a printer supports (RFC 8011, section 5.2).
+//!
+//! [`template_of`] and [`medium_of`] give what the group asks of the job, with the defaults in place
+//! of what isn't there or isn't supported; [`RequestAttributes::make_unsupported`] gives what is
+//! returned to the client. The first attribute of a name acts, and each has one value. Whether a
+//! request is refused for what isn't supported is no business of this crate.
+#![tactic(auto)]
+
+mod request_attribute;
+mod request_attributes;
+mod template;
+mod template_name;
+
+pub use request_attribute::RequestAttribute;
+pub use request_attributes::RequestAttributes;
+pub use template::{JobTemplate, medium_of, template_of};
