@@ -19,6 +19,3 @@ mod times;
 pub use able::each_able;
 pub use planner::{Dense, Lazy, Planner};
 pub use times::{Counted, Times};
-
-#[cfg(test)]
-mod tests;

@@ -10,6 +10,3 @@ mod cause;
 
 pub use able_device::able;
 pub use cause::stranded_cause;
-
-#[cfg(test)]
-mod tests;

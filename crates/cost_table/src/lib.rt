@@ -14,6 +14,3 @@ pub use class_job::{ClassJob, build};
 pub use class_problem::{ClassProblem, is_class};
 pub use job_time::time;
 pub use row::Row;
-
-#[cfg(test)]
-mod tests;

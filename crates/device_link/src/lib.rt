@@ -12,8 +12,6 @@ mod line;
 mod number;
 mod order;
 mod reader;
-#[cfg(test)]
-mod tests;
 
 pub use fault::{LinkError, LinkFault};
 pub use order::{write_cancel, write_job};

@@ -27,8 +27,6 @@ mod started;
 mod starting;
 mod state;
 mod status;
-#[cfg(test)]
-mod tests;
 
 pub use dispatch::Dispatched;
 pub use event::{Event, PrintJob, Target};

@@ -16,8 +16,6 @@ mod reader;
 mod refusal;
 mod reply;
 mod section;
-#[cfg(test)]
-mod tests;
 mod words;
 
 pub use item::HttpItem;

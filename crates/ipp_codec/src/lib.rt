@@ -33,6 +33,3 @@ pub use value::{Member, Value};
 pub use view::{
     AttributeView, Attributes, GroupView, Groups, MessageView, ValueView, Values, Version,
 };
-
-#[cfg(test)]
-mod tests;

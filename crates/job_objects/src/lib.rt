@@ -16,6 +16,3 @@ pub use job::{Canceler, Job};
 pub use job_change::{JobChange, StateRefusal, job_step};
 pub use job_state::JobState;
 pub use reason::{JobReasons, Reason, reasons};
-
-#[cfg(test)]
-mod tests;

@@ -13,8 +13,6 @@ mod fault;
 mod file_name;
 mod item;
 mod reader;
-#[cfg(test)]
-mod tests;
 mod words;
 
 pub use control::{Control, ControlError, ControlFault, Print, PrintFormat, read_control};

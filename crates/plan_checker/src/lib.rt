@@ -25,6 +25,3 @@ pub use text::{
     ReadError, TextFault, read_plan_text, text_read_back, write_named_plan, write_plan_text,
 };
 pub use verdict::{PlanVerdict, Verdict};
-
-#[cfg(test)]
-mod tests;

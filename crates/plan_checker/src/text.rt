@@ -18,6 +18,3 @@ pub use fault::{ReadError, TextFault};
 pub use read_plan::read_plan_text;
 pub use round_trip::text_read_back;
 pub use write_plan::{write_named_plan, write_plan_text};
-
-#[cfg(test)]
-mod tests;

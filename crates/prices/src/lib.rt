@@ -26,6 +26,3 @@ pub use way_facts::{all_able, all_named, is_way, names_known, none_twice};
 pub use way_start::start_of;
 pub use way_total::total;
 pub use way_waits::{leaves_waits, waits_after};
-
-#[cfg(test)]
-mod tests;

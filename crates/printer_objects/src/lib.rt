@@ -26,6 +26,3 @@ pub use printer::Printer;
 pub use printer_attribute::PrinterAttribute;
 pub use printer_shown::{PrinterShown, printer_attributes};
 pub use state::{PrinterReason, PrinterState, keeps_busy, printer_reason, printer_state};
-
-#[cfg(test)]
-mod tests;

@@ -16,8 +16,6 @@ mod reply;
 mod request;
 mod syntax;
 mod target;
-#[cfg(test)]
-mod tests;
 
 pub use asked::{Asked, ipp_event};
 pub use law::one_asked;

@@ -16,8 +16,6 @@ mod key;
 mod printer;
 mod read;
 mod settings;
-#[cfg(test)]
-mod tests;
 
 pub use fault::{SettingsFault, write_fault};
 pub use key::Key;

@@ -31,6 +31,3 @@ pub use ready::Ready;
 pub use refusal::{Refused, RefusedDocument, SpoolRefusal};
 pub use spool::Spool;
 pub use spooled::SpooledJob;
-
-#[cfg(test)]
-mod tests;

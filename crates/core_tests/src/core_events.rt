@@ -1,0 +1,212 @@
+//! Events that come to the core, and what a dispatch after each comes to.
+mod best;
+mod reports;
+mod runs;
+
+use assignment::Lazy;
+use base_types::{Cause, DeviceId, Moment, Report, Sides, Text};
+use dispatcher::{Answer, Core, Dispatched, Event, PrintJob, Reply, Started, Status, Target};
+use ipp_codec::{Attribute, Value, ValueTag};
+use job_template::{RequestAttribute, RequestAttributes};
+use prices::Plan;
+use settings_file::read_settings;
+use spool::Octets;
+use std::alloc::{AllocError, Global};
+use std::test::Fail;
+
+/// The places of two devices.
+const A: usize = 0;
+
+const B: usize = 1;
+
+/// A job that a Print-Job asks for.
+#[derive(Clone, Copy)]
+struct Asked {
+    priority: u8,
+    impressions: u32,
+    copies: u32,
+    sides: Sides,
+}
+
+/// One impression on one side, of normal priority.
+const LETTER: Asked = Asked {
+    priority: 50,
+    impressions: 1,
+    copies: 1,
+    sides: Sides::One,
+};
+
+/// What happens in a row.
+#[derive(Clone, Copy)]
+enum Happens {
+    Print(Asked),
+    Ready(usize),
+    Stop(usize),
+    Pages(usize, u32, u32),
+    Done(usize, u32),
+    Tick,
+}
+
+/// What a dispatch comes to.
+#[derive(Clone, Copy)]
+enum Comes {
+    /// None is asked for.
+    Undispatched,
+    /// No plan, and no start.
+    NoPlan,
+    Plan {
+        /// The priority and the total of each class.
+        classes: &'static [(u8, u64)],
+        stranded: &'static [(u32, Cause)],
+        /// One of these jobs begins on the device.
+        started: &'static [(&'static [u32], usize)],
+    },
+}
+
+/// What happens at a moment, and what the dispatch after it comes to.
+#[derive(Clone, Copy)]
+struct Row {
+    millis: u64,
+    happens: Happens,
+    comes: Comes,
+}
+
+fn at(millis: u64) -> Moment {
+    Moment::new(millis).unwrap_or(Moment::start())
+}
+
+/// The keyword of the sides.
+fn keyword_of(sides: Sides) -> &'static [u8] {
+    match sides {
+        Sides::One => b"one-sided",
+        Sides::LongEdge => b"two-sided-long-edge",
+        Sides::ShortEdge => b"two-sided-short-edge",
+    }
+}
+
+/// An attribute of one integer.
+fn number(alloc: Global, name: &[u8], number: u32) -> Result<RequestAttribute, AllocError> {
+    let value = Value::integer(alloc, i32::try_from(number).unwrap_or(0))?;
+    Ok(RequestAttribute::new(Attribute::new(alloc, name, value)?))
+}
+
+/// The job group of a job.
+fn job_group(alloc: Global, asked: Asked) -> Result<RequestAttributes, AllocError> {
+    let sides = Value::copy_of(alloc, ValueTag::KEYWORD, keyword_of(asked.sides))?;
+    let sides = Attribute::new(alloc, b"sides", sides)?;
+    let mut attributes = Vec::with_capacity(alloc, 3)?;
+    attributes.push(number(alloc, b"job-priority", u32::from(asked.priority))?)?;
+    attributes.push(RequestAttribute::new(sides))?;
+    attributes.push(number(alloc, b"copies", asked.copies)?)?;
+    Ok(RequestAttributes::from_vec(attributes))
+}
+
+/// The core of a server with these settings.
+fn opened(alloc: Global, text: &str) -> Result<Core<Lazy>, Fail> {
+    let settings = read_settings(alloc, text)?;
+    let core = Core::new(alloc, settings, Lazy::new(alloc))?;
+    Ok(core)
+}
+
+/// Anna's Print-Job of five octets.
+fn print_job(alloc: Global, asked: Asked) -> Result<Event, AllocError> {
+    let user = Text::copy_of(alloc, b"anna")?;
+    let job_name = Text::copy_of(alloc, b"letter")?;
+    let template = job_group(alloc, asked)?;
+    let bytes = Vec::from_slice(alloc, b"hello")?;
+    Ok(Event::PrintJob(PrintJob {
+        target: Target::First,
+        user,
+        job_name,
+        impressions: Some(asked.impressions),
+        compression: None,
+        format: None,
+        fidelity: true,
+        template,
+        octets: Octets::new(bytes),
+    }))
+}
+
+fn event_of(alloc: Global, happens: Happens) -> Result<Event, AllocError> {
+    let (place, report) = match happens {
+        Happens::Print(asked) => return print_job(alloc, asked),
+        Happens::Tick => return Ok(Event::Tick),
+        Happens::Ready(place) => (place, Report::Ready),
+        Happens::Stop(place) => (place, Report::Stop),
+        Happens::Pages(place, job, printed) => (place, Report::Pages { job, printed }),
+        Happens::Done(place, job) => (place, Report::Done { job }),
+    };
+    Ok(Event::Report(DeviceId::new(place), report))
+}
+
+fn status_of(reply: &Reply) -> Option<Status> {
+    match &reply.answer {
+        Answer::Ipp(answer) => Some(answer.status),
+        Answer::Nothing => None,
+    }
+}
+
+/// Whether a plan has these classes and these stranded jobs.
+fn is_plan(plan: &Plan, classes: &[(u8, u64)], stranded: &[(u32, Cause)]) -> bool {
+    let planned = plan
+        .classes()
+        .iter()
+        .map(|class| (class.priority.level(), class.priced.total));
+    let left = plan
+        .stranded()
+        .iter()
+        .map(|left| (left.job.number(), left.cause));
+    planned.eq(classes.iter().copied()) && left.eq(stranded.iter().copied())
+}
+
+/// Whether it is one of these jobs that begins, on this device.
+fn is_start(started: &Started, wanted: &(&[u32], usize)) -> bool {
+    let (jobs, place) = *wanted;
+    started.device.place() == place && jobs.contains(&started.job.number())
+}
+
+/// Whether these began.
+fn are_starts(started: &[Started], wanted: &[(&[u32], usize)]) -> bool {
+    started.len() == wanted.len()
+        && started
+            .iter()
+            .zip(wanted)
+            .all(|(started, wanted)| is_start(started, wanted))
+}
+
+/// Whether a dispatch came to this.
+fn is_as(made: &Dispatched<'_>, comes: Comes) -> bool {
+    match (made.plan(), comes) {
+        (
+            Some(plan),
+            Comes::Plan {
+                classes,
+                stranded,
+                started,
+            },
+        ) => is_plan(plan, classes, stranded) && are_starts(made.started(), started),
+        (None, Comes::NoPlan) => made.started().is_empty(),
+        _ => false,
+    }
+}
+
+/// Whether a dispatch at a moment comes to this.
+fn dispatches(core: &mut Core<Lazy>, millis: u64, comes: Comes) -> Result<bool, AllocError> {
+    if matches!(comes, Comes::Undispatched) {
+        return Ok(true);
+    }
+    let made = core.dispatch(at(millis))?;
+    Ok(is_as(&made, comes))
+}
+
+/// Plays rows in order, up to the first that comes to something else than it says: that one's place.
+fn miss(alloc: Global, core: &mut Core<Lazy>, rows: &[Row]) -> Result<Option<usize>, AllocError> {
+    for (place, row) in rows.iter().enumerate() {
+        let event = event_of(alloc, row.happens)?;
+        core.apply(event, at(row.millis))?;
+        if !dispatches(core, row.millis, row.comes)? {
+            return Ok(Some(place));
+        }
+    }
+    Ok(None)
+}

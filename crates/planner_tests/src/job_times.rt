@@ -1,0 +1,103 @@
+//! How long jobs take, and problems of a class.
+ghost use Rattle.std.specs.Prelude.{◌≡◌, IfOk};
+ghost use Rattle.base_types.specs.Ranges.{IsImpressions, IsCopies, IsRate, IsSetup};
+
+use base_types::{
+    Activity, DeviceId, DeviceNow, JobId, Limits, Medium, Needs, PrinterId, PrinterSet, Sides, Text,
+};
+use cost_table::{ClassJob, ClassProblem, Row, build, is_class, time};
+use std::alloc::{AllocError, Global};
+use std::test::Fail;
+
+/// A job of plain text on A4, one-sided.
+fn job(alloc: Global, impressions: u32, copies: u32) -> Result<Needs, AllocError>
+    requires impressions { IsImpressions impressions }
+    requires copies { IsCopies copies }
+    ensures { IfOk result (λ needs. (needs.sides ≡ Sides.One) × (needs.printer ≡ 0)) }
+{
+    let mut formats = Vec::new(alloc);
+    formats.push(Text::copy_of(alloc, b"text/plain")?)?;
+    Ok(Needs {
+        printer: PrinterId::new(0),
+        formats,
+        sides: Sides::One,
+        media: Text::copy_of(alloc, b"iso_a4_210x297mm")?,
+        impressions,
+        copies,
+    })
+}
+
+/// A running device that prints plain text, and may have A4 loaded.
+fn device(alloc: Global, rate_one: u32, setup: u32, a4: bool) -> Result<DeviceNow, AllocError>
+    requires rate { IsRate rate_one }
+    requires setup { IsSetup setup }
+{
+    let mut formats = Vec::new(alloc);
+    formats.push(Text::copy_of(alloc, b"text/plain")?)?;
+    let mut media = Vec::new(alloc);
+    let name = Text::copy_of(alloc, b"iso_a4_210x297mm")?;
+    media.push(Medium { name, loaded: a4 })?;
+    Ok(DeviceNow {
+        rate_one,
+        rate_two: None,
+        setup,
+        formats,
+        media,
+        activity: Activity::Running(None),
+    })
+}
+
+/// The slowest device prints the longest job.
+#[test]
+fn largest_time(rt: HostRuntime) -> Result<(), Fail> {
+    let alloc = rt.alloc();
+    let needs = job(alloc, 10_000, 999)?;
+    let slowest = device(alloc, 60_000, 3_600_000, true)?;
+    assert_eq!(rt; time(&needs, &slowest), 599_403_600_000);
+    Ok(())
+}
+
+/// Three jobs on two devices, each of them able.
+#[test]
+fn best_of_three(rt: HostRuntime) -> Result<(), Fail> {
+    let alloc = rt.alloc();
+    let mut ids = Vec::new(alloc);
+    let mut rows = Vec::new(alloc);
+    for (number, one, other) in [(1, 10, 20), (2, 10, 12), (3, 30, 15)] {
+        ids.push(JobId::new(number).ok_or("id")?)?;
+        let mut times = Vec::new(alloc);
+        times.push(Some(one))?;
+        times.push(Some(other))?;
+        rows.push(Row::new(times))?;
+    }
+    let mut waits = Vec::new(alloc);
+    waits.push(0)?;
+    waits.push(0)?;
+    assert!(rt; is_class(&ids, &rows, &waits));
+    let class = ClassProblem::from_rows(ids, rows, waits);
+    let third = JobId::new(3).ok_or("id")?;
+    assert_eq!(rt; class.time(third, DeviceId::new(1)), Some(15));
+    assert_eq!(rt; class.time(third, DeviceId::new(2)), None);
+    Ok(())
+}
+
+/// One of two devices has the job's media loaded.
+#[test]
+fn able_pairs(rt: HostRuntime) -> Result<(), Fail> {
+    let alloc = rt.alloc();
+    let needs = job(alloc, 5, 2)?;
+    let id = JobId::new(1).ok_or("id")?;
+    let jobs = [ClassJob { id, needs: &needs }];
+    let devices = [device(alloc, 10, 7, true)?, device(alloc, 10, 7, false)?];
+    let mut places = Vec::new(alloc);
+    places.push(DeviceId::new(0))?;
+    places.push(DeviceId::new(1))?;
+    let printers = [PrinterSet::new(places)];
+    let mut waits = Vec::new(alloc);
+    waits.push(40)?;
+    waits.push(Limits::WAIT)?;
+    let class = build(alloc, &jobs, &devices, &printers, waits)?;
+    assert_eq!(rt; class.time(id, DeviceId::new(0)), Some(107));
+    assert_eq!(rt; class.time(id, DeviceId::new(1)), None);
+    Ok(())
+}

@@ -1,0 +1,83 @@
+//! Texts of plans, and verdicts on them.
+use plan_checker::{
+    PlanText, PlanVerdict, ReadError, TextFault, check_plan, has_one_list_each, read_plan_text,
+};
+use std::alloc::Global;
+use std::test::Fail;
+
+/// Three jobs on two devices, with the prices that prove the way best.
+const BEST_OF_THREE: &str =
+    "plan\ndevice A\ndevice B\nclass 50\njob 1 10 20\njob 2 10 12\njob 3 30 15\nwait 0 0\nway A 1 2\nway B 3\ntotal 45\njobprices 20 20 23\nplaceprices A -10 0\nplaceprices B -8\nend\n";
+
+/// The fault of a text, if it has one.
+fn fault_of(alloc: Global, text: &str) -> Result<Option<TextFault>, Fail> {
+    match read_plan_text(alloc, text.as_bytes()) {
+        Ok(_) => Ok(None),
+        Err(ReadError::Fault(fault)) => Ok(Some(fault)),
+        Err(ReadError::OutOfMemory) => Err(Fail::from("memory")),
+    }
+}
+
+fn plan_of(alloc: Global, text: &str) -> Result<PlanText, Fail> {
+    match read_plan_text(alloc, text.as_bytes()) {
+        Ok(plan) => Ok(plan),
+        Err(_) => Err(Fail::from("no plan")),
+    }
+}
+
+/// The verdict on the plan of a text, where each class has a list for each device.
+fn verdict_of(alloc: Global, text: &str) -> Result<Option<PlanVerdict>, Fail> {
+    let plan = plan_of(alloc, text)?;
+    if !has_one_list_each(plan.plan().classes()) {
+        return Ok(None);
+    }
+    Ok(Some(check_plan(plan.plan())))
+}
+
+#[test]
+fn best_of_three(rt: HostRuntime) -> Result<(), Fail> {
+    let verdict = verdict_of(rt.alloc(), BEST_OF_THREE)?;
+    assert_eq!(rt; verdict, Some(PlanVerdict::Yes));
+    Ok(())
+}
+
+/// Texts that are no plan, each for one reason.
+#[test]
+fn refused_texts(rt: HostRuntime) -> Result<(), Fail> {
+    let alloc = rt.alloc();
+    let rows: [(&str, Option<TextFault>); 11] = [
+        ("", Some(TextFault::NoEnd)),
+        ("plan\nend", Some(TextFault::NoEnd)),
+        ("plan\nend\n", None),
+        ("plan\nend\n\n", Some(TextFault::BadLine)),
+        (
+            "plan\ndevice A\nclass 50\nwait 0\nway A\n",
+            Some(TextFault::NoEnd),
+        ),
+        (
+            "plan\ndevice A\nclass 50\nwait 72057594037927937\n",
+            Some(TextFault::OutOfRange),
+        ),
+        (
+            "plan\ndevice A\nclass 50\nwait 0\nway  A\n",
+            Some(TextFault::BadLine),
+        ),
+        (
+            "plan\ndevice A\nclass 50\njob 1 01\n",
+            Some(TextFault::BadLine),
+        ),
+        ("plan\nclass 101\nclass\n", Some(TextFault::OutOfRange)),
+        (
+            "plan\nstranded 2 Media\nstranded 1 Format\n",
+            Some(TextFault::OutOfRange),
+        ),
+        (
+            "plan\nclass 5\nwait\ntotal 0\njobprices -0\n",
+            Some(TextFault::BadLine),
+        ),
+    ];
+    for (text, fault) in rows {
+        assert_eq!(rt; fault_of(alloc, text)?, fault);
+    }
+    Ok(())
+}

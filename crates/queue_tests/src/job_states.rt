@@ -1,0 +1,123 @@
+//! The table of a job's states.
+use base_types::{JobId, Moment, Needs, PrinterId, Priority, Sides, Text};
+use job_objects::{
+    Canceler, Job, JobChange, JobReasons, JobState, Reason, StateRefusal, job_step, reasons,
+};
+use std::alloc::{AllocError, Global};
+use std::test::Fail;
+
+/// A job in a state.
+fn job(alloc: Global, state: JobState, incoming: bool, held: bool) -> Result<Job, Fail> {
+    Ok(Job {
+        id: JobId::new(1).ok_or("id")?,
+        owner: Text::copy_of(alloc, b"anna")?,
+        name: Text::copy_of(alloc, b"letter")?,
+        priority: Priority::normal(),
+        needs: needs(alloc)?,
+        impressions: None,
+        state,
+        incoming,
+        held,
+        stranded: matches!(state, JobState::Pending),
+        documents: 0,
+        octets: 0,
+        canceled_by: None,
+        created: Moment::start(),
+        started: None,
+        finished: None,
+    })
+}
+
+fn needs(alloc: Global) -> Result<Needs, AllocError> {
+    Ok(Needs {
+        printer: PrinterId::new(0),
+        formats: Vec::new(alloc),
+        sides: Sides::One,
+        media: Text::copy_of(alloc, b"iso_a4_210x297mm")?,
+        impressions: 1,
+        copies: 1,
+    })
+}
+
+/// The states from which each change is tried, each with whether the job is incoming and held.
+const FROM: [(JobState, bool, bool); 9] = [
+    (JobState::Pending, false, false),
+    (JobState::Held, true, false),
+    (JobState::Held, false, true),
+    (JobState::Held, true, true),
+    (JobState::Processing, false, false),
+    (JobState::Stopped, false, false),
+    (JobState::Canceled, false, false),
+    (JobState::Aborted, false, false),
+    (JobState::Completed, false, false),
+];
+
+/// The codes of job-state after each change; 0 where it isn't possible.
+const TABLE: [(JobChange, [u32; 9]); 10] = [
+    (JobChange::Close, [0, 3, 0, 4, 0, 0, 0, 0, 0]),
+    (JobChange::Hold, [4, 4, 4, 4, 0, 0, 0, 0, 0]),
+    (JobChange::Release, [3, 4, 3, 4, 5, 6, 0, 0, 0]),
+    (JobChange::Start, [5, 0, 0, 0, 0, 0, 0, 0, 0]),
+    (JobChange::Stop, [0, 0, 0, 0, 6, 0, 0, 0, 0]),
+    (JobChange::Continue, [0, 0, 0, 0, 0, 5, 0, 0, 0]),
+    (
+        JobChange::Cancel(Canceler::Owner),
+        [7, 7, 7, 7, 7, 7, 0, 0, 0],
+    ),
+    (
+        JobChange::Cancel(Canceler::Operator),
+        [7, 7, 7, 7, 7, 7, 0, 0, 0],
+    ),
+    (JobChange::Done, [0, 0, 0, 0, 9, 9, 0, 0, 0]),
+    (JobChange::Fail, [0, 8, 0, 8, 8, 8, 0, 0, 0]),
+];
+
+#[test]
+fn state_table(rt: HostRuntime) -> Result<(), Fail> {
+    let now = Moment::new(7).ok_or("moment")?;
+    for (change, codes) in TABLE {
+        for ((state, incoming, held), code) in FROM.into_iter().zip(codes) {
+            let mut job = job(rt.alloc(), state, incoming, held)?;
+            let result = job_step(&mut job, change, now);
+            let expected = if code == 0 { state.code() } else { code };
+            assert_eq!(rt; job.state.code(), expected);
+            assert_eq!(rt; result.is_ok(), code != 0);
+            assert_eq!(rt; job.finished.is_some(), code >= 7);
+            assert_eq!(rt;
+                job.stranded,
+                expected == 3 && matches!(state, JobState::Pending)
+            );
+        }
+    }
+    Ok(())
+}
+
+/// The hold of a canceled job stays, and it comes in no more.
+#[test]
+fn canceled_while_held(rt: HostRuntime) -> Result<(), Fail> {
+    let mut job = job(rt.alloc(), JobState::Held, true, true)?;
+    assert_eq!(rt;
+        job_step(&mut job, JobChange::Start, Moment::start()),
+        Err(StateRefusal::NotPossible)
+    );
+    assert_eq!(rt;
+        reasons(&job, false),
+        JobReasons {
+            first: Reason::JobIncoming,
+            second: Some(Reason::JobHoldUntilSpecified)
+        }
+    );
+    assert!(rt;
+        job_step(
+            &mut job,
+            JobChange::Cancel(Canceler::Owner),
+            Moment::start()
+        )
+        .is_ok()
+    );
+    assert!(rt; job.held && !job.incoming);
+    let reason = reasons(&job, true);
+    assert_eq!(rt; reason.first.keyword(), "job-canceled-by-user");
+    assert_eq!(rt; reason.second, None);
+    Ok(())
+}
