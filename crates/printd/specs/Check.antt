@@ -16,8 +16,8 @@ use Rattle.plan_checker.specs.declared.verdict.PlanVerdict.TheVariants.{Yes, No}
 use Rattle.plan_checker.specs.PlanText.{NamedPlan}
 use Rattle.plan_checker.specs.Plan.{IsPlanVerdict}
 use Rattle.plan_checker.specs.TextPlan.{plan_at}
-use Rattle.printd.specs.Input.{IsWhole, GaveMore}
-use Rattle.printd.specs.Said.{Said, refused_as}
+use Rattle.streams.specs.Input.{IsWhole, GaveMore}
+use Rattle.streams.specs.Said.{Said, refused_as}
 
 abbrev pub fault_name : TextFault → List ℕ
 fault_name BadLine = codes "BadLine"

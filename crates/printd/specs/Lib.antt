@@ -1,9 +1,1 @@
-pub mod Input
-pub mod Said
 pub mod Check
-pub mod Lines
-pub mod TraceLine
-pub mod Printed
-pub mod Log
-pub mod Replay
-pub mod Acting

@@ -4,21 +4,20 @@ ghost use Rattle.std.specs.Fmt.{decimal};
 ghost use Rattle.prices.specs.Prices.{IsProved};
 ghost use Rattle.prices.specs.Timetable.{Slot};
 ghost use Rattle.plan_checker.specs.Plan.{HasOneListEach, IsPlanVerdict};
-ghost use Rattle.printd.specs.Said.{Said, refused_as};
-ghost use Rattle.printd.specs.Printed.{name_at};
+ghost use Rattle.streams.specs.Said.{Said, refused_as};
+ghost use Rattle.replay.specs.Printed.{name_at};
 ghost use Rattle.printd.specs.Check.{fault_name, verdict_name, start_line, job_start, job_starts, plan_starts, priority_at, said_of, IsSaidOf, IsAnswer, Checks};
 
-use crate::input::{InputFault, read_whole};
-use crate::output::write_front;
-use crate::print::name_of;
 use base_types::{DeviceId, JobId, Limits, Text};
 use cost_table::ClassProblem;
 use plan_checker::{
     PlanText, PlanVerdict, ReadError, TextFault, Verdict, check_plan, read_plan_text,
 };
 use prices::{PlannedClass, start_of};
+use replay::name_of;
 use std::alloc::{AllocError, Global};
 use std::io::{Read, Write};
+use streams::{InputFault, read_whole, write_front};
 
 const YES: u8 = 0;
 

@@ -3,18 +3,11 @@
 #![tactic(auto)]
 
 mod check;
-mod input;
-mod lines;
-mod log;
-mod output;
-mod print;
-mod replay;
-mod trace;
 mod words;
 
 use crate::check::run_check;
-use crate::replay::run_replay;
 use crate::words::{Asked, read_words};
+use replay::run_replay;
 use std::alloc::AllocError;
 use std::process::ExitCode;
 use std::{env, io};

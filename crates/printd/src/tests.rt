@@ -4,8 +4,8 @@ mod rows;
 mod texts;
 mod totals;
 
-use crate::replay::run_replay;
 use crate::words::{Asked, read_words};
+use replay::run_replay;
 use std::test::Fail;
 
 /// The status and the output of a trace.

@@ -1,8 +1,8 @@
 //! The texts of plans that a replay writes, put before the checker.
 
 use crate::check::run_check;
-use crate::replay::run_replay;
 use crate::tests::rows;
+use replay::run_replay;
 use std::alloc::{AllocError, Global};
 use std::test::Fail;
 

@@ -1,0 +1,31 @@
+-- What an input gives, and what is left of it.
+use Rattle.std.proofs.Common.{◌≡◌, ℕ, Bool, List, Option, Some, None, IsNone, IfSome, IfOk, Result, Ok, Err, refl, sym, subst, inl, inr, take}
+use Rattle.std.specs.Result.{result_ok}
+use Rattle.std.specs.Io.KnownBytes.{Appends}
+use Rattle.base_types.specs.declared.limits.TheConstants.Limits.{INPUT_BYTES}
+use Rattle.streams.specs.Input.{IsWhole}
+use Rattle.streams.specs.Said.{Said}
+use Rattle.replay.specs.Replay.{TraceGives, InputGives, InputLeaves, Replays}
+
+pub some_of_ok : {T E : Type 0} (r : Result T E) (o : Option T) (P : T → Type 0) → o ≡ result_ok r → IfOk r P → IfSome o P
+some_of_ok (Ok x) o P e h = subst (λ p. IfSome p P) (sym e) h
+some_of_ok (Err x) o P e h = subst (λ p. IfSome p P) (sym e) tt
+
+pub if_some_weaker : {T : Type 0} (o : Option T) (P Q : T → Type 0) → ((x : T) → P x → Q x) → IfSome o P → IfSome o Q
+if_some_weaker None P Q f h = tt
+if_some_weaker (Some x) P Q f h = f x h
+
+pub input_gives : (texts : Bool) (before after : Option (List ℕ)) (trace lent : List ℕ) (said : Said) → IsWhole INPUT_BYTES before after trace → lent ≡ trace → TraceGives texts lent said → InputGives texts before after said
+input_gives texts before after trace lent said whole same gives = inl (trace, whole, subst (λ t. TraceGives texts t said) same gives)
+
+-- what is due, where the program fails
+pub due_left : (texts : Bool) (before after : Option (List ℕ)) (text : List ℕ) (due : Option ℕ)
+    → IfSome due (λ status. InputGives texts before after (record { text = text; status = status })) → (IsNone due → InputLeaves texts before after text) → InputLeaves texts before after text
+due_left texts before after text None given left = left refl
+due_left texts before after text (Some status) given left = inr (inr (_, given, refl))
+
+pub fails : (texts : Bool) (before after held holds : Option (List ℕ)) (text lent : List ℕ) (n : ℕ) → InputLeaves texts before after text → lent ≡ text → Appends held holds (take n lent) → Replays texts before after held holds 3
+fails texts before after held holds text lent n left same written = inr (refl, text, n, left, subst (λ t. Appends held holds (take n t)) same written)
+
+pub succeeds : (texts : Bool) (before after held holds : Option (List ℕ)) (text : List ℕ) (status : ℕ) → InputGives texts before after (record { text = text; status = status }) → Appends held holds text → Replays texts before after held holds status
+succeeds texts before after held holds text status given written = inl (_, given, written, refl)

@@ -1,0 +1,12 @@
+mod Reach
+mod Texts
+mod Settings
+mod Forms
+mod Heard
+mod Digits
+mod Telling
+mod Requests
+mod Giving
+mod Refusals
+mod Inputs
+pub mod Runs

@@ -1,0 +1,35 @@
+-- How a program runs a trace, step by step.
+use Rattle.std.specs.Prelude.{ℕ, ◌≡◌, ◌⊎◌, Bool, true, false, List, [], ◌++◌, Some, Err}
+use Rattle.std.specs.Str.{IsUtf8}
+use Rattle.settings_file.specs.Settings.{ServerSettings}
+use Rattle.settings_file.specs.Fault.{Fault, not_toml}
+use Rattle.settings_file.specs.Reading.{settings_of}
+use Rattle.dispatcher.specs.declared.event.Event.{Event}
+use Rattle.dispatcher.specs.declared.event.Event.TheVariants as Is
+use Rattle.dispatcher.specs.declared.event.PrintJob.{PrintJob}
+use Rattle.dispatcher.specs.Opening.{opening}
+use Rattle.dispatcher.specs.State.{State}
+use Rattle.replay.specs.declared.trace.Line.{Line}
+use Rattle.replay.specs.Log.{LogRecord}
+use Rattle.replay.specs.Replay.{Standing, Gives, IsNoLine, names_of}
+use Rattle.replay.specs.TraceLine.{IsLine}
+
+-- the bytes were a line of a trace, and what it gives was appended; or they were none, and nothing changed
+abbrev pub Acts : LogRecord → List ℕ → Standing → List ℕ → Bool → LogRecord → Standing → List ℕ → Type 0
+Acts log bytes old output true log' new output' =
+    (log' ≡ log) × (line : Line) × (text : List ℕ) × IsLine log.names bytes line × Gives log.texts log.names line old text new × (output' ≡ output ++ text)
+Acts log bytes old output false log' new output' = (log' ≡ log) × (new ≡ old) × IsNoLine log.names bytes × (output' ≡ output)
+
+-- an event that is a request, and so is answered
+abbrev pub IsRequest : Event → Type 0
+IsRequest event = (request : PrintJob) × (event ≡ Is.PrintJob request)
+
+-- a server that starts with these settings
+pub record IsStart (texts : Bool) (settings : ServerSettings) (log : LogRecord) (moment : ℕ) (state : State) : Type 0 where
+  pub silent : log ≡ record { texts = texts; names = names_of settings; heard = Some [] }
+  pub early : moment ≡ 0
+  pub opens : state ≡ opening settings 1
+
+-- the fault of the settings that these bytes are
+abbrev pub IsFaultOf : List ℕ → Fault → Type 0
+IsFaultOf settings fault = (¬ (IsUtf8 settings) × (fault ≡ not_toml)) ⊎ (IsUtf8 settings × (settings_of settings ≡ Err fault))

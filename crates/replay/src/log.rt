@@ -1,0 +1,102 @@
+//! What was printed of dispatches.
+ghost use Rattle.std.specs.Prelude.{◌≡◌, ◌++◌, [], None, Some, IfOk, OnOk, OnErr, option_map};
+ghost use Rattle.dispatcher.specs.Dispatched.{plan_of, started_of};
+ghost use Rattle.replay.specs.Printed.{dispatch_lines};
+
+use crate::print::put_dispatch;
+use base_types::Text;
+use dispatcher::{Dispatched, Listener};
+use std::alloc::{AllocError, Global};
+use std::marker::Model;
+use std::mem;
+
+/// A listener that keeps what is printed of each dispatch. In clauses it is a record of whether the
+/// texts of plans are asked for, the names of the devices, and what was heard, unless memory was
+/// refused.
+#[derive(Drop)]
+pub struct Log {
+    alloc: Global,
+    texts: bool,
+    names: Vec<Text>,
+    heard: Vec<u8>,
+    lost: bool,
+}
+
+impl Model for Log {
+    ghost use Rattle.std.specs.Prelude.{Some, None, if◌then◌else◌};
+    ghost use Rattle.replay.specs.Log.{LogRecord};
+
+    ghost Value = { LogRecord };
+
+    ghost view = { λ l. record { texts = l.texts; names = l.names.items; heard = if l.lost then None else Some l.heard.items } };
+}
+
+impl Listener for Log {
+    ghost use Rattle.replay.specs.Log.{Hears};
+
+    ghost hears = { Hears };
+
+    fn dispatched(&mut self, made: &Dispatched<'_>) {
+        if self.keep(made).is_err() {
+            self.lose();
+        }
+    }
+}
+
+impl Log {
+    /// Nothing was heard yet.
+    pub fn new(alloc: Global, texts: bool, names: Vec<Text>) -> Log
+        ensures { result ≡ record { texts = texts; names = names.items; heard = Some [] } }
+    {
+        Log {
+            alloc,
+            texts,
+            names,
+            heard: Vec::new(alloc),
+            lost: false,
+        }
+    }
+
+    /// The names of the devices.
+    pub fn names(&self) -> &[Text]
+        ensures { result.now ≡ self.now.names }
+    {
+        &self.names
+    }
+
+    /// What was heard, which is then heard no more. The error is that memory was refused for some of
+    /// it.
+    pub fn take(&mut self) -> Result<Vec<u8>, AllocError>
+        ensures { IfOk result (λ text. (self.old.heard ≡ Some text.items) × (self.new ≡ record self.old { heard = Some [] })) }
+    {
+        if self.lost {
+            return Err(AllocError);
+        }
+        let empty = Vec::new(self.alloc);
+        Ok(mem::replace(&mut self.heard, empty))
+    }
+
+    /// Keeps what is printed of a dispatch.
+    fn keep(&mut self, made: &Dispatched<'_>) -> Result<(), AllocError>
+        ensures ok { OnOk result (self.new ≡ record self.old { heard = option_map (λ text. text ++ dispatch_lines self.old.texts self.old.names (plan_of made.now) (started_of made.now)) self.old.heard }) }
+        ensures err { OnErr result (self.new ≡ self.old) }
+    {
+        let mut text = Vec::new(self.alloc);
+        put_dispatch(
+            self.alloc,
+            &mut text,
+            self.texts,
+            &self.names,
+            made.plan(),
+            made.started(),
+        )?;
+        self.heard.extend_from_slice(&text)
+    }
+
+    /// Memory was refused.
+    fn lose(&mut self)
+        ensures { self.new ≡ record self.old { heard = None } }
+    {
+        self.lost = true;
+    }
+}

@@ -1,0 +1,199 @@
+//! What is printed of an event.
+ghost use Rattle.std.specs.Prelude.{◌≡◌, ◌++◌, [], IfOk, OnOk, Option, slice_index_or};
+ghost use Rattle.std.specs.Option.{option_copied};
+ghost use Rattle.plan_checker.specs.TextWriting.{cause_word};
+ghost use Rattle.replay.specs.Printed.{name_at, reply_line, cancel_line, cancel_lines, class_word, class_words, stranded_word, stranded_words, plan_line, plan_lines, start_line, start_lines, dispatch_lines};
+
+use base_types::{Cause, DeviceId, Stranded, Text};
+use dispatcher::{Cancel, Started};
+use plan_checker::write_named_plan;
+use prices::{Plan, PlannedClass};
+use std::alloc::{AllocError, Global};
+
+/// Appends the line of a reply of these bytes.
+pub fn put_reply(alloc: Global, output: &mut Vec<u8>, bytes: &[u8]) -> Result<(), AllocError>
+    ensures { OnOk result (output.new.items ≡ output.old.items ++ reply_line bytes.now) }
+{
+    let digits = hex::encode(alloc, bytes)?;
+    output.extend_from_slice(b"reply ")?;
+    output.extend_from_slice(digits.as_bytes())?;
+    output.extend_from_slice(b"\n")?;
+    Ok(())
+}
+
+/// Appends a line for each cancel that is sent.
+pub fn put_cancels(
+    alloc: Global,
+    output: &mut Vec<u8>,
+    names: &[Text],
+    cancels: &[Cancel],
+) -> Result<(), AllocError>
+    ensures { OnOk result (output.new.items ≡ output.old.items ++ cancel_lines names.now cancels.now) }
+{
+    for cancel in cancels {
+        put_cancel(alloc, output, names, *cancel)?;
+    }
+    Ok(())
+}
+
+fn put_cancel(
+    alloc: Global,
+    output: &mut Vec<u8>,
+    names: &[Text],
+    cancel: Cancel,
+) -> Result<(), AllocError>
+    ensures { OnOk result (output.new.items ≡ output.old.items ++ cancel_line names.now cancel) }
+{
+    let job = cancel.job.number();
+    let words = format!(in alloc; "cancel {job} ")?;
+    output.extend_from_slice(words.as_bytes())?;
+    output.extend_from_slice(name_of(names, cancel.device))?;
+    output.extend_from_slice(b"\n")?;
+    Ok(())
+}
+
+/// Appends what is printed of a dispatch: the plan's line, its text where texts are asked for, and a
+/// line for each job that starts.
+pub fn put_dispatch(
+    alloc: Global,
+    output: &mut Vec<u8>,
+    texts: bool,
+    names: &[Text],
+    plan: Option<&Plan>,
+    started: &[Started],
+) -> Result<(), AllocError>
+    ensures { OnOk result (output.new.items ≡ output.old.items ++ dispatch_lines texts names.now (option_copied plan.entry) started.now) }
+{
+    put_plan_made(alloc, output, texts, names, plan)?;
+    put_starts(alloc, output, names, started)?;
+    Ok(())
+}
+
+fn put_plan_made(
+    alloc: Global,
+    output: &mut Vec<u8>,
+    texts: bool,
+    names: &[Text],
+    plan: Option<&Plan>,
+) -> Result<(), AllocError>
+    ensures { OnOk result (output.new.items ≡ output.old.items ++ plan_lines texts names.now (option_copied plan.entry)) }
+{
+    let Some(plan) = plan else {
+        return Ok(());
+    };
+    put_plan(alloc, output, plan)?;
+    if texts {
+        write_named_plan(alloc, names, plan, output)?;
+    }
+    Ok(())
+}
+
+/// Appends the line of a plan: each class with its total, then each stranded job with its cause.
+fn put_plan(alloc: Global, output: &mut Vec<u8>, plan: &Plan) -> Result<(), AllocError>
+    ensures { OnOk result (output.new.items ≡ output.old.items ++ plan_line plan.now) }
+{
+    output.extend_from_slice(b"plan")?;
+    put_classes(alloc, output, plan.classes())?;
+    put_stranded_jobs(alloc, output, plan.stranded())?;
+    output.extend_from_slice(b"\n")?;
+    Ok(())
+}
+
+fn put_classes(
+    alloc: Global,
+    output: &mut Vec<u8>,
+    classes: &[PlannedClass],
+) -> Result<(), AllocError>
+    ensures { OnOk result (output.new.items ≡ output.old.items ++ class_words classes.now) }
+{
+    for class in classes {
+        put_class(alloc, output, class)?;
+    }
+    Ok(())
+}
+
+fn put_class(alloc: Global, output: &mut Vec<u8>, class: &PlannedClass) -> Result<(), AllocError>
+    ensures { OnOk result (output.new.items ≡ output.old.items ++ class_word class.now) }
+{
+    let priority = class.priority.level();
+    let total = class.priced.total;
+    let word = format!(in alloc; " {priority}:{total}")?;
+    output.extend_from_slice(word.as_bytes())?;
+    Ok(())
+}
+
+fn put_stranded_jobs(
+    alloc: Global,
+    output: &mut Vec<u8>,
+    stranded: &[Stranded],
+) -> Result<(), AllocError>
+    ensures { OnOk result (output.new.items ≡ output.old.items ++ stranded_words stranded.now) }
+{
+    for job in stranded {
+        put_stranded(alloc, output, *job)?;
+    }
+    Ok(())
+}
+
+fn put_stranded(alloc: Global, output: &mut Vec<u8>, stranded: Stranded) -> Result<(), AllocError>
+    ensures { OnOk result (output.new.items ≡ output.old.items ++ stranded_word stranded) }
+{
+    let job = stranded.job.number();
+    let cause = cause_name(stranded.cause);
+    let word = format!(in alloc; " -{job}:{cause}")?;
+    output.extend_from_slice(word.as_bytes())?;
+    Ok(())
+}
+
+fn put_starts(
+    alloc: Global,
+    output: &mut Vec<u8>,
+    names: &[Text],
+    started: &[Started],
+) -> Result<(), AllocError>
+    ensures { OnOk result (output.new.items ≡ output.old.items ++ start_lines names.now started.now) }
+{
+    for start in started {
+        put_start(alloc, output, names, *start)?;
+    }
+    Ok(())
+}
+
+fn put_start(
+    alloc: Global,
+    output: &mut Vec<u8>,
+    names: &[Text],
+    started: Started,
+) -> Result<(), AllocError>
+    ensures { OnOk result (output.new.items ≡ output.old.items ++ start_line names.now started) }
+{
+    let job = started.job.number();
+    let words = format!(in alloc; "start {job} ")?;
+    output.extend_from_slice(words.as_bytes())?;
+    output.extend_from_slice(name_of(names, started.device))?;
+    output.extend_from_slice(b"\n")?;
+    Ok(())
+}
+
+/// The name of a device, empty where it has none.
+pub fn name_of(names: &[Text], device: DeviceId) -> &[u8]
+    ensures { result.now ≡ name_at names.now device }
+{
+    match names.get(device.place()) {
+        Some(name) => name.as_bytes(),
+        None => &[],
+    }
+}
+
+/// The name of a cause.
+fn cause_name(cause: Cause) -> &'static str
+    ensures { result.now ≡ cause_word cause }
+{
+    match cause {
+        Cause::NoDevice => "NoDevice",
+        Cause::Format => "Format",
+        Cause::Sides => "Sides",
+        Cause::Media => "Media",
+        Cause::Running => "Running",
+    }
+}

@@ -1,0 +1,138 @@
+//! What a line of a trace says.
+ghost use Rattle.std.specs.Prelude.{◌≡◌, ◌++◌, [], IfOk, codes, position};
+ghost use Rattle.std.specs.Char.{is_ascii_uppercase};
+ghost use Rattle.std.specs.List.{list_any};
+ghost use Rattle.std.specs.Str.{bytes_eq};
+ghost use Rattle.device_link.specs.Stream.{Stands};
+ghost use Rattle.replay.specs.Lines.{IsOneLine};
+ghost use Rattle.replay.specs.TraceLine.{Finds, IsMomentIn, IsBodyIn, IsReportIn, IsDeviceIn, IsLine};
+
+use base_types::{DeviceId, Moment, Report, Text, all_digits, capped_value, find_byte};
+use device_link::{LinkError, LinkReader};
+use hex::FromHexError;
+use std::alloc::{AllocError, Global};
+
+/// A line of a trace, after the settings.
+#[derive(Drop)]
+pub enum Line {
+    /// From now on it is this moment.
+    At(Moment),
+    /// An IPP body comes.
+    Ipp(Vec<u8>),
+    /// A device reports.
+    Device(DeviceId, Report),
+    /// Time goes on.
+    Tick,
+}
+
+/// What a line of a trace says, where the devices have these names; nothing where it is no such
+/// line.
+///
+/// The error is want of memory.
+pub fn read_line(alloc: Global, text: &[u8], devices: &[Text]) -> Result<Option<Line>, AllocError>
+    requires { IsOneLine text.now }
+    ensures { IfOk result (λ line. Finds (IsLine devices.now text.now) line) }
+{
+    if text == b"tick".as_slice() {
+        return Ok(Some(Line::Tick));
+    }
+    if let Some(digits) = text.strip_prefix(b"at ") {
+        return Ok(read_moment(digits).map(|moment| Line::At(moment)));
+    }
+    if let Some(digits) = text.strip_prefix(b"ipp ") {
+        return Ok(read_body(alloc, digits)?.map(|body| Line::Ipp(body)));
+    }
+    match text.strip_prefix(b"dev ") {
+        Some(said) => read_device_line(alloc, said, devices),
+        None => Ok(None),
+    }
+}
+
+/// A moment in decimal digits.
+fn read_moment(digits: &[u8]) -> Option<Moment>
+    ensures { Finds (IsMomentIn digits.now) result }
+{
+    if digits.is_empty() || !all_digits(digits) {
+        return None;
+    }
+    Moment::new(capped_value(digits, u64::MAX))
+}
+
+/// Bytes in lower-case hexadecimal digits, at least one byte.
+fn read_body(alloc: Global, digits: &[u8]) -> Result<Option<Vec<u8>>, AllocError>
+    ensures { IfOk result (λ body. Finds (λ body. IsBodyIn digits.now body.items) body) }
+{
+    if digits.is_empty() || has_capital(digits) {
+        return Ok(None);
+    }
+    match hex::decode(alloc, digits) {
+        Ok(bytes) => Ok(Some(bytes)),
+        Err(error) => match error {
+            FromHexError::OutOfMemory => Err(AllocError),
+            _ => Ok(None),
+        },
+    }
+}
+
+/// Whether an upper-case letter is among the digits.
+fn has_capital(digits: &[u8]) -> bool
+    ensures { result ≡ list_any is_ascii_uppercase digits.now }
+{
+    digits.iter().any(|byte| byte.is_ascii_uppercase())
+}
+
+/// A device's name, a space and a line that it writes.
+fn read_device_line(
+    alloc: Global,
+    said: &[u8],
+    devices: &[Text],
+) -> Result<Option<Line>, AllocError>
+    requires { IsOneLine said.now }
+    ensures { IfOk result (λ line. Finds (IsLine devices.now (codes "dev " ++ said.now)) line) }
+{
+    let Some(end) = find_byte(said, b' ') else {
+        return Ok(None);
+    };
+    let Some(place) = place_of(devices, &said[..end]) else {
+        return Ok(None);
+    };
+    let device = DeviceId::new(place);
+    let report = read_report(alloc, &said[end + 1..])?;
+    Ok(report.map(|report| Line::Device(device, report)))
+}
+
+/// The place of the first device of this name.
+fn place_of(devices: &[Text], name: &[u8]) -> Option<usize>
+    ensures { result ≡ position (λ device. bytes_eq device name.now) devices.now }
+{
+    devices.iter().position(|device| device.as_bytes() == name)
+}
+
+/// The report that a line is which a device writes once it has said its name.
+fn read_report(alloc: Global, line: &[u8]) -> Result<Option<Report>, AllocError>
+    requires { IsOneLine line.now }
+    ensures { IfOk result (λ report. Finds (IsReportIn line.now) report) }
+{
+    let mut reader = hear(alloc, line)?;
+    match reader.next_report() {
+        Ok(_) => {}
+        Err(LinkError::Fault(_)) => return Ok(None),
+        Err(LinkError::OutOfMemory) => return Err(AllocError),
+    }
+    match reader.next_report() {
+        Ok(report) => Ok(report),
+        Err(LinkError::Fault(_)) => Ok(None),
+        Err(LinkError::OutOfMemory) => Err(AllocError),
+    }
+}
+
+/// A reader that was fed a device's name and then a line.
+fn hear(alloc: Global, line: &[u8]) -> Result<LinkReader, AllocError>
+    ensures { IfOk result (λ reader. Stands (codes "HELLO device\n" ++ (line.now ++ codes "\n")) [] reader) }
+{
+    let mut reader = LinkReader::new(alloc);
+    reader.feed(b"HELLO device\n")?;
+    reader.feed(line)?;
+    reader.feed(b"\n")?;
+    Ok(reader)
+}
