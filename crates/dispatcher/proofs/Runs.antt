@@ -2,7 +2,7 @@
 use Rattle.std.proofs.Common.{List, [], ◌∷◌, ◌++◌, refl, subst}
 use Rattle.dispatcher.specs.declared.run.Timed.{Timed}
 use Rattle.dispatcher.specs.declared.run.Outcome.{Outcome}
-use Rattle.dispatcher.specs.State.{State}
+use Rattle.print_room.specs.State.{State}
 use Rattle.dispatcher.specs.Run.{Hearing, Comes, Run}
 
 pub run_more : {L : Type 0} (hears : Hearing L) (old : State) (l : L) (events : List Timed) (outcomes : List Outcome) (mid : State) (heard : L) (timed : Timed) (outcome : Outcome) (new : State) (l' : L) → Run hears old l events outcomes mid heard → Comes hears mid heard timed outcome new l' → Run hears old l (events ++ timed ∷ []) (outcomes ++ outcome ∷ []) new l'

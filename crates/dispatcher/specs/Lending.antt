@@ -5,8 +5,8 @@ use mathlib.Core.Option.{none}
 use Rattle.std.specs.declared.alloc.AllocError.{AllocError}
 use Rattle.dispatcher.specs.declared.dispatch.Dispatched.{Dispatched}
 use Rattle.dispatcher.specs.contracts.server_core.Core.{the_row}
-use Rattle.dispatcher.specs.State.{State}
-use Rattle.dispatcher.specs.Dispatch.{Dispatches}
+use Rattle.print_room.specs.State.{State}
+use Rattle.print_room.specs.Dispatch.{Dispatches}
 use Rattle.dispatcher.specs.Dispatched.{plan_of, started_of}
 
 module _ (P : RattleType) where

@@ -1,12 +1,4 @@
 pub mod Status
-pub mod Activity
-pub mod State
-pub mod Opening
-pub mod Report
-pub mod Ready
-pub mod GoodPlan
-pub mod Planned
-pub mod Dispatch
 pub mod Dispatched
 pub mod Lending
 pub mod PrintJob

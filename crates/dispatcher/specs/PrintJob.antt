@@ -1,6 +1,6 @@
 -- What a Print-Job request comes to (RFC 8011, section 4.2.1): why it is refused, else the job that it
 -- makes, and what it is answered.
-use Rattle.std.specs.Prelude.{ℕ, ◌≡◌, ◌+◌, ◌==◌, ◌||◌, ◌&&◌, not, nat_lt, Bool, false, if◌then◌else◌, List, [], ◌∷◌, ◌++◌, find, position, reverse, length, Option, Some, None, slice_get, Result, Ok, Err, MatchResult, codes}
+use Rattle.std.specs.Prelude.{ℕ, ◌≡◌, ◌==◌, ◌||◌, ◌&&◌, not, nat_lt, Bool, false, if◌then◌else◌, List, [], ◌∷◌, ◌++◌, find, position, reverse, length, Option, Some, None, slice_get, Result, Ok, Err, MatchResult, codes}
 use Rattle.std.specs.List.{before_first, flat_map}
 use Rattle.std.specs.Option.{option_map_or}
 use Rattle.std.specs.Str.{bytes_eq, str_eq_ignore_ascii_case}
@@ -22,7 +22,8 @@ use Rattle.dispatcher.specs.declared.status.Status.{Status}
 use Rattle.dispatcher.specs.declared.status.Status.TheVariants as Went
 use Rattle.dispatcher.specs.declared.print_job.Accepted.{Accepted}
 use Rattle.dispatcher.specs.declared.print_job.Refusal.{Refusal}
-use Rattle.dispatcher.specs.State.{State}
+use Rattle.print_room.specs.State.{State}
+use Rattle.print_room.specs.Jobs.{with_new_job}
 use Rattle.job_template.specs.Template.{TemplateRecord, template_of, medium_of}
 use Rattle.job_template.specs.Unsupported.{unsupported_of}
 
@@ -148,10 +149,7 @@ taken_with unsupported = if length unsupported == 0 then Went.Ok else Went.OkIgn
 -- the job is answered, and kept under the next id
 pub record TakesJob (now : ℕ) (old : State) (accepted : Accepted) (reply : Reply) (new : State) : Type 0 where
   pub replies : Replies (taken_with accepted.unsupported) accepted.unsupported (group_of old accepted.job ∷ []) reply
-  pub state : new ≡ record old {
-    last = now;
-    spool = record { jobs = old.spool.jobs ++ spooled_of accepted.job old.spool.next false ∷ []; next = old.spool.next + 1 };
-  }
+  pub state : new ≡ with_new_job now accepted.job old
 
 -- the refusal alone is answered
 pub record RefusesJob (now : ℕ) (old : State) (refusal : Refusal) (reply : Reply) (new : State) : Type 0 where

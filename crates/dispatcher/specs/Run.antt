@@ -6,11 +6,11 @@ use Rattle.dispatcher.specs.declared.event.Event.TheVariants as Is
 use Rattle.dispatcher.specs.declared.run.Timed.{Timed}
 use Rattle.dispatcher.specs.declared.run.Outcome.{Outcome}
 use Rattle.dispatcher.specs.declared.run.Outcome.TheVariants.{Dropped, Queried, Undispatched, Dispatched}
-use Rattle.dispatcher.specs.declared.started.Started.{Started}
-use Rattle.dispatcher.specs.State.{State}
-use Rattle.dispatcher.specs.Ready.{ready_of}
+use Rattle.print_room.specs.declared.started.Started.{Started}
+use Rattle.print_room.specs.State.{State}
+use Rattle.print_room.specs.Ready.{ready_of}
 use Rattle.dispatcher.specs.Step.{Step, TakesNoMemory}
-use Rattle.dispatcher.specs.Dispatch.{Dispatches}
+use Rattle.print_room.specs.Dispatch.{Dispatches}
 
 -- whether an event only asks
 abbrev pub is_query : Event → Bool

@@ -1,15 +1,14 @@
 -- A step: what an event does to the state, and what it is answered.
-use Rattle.std.specs.Prelude.{ℕ, ◌≡◌, max, [], map, IsErr}
+use Rattle.std.specs.Prelude.{ℕ, ◌≡◌, max, [], IsErr}
 use Rattle.base_types.specs.declared.report.Report.{Report}
 use Rattle.dispatcher.specs.declared.event.Event.{Event}
 use Rattle.dispatcher.specs.declared.event.Event.TheVariants as Is
 use Rattle.dispatcher.specs.declared.reply.Reply.{Reply}
 use Rattle.dispatcher.specs.declared.reply.Answer.TheVariants as Says
-use Rattle.spool.specs.Spooled.{expired}
-use Rattle.spool.specs.Kept.{retained}
 use Rattle.dispatcher.specs.PrintJob.{PrintsJob, asked_of}
-use Rattle.dispatcher.specs.Report.{Reports}
-use Rattle.dispatcher.specs.State.{State}
+use Rattle.print_room.specs.Report.{Reports}
+use Rattle.print_room.specs.State.{State}
+use Rattle.print_room.specs.Jobs.{expiring}
 
 -- a device's report is not answered
 pub record Reported (now device : ℕ) (report : Report) (old : State) (reply : Reply) (new : State) : Type 0 where
@@ -23,7 +22,7 @@ pub record Ticks (now : ℕ) (old : State) (reply : Reply) (new : State) : Type 
   pub unanswered : reply.answer ≡ Says.Nothing
   pub cancels : reply.cancels.items ≡ []
   pub documents : reply.documents.items ≡ []
-  pub state : new ≡ record old { last = now; spool = record old.spool { jobs = retained (map (expired now) old.spool.jobs) } }
+  pub state : new ≡ expiring now old
 
 -- by cases on the event, at a moment that is not before the last one
 abbrev pub StepAt : Event → ℕ → State → Reply → State → Type 0

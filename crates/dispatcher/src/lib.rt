@@ -10,28 +10,20 @@
 //! all that a request says stands in it. Real times are not spoken of, only estimates.
 #![tactic(auto)]
 
-mod activity;
 mod apply;
 mod dispatch;
 mod event;
 mod formats;
-mod opening;
-mod planning;
 mod print_job;
-mod ready;
 mod reply;
-mod report;
 mod run;
 mod server_core;
-mod started;
-mod starting;
-mod state;
 mod status;
 
 pub use dispatch::Dispatched;
 pub use event::{Event, PrintJob, Target};
+pub use print_room::Started;
 pub use reply::{Answer, Cancel, IppAnswer, Reply};
 pub use run::{Listener, Outcome, Timed};
 pub use server_core::Core;
-pub use started::Started;
 pub use status::Status;

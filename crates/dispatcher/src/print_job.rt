@@ -1,20 +1,19 @@
-ghost use Rattle.std.specs.Prelude.{◌≡◌, ◌≤◌, ◌∷◌, [], IfOk, IsOk, IsErr, OnErr, None, if◌then◌else◌, slice_get, position};
-ghost use Rattle.std.specs.Option.{option_copied};
+ghost use Rattle.std.specs.Prelude.{◌≡◌, ◌≤◌, ◌∷◌, [], IfOk, IsOk, IsErr, OnErr, None, if◌then◌else◌, position};
 ghost use Rattle.std.specs.Str.{bytes_eq};
 ghost use Rattle.ipp_codec.specs.Owned.{groups_owned};
 ghost use Rattle.job_objects.specs.Reasons.{one};
-ghost use Rattle.spool.specs.Calls.{new_refusal, paused_at};
+ghost use Rattle.spool.specs.Calls.{new_refusal};
 ghost use Rattle.dispatcher.specs.PrintJob.{PrintsJob, TakesJob, RefusesJob, place_of, is_compressed, format_of, refused, asked_of_format, asked_of, submission_of, taken_with, group_of};
 
 use crate::event::{PrintJob, Target};
 use crate::formats::format_of;
 use crate::reply::Reply;
-use crate::state::CoreState;
 use crate::status::Status;
 use base_types::{Limits, Moment, PrinterId, Text};
 use ipp_codec::Group;
 use job_objects::{JobReasons, JobState, Reason};
 use job_template::{JobTemplate, RequestAttributes, medium_of, template_of};
+use print_room::PrintRoom;
 use printer_objects::created_job_attributes;
 use settings_file::PrinterSettings;
 use spool::{Document, NewJob, Octets};
@@ -35,205 +34,172 @@ pub(crate) struct Refusal {
     pub(crate) unsupported: RequestAttributes,
 }
 
-impl CoreState {
-    /// Takes the job of a Print-Job request, or says why not.
-    pub(crate) fn print_job(&mut self, request: PrintJob, now: Moment) -> Result<Reply, AllocError>
-        requires { self.old.last ≤ now }
-        ensures ok { IfOk result (λ reply. PrintsJob now request self.old reply self.new) }
-        ensures err { OnErr result (self.new ≡ self.old) }
-        ensures light { IsErr (asked_of request now self.old) → IsOk result }
-    {
-        match self.asked_by(request, now)? {
-            Ok(accepted) => self.take(accepted, now),
-            Err(refusal) => Ok(self.refuse(refusal, now)),
-        }
+/// Takes the job of a Print-Job request, or says why not.
+pub(crate) fn print_job(
+    alloc: Global,
+    room: &mut PrintRoom,
+    request: PrintJob,
+    now: Moment,
+) -> Result<Reply, AllocError>
+    requires { room.old.last ≤ now }
+    ensures ok { IfOk result (λ reply. PrintsJob now request room.old reply room.new) }
+    ensures err { OnErr result (room.new ≡ room.old) }
+    ensures light { IsErr (asked_of request now room.old) → IsOk result }
+{
+    match asked_by(alloc, room, request, now)? {
+        Ok(accepted) => take(alloc, room, accepted, now),
+        Err(refusal) => Ok(refuse(alloc, room, refusal, now)),
     }
+}
 
-    /// Answers a status and what isn't supported.
-    fn refuse(&mut self, refusal: Refusal, now: Moment) -> Reply
-        requires { self.old.last ≤ now }
-        ensures { RefusesJob now self.old refusal result self.new }
-    {
-        let Refusal {
-            status,
+/// Answers a status and what isn't supported.
+fn refuse(alloc: Global, room: &mut PrintRoom, refusal: Refusal, now: Moment) -> Reply
+    requires { room.old.last ≤ now }
+    ensures { RefusesJob now room.old refusal result room.new }
+{
+    let Refusal {
+        status,
+        unsupported,
+    } = refusal;
+    room.advance(now);
+    Reply::answered(alloc, status, unsupported, Vec::new(alloc))
+}
+
+/// Takes a job that nothing stands against; it is answered with its URI, id and state.
+fn take(
+    alloc: Global,
+    room: &mut PrintRoom,
+    accepted: Accepted,
+    now: Moment,
+) -> Result<Reply, AllocError>
+    requires later { room.old.last ≤ now }
+    requires free { new_refusal room.old.spool accepted.job.documents ≡ None }
+    ensures ok { IfOk result (λ reply. TakesJob now room.old accepted reply room.new) }
+    ensures err { OnErr result (room.new ≡ room.old) }
+{
+    let Accepted { job, unsupported } = accepted;
+    let status = taken_with(&unsupported);
+    let groups = groups_of(alloc, room, &job)?;
+    match room.submit(job, now) {
+        Ok(_) => Ok(Reply::answered(alloc, status, unsupported, groups)),
+        Err(_) => Err(AllocError),
+    }
+}
+
+/// The group that shows a job which is taken next.
+fn groups_of(alloc: Global, room: &PrintRoom, job: &NewJob) -> Result<Vec<Group>, AllocError>
+    requires { new_refusal room.now.spool job.now.documents ≡ None }
+    ensures { IfOk result (λ groups. groups_owned groups.items ≡ group_of room.now job.now ∷ []) }
+{
+    let id = room.spool().next_id().unwrap();
+    let state = first_state(job.held);
+    let reasons = first_reasons(job.held, room.is_paused(job.printer));
+    let settings = room.settings();
+    let group = created_job_attributes(alloc, &settings.uri_base, id, state, reasons)?;
+    let mut groups = Vec::with_capacity(alloc, 1)?;
+    groups.push(group)?;
+    Ok(groups)
+}
+
+/// The job that a request asks for, or the first reason against it.
+fn asked_by(
+    alloc: Global,
+    room: &PrintRoom,
+    request: PrintJob,
+    now: Moment,
+) -> Result<Result<Accepted, Refusal>, AllocError>
+    ensures ok { IfOk result (λ asked. asked ≡ asked_of request now room.now) }
+    ensures err { OnErr result (IsOk (asked_of request now room.now)) }
+    ensures free { IfOk result (λ asked. IfOk asked (λ accepted. new_refusal room.now.spool accepted.job.documents ≡ None)) }
+{
+    let printers = &room.settings().printers;
+    let Some(place) = place_of(printers, &request.target) else {
+        return Ok(Err(refused(alloc, Status::NotFound)));
+    };
+    let Some(printer) = printers.get(place) else {
+        return Ok(Err(refused(alloc, Status::NotFound)));
+    };
+    if is_compressed(&request.compression) {
+        return Ok(Err(refused(alloc, Status::CompressionNotSupported)));
+    }
+    let Some(format) = format_of(room.devices(), printer, &request.format) else {
+        return Ok(Err(refused(alloc, Status::FormatNotSupported)));
+    };
+    asked_of_format(alloc, room, place, printer, format, request, now)
+}
+
+/// The job that a request asks of a printer that has its format, or the first reason against it.
+fn asked_of_format(
+    alloc: Global,
+    room: &PrintRoom,
+    place: usize,
+    printer: &PrinterSettings,
+    format: &Text,
+    request: PrintJob,
+    now: Moment,
+) -> Result<Result<Accepted, Refusal>, AllocError>
+    ensures ok { IfOk result (λ asked. asked ≡ asked_of_format request now room.now place printer.now format.now) }
+    ensures err { OnErr result (IsOk (asked_of_format request now room.now place printer.now format.now)) }
+    ensures free { IfOk result (λ asked. IfOk asked (λ accepted. new_refusal room.now.spool accepted.job.documents ≡ None)) }
+{
+    let mut request = request;
+    let devices = room.devices();
+    let template = template_of(devices, printer, &request.template);
+    let medium = medium_of(devices, printer, &request.template);
+    let mut unsupported = mem::replace(&mut request.template, RequestAttributes::new(alloc));
+    unsupported.make_unsupported(alloc, devices, printer);
+    if request.fidelity && !unsupported.is_empty() {
+        return Ok(Err(Refusal {
+            status: Status::AttributesNotSupported,
             unsupported,
-        } = refusal;
-        self.advance(now);
-        Reply::answered(self.alloc, status, unsupported, Vec::new(self.alloc))
+        }));
     }
-
-    /// Takes a job that nothing stands against; it is answered with its URI, id and state.
-    fn take(&mut self, accepted: Accepted, now: Moment) -> Result<Reply, AllocError>
-        requires later { self.old.last ≤ now }
-        requires free { new_refusal self.old.spool accepted.job.documents ≡ None }
-        ensures ok { IfOk result (λ reply. TakesJob now self.old accepted reply self.new) }
-        ensures err { OnErr result (self.new ≡ self.old) }
-    {
-        let Accepted { job, unsupported } = accepted;
-        let status = taken_with(&unsupported);
-        let groups = self.groups_of(&job)?;
-        match self.spool.submit(job) {
-            Ok(_) => {
-                self.advance(now);
-                Ok(Reply::answered(self.alloc, status, unsupported, groups))
-            }
-            Err(_) => Err(AllocError),
-        }
+    if request.octets.len() > Limits::JOB_OCTETS {
+        return Ok(Err(refused(alloc, Status::TooLarge)));
     }
-
-    /// The group that shows a job which is taken next.
-    fn groups_of(&self, job: &NewJob) -> Result<Vec<Group>, AllocError>
-        requires { new_refusal self.now.spool job.now.documents ≡ None }
-        ensures { IfOk result (λ groups. groups_owned groups.items ≡ group_of self.now job.now ∷ []) }
-    {
-        let alloc = self.alloc;
-        let id = self.spool.next_id().unwrap();
-        let state = first_state(job.held);
-        let reasons = first_reasons(job.held, self.is_paused(job.printer));
-        let settings = &self.settings;
-        let group = created_job_attributes(alloc, &settings.uri_base, id, state, reasons)?;
-        let mut groups = Vec::with_capacity(alloc, 1)?;
-        groups.push(group)?;
-        Ok(groups)
+    if room.spool().is_full() {
+        return Ok(Err(refused(alloc, Status::Busy)));
     }
+    let job = new_job(alloc, place, format, medium, template, request, now)?;
+    Ok(Ok(Accepted { job, unsupported }))
+}
 
-    /// The job that a request asks for, or the first reason against it.
-    fn asked_by(
-        &self,
-        request: PrintJob,
-        now: Moment,
-    ) -> Result<Result<Accepted, Refusal>, AllocError>
-        ensures ok { IfOk result (λ asked. asked ≡ asked_of request now self.now) }
-        ensures err { OnErr result (IsOk (asked_of request now self.now)) }
-        ensures free { IfOk result (λ asked. IfOk asked (λ accepted. new_refusal self.now.spool accepted.job.documents ≡ None)) }
-    {
-        let Some(place) = self.place_of(&request.target) else {
-            return Ok(Err(self.refusal(Status::NotFound)));
-        };
-        let Some(printer) = self.printer(place) else {
-            return Ok(Err(self.refusal(Status::NotFound)));
-        };
-        if is_compressed(&request.compression) {
-            return Ok(Err(self.refusal(Status::CompressionNotSupported)));
-        }
-        let Some(format) = self.format_of(printer, &request.format) else {
-            return Ok(Err(self.refusal(Status::FormatNotSupported)));
-        };
-        self.asked_of_format(place, printer, format, request, now)
-    }
+/// The job of a request's document, with what its job group comes to.
+fn new_job(
+    alloc: Global,
+    place: usize,
+    format: &Text,
+    medium: &Text,
+    template: JobTemplate,
+    request: PrintJob,
+    now: Moment,
+) -> Result<NewJob, AllocError>
+    ensures { IfOk result (λ job. job ≡ submission_of request now place format.now medium.now template) }
+{
+    let documents = one_document(alloc, format, request.octets)?;
+    let media = medium.copied(alloc)?;
+    Ok(NewJob {
+        created: now,
+        printer: PrinterId::new(place),
+        owner: request.user,
+        name: request.job_name,
+        priority: template.priority,
+        sides: template.sides,
+        media,
+        copies: template.copies,
+        held: template.held,
+        impressions: request.impressions,
+        documents,
+    })
+}
 
-    /// The job that a request asks of a printer that has its format, or the first reason against it.
-    fn asked_of_format(
-        &self,
-        place: usize,
-        printer: &PrinterSettings,
-        format: &Text,
-        request: PrintJob,
-        now: Moment,
-    ) -> Result<Result<Accepted, Refusal>, AllocError>
-        ensures ok { IfOk result (λ asked. asked ≡ asked_of_format request now self.now place printer.now format.now) }
-        ensures err { OnErr result (IsOk (asked_of_format request now self.now place printer.now format.now)) }
-        ensures free { IfOk result (λ asked. IfOk asked (λ accepted. new_refusal self.now.spool accepted.job.documents ≡ None)) }
-    {
-        let mut request = request;
-        let template = template_of(&self.devices, printer, &request.template);
-        let medium = medium_of(&self.devices, printer, &request.template);
-        let mut unsupported = mem::replace(
-            &mut request.template,
-            RequestAttributes::new(self.alloc),
-        );
-        unsupported.make_unsupported(self.alloc, &self.devices, printer);
-        if request.fidelity && !unsupported.is_empty() {
-            return Ok(Err(Refusal {
-                status: Status::AttributesNotSupported,
-                unsupported,
-            }));
-        }
-        if request.octets.len() > Limits::JOB_OCTETS {
-            return Ok(Err(self.refusal(Status::TooLarge)));
-        }
-        if self.spool.is_full() {
-            return Ok(Err(self.refusal(Status::Busy)));
-        }
-        let job = self.new_job(place, format, medium, template, request, now)?;
-        Ok(Ok(Accepted { job, unsupported }))
-    }
-
-    /// The job of a request's document, with what its job group comes to.
-    fn new_job(
-        &self,
-        place: usize,
-        format: &Text,
-        medium: &Text,
-        template: JobTemplate,
-        request: PrintJob,
-        now: Moment,
-    ) -> Result<NewJob, AllocError>
-        ensures { IfOk result (λ job. job ≡ submission_of request now place format.now medium.now template) }
-    {
-        let alloc = self.alloc;
-        let documents = one_document(alloc, format, request.octets)?;
-        let media = medium.copied(alloc)?;
-        Ok(NewJob {
-            created: now,
-            printer: PrinterId::new(place),
-            owner: request.user,
-            name: request.job_name,
-            priority: template.priority,
-            sides: template.sides,
-            media,
-            copies: template.copies,
-            held: template.held,
-            impressions: request.impressions,
-            documents,
-        })
-    }
-
-    /// A refusal of a status alone.
-    fn refusal(&self, status: Status) -> Refusal
-        ensures { result ≡ refused status }
-    {
-        Refusal {
-            status,
-            unsupported: RequestAttributes::new(self.alloc),
-        }
-    }
-
-    /// The place of the printer that a request names.
-    fn place_of(&self, target: &Target) -> Option<usize>
-        ensures { result ≡ place_of target.now self.now.settings.printers }
-    {
-        let settings = &self.settings;
-        place_of(&settings.printers, target)
-    }
-
-    /// The printer at a place of the settings.
-    fn printer(&self, place: usize) -> Option<&PrinterSettings>
-        ensures { option_copied result ≡ slice_get self.now.settings.printers place }
-    {
-        let settings = &self.settings;
-        settings.printers.get(place)
-    }
-
-    /// The format of a document, as the settings write it, if the printer has it.
-    fn format_of<'a>(
-        &'a self,
-        printer: &'a PrinterSettings,
-        asked: &Option<Text>,
-    ) -> Option<&'a Text>
-        ensures { option_copied result ≡ format_of self.now.devices printer.now asked.now }
-    {
-        format_of(&self.devices, printer, asked)
-    }
-
-    /// Whether the printer at a place is paused.
-    fn is_paused(&self, printer: PrinterId) -> bool
-        ensures { result ≡ paused_at self.now.paused printer }
-    {
-        match self.paused.get(printer.place()) {
-            Some(paused) => *paused,
-            None => false,
-        }
+/// A refusal of a status alone.
+fn refused(alloc: Global, status: Status) -> Refusal
+    ensures { result ≡ refused status }
+{
+    Refusal {
+        status,
+        unsupported: RequestAttributes::new(alloc),
     }
 }
 

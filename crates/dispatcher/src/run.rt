@@ -1,6 +1,6 @@
 ghost use Rattle.std.specs.Prelude.{◌≡◌, List, Option, IfOk, OnErr};
 ghost use Rattle.prices.specs.Plan.{PlanRecord};
-ghost use Rattle.dispatcher.specs.declared.started.Started.{Started};
+ghost use Rattle.print_room.specs.declared.started.Started.{Started};
 ghost use Rattle.dispatcher.specs.Dispatched.{plan_of, started_of};
 ghost use Rattle.dispatcher.specs.Run.{Comes, Run};
 

@@ -2,34 +2,35 @@ ghost use Rattle.std.specs.Prelude.{◌≡◌, IfOk, IsOk, OnErr, option_map, sl
 ghost use Rattle.std.specs.Option.{option_copied};
 ghost use Rattle.settings_file.specs.Settings.{MeetsLimits};
 ghost use Rattle.spool.specs.Jobs.{job_at, spooled_at};
-ghost use Rattle.dispatcher.specs.Opening.{opening};
+ghost use Rattle.print_room.specs.Opening.{opening};
 ghost use Rattle.dispatcher.specs.Step.{Step, TakesNoMemory};
 
+use crate::apply::apply;
 use crate::event::Event;
 use crate::reply::Reply;
-use crate::state::CoreState;
 use assignment::Planner;
 use base_types::{DeviceId, DeviceNow, JobId, Moment};
 use job_objects::Job;
+use print_room::PrintRoom;
 use settings_file::Settings;
 use spool::Document;
 use std::alloc::{AllocError, Global};
 use std::marker::Model;
 
-/// The core: settings, printers, devices, jobs, the last moment and the last plan, and how to plan. In
-/// clauses it is a record of all but the last.
+/// The core: a print room, and how to plan. In clauses it is the record of the room.
 #[derive(Drop)]
 pub struct Core<P: Planner> {
-    pub(crate) state: CoreState,
+    pub(crate) room: PrintRoom,
     pub(crate) planner: P,
+    alloc: Global,
 }
 
 impl<P: Planner> Model for Core<P> {
-    ghost use Rattle.dispatcher.specs.State.{State};
+    ghost use Rattle.print_room.specs.State.{State};
 
     ghost Value = { State };
 
-    ghost view = { λ c. c.state };
+    ghost view = { λ c. c.room };
 }
 
 impl<P: Planner + Drop> Core<P> {
@@ -42,8 +43,12 @@ impl<P: Planner + Drop> Core<P> {
         ensures { IfOk result (λ core. core ≡ opening settings 1) }
     {
         let first = JobId::new(JobId::FIRST).unwrap();
-        let state = CoreState::new(alloc, settings, first)?;
-        Ok(Core { state, planner })
+        let room = PrintRoom::new(alloc, settings, first)?;
+        Ok(Core {
+            room,
+            planner,
+            alloc,
+        })
     }
 
     /// Acts on an event, at a moment or, where that is earlier, at the last one.
@@ -55,38 +60,34 @@ impl<P: Planner + Drop> Core<P> {
         ensures err { OnErr result (self.new ≡ self.old) }
         ensures light { TakesNoMemory event moment self.old → IsOk result }
     {
-        self.state.apply(event, moment)
+        apply(self.alloc, &mut self.room, event, moment)
     }
 
     /// The settings that it was made with.
     pub fn settings(&self) -> &Settings
         ensures { result.now ≡ self.now.settings }
     {
-        let state = &self.state;
-        &state.settings
+        self.room.settings()
     }
 
     /// The job of this id, if it is kept. It takes no memory.
     pub fn job(&self, id: JobId) -> Option<&Job>
         ensures { option_copied result ≡ job_at id self.now.spool.jobs }
     {
-        let state = &self.state;
-        state.spool.get(id)
+        self.room.spool().get(id)
     }
 
     /// What the device at a place of the settings is now. It takes no memory.
     pub fn device(&self, id: DeviceId) -> Option<&DeviceNow>
         ensures { option_copied result ≡ slice_get self.now.devices id }
     {
-        let state = &self.state;
-        state.devices.get(id.place())
+        self.room.devices().get(id.place())
     }
 
     /// The documents of a job, until they are handed out or dropped. It takes no memory.
     pub fn documents(&self, id: JobId) -> Option<&[Document]>
         ensures { option_map (λ d. d.now) result ≡ option_map (λ s. s.documents) (spooled_at id self.now.spool.jobs) }
     {
-        let state = &self.state;
-        state.spool.documents(id)
+        self.room.spool().documents(id)
     }
 }

@@ -7,7 +7,7 @@ use Rattle.dispatcher.specs.declared.reply.Answer.TheVariants as Says
 use Rattle.dispatcher.specs.declared.reply.Reply.{Reply}
 use Rattle.dispatcher.specs.declared.status.Status.{Status}
 use Rattle.dispatcher.specs.PrintJob.{TakesJob, RefusesJob, IsAnswer, Replies, asked_of}
-use Rattle.dispatcher.specs.State.{State}
+use Rattle.print_room.specs.State.{State}
 use Rattle.dispatcher.specs.Step.{Step}
 use Rattle.replies.specs.declared.asked.Asked.TheVariants as Body
 use Rattle.replies.specs.Asked.{Asks, AsksUnder, Requests, answered, header_of, refused_by}

@@ -6,7 +6,7 @@ use Rattle.dispatcher.specs.declared.run.Timed.{Timed}
 use Rattle.dispatcher.specs.declared.run.Outcome.{Outcome}
 use Rattle.dispatcher.specs.declared.run.Outcome.TheVariants.{Queried, Dispatched}
 use Rattle.dispatcher.specs.Run.{Comes, Run}
-use Rattle.dispatcher.specs.State.{State}
+use Rattle.print_room.specs.State.{State}
 use Rattle.replies.specs.declared.asked.Asked.{Asked}
 use Rattle.replies.specs.declared.asked.Asked.TheVariants as Body
 use Rattle.replay.specs.declared.trace.Line.{Line}

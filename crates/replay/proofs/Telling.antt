@@ -4,7 +4,7 @@ use Rattle.std.proofs.lemmas.Option.{none-some}
 use Rattle.dispatcher.specs.declared.reply.Cancel.{Cancel}
 use Rattle.dispatcher.specs.declared.reply.Reply.{Reply}
 use Rattle.dispatcher.specs.declared.run.Timed.{Timed}
-use Rattle.dispatcher.specs.State.{State}
+use Rattle.print_room.specs.State.{State}
 use Rattle.replay.specs.Log.{LogRecord, Hears}
 use Rattle.replay.specs.Printed.{Prints, dispatch_lines, cancel_lines}
 use Rattle.replay.specs.Replay.{Answers}

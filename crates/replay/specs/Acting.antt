@@ -7,8 +7,8 @@ use Rattle.settings_file.specs.Reading.{settings_of}
 use Rattle.dispatcher.specs.declared.event.Event.{Event}
 use Rattle.dispatcher.specs.declared.event.Event.TheVariants as Is
 use Rattle.dispatcher.specs.declared.event.PrintJob.{PrintJob}
-use Rattle.dispatcher.specs.Opening.{opening}
-use Rattle.dispatcher.specs.State.{State}
+use Rattle.print_room.specs.Opening.{opening}
+use Rattle.print_room.specs.State.{State}
 use Rattle.replay.specs.declared.trace.Line.{Line}
 use Rattle.replay.specs.Log.{LogRecord}
 use Rattle.replay.specs.Replay.{Standing, Gives, IsNoLine, names_of}

@@ -1,7 +1,7 @@
 -- A log: what was printed of dispatches.
 use Rattle.std.specs.Prelude.{ℕ, ◌≡◌, ◌⊎◌, Bool, List, ◌++◌, Option, None, option_map}
 use Rattle.prices.specs.Plan.{PlanRecord}
-use Rattle.dispatcher.specs.declared.started.Started.{Started}
+use Rattle.print_room.specs.declared.started.Started.{Started}
 use Rattle.replay.specs.Printed.{dispatch_lines}
 
 -- whether the texts of plans are asked for, the names of the devices, and what was heard, unless memory was refused

@@ -7,7 +7,7 @@ use Rattle.prices.specs.declared.plan.PlannedClass.{PlannedClass}
 use Rattle.prices.specs.Plan.{PlanRecord}
 use Rattle.plan_checker.specs.TextWriting.{cause_word, plan_text}
 use Rattle.dispatcher.specs.declared.reply.Cancel.{Cancel}
-use Rattle.dispatcher.specs.declared.started.Started.{Started}
+use Rattle.print_room.specs.declared.started.Started.{Started}
 
 -- the name of the device at a place
 abbrev pub name_at : List (List ℕ) → ℕ → List ℕ

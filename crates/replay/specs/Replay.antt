@@ -15,9 +15,9 @@ use Rattle.dispatcher.specs.declared.reply.Answer.TheVariants as Says
 use Rattle.dispatcher.specs.declared.reply.Reply.{Reply}
 use Rattle.dispatcher.specs.declared.run.Timed.{Timed}
 use Rattle.dispatcher.specs.declared.run.Outcome.TheVariants.{Queried, Dispatched}
-use Rattle.dispatcher.specs.Opening.{opening}
+use Rattle.print_room.specs.Opening.{opening}
 use Rattle.dispatcher.specs.Run.{Comes, Hearing}
-use Rattle.dispatcher.specs.State.{State}
+use Rattle.print_room.specs.State.{State}
 use Rattle.replies.specs.declared.asked.Asked.{Asked}
 use Rattle.replies.specs.declared.asked.Asked.TheVariants as Body
 use Rattle.replies.specs.Asked.{Asks}

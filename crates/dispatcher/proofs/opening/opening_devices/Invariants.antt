@@ -1,6 +1,0 @@
-use Rattle.std.proofs.Common.{◌≡◌, map, take}
-use Rattle.dispatcher.specs.Opening.{opening_device}
-use Rattle.dispatcher.proofs.opening.opening_devices.Given as goal
-
-abbrev pub invariant-loop-device : goal.invariant-loop-device
-invariant-loop-device l = l.devices.items ≡ map opening_device (take l.device-index l.settings)

@@ -1,9 +1,0 @@
-use Rattle.std.proofs.Common.{◌≡◌, ◌≤◌, ◌++◌, drop, All}
-use Rattle.base_types.specs.declared.limits.TheConstants.Limits.{JOB_TIME}
-use Rattle.dispatcher.specs.Dispatch.{starts_from}
-use Rattle.dispatcher.proofs.starting.starts_of.Given as goal
-
-abbrev pub invariant-loop-place : goal.invariant-loop-place
-invariant-loop-place l =
-    (l.starts.items ++ starts_from l.classes l.place (drop l.place l.devices) ≡ starts_from l.classes 0 l.devices)
-    × All (λ start. start.time ≤ JOB_TIME) l.starts.items

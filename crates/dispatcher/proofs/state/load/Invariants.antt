@@ -1,6 +1,0 @@
-use Rattle.std.proofs.Common.{◌≡◌, ◌++◌, map, take, drop}
-use Rattle.dispatcher.specs.State.{loaded_if}
-use Rattle.dispatcher.proofs.state.load.Given as goal
-
-abbrev pub invariant-loop-medium : goal.invariant-loop-medium
-invariant-loop-medium l = l.media ≡ map (loaded_if l.names) (take l.medium-index l.initial.media) ++ drop l.medium-index l.initial.media

@@ -1,0 +1,100 @@
+-- What begins, device by device.
+use Rattle.std.proofs.Common.{◌≡◌, ℕ, zero, suc, ◌+◌, ◌<◌, Bool, true, false, if◌then◌else◌, List, [], ◌∷◌, ◌++◌, length, drop, get_or, Option, Some, None, is_some, option_to_list, refl, sym, ◌∙◌, ap, add-one, arith, append_assoc, All, IfSome}
+use Rattle.std.proofs.Math.Seq.{drop-cons}
+use Rattle.std.proofs.lemmas.List.Elements.{All-nil, All-cons, All-append, All-weaker}
+use Rattle.base_types.specs.Device.{Device}
+use Rattle.prices.specs.declared.plan.PlannedClass.{PlannedClass}
+use Rattle.prices.specs.Way.{queue_of}
+use Rattle.print_room.specs.declared.started.Started.{Started}
+use Rattle.job_objects.specs.Job.{JobRecord}
+use Rattle.print_room.specs.GoodPlan.{is_some_job}
+use Rattle.print_room.specs.State.{State, with_device}
+use Rattle.print_room.specs.Dispatch.{is_free, first_of, first_of_queue, or_next, starts_from, beginning, beginning_all}
+
+split_at : {X : Type 0} (xs : List X) (i : ℕ) (x : X) → i < length xs → x ≡ get_or xs i x → drop i xs ≡ x ∷ drop (i + 1) xs
+split_at xs i x inside is = rw (add-one, drop-cons xs i x, ← is) refl
+
+-- ---- the first job of a device's list
+
+or_some : (first next : Option Started) → is_some first ≡ true → or_next first next ≡ first
+or_some None next h = absurd (cc)
+or_some (Some first) next h = refl
+
+or_none : (first next : Option Started) → is_some first ≡ false → or_next first next ≡ next
+or_none None next h = refl
+or_none (Some first) next h = absurd (cc)
+
+-- a class that has a job for the device
+pub first_found : (classes : List PlannedClass) (i place : ℕ) (class : PlannedClass) (first : Option Started) → i < length classes → class ≡ get_or classes i class → first ≡ first_of_queue class place (queue_of class.priced.way place) → is_some first ≡ true → first_of (drop i classes) place ≡ first
+first_found classes i place class first inside is found some =
+    rw (split_at classes i class inside is, ← found) (or_some first (first_of (drop (i + 1) classes) place) some)
+
+-- one that has none
+pub first_later : (classes : List PlannedClass) (i place : ℕ) (class : PlannedClass) (first : Option Started) → i < length classes → class ≡ get_or classes i class → first ≡ first_of_queue class place (queue_of class.priced.way place) → is_some first ≡ false → first_of (drop i classes) place ≡ first_of (drop (i + 1) classes) place
+first_later classes i place class first inside is found none =
+    rw (split_at classes i class inside is, ← found) (or_none first (first_of (drop (i + 1) classes) place) none)
+
+-- ---- what begins
+
+-- one device more
+pub starts_next : (classes : List PlannedClass) (devices : List Device) (place : ℕ) (device : Device) (starts all : List Started) (start : Option Started) → place < length devices → device ≡ get_or devices place device → start ≡ (if is_free device.activity then first_of classes place else None)
+    → starts ++ starts_from classes place (drop place devices) ≡ all → (starts ++ option_to_list start) ++ starts_from classes (place + 1) (drop (place + 1) devices) ≡ all
+starts_next classes devices place device starts all start inside is begins so_far =
+    let split : starts_from classes place (drop place devices) ≡ option_to_list start ++ starts_from classes (suc place) (drop (place + 1) devices) = rw (split_at devices place device inside is, ← begins) refl in
+    append_assoc starts (option_to_list start) (starts_from classes (place + 1) (drop (place + 1) devices))
+    ∙ (ap (λ (p : ℕ). starts ++ (option_to_list start ++ starts_from classes p (drop (place + 1) devices))) (add-one place)
+    ∙ (ap (λ (ss : List Started). starts ++ ss) (sym split) ∙ so_far))
+
+-- ---- beginning
+
+length_with : (place : ℕ) (change : Device → Device) (devices : List Device) → length (with_device place change devices) ≡ length devices
+length_with place change [] = refl
+length_with zero change (device ∷ devices) = refl
+length_with (suc place) change (device ∷ devices) = ap suc (length_with place change devices)
+
+-- one job more begins
+pub begins_next : (now i : ℕ) (starts : List Started) (start : Started) (s t : State) → i < length starts → start ≡ get_or starts i start → beginning_all now (drop i starts) s ≡ t → beginning_all now (drop (i + 1) starts) (beginning now start s) ≡ t
+begins_next now i starts start s t inside is so_far =
+    let split = split_at starts i start inside is in
+    rw split at so_far
+
+pub begins_plan : (now : ℕ) (starts : List Started) (s : State) → (beginning_all now starts s).plan ≡ s.plan
+begins_plan now [] s = refl
+begins_plan now (start ∷ starts) s = begins_plan now starts (beginning now start s)
+
+pub some_ready : (jobs : List JobRecord) → is_some_job jobs ≡ true → jobs ≡ [] → ⊥
+some_ready [] h e = absurd (cc)
+some_ready (job ∷ jobs) h e = absurd (cc)
+
+pub begins_devices : (now : ℕ) (start : Started) (s : State) → length (beginning now start s).devices ≡ length s.devices
+begins_devices now start s = length_with start.device (λ d. _) s.devices
+
+-- ---- the devices of what begins
+
+or_both : (P : Started → Type 0) (first next : Option Started) → IfSome first P → IfSome next P → IfSome (or_next first next) P
+or_both P None next one other = other
+or_both P (Some first) next one other = one
+
+first_place : (classes : List PlannedClass) (place : ℕ) → IfSome (first_of classes place) (λ s. s.device ≡ place)
+first_place [] place = tt
+first_place (class ∷ classes) place = or_both (λ s. s.device ≡ place) (first_of_queue class place (queue_of class.priced.way place)) (first_of classes place) (queue_place class place (queue_of class.priced.way place)) (first_place classes place)
+  where
+    queue_place : (class : PlannedClass) (place : ℕ) (queue : List ℕ) → IfSome (first_of_queue class place queue) (λ s. s.device ≡ place)
+    queue_place class place [] = tt
+    queue_place class place (job ∷ jobs) = refl
+
+all_option : (P : Started → Type 0) (o : Option Started) → IfSome o P → All P (option_to_list o)
+all_option P None h = All-nil P
+all_option P (Some s) h = All-cons P s [] h (All-nil P)
+
+chosen : (P : Started → Type 0) (b : Bool) (o : Option Started) → IfSome o P → IfSome (if b then o else None) P
+chosen P true o h = h
+chosen P false o h = tt
+
+pub starts_inside : (classes : List PlannedClass) (place : ℕ) (devices : List Device) → All (λ start. start.device < place + length devices) (starts_from classes place devices)
+starts_inside classes place [] = All-nil (λ start. start.device < place + 0)
+starts_inside classes place (device ∷ devices) =
+    let P : Started → Type 0 = λ start. start.device < place + suc (length devices) in
+    All-append P (option_to_list (if is_free device.activity then first_of classes place else None)) (starts_from classes (suc place) devices)
+    (All-weaker (λ s. s.device ≡ place) P (λ s is. omega (arith, is)) (option_to_list (if is_free device.activity then first_of classes place else None)) (all_option (λ s. s.device ≡ place) (if is_free device.activity then first_of classes place else None) (chosen (λ s. s.device ≡ place) (is_free device.activity) (first_of classes place) (first_place classes place))))
+    (All-weaker (λ s. s.device < suc place + length devices) P (λ s below. omega (arith, below)) (starts_from classes (suc place) devices) (starts_inside classes (suc place) devices))

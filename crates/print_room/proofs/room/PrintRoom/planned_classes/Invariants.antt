@@ -1,0 +1,9 @@
+use Rattle.std.proofs.Common.{unwrap_or}
+use Rattle.print_room.specs.Planned.{PlannedAbove}
+use Rattle.print_room.proofs.room.PrintRoom.planned_classes.Given as goal
+
+abbrev pub invariant-loop-next : goal.invariant-loop-next
+invariant-loop-next g l = PlannedAbove l.self l.now (unwrap_or l.next 0) l.planned.classes.items l.planned.waits.items
+
+abbrev pub decreases-loop-next : goal.decreases-loop-next
+decreases-loop-next g l = unwrap_or l.next 0

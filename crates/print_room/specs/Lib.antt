@@ -1,0 +1,9 @@
+pub mod Activity
+pub mod State
+pub mod Opening
+pub mod Report
+pub mod Jobs
+pub mod Ready
+pub mod GoodPlan
+pub mod Planned
+pub mod Dispatch

@@ -1,0 +1,104 @@
+-- What a device's report does: to the device, to the job that it has, and to that job's documents.
+use Rattle.std.specs.Prelude.{ℕ, ◌≡◌, ◌-◌, ◌*◌, ◌==◌, Bool, false, if◌then◌else◌, List, [], Option, Some, None, option_map, slice_get, MatchOption}
+use Rattle.std.specs.Option.{option_map_or}
+use Rattle.base_types.specs.Needs.{JobNeeds}
+use Rattle.base_types.specs.Device.{Device}
+use Rattle.base_types.specs.declared.device.Activity.{Activity}
+use Rattle.base_types.specs.declared.device.Activity.TheVariants.{Running, Stopped}
+use Rattle.base_types.specs.declared.report.Report.{Report}
+use Rattle.base_types.specs.declared.report.Report.TheVariants as Says
+use Rattle.cost_table.specs.Time.{rate_of}
+use Rattle.job_objects.specs.declared.job_change.JobChange.TheVariants as Change
+use Rattle.spool.specs.Document.{DocumentRecord}
+use Rattle.spool.specs.Spooled.{SpooledRecord, changed, relieved}
+use Rattle.spool.specs.Kept.{retained}
+use Rattle.spool.specs.Jobs.{job_at, with_job, handed_out_at}
+use Rattle.print_room.specs.declared.report.JobReport.{JobReport}
+use Rattle.print_room.specs.declared.report.JobReport.TheVariants.{Stops, Proceeds, IsDone, Fails}
+use Rattle.print_room.specs.Activity.{job_on, running_from, stopped_at, taking, idle}
+use Rattle.print_room.specs.State.{State, with_device, doing, holding}
+
+-- whether the device has the job of this number
+abbrev pub has_job : ℕ → Activity → Bool
+has_job number activity = option_map_or (λ id. id == number) (job_on activity) false
+
+-- what the report says of the job that the device has
+abbrev pub said_of_job : Report → Activity → Option JobReport
+said_of_job Says.Ready (Stopped interrupted) = Some Proceeds
+said_of_job Says.Stop (Running printing) = Some Stops
+said_of_job (Says.Done number) activity = if has_job number activity then Some IsDone else None
+said_of_job (Says.Fail number) activity = if has_job number activity then Some Fails else None
+said_of_job Says.Gone activity = Some Fails
+said_of_job _ _ = None
+
+-- the time left of a job of which so many impressions are printed, all copies together
+abbrev pub time_left : JobNeeds → Device → ℕ → ℕ
+time_left needs device printed = (needs.impressions * needs.copies - printed) * rate_of needs device
+
+-- the time left of the device's job, if it has the job of this number
+abbrev pub left_of : ℕ → ℕ → List SpooledRecord → Device → Option ℕ
+left_of number printed jobs device =
+    if has_job number device.activity then option_map (λ job. time_left job.needs device printed) (job_at number jobs) else None
+
+-- what a device does of whose job so many impressions are printed
+abbrev pub paged : ℕ → ℕ → ℕ → List SpooledRecord → Device → Activity
+paged now number printed jobs device = option_map_or (λ left. taking left now device.activity) (left_of number printed jobs device) device.activity
+
+-- without the job of this number, if it has that
+abbrev pub without_job : ℕ → Activity → Activity
+without_job number activity = if has_job number activity then idle activity else activity
+
+-- what the device does after a report
+abbrev pub activity_after : ℕ → Report → List SpooledRecord → Device → Activity
+activity_after now (Says.Hello name) jobs device = device.activity
+activity_after now (Says.Media names) jobs device = device.activity
+activity_after now Says.Ready jobs device = running_from now device.activity
+activity_after now Says.Stop jobs device = stopped_at now device.activity
+activity_after now (Says.Pages number printed) jobs device = paged now number printed jobs device
+activity_after now (Says.Done number) jobs device = without_job number device.activity
+activity_after now (Says.Fail number) jobs device = without_job number device.activity
+activity_after now Says.Gone jobs device = stopped_at now (idle device.activity)
+
+-- the device after a report: it holds other media, or does something else
+abbrev pub refitted : Report → Activity → Device → Device
+refitted (Says.Media names) activity device = holding names.items device
+refitted report activity device = doing activity device
+
+-- the jobs, once the device that has the job of this id said this of it; a finished job may be forgotten
+abbrev pub jobs_told : ℕ → JobReport → ℕ → List SpooledRecord → List SpooledRecord
+jobs_told id Stops now jobs = with_job id (changed Change.Stop now) jobs
+jobs_told id Proceeds now jobs = with_job id (changed Change.Continue now) jobs
+jobs_told id IsDone now jobs = retained (with_job id (relieved Change.Done now) jobs)
+jobs_told id Fails now jobs = retained (with_job id (relieved Change.Fail now) jobs)
+
+abbrev pub jobs_after : ℕ → Option ℕ → Option JobReport → List SpooledRecord → List SpooledRecord
+jobs_after now (Some id) (Some said) jobs = jobs_told id said now jobs
+jobs_after now _ _ jobs = jobs
+
+-- a job that is printed, or can't be, hands its documents out
+abbrev pub documents_told : ℕ → JobReport → List SpooledRecord → List DocumentRecord
+documents_told id Stops jobs = []
+documents_told id Proceeds jobs = []
+documents_told id IsDone jobs = handed_out_at id jobs
+documents_told id Fails jobs = handed_out_at id jobs
+
+abbrev pub documents_out : Option ℕ → Option JobReport → List SpooledRecord → List DocumentRecord
+documents_out (Some id) (Some said) jobs = documents_told id said jobs
+documents_out _ _ jobs = []
+
+-- the state after a report of this device, which stands at the place
+abbrev pub state_after : ℕ → ℕ → Report → Device → State → State
+state_after now place report device old = record old {
+  last = now;
+  devices = with_device place (refitted report (activity_after now report old.spool.jobs device)) old.devices;
+  spool = record old.spool { jobs = jobs_after now (job_on device.activity) (said_of_job report device.activity) old.spool.jobs };
+}
+
+-- A device reports: the state after it, and the documents that it hands out. A place that no device
+-- has changes only the last moment.
+abbrev pub Reports : ℕ → ℕ → Report → State → List DocumentRecord → State → Type 0
+Reports now place report old documents new =
+    MatchOption (slice_get old.devices place)
+    ((new ≡ record old { last = now }) × (documents ≡ []))
+    (λ device. (new ≡ state_after now place report device old)
+    × (documents ≡ documents_out (job_on device.activity) (said_of_job report device.activity) old.spool.jobs))

@@ -1,0 +1,52 @@
+-- The state of the core, and how a part of it changes.
+use Rattle.std.specs.Prelude.{ℕ, zero, suc, Bool, List, [], ◌∷◌, All, map, Option}
+use Rattle.std.specs.List.{list_any}
+use Rattle.std.specs.Str.{bytes_eq}
+use Rattle.base_types.specs.Device.{Device}
+use Rattle.base_types.specs.declared.device.Medium.{Medium}
+use Rattle.base_types.specs.declared.device.Activity.{Activity}
+use Rattle.settings_file.specs.Settings.{ServerSettings}
+use Rattle.spool.specs.Jobs.{SpoolRecord}
+use Rattle.prices.specs.Plan.{PlanRecord}
+use Rattle.print_room.specs.declared.started.Started.{Started}
+use Rattle.print_room.specs.Activity.{KeepsTime}
+
+pub record State : Type 0 where
+  -- the settings, which never change
+  pub settings : ServerSettings
+  -- whether each printer of the settings is paused, in their order
+  pub paused : List Bool
+  -- one for each device of the settings, in their order
+  pub devices : List Device
+  pub spool : SpoolRecord
+  -- the last moment
+  pub last : ℕ
+  -- the last plan, once one was made, and what began with it
+  pub plan : Option PlanRecord
+  pub begun : List Started
+
+-- the devices of each printer, by their places
+abbrev pub sets_of : ServerSettings → List (List ℕ)
+sets_of settings = map (λ p. p.devices) settings.printers
+
+-- each device's job takes no longer than any job may
+abbrev pub AllKeepTime : ℕ → List Device → Type 0
+AllKeepTime last devices = All (λ d. KeepsTime last d.activity) devices
+
+-- the device at a place is changed
+abbrev pub with_device : ℕ → (Device → Device) → List Device → List Device
+with_device place change [] = []
+with_device zero change (device ∷ devices) = change device ∷ devices
+with_device (suc place) change (device ∷ devices) = device ∷ with_device place change devices
+
+-- it does this from now on
+abbrev pub doing : Activity → Device → Device
+doing activity device = record device { activity = activity }
+
+-- a medium is loaded where it is one of these
+abbrev pub loaded_if : List (List ℕ) → Medium → Medium
+loaded_if names medium = record medium { loaded = list_any (bytes_eq medium.name) names }
+
+-- it holds these media, as far as its settings have them, and no others
+abbrev pub holding : List (List ℕ) → Device → Device
+holding names device = record device { media = map (loaded_if names) device.media }

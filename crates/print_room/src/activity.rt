@@ -1,0 +1,88 @@
+ghost use Rattle.std.specs.Prelude.{◌≡◌, ◌≤◌, ℕ};
+ghost use Rattle.print_room.specs.Activity.{idle, job_on, KeepsTime, running_from, stopped_at, taking, wait_of};
+
+use base_types::{Activity, Interrupted, JobId, Limits, Moment, Printing};
+
+/// The job that a device has.
+pub fn job_on(activity: Activity) -> Option<JobId>
+    ensures { result ≡ job_on activity }
+{
+    match activity {
+        Activity::Running(printing) => printing.map(|printing| printing.job),
+        Activity::Stopped(interrupted) => interrupted.map(|interrupted| interrupted.job),
+    }
+}
+
+/// The device runs from a moment on.
+pub fn running_from(activity: Activity, now: Moment) -> Activity
+    requires { KeepsTime now activity }
+    ensures activity { result ≡ running_from now activity }
+    ensures in_time { KeepsTime now result }
+{
+    match activity {
+        Activity::Stopped(Some(interrupted)) => Activity::Running(Some(Printing {
+            job: interrupted.job,
+            end: now.millis() + interrupted.left,
+        })),
+        Activity::Stopped(None) => Activity::Running(None),
+        Activity::Running(printing) => Activity::Running(printing),
+    }
+}
+
+/// The device stops at a moment.
+pub fn stopped_at(activity: Activity, now: Moment) -> Activity
+    requires { KeepsTime now activity }
+    ensures activity { result ≡ stopped_at now activity }
+    ensures in_time { KeepsTime now result }
+{
+    match activity {
+        Activity::Running(Some(printing)) => Activity::Stopped(Some(Interrupted {
+            job: printing.job,
+            left: printing.end.saturating_sub(now.millis()),
+        })),
+        Activity::Running(None) => Activity::Stopped(None),
+        Activity::Stopped(interrupted) => Activity::Stopped(interrupted),
+    }
+}
+
+/// The device's job will take this much longer.
+pub fn taking(activity: Activity, left: u64, now: Moment) -> Activity
+    requires { left ≤ Limits.JOB_TIME }
+    ensures activity { result ≡ taking left now activity }
+    ensures in_time { KeepsTime now result }
+{
+    match activity {
+        Activity::Running(Some(printing)) => Activity::Running(Some(Printing {
+            job: printing.job,
+            end: now.millis() + left,
+        })),
+        Activity::Running(None) => Activity::Running(None),
+        Activity::Stopped(Some(interrupted)) => Activity::Stopped(Some(Interrupted {
+            job: interrupted.job,
+            left,
+        })),
+        Activity::Stopped(None) => Activity::Stopped(None),
+    }
+}
+
+/// The device has no job any more.
+pub fn idle(activity: Activity) -> Activity
+    ensures { result ≡ idle activity }
+{
+    match activity {
+        Activity::Running(_) => Activity::Running(None),
+        Activity::Stopped(_) => Activity::Stopped(None),
+    }
+}
+
+/// How long the device is taken from a moment on, in ms.
+pub fn wait_of(activity: Activity, now: Moment) -> u64
+    ensures value { result ≡ wait_of now activity }
+    ensures short { (last : ℕ) → last ≤ now → KeepsTime last activity → result ≤ Limits.JOB_TIME }
+{
+    match activity {
+        Activity::Running(Some(printing)) => printing.end.saturating_sub(now.millis()),
+        Activity::Stopped(Some(interrupted)) => interrupted.left,
+        Activity::Running(None) | Activity::Stopped(None) => 0,
+    }
+}

@@ -1,0 +1,65 @@
+ghost use Rattle.std.specs.Prelude.{◌≡◌};
+ghost use Rattle.std.specs.Option.{option_copied};
+ghost use Rattle.spool.specs.Calls.{paused_at};
+
+use crate::room::PrintRoom;
+use crate::started::Started;
+use base_types::{DeviceNow, Moment, PrinterId};
+use prices::Plan;
+use settings_file::Settings;
+use spool::Spool;
+
+/// What is in a print room. None of it takes memory.
+impl PrintRoom {
+    /// The settings that it was made with.
+    pub fn settings(&self) -> &Settings
+        ensures { result.now ≡ self.now.settings }
+    {
+        &self.settings
+    }
+
+    /// The devices as they are now, in the settings' order.
+    pub fn devices(&self) -> &[DeviceNow]
+        ensures { result.now ≡ self.now.devices }
+    {
+        &self.devices
+    }
+
+    /// The jobs.
+    pub fn spool(&self) -> &Spool
+        ensures { result.now ≡ self.now.spool }
+    {
+        &self.spool
+    }
+
+    /// The last moment.
+    pub fn last(&self) -> Moment
+        ensures { result ≡ self.now.last }
+    {
+        self.last
+    }
+
+    /// The last plan, once one was made.
+    pub fn plan(&self) -> Option<&Plan>
+        ensures { option_copied result ≡ self.now.plan }
+    {
+        self.plan.as_ref()
+    }
+
+    /// The jobs that began with the last plan, by device.
+    pub fn begun(&self) -> &[Started]
+        ensures { result.now ≡ self.now.begun }
+    {
+        &self.begun
+    }
+
+    /// Whether a printer is paused.
+    pub fn is_paused(&self, printer: PrinterId) -> bool
+        ensures { result ≡ paused_at self.now.paused printer }
+    {
+        match self.paused.get(printer.place()) {
+            Some(paused) => *paused,
+            None => false,
+        }
+    }
+}

@@ -1,0 +1,112 @@
+ghost use Rattle.std.specs.Prelude.{◌≡◌, ◌≤◌, IfOk, length, map, option_map, replicate, false, slice_get};
+ghost use Rattle.std.specs.Option.{option_copied};
+ghost use Rattle.settings_file.specs.Settings.{MeetsLimits};
+ghost use Rattle.spool.specs.Jobs.{job_at, spooled_at};
+ghost use Rattle.print_room.specs.State.{sets_of};
+ghost use Rattle.print_room.specs.Opening.{opening, opening_device, loaded_medium};
+
+use crate::room::PrintRoom;
+use base_types::{Activity, DeviceId, DeviceNow, JobId, Medium, Moment, PrinterSet, Text};
+use settings_file::{DeviceSettings, PrinterSettings, Settings};
+use spool::Spool;
+use std::alloc::{AllocError, Global};
+
+impl PrintRoom {
+    /// The print room of a server that starts, with settings within the limits: no jobs, no plan, no
+    /// printer paused, and each device stopped, idle and with all media of its settings loaded. The
+    /// first job gets this id.
+    ///
+    /// The only error is want of memory.
+    pub fn new(alloc: Global, settings: Settings, first: JobId) -> Result<PrintRoom, AllocError>
+        requires { MeetsLimits settings }
+        ensures { IfOk result (λ room. room ≡ opening settings first) }
+    {
+        let devices = opening_devices(alloc, &settings.devices)?;
+        let printers = printer_sets(alloc, &settings.printers)?;
+        let paused = none_paused(alloc, settings.printers.len())?;
+        Ok(PrintRoom {
+            settings,
+            printers,
+            paused,
+            devices,
+            spool: Spool::new(alloc, first),
+            last: Moment::start(),
+            plan: None,
+            begun: Vec::new(alloc),
+            alloc,
+        })
+    }
+}
+
+/// No printer of so many is paused.
+fn none_paused(alloc: Global, printers: usize) -> Result<Vec<bool>, AllocError>
+    ensures { IfOk result (λ paused. paused.items ≡ replicate printers false) }
+{
+    let mut paused = Vec::new(alloc);
+    paused.resize(printers, false)?;
+    Ok(paused)
+}
+
+/// The devices of each of these printers.
+fn printer_sets(alloc: Global, settings: &[PrinterSettings]) -> Result<Vec<PrinterSet>, AllocError>
+    ensures { IfOk result (λ sets. sets.items ≡ map (λ p. p.devices) settings.now) }
+{
+    let mut sets = Vec::with_capacity(alloc, settings.len())?;
+    for printer in settings {
+        let devices = Vec::from_slice(alloc, printer.devices.devices())?;
+        sets.push(PrinterSet::new(devices))?;
+    }
+    Ok(sets)
+}
+
+/// The devices of these settings, as they start.
+fn opening_devices(alloc: Global, settings: &[DeviceSettings]) -> Result<Vec<DeviceNow>, AllocError>
+    ensures { IfOk result (λ devices. devices.items ≡ map opening_device settings.now) }
+{
+    let mut devices = Vec::with_capacity(alloc, settings.len())?;
+    for device in settings {
+        devices.push(opening_device(alloc, device)?)?;
+    }
+    Ok(devices)
+}
+
+/// A device as it starts.
+fn opening_device(alloc: Global, settings: &DeviceSettings) -> Result<DeviceNow, AllocError>
+    ensures { IfOk result (λ device. device ≡ opening_device settings.now) }
+{
+    let formats = copies_of(alloc, &settings.formats)?;
+    let media = loaded_media(alloc, &settings.media)?;
+    Ok(DeviceNow {
+        rate_one: settings.rate_one,
+        rate_two: settings.rate_two,
+        setup: settings.setup,
+        formats,
+        media,
+        activity: Activity::Stopped(None),
+    })
+}
+
+/// A copy of each text.
+fn copies_of(alloc: Global, texts: &[Text]) -> Result<Vec<Text>, AllocError>
+    ensures { IfOk result (λ copies. copies.items ≡ texts.now) }
+{
+    let mut copies = Vec::with_capacity(alloc, texts.len())?;
+    for text in texts {
+        copies.push(text.copied(alloc)?)?;
+    }
+    Ok(copies)
+}
+
+/// Each medium, loaded.
+fn loaded_media(alloc: Global, names: &[Text]) -> Result<Vec<Medium>, AllocError>
+    ensures { IfOk result (λ media. media.items ≡ map loaded_medium names.now) }
+{
+    let mut media = Vec::with_capacity(alloc, names.len())?;
+    for name in names {
+        media.push(Medium {
+            name: name.copied(alloc)?,
+            loaded: true,
+        })?;
+    }
+    Ok(media)
+}

@@ -1,0 +1,183 @@
+ghost use Rattle.std.specs.Prelude.{◌≡◌, ◌≤◌, ◌<◌, length, IfSome};
+ghost use Rattle.print_room.specs.Activity.{KeepsTime};
+ghost use Rattle.print_room.specs.Report.{has_job, said_of_job, time_left, without_job, left_of, paged, activity_after, jobs_after, jobs_told, documents_out, documents_told, refitted, Reports};
+ghost use Rattle.print_room.specs.State.{with_device};
+ghost use Rattle.cost_table.specs.Time.{rate_of};
+
+use crate::activity::{idle, job_on, running_from, stopped_at, taking};
+use crate::room::PrintRoom;
+use base_types::{Activity, DeviceNow, JobId, Limits, Moment, Needs, Report, Sides};
+use spool::Document;
+
+/// What a device says of the job that it has.
+#[derive(Clone, Copy, Debug, PartialEq, Eq)]
+enum JobReport {
+    Stops,
+    Proceeds,
+    IsDone,
+    Fails,
+}
+
+/// Whether the device has the job of this number.
+fn has_job(activity: Activity, number: u32) -> bool
+    ensures { result ≡ has_job number activity }
+{
+    match job_on(activity) {
+        Some(id) => id.number() == number,
+        None => false,
+    }
+}
+
+/// What a report says of the job that the device has.
+fn said_of_job(report: &Report, activity: Activity) -> Option<JobReport>
+    ensures { result ≡ said_of_job report.now activity }
+{
+    match (report, activity) {
+        (Report::Ready, Activity::Stopped(_)) => Some(JobReport::Proceeds),
+        (Report::Stop, Activity::Running(_)) => Some(JobReport::Stops),
+        (Report::Done { job }, _) if has_job(activity, *job) => Some(JobReport::IsDone),
+        (Report::Fail { job }, _) if has_job(activity, *job) => Some(JobReport::Fails),
+        (Report::Gone, _) => Some(JobReport::Fails),
+        _ => None,
+    }
+}
+
+/// The time of an impression on the sides of the job, in ms: none where the device doesn't print
+/// them.
+fn rate_of(needs: &Needs, device: &DeviceNow) -> u32
+    ensures value { result ≡ rate_of needs.now device.now }
+    ensures bound { result ≤ Limits.RATE }
+{
+    match (needs.sides, device.rate_two) {
+        (Sides::One, _) => device.rate_one,
+        (Sides::LongEdge | Sides::ShortEdge, Some(rate)) => rate,
+        (Sides::LongEdge | Sides::ShortEdge, None) => 0,
+    }
+}
+
+/// The time left of a job of which so many impressions are printed, in ms.
+fn time_left(needs: &Needs, device: &DeviceNow, printed: u32) -> u64
+    ensures value { result ≡ time_left needs.now device.now printed }
+    ensures bound { result ≤ Limits.JOB_TIME }
+{
+    let impressions = u64::from(needs.impressions) * u64::from(needs.copies);
+    impressions.saturating_sub(u64::from(printed)) * u64::from(rate_of(needs, device))
+}
+
+/// What a device does without the job of this number, if it has that.
+fn without_job(activity: Activity, number: u32) -> Activity
+    ensures { result ≡ without_job number activity }
+{
+    match activity {
+        Activity::Running(printing) => {
+            Activity::Running(printing.filter(|printing| printing.job.number() != number))
+        }
+        Activity::Stopped(interrupted) => {
+            Activity::Stopped(interrupted.filter(|interrupted| interrupted.job.number() != number))
+        }
+    }
+}
+
+impl PrintRoom {
+    /// What a device does after a report.
+    fn activity_after(&self, report: &Report, device: &DeviceNow, now: Moment) -> Activity
+        requires { KeepsTime now device.now.activity }
+        ensures activity { result ≡ activity_after now report.now self.now.spool.jobs device.now }
+        ensures in_time { KeepsTime now result }
+    {
+        let activity = device.activity;
+        match report {
+            Report::Hello(_) | Report::Media(_) => activity,
+            Report::Ready => running_from(activity, now),
+            Report::Stop => stopped_at(activity, now),
+            Report::Pages { job, printed } => self.paged(*job, *printed, device, now),
+            Report::Done { job } | Report::Fail { job } => without_job(activity, *job),
+            Report::Gone => stopped_at(idle(activity), now),
+        }
+    }
+
+    /// What a device does of whose job so many impressions are printed.
+    fn paged(&self, number: u32, printed: u32, device: &DeviceNow, now: Moment) -> Activity
+        requires { KeepsTime now device.now.activity }
+        ensures activity { result ≡ paged now number printed self.now.spool.jobs device.now }
+        ensures in_time { KeepsTime now result }
+    {
+        let activity = device.activity;
+        let left = self.left_of(number, printed, device);
+        match left {
+            Some(left) => taking(activity, left, now),
+            None => activity,
+        }
+    }
+
+    /// The time left of the device's job, if it has the job of this number.
+    fn left_of(&self, number: u32, printed: u32, device: &DeviceNow) -> Option<u64>
+        ensures value { result ≡ left_of number printed self.now.spool.jobs device.now }
+        ensures bound { IfSome result (λ left. left ≤ Limits.JOB_TIME) }
+    {
+        let id = job_on(device.activity)?;
+        if id.number() != number {
+            return None;
+        }
+        let job = self.spool.get(id)?;
+        let needs = &job.needs;
+        Some(time_left(needs, device, printed))
+    }
+
+    /// Acts on a report of the device at a place, at a moment that is not before the last one, and gives
+    /// the documents that its job hands out. A place that no device has changes only the last moment. It
+    /// takes no memory.
+    pub fn report(&mut self, place: usize, report: &Report, now: Moment) -> Vec<Document>
+        requires { self.old.last ≤ now }
+        ensures { Reports now place report.now self.old result.items self.new }
+    {
+        self.advance(now);
+        let core = &*self;
+        let Some(device) = core.devices.get(place) else {
+            return Vec::new(self.alloc);
+        };
+        let job = job_on(device.activity);
+        let said = said_of_job(report, device.activity);
+        let next = core.activity_after(report, device, now);
+        self.refit(place, report, next);
+        self.settle(job, said, now)
+    }
+
+    /// The device at a place holds the media that the report names, or does this from now on.
+    fn refit(&mut self, place: usize, report: &Report, activity: Activity)
+        requires inside { place < length self.old.devices }
+        requires in_time { KeepsTime self.old.last activity }
+        ensures { self.new ≡ record self.old { devices = with_device place (refitted report.now activity) self.old.devices } }
+    {
+        if let Report::Media(names) = report {
+            self.load(place, names);
+        } else {
+            self.set_activity(place, activity);
+        }
+    }
+
+    /// Changes the job that a report is about, if any, and gives the documents that it hands out.
+    fn settle(&mut self, job: Option<JobId>, said: Option<JobReport>, now: Moment) -> Vec<Document>
+        ensures jobs { self.new ≡ record self.old { spool = record self.old.spool { jobs = jobs_after now job said self.old.spool.jobs } } }
+        ensures documents { result.items ≡ documents_out job said self.old.spool.jobs }
+    {
+        match (job, said) {
+            (Some(id), Some(said)) => self.tell(id, said, now),
+            _ => Vec::new(self.alloc),
+        }
+    }
+
+    /// The device that has a job said this of it: the documents that the job hands out.
+    fn tell(&mut self, id: JobId, said: JobReport, now: Moment) -> Vec<Document>
+        ensures jobs { self.new ≡ record self.old { spool = record self.old.spool { jobs = jobs_told id said now self.old.spool.jobs } } }
+        ensures documents { result.items ≡ documents_told id said self.old.spool.jobs }
+    {
+        match said {
+            JobReport::Stops => self.spool.stop(id, now),
+            JobReport::Proceeds => self.spool.proceed(id, now),
+            JobReport::IsDone => return self.spool.done(id, now),
+            JobReport::Fails => return self.spool.fail(id, now),
+        }
+        Vec::new(self.alloc)
+    }
+}

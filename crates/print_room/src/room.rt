@@ -1,0 +1,95 @@
+ghost use Rattle.std.specs.Prelude.{◌≡◌, ◌≤◌, ◌<◌, IfOk, length, None, Some, [], map};
+ghost use Rattle.std.specs.List.{list_any};
+ghost use Rattle.std.specs.Str.{bytes_eq};
+ghost use Rattle.print_room.specs.Activity.{KeepsTime};
+ghost use Rattle.print_room.specs.State.{with_device, doing, holding, loaded_if};
+
+use crate::started::Started;
+use base_types::{Activity, DeviceNow, Medium, Moment, PrinterSet, Text};
+use prices::Plan;
+use settings_file::Settings;
+use spool::Spool;
+use std::alloc::Global;
+use std::marker::Model;
+
+/// A print room: settings, printers, devices, jobs, the last moment and the last plan. In clauses it is
+/// a record of these.
+#[derive(Debug, Drop)]
+pub struct PrintRoom {
+    pub(crate) settings: Settings,
+    /// The devices of each printer.
+    pub(crate) printers: Vec<PrinterSet>,
+    pub(crate) paused: Vec<bool>,
+    pub(crate) devices: Vec<DeviceNow>,
+    pub(crate) spool: Spool,
+    pub(crate) last: Moment,
+    pub(crate) plan: Option<Plan>,
+    /// What began with the last plan.
+    pub(crate) begun: Vec<Started>,
+    pub(crate) alloc: Global,
+}
+
+impl Model for PrintRoom {
+    ghost use Rattle.std.specs.Prelude.{◌≡◌, ◌≤◌, length};
+    ghost use Rattle.base_types.specs.declared.limits.TheConstants.Limits.{DEVICES};
+    ghost use Rattle.print_room.specs.State.{State, AllKeepTime, sets_of};
+
+    ghost Value = { State };
+
+    ghost view = { λ c. record {
+      settings = c.settings;
+      paused = c.paused.items;
+      devices = c.devices.items;
+      spool = c.spool;
+      last = c.last;
+      plan = c.plan;
+      begun = c.begun.items;
+    } };
+
+    ghost invariant = { λ c. AllKeepTime c.last c.devices.items × (length c.devices.items ≤ DEVICES) × (c.printers.items ≡ sets_of c.settings) };
+}
+
+impl PrintRoom {
+    /// The time goes on, up to a moment that is not before the last one.
+    pub fn advance(&mut self, now: Moment)
+        requires { self.old.last ≤ now }
+        ensures { self.new ≡ record self.old { last = now } }
+    {
+        self.last = now;
+    }
+
+    /// What the device at a place does from now on.
+    pub(crate) fn set_activity(&mut self, place: usize, activity: Activity)
+        requires inside { place < length self.old.devices }
+        requires in_time { KeepsTime self.old.last activity }
+        ensures { self.new ≡ record self.old { devices = with_device place (doing activity) self.old.devices } }
+    {
+        let device = &mut self.devices[place];
+        device.activity = activity;
+    }
+
+    /// These media are loaded in the device at a place, and no others.
+    pub(crate) fn load(&mut self, place: usize, names: &[Text])
+        requires { place < length self.old.devices }
+        ensures { self.new ≡ record self.old { devices = with_device place (holding names.now) self.old.devices } }
+    {
+        let device = &mut self.devices[place];
+        load(&mut device.media, names);
+    }
+}
+
+/// These media are loaded, as far as they are there, and no others.
+fn load(media: &mut [Medium], names: &[Text])
+    ensures { media.new ≡ map (loaded_if names.now) media.old }
+{
+    for medium in media.iter_mut() {
+        medium.loaded = is_named(names, medium.name.as_bytes());
+    }
+}
+
+/// Whether a text is one of these.
+fn is_named(names: &[Text], wanted: &[u8]) -> bool
+    ensures { result ≡ list_any (bytes_eq wanted.now) names.now }
+{
+    names.iter().any(|name| wanted == name.as_bytes())
+}

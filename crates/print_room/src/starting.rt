@@ -1,0 +1,124 @@
+ghost use Rattle.std.specs.Prelude.{◌≡◌, ◌<◌, ◌≤◌, IfOk, IfSome, None, length, All, if◌then◌else◌};
+ghost use Rattle.prices.specs.Way.{queue_of};
+ghost use Rattle.print_room.specs.Dispatch.{is_free, beginning, beginning_all, first_of, first_of_queue, starts_from};
+
+use crate::room::PrintRoom;
+use crate::started::Started;
+use base_types::{Activity, DeviceId, DeviceNow, JobId, Limits, Printing};
+use prices::{PlannedClass, Way};
+use std::alloc::{AllocError, Global};
+
+/// Whether a device runs and has no job.
+fn is_free(activity: Activity) -> bool
+    ensures { result ≡ is_free activity }
+{
+    match activity {
+        Activity::Running(None) => true,
+        Activity::Running(Some(_)) | Activity::Stopped(_) => false,
+    }
+}
+
+/// The jobs that a way has for the device at a place, front first.
+fn queue_at(way: &Way, place: usize) -> &[JobId]
+    ensures { result.now ≡ queue_of way.now place }
+{
+    let queues = way.queues();
+    if place < queues.len() {
+        queues[place].jobs()
+    } else {
+        &[]
+    }
+}
+
+/// The first of the jobs that a class has for a device, and its time there.
+fn first_of_class(class: &PlannedClass, device: DeviceId) -> Option<Started>
+    ensures first { result ≡ first_of_queue class.now device (queue_of class.now.priced.way device) }
+    ensures short { IfSome result (λ start. start.time ≤ Limits.JOB_TIME) }
+{
+    // Reading the problem makes its invariant known.
+    let _class = class.problem.ids();
+    let jobs = queue_at(&class.priced.way, device.place());
+    match jobs.first() {
+        Some(job) => {
+            let job = *job;
+            let time = class.problem.time(job, device).unwrap_or(0);
+            Some(Started { job, device, time })
+        }
+        None => None,
+    }
+}
+
+/// The first job of a device's list, the lists of the classes being joined, the highest first.
+fn first_of(classes: &[PlannedClass], device: DeviceId) -> Option<Started>
+    ensures first { result ≡ first_of classes.now device }
+    ensures short { IfSome result (λ start. start.time ≤ Limits.JOB_TIME) }
+{
+    for class in classes {
+        let first = first_of_class(class, device);
+        if first.is_some() {
+            return first;
+        }
+    }
+    None
+}
+
+/// What the device at a place begins under these classes: where it is free, the first job of its list.
+fn start_on(classes: &[PlannedClass], place: usize, device: &DeviceNow) -> Option<Started>
+    ensures start { result ≡ (if is_free device.now.activity then first_of classes.now place else None) }
+    ensures short { IfSome result (λ start. start.time ≤ Limits.JOB_TIME) }
+{
+    if is_free(device.activity) {
+        first_of(classes, DeviceId::new(place))
+    } else {
+        None
+    }
+}
+
+/// What begins on these devices under these classes, by device.
+pub(crate) fn starts_of(
+    alloc: Global,
+    classes: &[PlannedClass],
+    devices: &[DeviceNow],
+) -> Result<Vec<Started>, AllocError>
+    ensures starts { IfOk result (λ starts. starts.items ≡ starts_from classes.now 0 devices.now) }
+    ensures short { IfOk result (λ starts. All (λ start. start.time ≤ Limits.JOB_TIME) starts.items) }
+{
+    let mut starts = Vec::with_capacity(alloc, devices.len())?;
+    for (place, device) in devices.iter().enumerate() {
+        if let Some(start) = start_on(classes, place, device) {
+            starts.push(start)?;
+        }
+    }
+    Ok(starts)
+}
+
+impl PrintRoom {
+    /// Devices begin these jobs, one after the other.
+    pub(crate) fn begin_all(&mut self, starts: &[Started])
+        requires inside { All (λ start. start.device < length self.old.devices) starts.now }
+        requires short { All (λ start. start.time ≤ Limits.JOB_TIME) starts.now }
+        ensures { self.new ≡ beginning_all self.old.last starts.now self.old }
+    {
+        for start in starts {
+            self.begin(*start);
+        }
+    }
+
+    /// A device begins a job.
+    fn begin(&mut self, start: Started)
+        requires inside { start.device < length self.old.devices }
+        requires short { start.time ≤ Limits.JOB_TIME }
+        ensures { self.new ≡ beginning self.old.last start self.old }
+    {
+        let now = self.last;
+        let end = now.millis() + start.time;
+        self.set_activity(
+            start.device.place(),
+            Activity::Running(Some(Printing {
+                job: start.job,
+                end,
+            })),
+        );
+        self.spool.start(start.job, now);
+    }
+}
