@@ -1,12 +1,11 @@
 -- The text before the first byte that passes, and what the rest is cut into.
-use Rattle.std.specs.Prelude.{ℕ, ◌≡◌, ◌++◌, ◌⊎◌, ◌+◌, ◌<◌, ◌≤◌, Bool, true, false, List, [], ◌∷◌, length, take, drop, All, Option, Some, None, position, slice_index_or, nat_lt}
-use Rattle.std.specs.List.{slice_split, position_or_len}
-use Rattle.std.proofs.Common.{rules, arith, refl, sym, ◌∙◌, inl, inr}
+use Rattle.std.specs.Prelude.{ℕ, ◌≡◌, ◌++◌, ◌+◌, ◌<◌, ◌≤◌, Bool, false, List, [], ◌∷◌, length, take, drop, Option, Some, None, position, slice_index_or}
+use Rattle.std.specs.List.{slice_split}
+use Rattle.std.proofs.Common.{rules, arith, refl}
 use Rattle.std.proofs.lemmas.List.Splits.{slice_split_none, slice_split_first, length-slice_split}
 use Rattle.std.proofs.lemmas.List.Quantifiers.{position-Some}
 use Rattle.std.proofs.lemmas.List.{take-append-le, drop-append-le, length-take-le}
 use Rattle.base_types.proofs.Positions.{position_before, each_fails, passes_late}
-use Rattle.base_types.specs.Report.{ReportRecord}
 use Rattle.device_link.specs.Line.{said}
 
 pub split_at : (p : ℕ → Bool) (xs : List ℕ) (i : ℕ) → position p xs ≡ Some i → slice_split p xs ≡ take i xs ∷ slice_split p (drop (i + 1) xs)

@@ -1,8 +1,7 @@
 -- Where a reader stands after a piece, a line, or a fault.
-use Rattle.std.specs.Prelude.{ℕ, ◌≡◌, ◌≢◌, ◌==◌, ◌+◌, ◌<◌, ◌≤◌, Bool, true, false, List, [], ◌∷◌, ◌++◌, length, take, drop, Option, Some, None, Result, Ok, Err, position}
-use Rattle.std.specs.List.{slice_split}
-use Rattle.std.proofs.Common.{rules, arith, refl, subst}
-use Rattle.std.proofs.lemmas.List.{append_assoc, append-nil, drop-append-le, get_or_append_left, length-append}
+use Rattle.std.specs.Prelude.{ℕ, ◌≡◌, ◌==◌, ◌+◌, ◌<◌, ◌≤◌, Bool, true, List, [], ◌∷◌, ◌++◌, length, take, drop, Some, None, Ok, Err}
+use Rattle.std.proofs.Common.{rules, refl, subst}
+use Rattle.std.proofs.lemmas.List.{append_assoc, append-nil, drop-append-le}
 use Rattle.base_types.specs.declared.limits.TheConstants.Limits.{DEVICE_LINE_BYTES}
 use Rattle.base_types.specs.declared.report.Report.{Report}
 use Rattle.base_types.specs.Report.{ReportRecord, report_of}
@@ -10,11 +9,11 @@ use Rattle.device_link.specs.declared.fault.LinkFault.{LinkFault}
 use Rattle.device_link.specs.declared.fault.LinkFault.TheVariants.{BadLine, LineTooLong}
 use Rattle.device_link.specs.declared.fault.LinkError.TheVariants.{Fault}
 use Rattle.device_link.specs.Line.{report_in}
-use Rattle.device_link.specs.Stream.{Unfinished, Faulty, Heard, LinkState, Stands, Answers, ahead, silence, with_front, heard_after, heard_in, texts_of, device_reports}
+use Rattle.device_link.specs.Stream.{Unfinished, Faulty, LinkState, Stands, Answers, ahead, silence, with_front, heard_after, heard_in, texts_of}
 use Rattle.base_types.specs.FirstLine.{first_line_of}
 use Rattle.base_types.specs.declared.line.FirstLine.TheVariants as Front
-use Rattle.base_types.proofs.FirstLines.{whole_line, unfinished_line, IsEndless, endless_line, endless_grown}
-use Rattle.device_link.proofs.Splits.{Parts, parts, split_before, split_nowhere, first_is_long}
+use Rattle.base_types.proofs.FirstLines.{whole_line, unfinished_line, endless_line, endless_grown}
+use Rattle.device_link.proofs.Splits.{parts, split_before, split_nowhere, first_is_long}
 
 -- a piece of which nothing is read yet
 pub stands_fed : (stream : List ℕ) (given : List ReportRecord) (piece : List ℕ) (reader : LinkState) → Stands stream given reader → Stands (stream ++ piece) given (record reader { rest = reader.rest ++ piece })

@@ -7,7 +7,7 @@ use Rattle.std.specs.Str.Lines.{strip_carriage_return}
 use Rattle.std.specs.Str.Parse.{digits_value}
 use Rattle.base_types.specs.declared.limits.TheConstants.Limits.{LAST_JOB_ID}
 use Rattle.base_types.specs.Forms.{is_name, is_media}
-use Rattle.base_types.specs.Report.{ReportRecord, SaysHello, SaysMedia, SaysReady, SaysStop, SaysPages, SaysDone, SaysFail, IsGone}
+use Rattle.base_types.specs.Report.{ReportRecord, SaysHello, SaysMedia, SaysReady, SaysStop, SaysPages, SaysDone, SaysFail}
 
 abbrev pub words_of : List ℕ → List (List ℕ)
 words_of line = slice_split (λ byte. byte == 32) (strip_carriage_return line)

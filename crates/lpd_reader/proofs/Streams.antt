@@ -1,5 +1,5 @@
 -- Where a reader stands after a piece, an item, or a fault.
-use Rattle.std.specs.Prelude.{ℕ, ◌==◌, ◌≡◌, ◌≢◌, ◌++◌, ◌+◌, ◌<◌, ◌≤◌, Bool, true, List, [], ◌∷◌, length, take, drop, slice_index_or, Option, Some, None, Result, Ok, Err}
+use Rattle.std.specs.Prelude.{ℕ, ◌==◌, ◌≡◌, ◌≢◌, ◌++◌, ◌+◌, ◌<◌, ◌≤◌, true, List, [], ◌∷◌, length, take, drop, slice_index_or, Some, None, Ok, Err}
 use Rattle.std.proofs.Common.{rules, arith, refl, subst, sym}
 use Rattle.std.proofs.lemmas.List.{append_assoc, append-nil, drop-append-le, take-append-le, length-append, get_or_append_left}
 use Rattle.std.proofs.lemmas.List.Quantifiers.{position-Some}
@@ -15,7 +15,7 @@ use Rattle.lpd_reader.specs.declared.reader.Awaited.{Awaited}
 use Rattle.lpd_reader.specs.declared.reader.Awaited.TheVariants.{Command, Subcommand, File}
 use Rattle.lpd_reader.specs.Session.{ItemRecord, HasFile, item_record, awaited_after}
 use Rattle.lpd_reader.specs.Command.{meaning_of, awaits_line}
-use Rattle.lpd_reader.specs.Stream.{Front, Gives, Fails, Waits, line_says, by_line, front_of, Ending, Open, Faulty, Hears, HearsOn, LpdItems, LpdState, Stands, Answers}
+use Rattle.lpd_reader.specs.Stream.{Gives, Fails, Waits, line_says, by_line, front_of, Open, Faulty, Hears, HearsOn, LpdItems, LpdState, Stands, Answers}
 
 pub rest_with : (start : ℕ) (bytes piece : List ℕ) → start ≤ length bytes → drop start (bytes ++ piece) ≡ drop start bytes ++ piece
 rest_with start bytes piece within = drop-append-le start bytes piece within

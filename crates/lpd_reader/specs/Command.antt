@@ -1,5 +1,5 @@
 -- What a line of an LPD client says (RFC 1179, sections 5 and 6): a code byte, and operands after single spaces. Empty operands don't count.
-use Rattle.std.specs.Prelude.{ℕ, ◌==◌, ◌&&◌, not, nat_lt, nat_le, min, Bool, true, false, if◌then◌else◌, List, [], ◌∷◌, length, filter, drop, Option, Some, None, Result, Ok, Err}
+use Rattle.std.specs.Prelude.{ℕ, ◌==◌, ◌&&◌, nat_lt, nat_le, Bool, true, false, if◌then◌else◌, List, [], ◌∷◌, length, filter, drop, Result, Ok, Err}
 use Rattle.std.specs.List.{slice_split}
 use Rattle.std.specs.Str.{all_ascii_digits}
 use Rattle.std.specs.Str.Parse.{digits_value}
@@ -8,7 +8,6 @@ use Rattle.lpd_reader.specs.declared.fault.LpdFault.{LpdFault}
 use Rattle.lpd_reader.specs.declared.fault.LpdFault.TheVariants.{UnknownCode, BadCount, BadName, TooLarge}
 use Rattle.lpd_reader.specs.declared.item.FileKind.{FileKind}
 use Rattle.lpd_reader.specs.declared.item.FileKind.TheVariants.{Control, Data}
-use Rattle.lpd_reader.specs.declared.item.FileHead.{FileHead}
 use Rattle.lpd_reader.specs.declared.reader.Awaited.{Awaited}
 use Rattle.lpd_reader.specs.declared.reader.Awaited.TheVariants as await
 use Rattle.lpd_reader.specs.Session.{CommandRecord, PrintsWaiting, ReceivesJob, ListsShort, ListsLong, RemovesJobs, ItemRecord, Says, Aborts, Announces}

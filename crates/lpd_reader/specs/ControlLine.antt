@@ -1,5 +1,5 @@
 -- What the code's lines of a control file, and its answers, stand for.
-use Rattle.std.specs.Prelude.{ℕ, ◌≡◌, List, Result, Ok, Err}
+use Rattle.std.specs.Prelude.{◌≡◌, Result, Ok, Err}
 use Rattle.lpd_reader.specs.declared.control.ControlFault.{ControlFault}
 use Rattle.lpd_reader.specs.declared.control.ControlError.{ControlError}
 use Rattle.lpd_reader.specs.declared.control.ControlError.TheVariants.{Fault, OutOfMemory}

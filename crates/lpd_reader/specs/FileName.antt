@@ -1,5 +1,5 @@
 -- The names of control and data files (RFC 1179, sections 6.2 and 6.3): `cf` or `df`, a letter, three digits, and the client's host.
-use Rattle.std.specs.Prelude.{ℕ, ◌==◌, ◌&&◌, ◌+◌, not, nat_le, Bool, true, false, if◌then◌else◌, List, [], ◌∷◌, length, codes}
+use Rattle.std.specs.Prelude.{ℕ, ◌==◌, ◌&&◌, not, nat_le, Bool, false, List, ◌∷◌, length}
 use Rattle.std.specs.List.{list_all}
 use Rattle.std.specs.Char.{is_ascii_alphabetic, is_ascii_digit}
 use Rattle.base_types.specs.declared.limits.TheConstants.Limits.{LPD_HOST_BYTES}

@@ -1,5 +1,5 @@
 -- What an LPD client says, as plain data (RFC 1179, sections 5 and 6).
-use Rattle.std.specs.Prelude.{ℕ, List, map, Result, Ok, Err}
+use Rattle.std.specs.Prelude.{ℕ, List, Result, Ok, Err}
 use Rattle.lpd_reader.specs.declared.fault.LpdFault.{LpdFault}
 use Rattle.lpd_reader.specs.declared.item.FileHead.{FileHead}
 use Rattle.lpd_reader.specs.declared.item.LpdCommand.{LpdCommand}

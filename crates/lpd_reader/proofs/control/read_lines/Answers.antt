@@ -1,4 +1,4 @@
-use Rattle.std.proofs.Common.{rules, ◌≡◌, sym, ap, ◌∙◌, Ok, slice_index_or}
+use Rattle.std.proofs.Common.{◌≡◌, sym, ap, ◌∙◌, Ok, slice_index_or}
 use Rattle.lpd_reader.specs.Control.{line_in}
 use Rattle.lpd_reader.specs.ControlLine.{line_record, told_line}
 use Rattle.lpd_reader.proofs.Drafts.{lines_step}

@@ -1,4 +1,4 @@
-use Rattle.std.proofs.Common.{◌≡◌, ◌++◌, ◌<◌, map, drop, length, filter, nat_lt}
+use Rattle.std.proofs.Common.{◌≡◌, ◌++◌, map, drop, length, filter, nat_lt}
 use Rattle.lpd_reader.proofs.words.filled.Given as goal
 
 abbrev pub invariant-loop-word : goal.invariant-loop-word

@@ -1,4 +1,3 @@
-use Rattle.std.proofs.Common.{◌≡◌}
 use Rattle.plan_checker.proofs.Plans.{yes_above_in_proved}
 use Rattle.plan_checker.proofs.laws.proved_plan_is_yes.Goals as goal
 

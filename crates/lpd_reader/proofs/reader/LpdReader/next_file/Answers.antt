@@ -1,10 +1,5 @@
-use Rattle.std.proofs.Common.{rules, ◌≡◌, ◌≢◌, ◌<◌, ◌≤◌, sym, ◌∙◌, take, length, slice_index_or, Ok, Err}
-use Rattle.base_types.specs.FirstLine.{first_line_of}
-use Rattle.base_types.specs.declared.line.FirstLine.TheVariants.{TooLong, Unfinished}
-use Rattle.base_types.specs.declared.limits.TheConstants.Limits.{LPD_LINE_BYTES}
-use Rattle.lpd_reader.specs.Session.{item_record, HasFile}
-use Rattle.lpd_reader.specs.Command.{meaning_of}
-use Rattle.lpd_reader.proofs.Streams.{answers_no_file, answers_no_zero, answers_file}
+use Rattle.std.proofs.Common.{◌≢◌, ◌<◌, ◌≤◌, sym, length, slice_index_or}
+use Rattle.lpd_reader.proofs.Streams.{answers_no_file, answers_no_zero}
 use Rattle.lpd_reader.proofs.reader.LpdReader.next_file.Goals as goal
 
 pub returns-then-rest-length : goal.returns-then-rest-length

@@ -1,7 +1,4 @@
-use Rattle.std.proofs.Common.{rules, subst, drop, ◌+◌, None, Some, ◌≡◌, ◌≢◌, ◌<◌, sym, ◌∙◌, take, length, slice_index_or, Ok, Err}
-use Rattle.base_types.specs.FirstLine.{first_line_of}
-use Rattle.base_types.specs.declared.line.FirstLine.TheVariants.{TooLong, Unfinished}
-use Rattle.base_types.specs.declared.limits.TheConstants.Limits.{LPD_LINE_BYTES}
+use Rattle.std.proofs.Common.{rules, subst, drop, ◌+◌, None, Some, ◌≡◌, sym, take, Ok, Err}
 use Rattle.lpd_reader.specs.Session.{item_record, awaited_after}
 use Rattle.lpd_reader.specs.Stream.{Answers}
 use Rattle.lpd_reader.specs.Command.{meaning_of}
