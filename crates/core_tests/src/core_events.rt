@@ -22,6 +22,8 @@ const B: usize = 1;
 /// A job that a Print-Job asks for.
 #[derive(Clone, Copy)]
 struct Asked {
+    /// The printer, where it isn't the first one.
+    printer: Option<&'static str>,
     priority: u8,
     impressions: u32,
     copies: u32,
@@ -30,6 +32,7 @@ struct Asked {
 
 /// One impression on one side, of normal priority.
 const LETTER: Asked = Asked {
+    printer: None,
     priority: 50,
     impressions: 1,
     copies: 1,
@@ -44,6 +47,8 @@ enum Happens {
     Stop(usize),
     Pages(usize, u32, u32),
     Done(usize, u32),
+    /// The device has this medium alone.
+    Media(usize, &'static str),
     Tick,
 }
 
@@ -108,14 +113,23 @@ fn opened(alloc: Global, text: &str) -> Result<Core<Lazy>, Fail> {
     Ok(core)
 }
 
+/// The printer that a job asks for.
+fn target_of(alloc: Global, asked: Asked) -> Result<Target, AllocError> {
+    match asked.printer {
+        Some(name) => Ok(Target::Named(Text::copy_of(alloc, name.as_bytes())?)),
+        None => Ok(Target::First),
+    }
+}
+
 /// Anna's Print-Job of five octets.
 fn print_job(alloc: Global, asked: Asked) -> Result<Event, AllocError> {
+    let target = target_of(alloc, asked)?;
     let user = Text::copy_of(alloc, b"anna")?;
     let job_name = Text::copy_of(alloc, b"letter")?;
     let template = job_group(alloc, asked)?;
     let bytes = Vec::from_slice(alloc, b"hello")?;
     Ok(Event::PrintJob(PrintJob {
-        target: Target::First,
+        target,
         user,
         job_name,
         impressions: Some(asked.impressions),
@@ -127,6 +141,13 @@ fn print_job(alloc: Global, asked: Asked) -> Result<Event, AllocError> {
     }))
 }
 
+/// A device has this medium alone.
+fn media(alloc: Global, name: &str) -> Result<Report, AllocError> {
+    let mut names = Vec::with_capacity(alloc, 1)?;
+    names.push(Text::copy_of(alloc, name.as_bytes())?)?;
+    Ok(Report::Media(names))
+}
+
 fn event_of(alloc: Global, happens: Happens) -> Result<Event, AllocError> {
     let (place, report) = match happens {
         Happens::Print(asked) => return print_job(alloc, asked),
@@ -135,6 +156,7 @@ fn event_of(alloc: Global, happens: Happens) -> Result<Event, AllocError> {
         Happens::Stop(place) => (place, Report::Stop),
         Happens::Pages(place, job, printed) => (place, Report::Pages { job, printed }),
         Happens::Done(place, job) => (place, Report::Done { job }),
+        Happens::Media(place, name) => (place, media(alloc, name)?),
     };
     Ok(Event::Report(DeviceId::new(place), report))
 }

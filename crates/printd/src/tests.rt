@@ -30,6 +30,7 @@ fn worked_rows(rt: HostRuntime) {
         rows::UNSUPPORTED_TEMPLATE,
         rows::TWO_PRIORITIES,
         rows::STRANDED_BY_MEDIA,
+        rows::DEVICE_REPORTS,
     ] {
         let (status, output) = run(&rt, trace);
         assert_eq!(rt; status, 0);

@@ -1,9 +1,9 @@
 //! What devices say, ticks, and what the core shows of it.
 use crate::core_events::{
-    A, Asked, Comes, Happens, LETTER, Row, at, event_of, miss, opened, status_of,
+    A, Asked, B, Comes, Happens, LETTER, Row, at, event_of, miss, opened, status_of,
 };
 use assignment::Lazy;
-use base_types::{Activity, DeviceId, JobId};
+use base_types::{Activity, Cause, DeviceId, JobId, Sides};
 use dispatcher::{Core, Status};
 use job_objects::JobState;
 use std::test::Fail;
@@ -18,6 +18,31 @@ formats = [\"text/plain\"]\n\
 [[printer]]\n\
 name = \"lab\"\n\
 devices = [\"A\"]\n\
+media_default = \"iso_a4_210x297mm\"\n\
+format_default = \"text/plain\"\n";
+
+/// Only B prints two-sided. The printer `none` has no device.
+const TWO_KINDS: &str = "version = 1\n\
+uri_base = \"ipp://localhost:631\"\n\
+[[device]]\n\
+name = \"A\"\n\
+rate_one = 10\n\
+media = [\"iso_a4_210x297mm\"]\n\
+formats = [\"text/plain\"]\n\
+[[device]]\n\
+name = \"B\"\n\
+rate_one = 10\n\
+rate_two = 10\n\
+media = [\"iso_a4_210x297mm\", \"na_letter_8.5x11in\"]\n\
+formats = [\"text/plain\"]\n\
+[[printer]]\n\
+name = \"lab\"\n\
+devices = [\"A\", \"B\"]\n\
+media_default = \"iso_a4_210x297mm\"\n\
+format_default = \"text/plain\"\n\
+[[printer]]\n\
+name = \"none\"\n\
+devices = []\n\
 media_default = \"iso_a4_210x297mm\"\n\
 format_default = \"text/plain\"\n";
 
@@ -131,5 +156,50 @@ fn stop_and_continue(rt: HostRuntime) -> Result<(), Fail> {
         assert_eq!(rt; job_of(&core, A), Some((1, time)), "at {millis}");
         assert_eq!(rt; standing(&core, 1), Some((state, false)), "at {millis}");
     }
+    Ok(())
+}
+
+/// A two-sided job on A4, where only B prints two-sided and has letter alone; then a job of a printer
+/// without devices.
+#[test]
+fn stranded_causes(rt: HostRuntime) -> Result<(), Fail> {
+    let mut core = opened(rt.alloc(), TWO_KINDS)?;
+    let two_sided = Asked {
+        sides: Sides::LongEdge,
+        ..LETTER
+    };
+    let nowhere = Asked {
+        printer: Some("none"),
+        ..LETTER
+    };
+    for (happens, comes) in [
+        (Happens::Ready(A), Comes::NoPlan),
+        (Happens::Ready(B), Comes::NoPlan),
+        (Happens::Media(B, "na_letter_8.5x11in"), Comes::NoPlan),
+        (
+            Happens::Print(two_sided),
+            Comes::Plan {
+                classes: &[],
+                stranded: &[(1, Cause::Media)],
+                started: &[],
+            },
+        ),
+        (
+            Happens::Print(nowhere),
+            Comes::Plan {
+                classes: &[],
+                stranded: &[(1, Cause::Media), (2, Cause::NoDevice)],
+                started: &[],
+            },
+        ),
+    ] {
+        let row = Row {
+            millis: 0,
+            happens,
+            comes,
+        };
+        assert_eq!(rt; miss(rt.alloc(), &mut core, &[row])?, None);
+    }
+    assert_eq!(rt; standing(&core, 1), Some((JobState::Pending, true)));
     Ok(())
 }

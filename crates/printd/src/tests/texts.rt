@@ -47,6 +47,7 @@ fn each_plan_is_proved(rt: HostRuntime) -> Result<(), Fail> {
         (rows::NO_DEVICE, 1),
         (rows::UNSUPPORTED_TEMPLATE, 1),
         (rows::TWO_PRIORITIES, 10),
+        (rows::DEVICE_REPORTS, 3),
     ] {
         let mut output = Vec::new(alloc);
         let mut input = trace.as_bytes();
