@@ -63,6 +63,13 @@ impl<P: Planner + Drop> Core<P> {
         apply(self.alloc, &mut self.room, event, moment)
     }
 
+    /// The last moment.
+    pub fn last(&self) -> Moment
+        ensures { result ≡ self.now.last }
+    {
+        self.room.last()
+    }
+
     /// The settings that it was made with.
     pub fn settings(&self) -> &Settings
         ensures { result.now ≡ self.now.settings }

@@ -11,6 +11,7 @@ use Rattle.http_front.specs.declared.refusal.Refusal.{Refusal}
 use Rattle.http_front.specs.declared.refusal.Refusal.TheVariants.{BadRequest, ContentTooLarge, HeadTooLarge}
 use Rattle.http_front.specs.declared.awaited.Request.{Request}
 use Rattle.http_front.specs.declared.awaited.Framing.{Framing}
+use Rattle.http_front.specs.declared.awaited.Framing.TheVariants.{Length, Chunked}
 use Rattle.http_front.specs.declared.awaited.Awaited.{Awaited}
 use Rattle.http_front.specs.declared.awaited.Awaited.TheVariants.{Head, Invitation, Body, Size, Trailer, Nothing}
 use Rattle.http_front.specs.declared.awaited.Following.TheVariants.{Close, Chunk}
@@ -20,9 +21,9 @@ use Rattle.http_front.specs.declared.reader.Step.TheVariants as step
 use Rattle.http_front.specs.Section.{section_in}
 use Rattle.http_front.specs.Chunk.{IsSizeOf, chunk_end}
 use Rattle.http_front.specs.Head.{Asks}
-use Rattle.http_front.specs.Stream.{Said, HasHead, Invites, EndsBody, IsRefused, Front, Goes, Waits, FrontIs, AtHead, HeadIn, SizeIn, begun, body_by, after_head, after_body, begins_head, is_line_end, sized, chunk_front, trailer_front, HttpState, Advances, Steps}
+use Rattle.http_front.specs.Stream.{Said, HasHead, Invites, EndsBody, IsRefused, Front, Goes, Waits, FrontIs, AtHead, HeadIn, SizeIn, begun, body_by, after_head, after_body, begins_head, is_line_end, sized, chunk_front, trailer_front, HttpState, Advances, Steps, rank, work}
 use Rattle.http_front.proofs.Steps.{advance}
-use Rattle.http_front.proofs.Sections.{section_whole, section_within, section_long}
+use Rattle.http_front.proofs.Sections.{section_whole, section_within, section_long, section_some}
 
 -- the reader goes on behind so many bytes
 abbrev pub behind : HttpState → ℕ → Awaited → HttpState
@@ -34,6 +35,35 @@ goes old awaited said count next is front =
 
 shorter : (bytes : List ℕ) (count : ℕ) → 0 < count → count ≤ length bytes → length (drop count bytes) < length bytes
 shorter bytes count some within = omega (arith, some, within, length-drop count bytes)
+
+-- nothing but the rank falls
+lower : (old : HttpState) (awaited : Awaited) (count : ℕ) (next : Awaited) → old.awaited ≡ awaited → rank next < rank awaited → work (behind old count next) < work old
+lower old awaited count next is less =
+    let was : rank old.awaited ≡ rank awaited = ap rank is in
+    omega (arith, less, was, length-drop count old.rest)
+
+-- a byte was read
+lower_read : (old : HttpState) (count : ℕ) (next : Awaited) → 0 < count → count ≤ length old.rest → rank next < 4 → work (behind old count next) < work old
+lower_read old count next some within less = omega (arith, some, within, less, length-drop count old.rest)
+
+rank_small : (awaited : Awaited) → rank awaited < 4
+rank_small Nothing = omega arith
+rank_small Head = omega arith
+rank_small (Body count next) = omega arith
+rank_small (Size room closes) = omega arith
+rank_small (Trailer closes) = omega arith
+rank_small (Invitation framing closes) = omega arith
+
+rank_body : (framing : Framing) (closes : Bool) → rank (body_by framing closes) < 3
+rank_body (Length count) closes = omega arith
+rank_body Chunked closes = omega arith
+
+rank_after : (closes : Bool) → rank (after_body closes) < 2
+rank_after true = omega arith
+rank_after false = omega arith
+
+pub rank_passed : (old new : HttpState) → length new.rest < length old.rest → work new < work old
+rank_passed old new less = omega (arith, less, rank_small new.awaited)
 
 waits : (old : HttpState) (awaited : Awaited) → old.awaited ≡ awaited → FrontIs awaited old.rest Waits → Steps old step.Waits old
 waits old awaited is front = (refl, subst (λ a. FrontIs a old.rest Waits) (sym is) front)
@@ -73,6 +103,7 @@ refuses_long old is begins lines = (
   goes old Head (IsRefused HeadTooLarge ∷ []) 0 Nothing is
       (λ coming. at_lines (old.rest ++ coming) _ (begins_grown old.rest coming begins) (subst (λ s. HeadIn (old.rest ++ coming) s (Goes (IsRefused HeadTooLarge ∷ []) (old.rest ++ coming) Nothing)) (sym (section_long HTTP_HEAD_BYTES old.rest coming lines)) refl)),
   refl,
+  lower old Head 0 Nothing is (omega arith),
 )
 
 head_whole : (bytes coming : List ℕ) (count : ℕ) (asked : Result Request Refusal) → begins_head bytes ≡ true → section_in HTTP_HEAD_BYTES bytes ≡ Whole count → Asks (take count bytes) asked → AtHead (bytes ++ coming) (begun asked (drop count bytes ++ coming))
@@ -87,12 +118,14 @@ pub refuses_head : (old : HttpState) (count : ℕ) (refusal : Refusal) → old.a
 refuses_head old count refusal is begins lines asks = (
   goes old Head (IsRefused refusal ∷ []) count Nothing is (λ coming. head_whole old.rest coming count (Err refusal) begins lines asks),
   refl,
+  lower old Head count Nothing is (omega arith),
 )
 
 pub takes_head : (old : HttpState) (count : ℕ) (request : Request) → old.awaited ≡ Head → begins_head old.rest ≡ true → section_in HTTP_HEAD_BYTES old.rest ≡ Whole count → Asks (take count old.rest) (Ok request) → Steps old (step.Gives (item.Head request.closes)) (behind old count (after_head request))
 takes_head old count request is begins lines asks = (
   goes old Head (HasHead request.closes ∷ []) count (after_head request) is (λ coming. head_whole old.rest coming count (Ok request) begins lines asks),
   tt,
+  lower_read old count (after_head request) (section_some HTTP_HEAD_BYTES old.rest count lines) (section_within HTTP_HEAD_BYTES old.rest count lines) (rank_small (after_head request)),
 )
 
 -- the client is told to go on
@@ -100,6 +133,7 @@ pub invites : (old : HttpState) (framing : Framing) (closes : Bool) → old.awai
 invites old framing closes is = (
   goes old (Invitation framing closes) (Invites ∷ []) 0 (body_by framing closes) is (λ coming. refl),
   tt,
+  lower old (Invitation framing closes) 0 (body_by framing closes) is (rank_body framing closes),
 )
 
 -- the line before a chunk
@@ -126,6 +160,7 @@ refuses_long_size old room closes is line = (
   goes old (Size room closes) (IsRefused BadRequest ∷ []) 0 Nothing is
       (λ coming. subst (λ l. SizeIn (old.rest ++ coming) room closes l (Goes (IsRefused BadRequest ∷ []) (old.rest ++ coming) Nothing)) (sym (too_long_grown HTTP_CHUNK_LINE_BYTES old.rest coming line)) refl),
   refl,
+  lower old (Size room closes) 0 Nothing is (omega arith),
 )
 
 -- which front a size makes
@@ -138,6 +173,7 @@ pub refuses_size : (old : HttpState) (count room : ℕ) (closes : Bool) → old.
 refuses_size old count room closes is line tells = (
   sized_as old count room closes None _ Nothing is line tells (λ rest. refl),
   refl,
+  lower old (Size room closes) (count + 1) Nothing is (omega arith),
 )
 
 pub last_size : (old : HttpState) (count room : ℕ) (closes : Bool) (size : ℕ) → old.awaited ≡ Size room closes → first_line_of HTTP_CHUNK_LINE_BYTES old.rest ≡ Whole count → IsSizeOf (take (count + 1) old.rest) (Some size) → size ≡ 0 → Steps old step.Passes (behind old (count + 1) (Trailer closes))
@@ -153,6 +189,7 @@ large_size old count room closes size is line tells large =
     let over : nat_le size room ≡ false = grind (arith, large) in (
       sized_as old count room closes (Some size) _ Nothing is line tells (λ rest. rw (test, over) refl),
       refl,
+      lower old (Size room closes) (count + 1) Nothing is (omega arith),
     )
 
 pub some_size : (old : HttpState) (count room : ℕ) (closes : Bool) (size : ℕ) → old.awaited ≡ Size room closes → first_line_of HTTP_CHUNK_LINE_BYTES old.rest ≡ Whole count → IsSizeOf (take (count + 1) old.rest) (Some size) → 0 < size → size ≤ room → Steps old step.Passes (behind old (count + 1) (Body size (Chunk (room - size) closes)))
@@ -193,6 +230,7 @@ breaks_chunk old room closes is at = (
   goes old (Body 0 (Chunk room closes)) (IsRefused BadRequest ∷ []) 0 Nothing is
       (λ coming. ap (λ e. chunk_front room closes (old.rest ++ coming) e) (sym (broken_grown old.rest coming at))),
   refl,
+  lower old (Body 0 (Chunk room closes)) 0 Nothing is (omega arith),
 )
 
 pub ends_chunk : (old : HttpState) (room : ℕ) (closes : Bool) → old.awaited ≡ Body 0 (Chunk room closes) → chunk_end old.rest ≡ end.Whole → Steps old step.Passes (behind old 2 (Size room closes))
@@ -209,6 +247,7 @@ pub ends_body : (old : HttpState) (closes : Bool) → old.awaited ≡ Body 0 (Cl
 ends_body old closes is = (
   goes old (Body 0 (Close closes)) (EndsBody ∷ []) 0 (after_body closes) is (λ coming. refl),
   tt,
+  lower old (Body 0 (Close closes)) 0 (after_body closes) is (rank_after closes),
 )
 
 -- the trailer section
@@ -221,6 +260,7 @@ refuses_trailer old closes is lines = (
   goes old (Trailer closes) (IsRefused BadRequest ∷ []) 0 Nothing is
       (λ coming. ap (λ s. trailer_front closes (old.rest ++ coming) s) (sym (section_long HTTP_TRAILER_BYTES old.rest coming lines))),
   refl,
+  lower old (Trailer closes) 0 Nothing is (omega arith),
 )
 
 pub ends_trailer : (old : HttpState) (closes : Bool) (count : ℕ) → old.awaited ≡ Trailer closes → section_in HTTP_TRAILER_BYTES old.rest ≡ Whole count → Steps old (step.Gives item.BodyEnd) (behind old count (after_body closes))
@@ -230,4 +270,5 @@ ends_trailer old closes count is lines = (
       let rest : drop count (old.rest ++ coming) ≡ drop count old.rest ++ coming = drop-append-le count old.rest coming (section_within HTTP_TRAILER_BYTES old.rest count lines) in
       ap (λ r. Goes (EndsBody ∷ []) r (after_body closes)) (sym rest) ∙ ap (λ s. trailer_front closes (old.rest ++ coming) s) (sym (section_whole HTTP_TRAILER_BYTES old.rest coming count lines))),
   tt,
+  lower old (Trailer closes) count (after_body closes) is (rank_after closes),
 )

@@ -1,5 +1,5 @@
 -- What the first empty line tells, also where more bytes follow.
-use Rattle.std.specs.Prelude.{ℕ, suc, zero, ◌==◌, ◌&&◌, ◌≡◌, ◌++◌, ◌+◌, ◌≤◌, Bool, true, false, nat_lt, if◌then◌else◌, List, [], ◌∷◌, length, take, Option, Some, None}
+use Rattle.std.specs.Prelude.{ℕ, suc, zero, ◌==◌, ◌&&◌, ◌≡◌, ◌++◌, ◌+◌, ◌<◌, ◌≤◌, Bool, true, false, nat_lt, if◌then◌else◌, List, [], ◌∷◌, length, take, Option, Some, None}
 use Rattle.std.proofs.Common.{arith, refl, ap, ◌∙◌}
 use Rattle.std.proofs.lemmas.List.{take-append-le, length-append, length-take}
 use Rattle.base_types.specs.declared.line.FirstLine.TheVariants.{Whole, TooLong}
@@ -50,6 +50,16 @@ section_whole most bytes coming end is =
     let more = take_grown most bytes coming in
     let grown : empty_line_end true 0 (take most (bytes ++ coming)) ≡ Some end = rw more.1 (end_grown (take most bytes) more.0 true 0 end found) in
     ap (λ found. section_of most (length (bytes ++ coming)) found) grown
+
+end_above : (bytes : List ℕ) (begins : Bool) (place end : ℕ) → empty_line_end begins place bytes ≡ Some end → place < end
+end_above [] begins place end is = absurd (let no : None ≡ Some end = is in (cc))
+end_above (byte ∷ bytes) begins place end is =
+    let later = end_above bytes (byte == 10) (place + 1) end in
+    grind (arith, is, later)
+
+-- it has a byte
+pub section_some : (most : ℕ) (bytes : List ℕ) (end : ℕ) → section_in most bytes ≡ Whole end → 0 < end
+section_some most bytes end is = end_above (take most bytes) true 0 end (whole_by most (length bytes) end (empty_line_end true 0 (take most bytes)) is)
 
 pub section_within : (most : ℕ) (bytes : List ℕ) (end : ℕ) → section_in most bytes ≡ Whole end → end ≤ length bytes
 section_within most bytes end is =

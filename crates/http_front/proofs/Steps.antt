@@ -1,10 +1,10 @@
 -- Where a reader stands after a piece or a step.
-use Rattle.std.specs.Prelude.{ℕ, suc, zero, ◌≡◌, ◌+◌, ◌-◌, ◌≤◌, ◌==◌, false, List, [], ◌∷◌, ◌++◌, length, map, take, drop}
+use Rattle.std.specs.Prelude.{ℕ, suc, zero, ◌≡◌, ◌+◌, ◌-◌, ◌<◌, ◌≤◌, ◌==◌, false, List, [], ◌∷◌, ◌++◌, length, map, take, drop}
 use Rattle.std.proofs.Common.{arith, refl, subst, sym, ap, ◌∙◌, zero-add}
-use Rattle.std.proofs.lemmas.List.{append_assoc, append-nil, take-append-drop, length-take-le}
+use Rattle.std.proofs.lemmas.List.{append_assoc, append-nil, take-append-drop, length-take-le, length-drop}
 use Rattle.http_front.specs.declared.awaited.Awaited.TheVariants.{Body, Nothing}
 use Rattle.http_front.specs.declared.awaited.Following.{Following}
-use Rattle.http_front.specs.Stream.{Said, HasByte, Goes, Waits, FrontIs, body_front, SaysIn, Says, Exchanges, HttpState, Stands, Advances}
+use Rattle.http_front.specs.Stream.{Said, HasByte, Goes, Waits, FrontIs, body_front, SaysIn, Says, Exchanges, HttpState, Stands, Advances, work}
 
 -- a step that is there whatever comes
 pub advance : (old : HttpState) (said : List Said) (new : HttpState) → ((coming : List ℕ) → FrontIs old.awaited (old.rest ++ coming) (Goes said (new.rest ++ coming) new.awaited)) → Advances old said new
@@ -62,3 +62,7 @@ lends old count next size is within fits stream given stands coming later says =
     let said : Says (Body count next) (old.rest ++ coming) (map HasByte (take size old.rest) ++ later) = subst (λ n. Says (Body n next) (old.rest ++ coming) (map HasByte (take size old.rest) ++ later)) all (subst (λ b. Says (Body (length (take size old.rest) + (count - size)) next) b (map HasByte (take size old.rest) ++ later)) bytes on) in
     let here : Says old.awaited (old.rest ++ coming) (map HasByte (take size old.rest) ++ later) = subst (λ awaited. Says awaited (old.rest ++ coming) (map HasByte (take size old.rest) ++ later)) (sym is) said in
     rw (append_assoc given (map HasByte (take size old.rest)) later) (stands coming (map HasByte (take size old.rest) ++ later) here)
+
+-- a byte was lent
+pub lends_less : (old : HttpState) (count : ℕ) (next : Following) (size : ℕ) → 0 < size → size ≤ length old.rest → work (record { part = take size old.rest; rest = drop size old.rest; awaited = Body (count - size) next }) < work old
+lends_less old count next size some within = omega (arith, some, within, length-drop size old.rest)

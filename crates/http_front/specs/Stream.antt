@@ -1,5 +1,5 @@
 -- What an HTTP client's stream of bytes gives (RFC 9112): its exchanges in order, up to the first request that is refused. The bytes of a body are told one by one, so that it does not matter in which parts they come.
-use Rattle.std.specs.Prelude.{ℕ, ◌≡◌, ◌==◌, ◌<◌, ◌+◌, ◌-◌, ◌||◌, nat_le, Bool, false, suc, zero, if◌then◌else◌, List, [], ◌∷◌, ◌++◌, map, take, drop, MatchBool, length, not, Option, Some, None, Result, Ok, Err, ⊤}
+use Rattle.std.specs.Prelude.{ℕ, ◌≡◌, ◌==◌, ◌<◌, ◌+◌, ◌-◌, ◌*◌, ◌||◌, nat_le, Bool, false, suc, zero, if◌then◌else◌, List, [], ◌∷◌, ◌++◌, map, take, drop, MatchBool, length, not, Option, Some, None, Result, Ok, Err, ⊤}
 use Rattle.base_types.specs.FirstLine.{first_line_of}
 use Rattle.base_types.specs.declared.line.FirstLine.{FirstLine}
 use Rattle.base_types.specs.declared.line.FirstLine.TheVariants.{Whole, TooLong, Unfinished}
@@ -173,9 +173,22 @@ abbrev pub Stops : HttpItem → HttpState → Type 0
 Stops (item.Refuse refusal) new = IsOver new
 Stops said new = ⊤
 
+-- how many items can come, at most, before a byte is read
+abbrev pub rank : Awaited → ℕ
+rank Nothing = 0
+rank Head = 1
+rank (Body count next) = 2
+rank (Size room closes) = 2
+rank (Trailer closes) = 2
+rank (Invitation framing closes) = 3
+
+-- more than the items that can come of what was fed
+abbrev pub work : HttpState → ℕ
+work reader = 4 * length reader.rest + rank reader.awaited
+
 -- what one step of the reader came to: only bytes that say nothing are passed without an item
 abbrev pub Steps : HttpState → Step → HttpState → Type 0
-Steps old (step.Gives said) new = Advances old (said_by said new.part) new × Stops said new
+Steps old (step.Gives said) new = Advances old (said_by said new.part) new × Stops said new × (work new < work old)
 Steps old step.Passes new = Advances old [] new × (length new.rest < length old.rest)
 Steps old step.Waits new = (new ≡ old) × FrontIs old.awaited old.rest Waits
 

@@ -1,5 +1,5 @@
-ghost use Rattle.std.specs.Prelude.{◌≡◌, ◌≤◌, ◌<◌, ◌+◌, ◌++◌, [], List, ℕ, OnOk, OnErr, None, true, take, drop, length as length_of};
-ghost use Rattle.http_front.specs.Stream.{Said, SaysOne, StaysInFront, Stands, Answers, Steps, IsOver, after_body, body_by, after_head, begins_head};
+ghost use Rattle.std.specs.Prelude.{◌≡◌, ◌≤◌, ◌<◌, ◌+◌, ◌++◌, [], List, ℕ, OnOk, OnErr, IsSome, None, true, take, drop, length as length_of};
+ghost use Rattle.http_front.specs.Stream.{Said, SaysOne, StaysInFront, Stands, Answers, Steps, IsOver, work, after_body, body_by, after_head, begins_head};
 ghost use Rattle.base_types.specs.FirstLine.{first_line_of};
 ghost use Rattle.base_types.specs.declared.line.FirstLine.TheVariants.{Whole};
 ghost use Rattle.http_front.specs.Section.{section_in};
@@ -87,6 +87,7 @@ impl HttpReader {
     /// The next item. Where it is a part of a body, `part` lends the bytes.
     pub fn next_item(&mut self) -> Option<HttpItem>
         ensures answer { Answers self.old result self.new }
+        ensures falls { IsSome result → work self.new < work self.old }
         ensures over { IsOver self.old → (result ≡ None) × (self.new ≡ self.old) }
     {
         if let Awaited::Nothing = self.awaited() {

@@ -1,5 +1,5 @@
 -- What an IPP body asks (RFC 8011, section 4.1): its header is looked at first, then its attributes; the document follows them.
-use Rattle.std.specs.Prelude.{ℕ, ◌≡◌, ◌≤◌, ◌⊎◌, ◌==◌, ◌||◌, not, if◌then◌else◌, List, [], ◌∷◌, take, drop, Option, Some, None, MatchOption, Result, Ok, Err}
+use Rattle.std.specs.Prelude.{ℕ, ◌≡◌, ◌≤◌, ◌⊎◌, ◌==◌, ◌||◌, not, if◌then◌else◌, List, [], ◌∷◌, take, drop, Option, Some, None, option_map, MatchOption, Result, Ok, Err}
 use Rattle.std.specs.Int.{w16, w32, from_be_bytes}
 use Rattle.base_types.specs.declared.limits.TheConstants.Limits.{IPP_HEAD_BYTES}
 use Rattle.ipp_codec.specs.declared.fault.CodecFault.{CodecFault}
@@ -24,6 +24,10 @@ header_of (major ∷ minor ∷ high ∷ low ∷ id_3 ∷ id_2 ∷ id_1 ∷ id_0 
   request_id = from_be_bytes w32 (id_3 ∷ id_2 ∷ id_1 ∷ id_0 ∷ []);
 })
 header_of _ = None
+
+-- the request-id of a body that has a whole header
+abbrev pub request_id_of : List ℕ → Option ℕ
+request_id_of body = option_map (λ header. header.request_id) (header_of body)
 
 -- the version's major number is 1 or 2 (RFC 8011, section 4.1.8), the operation is Print-Job (section 5.4.15)
 abbrev pub refused_by : Header → Option Status

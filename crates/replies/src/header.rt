@@ -1,6 +1,6 @@
 //! The header of a body.
 ghost use Rattle.std.specs.Prelude.{◌≡◌};
-ghost use Rattle.replies.specs.Asked.{header_of, refused_by};
+ghost use Rattle.replies.specs.Asked.{header_of, refused_by, request_id_of};
 
 use dispatcher::Status;
 
@@ -29,6 +29,13 @@ pub(crate) fn header_of(body: &[u8]) -> Option<Header>
         operation: u16::from_be_bytes([*high, *low]),
         request_id: u32::from_be_bytes([*id_3, *id_2, *id_1, *id_0]),
     })
+}
+
+/// The request-id of a body that has a whole header. It takes no memory.
+pub fn request_id(body: &[u8]) -> Option<u32>
+    ensures { result ≡ request_id_of body.now }
+{
+    header_of(body).map(|header| header.request_id)
 }
 
 /// The status of a header that is refused: of another version, or of an operation that doesn't

@@ -18,6 +18,7 @@ mod syntax;
 mod target;
 
 pub use asked::{Asked, ipp_event};
+pub use header::request_id;
 pub use law::one_asked;
 pub use refusal::ipp_refusal;
 pub use reply::ipp_reply;
