@@ -1,0 +1,60 @@
+-- What a call of a wire in memory does.
+use Rattle.std.specs.Prelude.{ℕ, ◌≡◌, ◌⊎◌, ◌&&◌, not, Bool, true, false, List, ◌++◌, take, Some, None, slice_get, slice_set}
+use Rattle.server.specs.declared.wire.Door.{Door}
+use Rattle.server.specs.declared.wire.Answer.TheVariants.{Done, Waiting, End, Fault}
+use Rattle.server.specs.declared.memory_wire.Memory.{Memory}
+use Rattle.server.specs.Polls.{Poll, Accepts, Reads, Writes, Closes}
+use Rattle.server.specs.Peer.{PeerState}
+
+pub record SamePeers (old new : Memory) : Type 0 where
+  pub peers : new.peers.items ≡ old.peers.items
+
+-- it comes in at a door, and isn't accepted yet
+abbrev pub IsNext : Door → PeerState → Type 0
+IsNext door peer = (peer.accepted ≡ false) × (peer.door ≡ door)
+
+-- it was accepted, and not given up
+abbrev pub is_open : PeerState → Bool
+is_open p = p.accepted && not p.closed
+
+-- these bytes come off the front of what an open peer sends
+pub record Sends (bytes : List ℕ) (p q : PeerState) : Type 0 where
+  pub counts : is_open p ≡ true
+  pub input : p.input ≡ bytes ++ q.input
+  pub rest : q ≡ record p { input = q.input }
+
+-- an open peer has got these bytes too
+pub record Gets (bytes : List ℕ) (p q : PeerState) : Type 0 where
+  pub counts : is_open p ≡ true
+  pub taken : q ≡ record p { taken = p.taken ++ bytes }
+
+-- one peer changes
+pub record OnPeer (id : ℕ) (change : PeerState → PeerState → Type 0) (old new : Memory) : Type 0 where
+  pub before : PeerState
+  pub after : PeerState
+  pub there : slice_get old.peers.items id ≡ Some before
+  pub changes : change before after
+  pub peers : new.peers.items ≡ slice_set old.peers.items id after
+
+abbrev pub IsAccepted : Door → PeerState → PeerState → Type 0
+IsAccepted door p q = IsNext door p × (q ≡ record p { accepted = true })
+
+-- a peer is given up; there may be none of the number
+abbrev pub IsGivenUp : ℕ → Memory → Memory → Type 0
+IsGivenUp id old new =
+    OnPeer id (λ p q. q ≡ record p { closed = true }) old new ⊎ ((slice_get old.peers.items id ≡ None) × SamePeers old new)
+
+abbrev pub MemoryPolls : Memory → Poll → Memory → Type 0
+MemoryPolls old (Accepts door (Done id)) new = OnPeer id (IsAccepted door) old new
+MemoryPolls old (Accepts door Waiting) new = SamePeers old new
+MemoryPolls old (Accepts door End) new = ⊥
+MemoryPolls old (Accepts door Fault) new = SamePeers old new
+MemoryPolls old (Reads id (Done bytes)) new = OnPeer id (Sends bytes) old new
+MemoryPolls old (Reads id Waiting) new = SamePeers old new
+MemoryPolls old (Reads id End) new = SamePeers old new
+MemoryPolls old (Reads id Fault) new = SamePeers old new
+MemoryPolls old (Writes id offered (Done n)) new = OnPeer id (Gets (take n offered)) old new
+MemoryPolls old (Writes id offered Waiting) new = SamePeers old new
+MemoryPolls old (Writes id offered End) new = SamePeers old new
+MemoryPolls old (Writes id offered Fault) new = SamePeers old new
+MemoryPolls old (Closes id) new = IsGivenUp id old new

@@ -1,0 +1,29 @@
+-- What a listener that keeps its notes has heard.
+use Rattle.std.specs.Prelude.{◌≡◌, ◌⊎◌, List, [], ◌∷◌, ◌++◌, Option, Some, None, option_map, map}
+use Rattle.prices.specs.Plan.{PlanRecord}
+use Rattle.prices.specs.declared.plan.PlannedClass.{PlannedClass}
+use Rattle.print_room.specs.declared.started.Started.{Started}
+use Rattle.server.specs.Polls.{Note, Planned, Canceled, Refused}
+use Rattle.server.specs.declared.note_log.Heard.{Heard}
+use Rattle.server.specs.declared.note_log.Heard.TheVariants as hear
+
+abbrev pub class_word : PlannedClass → Heard
+class_word class = hear.Class class.priority class.priced.total
+
+-- a plan with its classes and its stranded jobs, if one was made
+abbrev pub plan_words : Option PlanRecord → List Heard
+plan_words None = []
+plan_words (Some plan) = hear.Planned ∷ (map class_word plan.classes ++ map hear.Stranded plan.stranded)
+
+abbrev pub dispatch_words : Option PlanRecord → List Started → List Heard
+dispatch_words plan started = plan_words plan ++ map hear.Began started
+
+-- what is heard of a note
+abbrev pub words_of : Note → List Heard
+words_of (Planned plan started) = dispatch_words plan started
+words_of (Canceled cancel) = hear.Canceled cancel ∷ []
+words_of (Refused place id) = hear.Refused place id ∷ []
+
+-- all of it is kept after what was heard before, or memory for it was refused; after that nothing is kept
+abbrev pub Hears : Option (List Heard) → Note → Option (List Heard) → Type 0
+Hears old note new = (new ≡ option_map (λ kept. kept ++ words_of note) old) ⊎ (new ≡ None)

@@ -1,0 +1,13 @@
+-- What a peer of a wire in memory sends, and has got.
+use Rattle.std.specs.Prelude.{ℕ, Bool, List}
+use Rattle.server.specs.declared.wire.Door.{Door}
+
+pub record PeerState : Type 0 where
+  pub door : Door
+  pub accepted : Bool
+  pub closed : Bool
+  pub input : List ℕ
+  pub piece : ℕ
+  pub ended : Bool
+  pub taken : List ℕ
+  pub most : ℕ

@@ -1,0 +1,178 @@
+//! Calls between turns, which need no wire.
+ghost use Rattle.base_types.specs.Report.{report_of};
+ghost use Rattle.server.specs.Polls.{alone};
+ghost use Rattle.server.specs.Happening.{Unanswered};
+ghost use Rattle.server.specs.Turn.{Ticked, Reported, BodyAsks, BodyComes};
+ghost use Rattle.server.specs.Stands.{Openly, Calls, Answered, ServesBody, BytesAs, RefusalAs, said_of};
+
+use crate::engine::Engine;
+use crate::notes::{Notes, Place};
+use crate::served::{Served, answered};
+use assignment::Planner;
+use base_types::{DeviceId, Moment, Report};
+use dispatcher::{Answer as Says, Event, Reply, Status};
+use replies::{Asked, ipp_event, ipp_refusal, ipp_reply};
+use std::alloc::AllocError;
+
+/// What a caller without connections gives the server.
+impl<P: Planner + Drop> Engine<P> {
+    /// One IPP body, between turns, without HTTP. The error is that a growth was refused, which the
+    /// listener is told of.
+    pub fn serve_body<N: Notes>(
+        &mut self,
+        body: &[u8],
+        notes: &mut N,
+        moment: Moment,
+    ) -> Result<Served, AllocError>
+        ensures { ServesBody (alone N.told) moment body.now notes.old self.old notes.new self.new (said_of result) }
+    {
+        self.serve_now(moment, body, notes)
+    }
+
+    /// What a body comes to.
+    fn serve_now<N: Notes>(
+        &mut self,
+        moment: Moment,
+        body: &[u8],
+        notes: &mut N,
+    ) -> Result<Served, AllocError>
+        ensures { Answered (alone N.told) (BodyComes moment body.now) notes.old self.old notes.new self.new (said_of result) }
+    {
+        match ipp_event(self.alloc, body) {
+            Ok(asked) => self.serve_asked(moment, asked, notes),
+            Err(_) => {
+                notes.refused(Place::Event, None);
+                Err(AllocError)
+            }
+        }
+    }
+
+    /// What comes of what a body asks.
+    fn serve_asked<N: Notes>(
+        &mut self,
+        moment: Moment,
+        asked: Asked,
+        notes: &mut N,
+    ) -> Result<Served, AllocError>
+        ensures { Answered (alone N.told) (BodyAsks moment asked) notes.old self.old notes.new self.new (said_of result) }
+    {
+        match asked {
+            Asked::TooShort => Ok(Served::BadRequest),
+            Asked::Refused(status, request) => self.serve_refusal(status, request, notes),
+            Asked::Event(request, event) => self.serve_event(moment, request, event, notes),
+        }
+    }
+
+    /// A status alone.
+    fn serve_refusal<N: Notes>(
+        &self,
+        status: Status,
+        request: u32,
+        notes: &mut N,
+    ) -> Result<Served, AllocError>
+        ensures { RefusalAs N.told status request notes.old result notes.new }
+    {
+        match Vec::from_slice(self.alloc, &ipp_refusal(status, request)) {
+            Ok(bytes) => Ok(Served::Reply(bytes)),
+            Err(_) => {
+                notes.refused(Place::Reply, None);
+                Err(AllocError)
+            }
+        }
+    }
+
+    /// An event of a body.
+    fn serve_event<N: Notes>(
+        &mut self,
+        moment: Moment,
+        request: u32,
+        event: Event,
+        notes: &mut N,
+    ) -> Result<Served, AllocError>
+        ensures { Answered (alone N.told) (BodyAsks moment (Asked.Event request event)) notes.old self.old notes.new self.new (said_of result) }
+    {
+        let query = event.is_query();
+        match self.core.apply(event, moment) {
+            Ok(reply) => {
+                let Reply {
+                    answer,
+                    cancels,
+                    ..
+                } = reply;
+                let bytes = self.bytes_of(answer, request, notes);
+                let refused = self.follow(moment, query, &cancels, notes);
+                answered(bytes, refused)
+            }
+            Err(_) => {
+                notes.refused(Place::Event, None);
+                Err(AllocError)
+            }
+        }
+    }
+
+    /// The bytes of an answer. The error is want of memory, which the listener is told of.
+    fn bytes_of<N: Notes>(
+        &self,
+        answer: Says,
+        request: u32,
+        notes: &mut N,
+    ) -> Result<Vec<u8>, AllocError>
+        ensures { BytesAs N.told request answer notes.old result notes.new }
+    {
+        match answer {
+            Says::Nothing => Ok(Vec::new(self.alloc)),
+            Says::Ipp(answer) => match ipp_reply(self.alloc, answer, request) {
+                Ok(bytes) => Ok(bytes),
+                Err(error) => {
+                    notes.refused(Place::Reply, None);
+                    Err(error)
+                }
+            },
+        }
+    }
+
+    /// One report of a device, between turns, without a connection. The error is that a growth was
+    /// refused, which the listener is told of.
+    pub fn report<N: Notes>(
+        &mut self,
+        device: DeviceId,
+        report: Report,
+        notes: &mut N,
+        moment: Moment,
+    ) -> Result<(), AllocError>
+        ensures { Calls (alone N.told) (Reported moment device (report_of report)) notes.old self.old notes.new self.new result }
+    {
+        if self.report_now(moment, device, report, notes) {
+            Err(AllocError)
+        } else {
+            Ok(())
+        }
+    }
+
+    /// One report of a device. Whether a growth was refused.
+    fn report_now<N: Notes>(
+        &mut self,
+        moment: Moment,
+        device: DeviceId,
+        report: Report,
+        notes: &mut N,
+    ) -> bool
+        ensures { Openly (alone N.told) (Unanswered moment (Event.Report device report)) notes.old self.old notes.new self.new result }
+    {
+        let Ok(reply) = self.core.apply(Event::Report(device, report), moment) else {
+            return false;
+        };
+        self.follow(moment, false, &reply.cancels, notes)
+    }
+
+    /// One tick, between turns. The error is that a growth was refused, which the listener is told of.
+    pub fn tick<N: Notes>(&mut self, notes: &mut N, moment: Moment) -> Result<(), AllocError>
+        ensures { Calls (alone N.told) (Ticked moment) notes.old self.old notes.new self.new result }
+    {
+        if self.tick_now(moment, notes) {
+            Err(AllocError)
+        } else {
+            Ok(())
+        }
+    }
+}

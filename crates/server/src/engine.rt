@@ -1,0 +1,67 @@
+//! The engine.
+ghost use Rattle.std.specs.Prelude.{[], IfOk};
+ghost use Rattle.settings_file.specs.Settings.{MeetsLimits};
+ghost use Rattle.print_room.specs.Opening.{opening};
+ghost use Rattle.server.specs.Polls.{both};
+ghost use Rattle.server.specs.State.{EngineState};
+ghost use Rattle.server.specs.Stands.{StandsAt, Turns};
+
+use crate::connection::Connection;
+use crate::notes::Notes;
+use crate::wire::Wire;
+use assignment::Planner;
+use base_types::{Limits, Moment};
+use dispatcher::Core;
+use settings_file::Settings;
+use slab::Slab;
+use std::alloc::{AllocError, Global};
+use std::marker::Model;
+
+/// The connections of a server, and its core.
+#[derive(Drop)]
+pub struct Engine<P: Planner + Drop> {
+    pub(crate) core: Core<P>,
+    pub(crate) connections: Slab<Connection>,
+    /// The moment of the last tick.
+    pub(crate) ticked: Option<Moment>,
+    /// The last dispatch was refused for want of memory.
+    pub(crate) undispatched: bool,
+    pub(crate) alloc: Global,
+}
+
+impl<P: Planner + Drop> Model for Engine<P> {
+    ghost use Rattle.server.specs.State.{EngineState};
+
+    ghost Value = { EngineState };
+
+    ghost view = { λ e. record { core = e.core; slots = e.connections.slots; ticked = e.ticked; undispatched = e.undispatched } };
+}
+
+impl<P: Planner + Drop> Engine<P> {
+    /// A server that starts, with settings within the limits. The only error is want of memory.
+    pub fn new(alloc: Global, settings: Settings, planner: P) -> Result<Engine<P>, AllocError>
+        requires { MeetsLimits settings }
+        ensures { IfOk result (StandsAt (opening settings 1) []) }
+    {
+        let core = Core::new(alloc, settings, planner)?;
+        let connections = Slab::with_capacity(alloc, Limits::CONNECTIONS)?;
+        Ok(Engine {
+            core,
+            connections,
+            ticked: None,
+            undispatched: false,
+            alloc,
+        })
+    }
+
+    /// One turn: a tick where one is due, an accept at each door, a read of each connection with what
+    /// it brings, a write of what waits, and the closings.
+    ///
+    /// Whatever the wire answers: at whatever trace the engine stood, it stands at that trace followed
+    /// by this turn.
+    pub fn turn<W: Wire, N: Notes>(&mut self, wire: &mut W, notes: &mut N, moment: Moment)
+        ensures { Turns (both W.polled N.told) moment (wire.old, notes.old) self.old (wire.new, notes.new) self.new }
+    {
+        self.turn_once(wire, notes, moment);
+    }
+}

@@ -1,0 +1,121 @@
+//! What the items of a client's stream do.
+ghost use Rattle.std.specs.Prelude.{◌≡◌, true, Some, IsTrue, IsFalse};
+ghost use Rattle.server.specs.Polls.{alone};
+ghost use Rattle.server.specs.Keeping.{Keeps};
+ghost use Rattle.server.specs.Exchange.{refusal_head, AsksFor, closes_with};
+ghost use Rattle.server.specs.State.{Slots, OnSlot, IsHeard, HearsNothing, IsWholeOf, changed_at, is_over, with_slots};
+ghost use Rattle.server.specs.Stands.{Aside, Heard};
+
+use crate::engine::Engine;
+use crate::events::Asker;
+use crate::notes::{Notes, Place};
+use crate::table::{Whole, begin, finish, next_item, take_body, take_part};
+use crate::wire::WireId;
+use assignment::Planner;
+use base_types::Moment;
+use dispatcher::{Event, Status};
+use http_front::{HttpItem, Refusal, continue_head};
+use replies::{Asked, ipp_event, request_id};
+
+/// The items of an HTTP stream, acted on one at a time.
+impl<P: Planner + Drop> Engine<P> {
+    /// Acts on the next item of the connection under a key: whether there was one.
+    pub(crate) fn hear<N: Notes>(&mut self, moment: Moment, key: usize, notes: &mut N) -> bool
+        ensures heard { IsTrue result → Heard (alone N.told) moment key notes.old self.old notes.new self.new }
+        ensures none { IsFalse result → HearsNothing key self.old self.new }
+        ensures still { IsFalse result → notes.new ≡ notes.old }
+    {
+        match next_item(&mut self.connections, key) {
+            None => false,
+            Some(item) => {
+                self.hear_item(moment, key, item, notes);
+                true
+            }
+        }
+    }
+
+    /// What an item does that was just taken off.
+    fn hear_item<N: Notes>(&mut self, moment: Moment, key: usize, item: HttpItem, notes: &mut N)
+        ensures { (before : Slots) → OnSlot key (IsHeard (Some item)) before self.old.slots → Heard (alone N.told) moment key notes.old (with_slots before self.old) notes.new self.new }
+    {
+        match item {
+            HttpItem::Head { closes } => begin(&mut self.connections, key, closes),
+            HttpItem::Continue => self.keep(key, continue_head(), notes),
+            HttpItem::BodyPart => {
+                if let Some(id) = take_part(&mut self.connections, key) {
+                    notes.refused(Place::Feed, Some(id));
+                }
+            }
+            HttpItem::BodyEnd => self.end_body(moment, key, notes),
+            HttpItem::Refuse(refusal) => {
+                finish(&mut self.connections, key, true);
+                self.keep_refusal(key, refusal, notes);
+            }
+        }
+    }
+
+    /// Acts on the body that is whole now.
+    fn end_body<N: Notes>(&mut self, moment: Moment, key: usize, notes: &mut N)
+        ensures { (before : Slots) → OnSlot key (IsHeard (Some HttpItem.BodyEnd)) before self.old.slots → Heard (alone N.told) moment key notes.old (with_slots before self.old) notes.new self.new }
+    {
+        if let Some(whole) = take_body(&mut self.connections, key) {
+            self.act_on(moment, key, &whole, notes);
+        }
+    }
+
+    /// Acts on a body.
+    fn act_on<N: Notes>(&mut self, moment: Moment, key: usize, whole: &Whole, notes: &mut N)
+        ensures { (before : Slots) → OnSlot key (IsWholeOf whole.now) before self.old.slots → Heard (alone N.told) moment key notes.old (with_slots before self.old) notes.new self.new }
+    {
+        let Some(request) = request_id(&whole.body) else {
+            self.refuse_short(key, notes);
+            return;
+        };
+        match ipp_event(self.alloc, &whole.body) {
+            Ok(asked) => self.act_on_asked(moment, key, whole.id, whole.closes, asked, notes),
+            Err(_) => {
+                finish(&mut self.connections, key, whole.closes);
+                notes.refused(Place::Event, Some(whole.id));
+                self.keep_status(key, whole.closes, Status::TemporaryError, request, notes);
+            }
+        }
+    }
+
+    /// A body under 8 bytes is answered 400, and the connection closes.
+    fn refuse_short<N: Notes>(&mut self, key: usize, notes: &mut N)
+        ensures { Aside (alone N.told) (Keeps key (refusal_head Refusal.BadRequest)) notes.old (with_slots (changed_at key (is_over true) self.old.slots) self.old) notes.new self.new }
+    {
+        finish(&mut self.connections, key, true);
+        self.keep_refusal(key, Refusal::BadRequest, notes);
+    }
+
+    /// Acts on what a body asks.
+    fn act_on_asked<N: Notes>(
+        &mut self,
+        moment: Moment,
+        key: usize,
+        id: WireId,
+        closes: bool,
+        asked: Asked,
+        notes: &mut N,
+    )
+        ensures { Aside (alone N.told) (AsksFor moment key id closes asked) notes.old (with_slots (changed_at key (is_over (closes_with closes asked)) self.old.slots) self.old) notes.new self.new }
+    {
+        match asked {
+            Asked::TooShort => self.refuse_short(key, notes),
+            Asked::Refused(status, request) => {
+                finish(&mut self.connections, key, closes);
+                self.keep_status(key, closes, status, request, notes);
+            }
+            Asked::Event(request, event) => {
+                finish(&mut self.connections, key, closes);
+                let asker = Asker {
+                    id,
+                    closes,
+                    request,
+                };
+                self.happen(moment, key, asker, event, notes);
+            }
+        }
+    }
+}

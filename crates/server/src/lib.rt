@@ -1,0 +1,30 @@
+//! Connections over a wire: what is due on each, and what each brings.
+//!
+//! [`Engine::turn`] polls the wire once round: it accepts, reads, acts on what is whole, writes what
+//! waits, and closes. Its contract says of every turn, whatever the wire answers, which bytes are due
+//! on which connection.
+#![tactic(auto)]
+
+mod between;
+mod closings;
+mod connection;
+mod core_step;
+mod due;
+mod engine;
+mod events;
+mod items;
+pub mod memory_wire;
+mod note_log;
+mod notes;
+mod polls;
+mod served;
+mod table;
+mod ticks;
+mod turns;
+mod wire;
+
+pub use engine::Engine;
+pub use note_log::{Heard, NoteLog};
+pub use notes::{Notes, Place};
+pub use served::Served;
+pub use wire::{Answer, Door, Wire, WireId};

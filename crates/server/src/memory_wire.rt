@@ -1,0 +1,267 @@
+//! A wire in memory: what its peers send is there from the start, and what they get is kept. It
+//! stands in for sockets where a run is to be the same each time.
+ghost use Rattle.std.specs.Prelude.{◌≡◌, ◌<◌, ◌≤◌, ℕ, length, take, IsTrue, IsFalse, IfSome, IfNone, IfOk, OnErr, Some, slice_get, true, false, []};
+ghost use Rattle.server.specs.Memory.{Sends, Gets, SamePeers, IsNext, is_open};
+
+use crate::wire::{Answer, Door, Wire, WireId};
+use base_types::drop_front;
+use std::alloc::{AllocError, Global};
+use std::cmp::min;
+use std::marker::Model;
+
+/// What a peer sends, and has got.
+#[derive(Drop)]
+pub struct Peer {
+    /// Where it comes in.
+    pub door: Door,
+    /// It was accepted.
+    pub accepted: bool,
+    /// It was given up: nothing is read of it or taken of what is written to it any more.
+    pub closed: bool,
+    /// What is still to be read.
+    pub input: Vec<u8>,
+    /// How many bytes a read brings at most.
+    pub piece: usize,
+    /// Nothing follows the input.
+    pub ended: bool,
+    /// What was taken of it.
+    pub taken: Vec<u8>,
+    /// How many bytes a write takes at most.
+    pub most: usize,
+}
+
+impl Model for Peer {
+    ghost use Rattle.server.specs.Peer.{PeerState};
+
+    ghost Value = { PeerState };
+
+    ghost view = { λ p. record {
+      door = p.door;
+      accepted = p.accepted;
+      closed = p.closed;
+      input = p.input.items;
+      piece = p.piece;
+      ended = p.ended;
+      taken = p.taken.items;
+      most = p.most;
+    } };
+}
+
+/// A wire of peers, whose place is their number. One poll faults, by its number.
+#[derive(Drop)]
+pub struct Memory {
+    pub peers: Vec<Peer>,
+    /// How many polls there were.
+    pub polls: u64,
+    /// The number of the poll that faults.
+    pub fault_at: u64,
+    /// How often it has failed.
+    pub faults: u64,
+}
+
+impl Memory {
+    /// A wire of these peers, none of whose polls faults but for want of memory.
+    pub fn new(peers: Vec<Peer>) -> Memory
+        ensures { result.peers.items ≡ peers.items }
+    {
+        Memory {
+            peers,
+            polls: 0,
+            fault_at: u64::MAX,
+            faults: 0,
+        }
+    }
+
+    /// Counts a poll, and says whether it is the one that faults.
+    fn fails(&mut self) -> bool
+        ensures same { SamePeers self.old self.new }
+        ensures yes { IsTrue result → self.old.faults < self.new.faults }
+        ensures never { IsFalse result → self.new.faults ≡ self.old.faults }
+    {
+        let polls = self.polls;
+        self.polls = polls.saturating_add(1);
+        polls == self.fault_at && self.counts_fault()
+    }
+
+    /// Counts a fault, unless the count is full.
+    fn counts_fault(&mut self) -> bool
+        ensures same { SamePeers self.old self.new }
+        ensures yes { IsTrue result → self.old.faults < self.new.faults }
+        ensures never { IsFalse result → self.new.faults ≡ self.old.faults }
+    {
+        if self.faults == u64::MAX {
+            return false;
+        }
+        self.faults += 1;
+        true
+    }
+
+    /// The first peer of a door that isn't accepted yet.
+    fn next_peer(&self, door: Door) -> Option<usize>
+        ensures { IfSome result (λ id. (peer : _) × (slice_get self.now.peers.items id ≡ Some peer) × IsNext door peer) }
+    {
+        for (id, peer) in self.peers.iter().enumerate() {
+            if peer.comes(door) {
+                return Some(id);
+            }
+        }
+        None
+    }
+}
+
+impl Peer {
+    /// A peer that isn't accepted yet, sends this in pieces of so many bytes, and takes so many at a
+    /// time.
+    pub fn new(alloc: Global, door: Door, input: Vec<u8>, piece: usize, most: usize) -> Peer
+        ensures { result ≡ record {
+          door = door;
+          accepted = false;
+          closed = false;
+          input = input.items;
+          piece = piece;
+          ended = false;
+          taken = [];
+          most = most;
+        } }
+    {
+        Peer {
+            door,
+            accepted: false,
+            closed: false,
+            input,
+            piece,
+            ended: false,
+            taken: Vec::new(alloc),
+            most,
+        }
+    }
+
+    /// Whether it comes in at a door.
+    fn comes(&self, door: Door) -> bool
+        ensures { IsTrue result → IsNext door self.now }
+    {
+        if self.accepted {
+            return false;
+        }
+        match (self.door, door) {
+            (Door::Ipp, Door::Ipp) | (Door::Lpd, Door::Lpd) | (Door::Devices, Door::Devices) =>
+                true,
+            _ => false,
+        }
+    }
+
+    /// Whether it was accepted and not given up.
+    fn is_open(&self) -> bool
+        ensures { result ≡ is_open self.now }
+    {
+        self.accepted && !self.closed
+    }
+
+    /// A piece of what is sent goes to the front of the buffer.
+    fn send(&mut self, buffer: &mut [u8]) -> Option<usize>
+        ensures sent { IfSome result (λ n. Sends (take n buffer.new) self.old self.new) }
+        ensures count { IfSome result (λ n. (0 < n) × (n ≤ length buffer.old)) }
+        ensures none { IfNone result (self.new ≡ self.old) }
+    {
+        let n = min(min(self.input.len(), self.piece), buffer.len());
+        if n == 0 || !self.is_open() {
+            return None;
+        }
+        buffer[..n].copy_from_slice(&self.input[..n]);
+        drop_front(&mut self.input, n);
+        Some(n)
+    }
+
+    /// A front of the bytes is taken. The error is want of memory.
+    fn get(&mut self, bytes: &[u8]) -> Result<Option<usize>, AllocError>
+        ensures got { IfOk result (λ taken. IfSome taken (λ n. Gets (take n bytes.now) self.old self.new)) }
+        ensures count { IfOk result (λ taken. IfSome taken (λ n. (0 < n) × (n ≤ length bytes.now))) }
+        ensures none { IfOk result (λ taken. IfNone taken (self.new ≡ self.old)) }
+        ensures err { OnErr result (self.new ≡ self.old) }
+    {
+        let n = min(bytes.len(), self.most);
+        if n == 0 || !self.is_open() {
+            return Ok(None);
+        }
+        self.taken.extend_from_slice(&bytes[..n])?;
+        Ok(Some(n))
+    }
+
+    /// It is given up.
+    fn leave(&mut self)
+        ensures { self.new ≡ record self.old { closed = true } }
+    {
+        self.closed = true;
+    }
+}
+
+impl Wire for Memory {
+    ghost use Rattle.server.specs.Memory.{MemoryPolls};
+
+    ghost polled = { MemoryPolls };
+
+    ghost faults = { λ w. w.faults };
+
+    fn poll_accept(&mut self, door: Door) -> Answer<WireId> {
+        if self.fails() {
+            return Answer::Fault;
+        }
+        match self.next_peer(door) {
+            Some(place) => match u32::try_from(place) {
+                Ok(id) => {
+                    self.peers[place].accepted = true;
+                    Answer::Done(id)
+                }
+                Err(_) => Answer::Waiting,
+            },
+            None => Answer::Waiting,
+        }
+    }
+
+    fn poll_read(&mut self, id: WireId, buffer: &mut [u8]) -> Answer<usize> {
+        if self.fails() {
+            return Answer::Fault;
+        }
+        let place = id as usize;
+        if place >= self.peers.len() {
+            return Answer::End;
+        }
+        let ended = self.peers[place].ended || self.peers[place].closed;
+        match self.peers[place].send(buffer) {
+            Some(n) => Answer::Done(n),
+            None => { if ended { Answer::End } else { Answer::Waiting } }
+        }
+    }
+
+    fn poll_write(&mut self, id: WireId, bytes: &[u8]) -> Answer<usize> {
+        if self.fails() {
+            return Answer::Fault;
+        }
+        let place = id as usize;
+        if place >= self.peers.len() || self.peers[place].closed {
+            return Answer::End;
+        }
+        match self.peers[place].get(bytes) {
+            Ok(Some(n)) => Answer::Done(n),
+            Ok(None) => Answer::Waiting,
+            Err(_) => {
+                if self.counts_fault() {
+                    Answer::Fault
+                } else {
+                    Answer::Waiting
+                }
+            }
+        }
+    }
+
+    fn close(&mut self, id: WireId) {
+        let place = id as usize;
+        if place < self.peers.len() {
+            self.peers[place].leave();
+        }
+    }
+
+    fn failures(&self) -> u64 {
+        self.faults
+    }
+}

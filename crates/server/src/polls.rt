@@ -1,0 +1,115 @@
+//! The polls of one connection, and of a door.
+ghost use Rattle.server.specs.Polls.{both, silent};
+ghost use Rattle.server.specs.Polling.{AcceptsAt, AcceptsOne, Opens, Serves, FeedsOne, ReadsOne, WritesOne};
+ghost use Rattle.server.specs.Stands.{Does};
+
+use crate::engine::Engine;
+use crate::notes::{Notes, Place};
+use crate::table::{Fed, Offered, end, feed, insert, offer, sent, to_read};
+use crate::wire::{Answer, Door, Wire, WireId};
+use assignment::Planner;
+use base_types::{Limits, Moment};
+
+/// The bytes of a read, at most.
+const PIECE: usize = 4096;
+
+/// One accept, one read or one write, with all that it brings.
+impl<P: Planner + Drop> Engine<P> {
+    /// At most one connection is accepted at a door.
+    pub(crate) fn accept_at<W: Wire, N: Notes>(&mut self, door: Door, wire: &mut W, notes: &mut N)
+        ensures { Does (both W.polled N.told) (AcceptsAt door) (wire.old, notes.old) self.old (wire.new, notes.new) self.new }
+    {
+        if self.connections.len() < Limits::CONNECTIONS {
+            self.accept(door, wire, notes);
+        }
+    }
+
+    /// One accept at a door.
+    fn accept<W: Wire, N: Notes>(&mut self, door: Door, wire: &mut W, notes: &mut N)
+        ensures { Does (both W.polled N.told) (AcceptsOne door) (wire.old, notes.old) self.old (wire.new, notes.new) self.new }
+    {
+        if let Answer::Done(id) = wire.poll_accept(door) {
+            match door {
+                Door::Ipp => self.open(id, wire, notes),
+                Door::Lpd => wire.close(id),
+                Door::Devices => wire.close(id),
+            }
+        }
+    }
+
+    /// A connection has come.
+    fn open<W: Wire, N: Notes>(&mut self, id: WireId, wire: &mut W, notes: &mut N)
+        ensures { Does (both W.polled N.told) (Opens Door.Ipp id) (wire.old, notes.old) self.old (wire.new, notes.new) self.new }
+    {
+        if insert(&mut self.connections, self.alloc, id) {
+            return;
+        }
+        notes.refused(Place::Accept, Some(id));
+        wire.close(id);
+    }
+
+    /// One read of the connection under a key, if it is read, and what it brings.
+    pub(crate) fn read_one<W: Wire, N: Notes>(
+        &mut self,
+        moment: Moment,
+        key: usize,
+        wire: &mut W,
+        notes: &mut N,
+    )
+        ensures { Does (both W.polled N.told) (ReadsOne moment key) (wire.old, notes.old) self.old (wire.new, notes.new) self.new }
+    {
+        let Some(id) = to_read(&self.connections, key) else {
+            return;
+        };
+        let mut piece = [0; PIECE];
+        match wire.poll_read(id, &mut piece) {
+            Answer::Done(count) => self.take(moment, key, &piece[..count], wire, notes),
+            Answer::Waiting => {}
+            Answer::End => end(&mut self.connections, key),
+            Answer::Fault => self.fail(moment, key, wire),
+        }
+    }
+
+    /// Takes a piece that was read of the connection under a key.
+    fn take<W: Wire, N: Notes>(
+        &mut self,
+        moment: Moment,
+        key: usize,
+        piece: &[u8],
+        wire: &mut W,
+        notes: &mut N,
+    )
+        ensures { Does (both W.polled N.told) (FeedsOne moment key piece.now) (wire.old, notes.old) self.old (wire.new, notes.new) self.new }
+    {
+        match feed(&mut self.connections, key, piece) {
+            Fed::Absent => {}
+            Fed::Useless => {}
+            Fed::Fed => self.serve(moment, key, wire, notes),
+            Fed::Refused(id) => {
+                notes.refused(Place::Feed, Some(id));
+                self.settle(moment, wire);
+            }
+        }
+    }
+
+    /// Acts on each item of the connection under a key.
+    fn serve<W: Wire, N: Notes>(&mut self, moment: Moment, key: usize, wire: &mut W, notes: &mut N)
+        ensures { Does (both W.polled N.told) (Serves moment key) (wire.old, notes.old) self.old (wire.new, notes.new) self.new }
+    {
+        while self.hear(moment, key, notes) {
+            self.settle(moment, wire);
+        }
+    }
+
+    /// One write of what waits on the connection under a key, if something does.
+    pub(crate) fn write_one<W: Wire>(&mut self, moment: Moment, key: usize, wire: &mut W)
+        ensures { Does (silent W.polled) (WritesOne moment key) wire.old self.old wire.new self.new }
+    {
+        match offer(&self.connections, key, wire) {
+            Offered::Nothing => {}
+            Offered::Done(count) => sent(&mut self.connections, key, count),
+            Offered::Waiting => {}
+            Offered::Ended => self.fail(moment, key, wire),
+        }
+    }
+}

@@ -1,0 +1,63 @@
+//! When time goes on.
+ghost use Rattle.std.specs.Prelude.{◌≡◌, max};
+ghost use Rattle.server.specs.Polls.{both, alone};
+ghost use Rattle.server.specs.Turn.{Ticks, TicksIfDue, is_due};
+ghost use Rattle.server.specs.Stands.{Does, Openly};
+
+use crate::engine::Engine;
+use crate::notes::Notes;
+use crate::wire::Wire;
+use assignment::Planner;
+use base_types::Moment;
+use dispatcher::Event;
+
+/// Ms between ticks.
+const TICK_TIME: u64 = 1000;
+
+/// Ticks, by which jobs whose documents don't come are aborted and a dispatch is tried again.
+impl<P: Planner + Drop> Engine<P> {
+    /// A tick, if one is due.
+    pub(crate) fn tick_if_due<W: Wire, N: Notes>(
+        &mut self,
+        moment: Moment,
+        wire: &mut W,
+        notes: &mut N,
+    )
+        ensures { Does (both W.polled N.told) (TicksIfDue moment) (wire.old, notes.old) self.old (wire.new, notes.new) self.new }
+    {
+        if self.is_tick_due(moment) {
+            self.tick_now(moment, notes);
+            self.settle(moment, wire);
+        }
+    }
+
+    /// Whether a tick is due.
+    fn is_tick_due(&self, moment: Moment) -> bool
+        ensures { result ≡ is_due (max moment self.now.core.last) self.now.ticked self.now.undispatched }
+    {
+        let now = moment.later(self.core.last());
+        is_due(now, self.ticked, self.undispatched)
+    }
+
+    /// A tick. Whether a growth was refused.
+    pub(crate) fn tick_now<N: Notes>(&mut self, moment: Moment, notes: &mut N) -> bool
+        ensures { Openly (alone N.told) (Ticks moment) notes.old self.old notes.new self.new result }
+    {
+        let now = moment.later(self.core.last());
+        let Ok(reply) = self.core.apply(Event::Tick, moment) else {
+            return false;
+        };
+        self.ticked = Some(now);
+        self.follow(moment, false, &reply.cancels, notes)
+    }
+}
+
+/// Whether a tick is due: none was yet, the last is old, or the last dispatch was refused.
+fn is_due(now: Moment, ticked: Option<Moment>, undispatched: bool) -> bool
+    ensures { result ≡ is_due now ticked undispatched }
+{
+    match ticked {
+        Some(last) => now.millis().saturating_sub(last.millis()) >= TICK_TIME || undispatched,
+        None => true,
+    }
+}

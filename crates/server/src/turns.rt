@@ -1,0 +1,84 @@
+//! The order of a turn.
+ghost use Rattle.std.specs.Prelude.{◌≡◌, ◌≤◌, ℕ, None};
+ghost use Rattle.server.specs.Polls.{both, silent};
+ghost use Rattle.server.specs.Rel.{Each};
+ghost use Rattle.server.specs.Polling.{ReadsOne, WritesOne, EndsOne};
+ghost use Rattle.server.specs.Turn.{Round, Turn};
+ghost use Rattle.server.specs.State.{slot_at};
+ghost use Rattle.server.specs.Stands.{Does};
+
+use crate::engine::Engine;
+use crate::notes::Notes;
+use crate::wire::{Door, Wire};
+use assignment::Planner;
+use base_types::Moment;
+
+/// The parts of a turn.
+impl<P: Planner + Drop> Engine<P> {
+    /// A turn, step by step.
+    pub(crate) fn turn_once<W: Wire, N: Notes>(
+        &mut self,
+        wire: &mut W,
+        notes: &mut N,
+        moment: Moment,
+    )
+        ensures { Does (both W.polled N.told) (Turn moment) (wire.old, notes.old) self.old (wire.new, notes.new) self.new }
+    {
+        self.settle(moment, wire);
+        self.tick_if_due(moment, wire, notes);
+        self.accept_at(Door::Ipp, wire, notes);
+        self.accept_at(Door::Lpd, wire, notes);
+        self.accept_at(Door::Devices, wire, notes);
+        self.round(moment, wire, notes);
+    }
+
+    /// The connections that are open now are read and written, and closed where they are done.
+    fn round<W: Wire, N: Notes>(&mut self, moment: Moment, wire: &mut W, notes: &mut N)
+        ensures { Does (both W.polled N.told) (Round moment) (wire.old, notes.old) self.old (wire.new, notes.new) self.new }
+    {
+        let keys = self.keys();
+        self.read_all(moment, keys, wire, notes);
+        self.write_all(moment, keys, wire);
+        self.end_all(moment, keys, wire);
+    }
+
+    /// How many keys there are, at most.
+    fn keys(&self) -> usize
+        ensures { (key : ℕ) → result ≤ key → slot_at self.now key ≡ None }
+    {
+        self.connections.capacity()
+    }
+
+    /// Each connection is read.
+    fn read_all<W: Wire, N: Notes>(
+        &mut self,
+        moment: Moment,
+        keys: usize,
+        wire: &mut W,
+        notes: &mut N,
+    )
+        ensures { Does (both W.polled N.told) (Each keys (ReadsOne moment)) (wire.old, notes.old) self.old (wire.new, notes.new) self.new }
+    {
+        for key in 0..keys {
+            self.read_one(moment, key, wire, notes);
+        }
+    }
+
+    /// What waits is written.
+    fn write_all<W: Wire>(&mut self, moment: Moment, keys: usize, wire: &mut W)
+        ensures { Does (silent W.polled) (Each keys (WritesOne moment)) wire.old self.old wire.new self.new }
+    {
+        for key in 0..keys {
+            self.write_one(moment, key, wire);
+        }
+    }
+
+    /// The connections that are done are closed.
+    fn end_all<W: Wire>(&mut self, moment: Moment, keys: usize, wire: &mut W)
+        ensures { Does (silent W.polled) (Each keys (EndsOne moment)) wire.old self.old wire.new self.new }
+    {
+        for key in 0..keys {
+            self.end_one(moment, key, wire);
+        }
+    }
+}
