@@ -1,0 +1,20 @@
+//! A server over the system's sockets, from its settings on.
+//!
+//! [`read_serve`] reads the settings of a file's bytes, or says what is wrong with them. [`Server`]
+//! listens at the three doors and takes turns; [`serve`] runs it for so many turns by the clock, and
+//! waits where nothing happens.
+//!
+//! [`Sockets`] is a [`server::Wire`] of sockets, none of which is waited for in a call. That what is
+//! read and written goes over the network is the system's; what is proved is what every wire promises:
+//! how many bytes a call moves, and that a fault is counted. What an engine does over any such wire is
+//! `server`'s contract.
+#![tactic(auto)]
+
+mod clock;
+mod run;
+mod settings;
+mod sockets;
+
+pub use run::{Server, serve};
+pub use settings::read_serve;
+pub use sockets::{Ports, Sockets};

@@ -1,0 +1,81 @@
+//! The settings of a server that starts.
+ghost use Rattle.std.specs.Prelude.{◌≡◌, IfOk, IfErr, OnOk, Ok, Some};
+ghost use Rattle.std.specs.Option.{ForSome};
+ghost use Rattle.std.specs.Str.{IsUtf8};
+ghost use Rattle.settings_file.specs.Settings.{MeetsLimits};
+ghost use Rattle.settings_file.specs.Fault.{Fault, fault_of, fault_line};
+ghost use Rattle.settings_file.specs.Reading.{settings_of};
+ghost use Rattle.serve.specs.Refusal.{IsFaultOf, Refuses, RefusesAs, Says};
+
+use settings_file::{Settings, SettingsFault, read_settings, write_fault};
+use std::alloc::{AllocError, Global};
+use std::io::Write;
+use streams::write_front;
+
+const REFUSED: u8 = 2;
+
+const FAILED: u8 = 3;
+
+/// The settings that a file's bytes are.
+///
+/// # Errors
+///
+/// The exit status, once the line of the first fault is written to `err`: 2, or 3 for want of memory
+/// or a writer that fails. Bytes that aren't UTF-8 are no TOML.
+pub fn read_serve<W: Write>(alloc: Global, bytes: &[u8], err: &mut W) -> Result<Settings, u8>
+    ensures read { IfOk result (λ settings. settings_of bytes.now ≡ Ok settings) }
+    ensures within_limits { IfOk result MeetsLimits }
+    ensures silent { OnOk result (err.new ≡ err.old) }
+    ensures refused { IfErr result (Refuses bytes.now (W.contents err.old) (W.contents err.new)) }
+{
+    match read_bytes(alloc, bytes) {
+        Ok(settings) => Ok(settings),
+        Err(fault) => Err(refuse(alloc, &fault, err)),
+    }
+}
+
+fn read_bytes(alloc: Global, bytes: &[u8]) -> Result<Settings, SettingsFault>
+    ensures ok { IfOk result (λ settings. settings_of bytes.now ≡ Ok settings) }
+    ensures within_limits { IfOk result MeetsLimits }
+    ensures err { IfErr result (λ e. ForSome (fault_of e) (IsFaultOf bytes.now)) }
+{
+    let Ok(text) = std::str::from_utf8(bytes) else {
+        return Err(SettingsFault::NotToml);
+    };
+    read_settings(alloc, text)
+}
+
+/// The line of a fault. The error is want of memory, which the fault may be already.
+fn line_of(alloc: Global, fault: &SettingsFault) -> Result<Vec<u8>, AllocError>
+    ensures { IfOk result (λ line. (named : Fault) × (fault_of fault.now ≡ Some named) × (line.items ≡ fault_line named)) }
+{
+    match fault {
+        SettingsFault::OutOfMemory => Err(AllocError),
+        _ => {
+            let mut line = Vec::new(alloc);
+            write_fault(fault, &mut line)?;
+            Ok(line)
+        }
+    }
+}
+
+/// Writes a line, and gives the exit status.
+fn say<W: Write>(line: &[u8], err: &mut W) -> u8
+    ensures { Says line.now (W.contents err.old) (W.contents err.new) result }
+{
+    if write_front(err, line) < line.len() {
+        FAILED
+    } else {
+        REFUSED
+    }
+}
+
+/// Writes the line of a fault, and gives the exit status.
+fn refuse<W: Write>(alloc: Global, fault: &SettingsFault, err: &mut W) -> u8
+    ensures { RefusesAs (fault_of fault.now) (W.contents err.old) (W.contents err.new) result }
+{
+    match line_of(alloc, fault) {
+        Ok(line) => say(&line, err),
+        Err(_) => FAILED,
+    }
+}
