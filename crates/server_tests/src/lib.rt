@@ -1,0 +1,11 @@
+//! Tests of the engine over a wire in memory, and of a server over the system's sockets.
+#![tactic(auto)]
+
+#[cfg(test)]
+mod between_turns;
+#[cfg(test)]
+mod exchanges;
+#[cfg(test)]
+mod in_memory;
+#[cfg(test)]
+mod over_sockets;
