@@ -1,4 +1,4 @@
-//! The program: `printd replay` reads a trace from standard input and writes what the server does,
+//! The program: `printd serve` is the server, `printd replay` reads a trace from standard input and writes what the server does,
 //! and `printd check` reads the text of a plan and writes the verdict on it.
 #![tactic(auto)]
 
@@ -6,13 +6,19 @@ mod check;
 mod words;
 
 use crate::check::run_check;
-use crate::words::{Asked, read_words};
+use crate::words::{Asked, Serving, read_words};
 use replay::run_replay;
+use serve::{Server, read_serve, serve};
 use std::alloc::AllocError;
+use std::io::ErrorKind;
+use std::net::IpAddr;
 use std::process::ExitCode;
-use std::{env, io};
+use std::{env, fs, io};
 
-/// The status of want of memory, or of a stream that fails.
+/// The status of what ends well.
+const DONE: u8 = 0;
+
+/// The status of want of memory, or of a file, a stream, a socket or the clock that fails.
 const FAILED: u8 = 3;
 
 /// The words that the program was given.
@@ -33,21 +39,57 @@ fn lent<'a>(rt: &HostRuntime, words: &'a [String]) -> Result<Vec<&'a str>, Alloc
     Ok(texts)
 }
 
-/// What the program is asked to do, or its status.
-fn asked(rt: &HostRuntime) -> Result<Asked, u8> {
+/// Serves. The error is the system's: of the file, the sockets, the clock or the output.
+fn run_serve(rt: &HostRuntime, serving: Serving<'_>) -> io::Result<u8> {
+    let bytes = fs::read(rt, serving.settings)?;
+    let settings = match read_serve(rt.alloc(), &bytes, &mut rt.stderr()) {
+        Ok(settings) => settings,
+        Err(status) => return Ok(status),
+    };
+    let address = serving
+        .address
+        .parse::<IpAddr>()
+        .map_err(|_| io::Error::from(ErrorKind::InvalidInput))?;
+    let mut server = Server::open(rt.alloc(), rt, settings, address, serving.ports)?;
+    let ports = server.ports()?;
+    let (ipp, lpd, devices) = (ports.ipp, ports.lpd, ports.devices);
+    println!(rt; "ipp {ipp}")?;
+    println!(rt; "lpd {lpd}")?;
+    println!(rt; "devices {devices}")?;
+    serve(rt, &mut server, serving.turns)?;
+    Ok(DONE)
+}
+
+/// Does what the words ask for, and gives the status.
+fn run(rt: &HostRuntime, asked: Asked<'_>) -> u8 {
+    match asked {
+        Asked::Serve(serving) => run_serve(rt, serving).unwrap_or(FAILED),
+        Asked::Replay { plans } => run_replay(
+            rt.alloc(),
+            &mut rt.reader(),
+            &mut io::writer(rt),
+            plans,
+        ),
+        Asked::Check { starts } => run_check(
+            rt.alloc(),
+            &mut rt.reader(),
+            &mut io::writer(rt),
+            starts,
+        ),
+    }
+}
+
+/// What the program does, and its status; the error is the status where it isn't known what to do.
+fn run_words(rt: &HostRuntime) -> Result<u8, u8> {
     let words = words_of(rt).map_err(|_| FAILED)?;
     let texts = lent(rt, &words).map_err(|_| FAILED)?;
-    read_words(rt.alloc(), &texts, &mut rt.stderr())
+    let asked = read_words(rt.alloc(), &texts, &mut rt.stderr())?;
+    Ok(run(rt, asked))
 }
 
 fn main(rt: HostRuntime) -> ExitCode {
-    let status = match asked(&rt) {
-        Ok(Asked::Replay { plans }) => {
-            run_replay(rt.alloc(), &mut rt.reader(), &mut io::writer(&rt), plans)
-        }
-        Ok(Asked::Check { starts }) => {
-            run_check(rt.alloc(), &mut rt.reader(), &mut io::writer(&rt), starts)
-        }
+    let status = match run_words(&rt) {
+        Ok(status) => status,
         Err(status) => status,
     };
     ExitCode::from(status)

@@ -1,6 +1,7 @@
 mod checks;
 mod plans;
 mod rows;
+mod serving;
 mod texts;
 mod totals;
 

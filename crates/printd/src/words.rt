@@ -1,16 +1,65 @@
 use clap::error::ErrorKind;
 use clap::{Arg, ArgAction, ArgMatches, Command, Error};
+use serve::Ports;
 use std::alloc::{AllocError, Global};
 use std::io::Write;
 
+/// Turns without an end: at ten a second, three thousand years.
+const MOST_TURNS: u64 = 1_000_000_000_000;
+
 /// What the program is asked to do.
 #[derive(Clone, Copy, Debug, PartialEq, Eq)]
-pub enum Asked {
+pub enum Asked<'a> {
+    /// Serve over sockets.
+    Serve(Serving<'a>),
     /// Replay a trace from standard input, and where the plans are asked for write the text of each.
     Replay { plans: bool },
     /// Judge the text of a plan from standard input, and where the starts are asked for tell when
     /// each job starts.
     Check { starts: bool },
+}
+
+/// How to serve.
+#[derive(Clone, Copy, Debug, PartialEq, Eq)]
+pub struct Serving<'a> {
+    /// The file of the settings.
+    pub settings: &'a str,
+    pub ports: Ports,
+    /// The address to listen at, as it was written.
+    pub address: &'a str,
+    pub turns: u64,
+}
+
+fn port<'a>(alloc: Global, name: &'a str) -> Arg<'a> {
+    Arg::new(alloc, name)
+        .long(name)
+        .required(true)
+        .action(ArgAction::Set)
+        .value_name("PORT")
+        .value_parser(clap::value_parser!(u16))
+}
+
+fn serve_command<'a>(alloc: Global) -> Result<Command<'a>, AllocError> {
+    let settings = Arg::new(alloc, "settings")
+        .long("settings")
+        .required(true)
+        .action(ArgAction::Set)
+        .value_name("FILE");
+    let address = Arg::new(alloc, "address")
+        .long("address")
+        .action(ArgAction::Set)
+        .default_value("127.0.0.1");
+    let turns = Arg::new(alloc, "turns")
+        .long("turns")
+        .action(ArgAction::Set)
+        .value_parser(clap::value_parser!(u64).range(1..1_000_000_000_001));
+    Command::new(alloc, "serve")
+        .arg(settings)?
+        .arg(port(alloc, "ipp"))?
+        .arg(port(alloc, "lpd"))?
+        .arg(port(alloc, "devices"))?
+        .arg(address)?
+        .arg(turns)
 }
 
 fn command<'a>(alloc: Global) -> Result<Command<'a>, AllocError> {
@@ -22,6 +71,7 @@ fn command<'a>(alloc: Global) -> Result<Command<'a>, AllocError> {
         .action(ArgAction::SetTrue);
     Command::new(alloc, "printd")
         .subcommand_required(true)
+        .subcommand(serve_command(alloc)?)?
         .subcommand(Command::new(alloc, "replay").arg(plans)?)?
         .subcommand(Command::new(alloc, "check").arg(starts)?)
 }
@@ -30,9 +80,23 @@ fn parse<'a>(alloc: Global, words: &'a [&'a str]) -> Result<ArgMatches<'a>, Erro
     command(alloc)?.try_get_matches_from(words)
 }
 
-fn meaning(found: &ArgMatches<'_>) -> Option<Asked> {
+fn serving<'a>(found: &ArgMatches<'a>) -> Option<Serving<'a>> {
+    Some(Serving {
+        settings: found.get_str("settings")?,
+        ports: Ports {
+            ipp: found.get_one::<u16>("ipp")?,
+            lpd: found.get_one::<u16>("lpd")?,
+            devices: found.get_one::<u16>("devices")?,
+        },
+        address: found.get_str("address")?,
+        turns: found.get_one::<u64>("turns").unwrap_or(MOST_TURNS),
+    })
+}
+
+fn meaning<'a>(found: &ArgMatches<'a>) -> Option<Asked<'a>> {
     let (name, inner) = found.subcommand()?;
     match name {
+        "serve" => Some(Asked::Serve(serving(inner)?)),
         "replay" => Some(Asked::Replay {
             plans: inner.get_flag("plans"),
         }),
@@ -45,7 +109,11 @@ fn meaning(found: &ArgMatches<'_>) -> Option<Asked> {
 
 /// What the words ask for, or the status to end with once the text about them is written: 2, or 3
 /// for want of memory or a writer that fails.
-pub fn read_words<W: Write>(alloc: Global, words: &[&str], err: &mut W) -> Result<Asked, u8> {
+pub fn read_words<'a, W: Write>(
+    alloc: Global,
+    words: &'a [&'a str],
+    err: &mut W,
+) -> Result<Asked<'a>, u8> {
     let matches = match parse(alloc, words) {
         Ok(matches) => matches,
         Err(error) if error.kind() == ErrorKind::OutOfMemory => return Err(3),
