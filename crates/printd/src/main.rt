@@ -2,11 +2,10 @@
 //! and `printd check` reads the text of a plan and writes the verdict on it.
 #![tactic(auto)]
 
-mod check;
 mod words;
 
-use crate::check::run_check;
 use crate::words::{Asked, read_words};
+use plan_audit::run_check;
 use replay::run_replay;
 use std::alloc::AllocError;
 use std::process::ExitCode;
