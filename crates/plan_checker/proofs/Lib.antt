@@ -2,11 +2,3 @@ pub mod Fair
 pub mod Proved
 pub mod Above
 pub mod Plans
-pub mod TextWords
-pub mod TextProblems
-pub mod TextParts
-pub mod TextLines
-pub mod TextSound
-pub mod TextAgain
-pub mod TextSaid
-pub mod TextBack

@@ -6,7 +6,7 @@ use Rattle.std.proofs.lemmas.Option.{get_or_from_slice_get, slice_get-get_or, sl
 use Rattle.base_types.specs.declared.needs.Stranded.{Stranded}
 use Rattle.cost_table.specs.Class.{IsClass}
 use Rattle.prices.specs.declared.plan.PlannedClass.{PlannedClass}
-use Rattle.prices.specs.Plan.{PlanRecord}
+use Rattle.prices.specs.Plan.{PlanRecord, HasOneListEach}
 use Rattle.prices.specs.Way.{IsWay}
 use Rattle.prices.specs.Total.{IsBest, total_of}
 use Rattle.prices.specs.Prices.{IsProved}
@@ -16,7 +16,7 @@ use Rattle.prices.proofs.Timetables.{best_of_timetables}
 use Rattle.prices.proofs.Each.{each_more, last_or_before}
 use Rattle.plan_checker.specs.Beside.{AboveHaveWays}
 use Rattle.plan_checker.specs.Verdict.{IsVerdict}
-use Rattle.plan_checker.specs.Plan.{HasOneListEach, beside_at, IsVerdictAt, YesAbove, IsProvedPlan}
+use Rattle.plan_checker.specs.Plan.{beside_at, IsVerdictAt, YesAbove, IsProvedPlan}
 use Rattle.plan_checker.specs.declared.verdict.Verdict.{Verdict}
 use Rattle.plan_checker.specs.declared.verdict.Verdict.TheVariants.{Yes}
 use Rattle.plan_checker.specs.declared.verdict.PlanVerdict.TheVariants.{No, Yes as AllYes}

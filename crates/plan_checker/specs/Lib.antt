@@ -2,10 +2,3 @@ pub mod Beside
 pub mod Fair
 pub mod Verdict
 pub mod Plan
-pub mod PlanText
-pub mod TextReading
-pub mod TextWord
-pub mod TextLine
-pub mod TextPlan
-pub mod TextWriting
-pub mod TextRanges

@@ -10,11 +10,6 @@ use Rattle.plan_checker.specs.declared.verdict.PlanVerdict.{PlanVerdict}
 use Rattle.plan_checker.specs.declared.verdict.Verdict.TheVariants.{Yes as Proved}
 use Rattle.plan_checker.specs.declared.verdict.PlanVerdict.TheVariants.{Yes, No}
 
--- each class has a list of jobs and a list of place prices for each device
-pub record HasOneListEach (class : PlannedClass) : Type 0 where
-  pub queues : length class.priced.way ≡ length class.problem.waits
-  pub places : length class.priced.prices.places ≡ length class.problem.waits
-
 -- what stands beside the class at a place, the highest counted as 0
 abbrev pub beside_at : PlanRecord → ℕ → Beside
 beside_at plan place = record { above = take place plan.classes; stranded = plan.stranded }

@@ -1,12 +1,11 @@
 ghost use Rattle.std.specs.Prelude.{◌≡◌, ◌↔◌, ◌≤◌, All, IsTrue, List, length};
 ghost use Rattle.prices.specs.Total.{IsBest, total_of};
 ghost use Rattle.prices.specs.Timetable.{Slot, IsTimetable, slots_total};
-ghost use Rattle.plan_checker.specs.Plan.{HasOneListEach, IsPlanVerdict, IsProvedPlan};
-ghost use Rattle.plan_checker.specs.TextWriting.{HasOneEach};
+ghost use Rattle.prices.specs.Plan.{HasOneListEach};
+ghost use Rattle.plan_checker.specs.Plan.{IsPlanVerdict, IsProvedPlan};
 
 use crate::class_verdict::first_fault;
 use crate::verdict::{PlanVerdict, Verdict};
-use base_types::Text;
 use prices::{Plan, PlannedClass};
 
 /// Judges a plan, class by class from the top. It takes no memory.
@@ -45,21 +44,6 @@ pub fn has_one_list_each(classes: &[PlannedClass]) -> bool
             return false;
         }
         if class.priced.prices.places().len() != class.problem.waits().len() {
-            return false;
-        }
-    }
-    true
-}
-
-/// Whether each class has a queue and a list of place prices for each of these devices.
-pub fn has_one_each(devices: &[Text], classes: &[PlannedClass]) -> bool
-    ensures { IsTrue result ↔ All (HasOneEach devices.now) classes.now }
-{
-    for class in classes {
-        if class.priced.way.queues().len() != devices.len() {
-            return false;
-        }
-        if class.priced.prices.places().len() != devices.len() {
             return false;
         }
     }

@@ -1,7 +1,6 @@
 //! Texts of plans, and verdicts on them.
-use plan_checker::{
-    PlanText, PlanVerdict, ReadError, TextFault, check_plan, has_one_list_each, read_plan_text,
-};
+use plan_checker::{PlanVerdict, check_plan, has_one_list_each};
+use plan_text::{PlanText, ReadError, TextFault, read_plan_text};
 use std::alloc::Global;
 use std::test::Fail;
 

@@ -1,12 +1,12 @@
-//! The program: `printd serve` is the server, `printd replay` reads a trace from standard input and writes what the server does,
-//! and `printd check` reads the text of a plan and writes the verdict on it.
+//! The program: `printd serve` is the server over sockets, `printd replay` reads a trace from standard
+//! input and writes what the server does, and `printd check` reads the text of a plan and writes the
+//! verdict on it.
 #![tactic(auto)]
 
-mod check;
 mod words;
 
-use crate::check::run_check;
 use crate::words::{Asked, Serving, read_words};
+use plan_audit::run_check;
 use replay::run_replay;
 use serve::{Server, read_serve, serve};
 use std::alloc::AllocError;

@@ -1,17 +1,14 @@
 -- What is printed of an event: its reply, the cancels, the plan and what starts.
-use Rattle.std.specs.Prelude.{ℕ, ◌≡◌, Bool, List, [], ◌∷◌, ◌++◌, Option, Some, None, codes, if◌then◌else◌, slice_index_or}
+use Rattle.std.specs.Prelude.{ℕ, ◌≡◌, Bool, List, [], ◌∷◌, ◌++◌, Option, Some, None, codes, if◌then◌else◌}
 use Rattle.std.specs.Fmt.{decimal}
 use Rattle.hex.specs.Hex.{encode_lower}
 use Rattle.base_types.specs.declared.needs.Stranded.{Stranded}
 use Rattle.prices.specs.declared.plan.PlannedClass.{PlannedClass}
 use Rattle.prices.specs.Plan.{PlanRecord}
-use Rattle.plan_checker.specs.TextWriting.{cause_word, plan_text}
+use Rattle.plan_text.specs.NamedPlan.{name_at}
+use Rattle.plan_text.specs.Writing.{cause_word, plan_text}
 use Rattle.dispatcher.specs.declared.reply.Cancel.{Cancel}
 use Rattle.print_room.specs.declared.started.Started.{Started}
-
--- the name of the device at a place
-abbrev pub name_at : List (List ℕ) → ℕ → List ℕ
-name_at names place = slice_index_or names place []
 
 -- the bytes of a reply, in hexadecimal
 abbrev pub reply_line : List ℕ → List ℕ

@@ -7,5 +7,4 @@ mod print;
 mod run;
 mod trace;
 
-pub use print::name_of;
 pub use run::run_replay;

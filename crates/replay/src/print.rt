@@ -1,12 +1,13 @@
 //! What is printed of an event.
 ghost use Rattle.std.specs.Prelude.{◌≡◌, ◌++◌, [], IfOk, OnOk, Option, slice_index_or};
 ghost use Rattle.std.specs.Option.{option_copied};
-ghost use Rattle.plan_checker.specs.TextWriting.{cause_word};
-ghost use Rattle.replay.specs.Printed.{name_at, reply_line, cancel_line, cancel_lines, class_word, class_words, stranded_word, stranded_words, plan_line, plan_lines, start_line, start_lines, dispatch_lines};
+ghost use Rattle.plan_text.specs.NamedPlan.{name_at};
+ghost use Rattle.plan_text.specs.Writing.{cause_word};
+ghost use Rattle.replay.specs.Printed.{reply_line, cancel_line, cancel_lines, class_word, class_words, stranded_word, stranded_words, plan_line, plan_lines, start_line, start_lines, dispatch_lines};
 
-use base_types::{Cause, DeviceId, Stranded, Text};
+use base_types::{Stranded, Text};
 use dispatcher::{Cancel, Started};
-use plan_checker::write_named_plan;
+use plan_text::{cause_word, name_of, write_named_plan};
 use prices::{Plan, PlannedClass};
 use std::alloc::{AllocError, Global};
 
@@ -139,7 +140,7 @@ fn put_stranded(alloc: Global, output: &mut Vec<u8>, stranded: Stranded) -> Resu
     ensures { OnOk result (output.new.items ≡ output.old.items ++ stranded_word stranded) }
 {
     let job = stranded.job.number();
-    let cause = cause_name(stranded.cause);
+    let cause = cause_word(stranded.cause);
     let word = format!(in alloc; " -{job}:{cause}")?;
     output.extend_from_slice(word.as_bytes())?;
     Ok(())
@@ -173,27 +174,4 @@ fn put_start(
     output.extend_from_slice(name_of(names, started.device))?;
     output.extend_from_slice(b"\n")?;
     Ok(())
-}
-
-/// The name of a device, empty where it has none.
-pub fn name_of(names: &[Text], device: DeviceId) -> &[u8]
-    ensures { result.now ≡ name_at names.now device }
-{
-    match names.get(device.place()) {
-        Some(name) => name.as_bytes(),
-        None => &[],
-    }
-}
-
-/// The name of a cause.
-fn cause_name(cause: Cause) -> &'static str
-    ensures { result.now ≡ cause_word cause }
-{
-    match cause {
-        Cause::NoDevice => "NoDevice",
-        Cause::Format => "Format",
-        Cause::Sides => "Sides",
-        Cause::Media => "Media",
-        Cause::Running => "Running",
-    }
 }

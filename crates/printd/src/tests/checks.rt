@@ -1,6 +1,6 @@
-use crate::check::run_check;
 use crate::tests::plans;
 use crate::words::{Asked, read_words};
+use plan_audit::run_check;
 
 /// The status and the output of a plan's text.
 fn check(rt: &HostRuntime, text: &str, starts: bool) -> (u8, Vec<u8>) {

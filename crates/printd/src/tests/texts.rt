@@ -1,7 +1,7 @@
 //! The texts of plans that a replay writes, put before the checker.
 
-use crate::check::run_check;
 use crate::tests::rows;
+use plan_audit::run_check;
 use replay::run_replay;
 use std::alloc::{AllocError, Global};
 use std::test::Fail;

@@ -1,0 +1,81 @@
+-- What `printd check` writes, and its exit status, for each text of a plan.
+use Rattle.std.specs.Prelude.{◌≡◌, ◌==◌, ◌⊎◌, ℕ, Bool, List, [], ◌∷◌, ◌++◌, Option, MatchResult, codes, find, if◌then◌else◌, map, slice_index, slice_index_or, take}
+use Rattle.std.specs.Fmt.{decimal}
+use Rattle.std.specs.Io.KnownBytes.{Appends}
+use Rattle.std.specs.Option.{option_map_or}
+use Rattle.base_types.specs.declared.limits.TheConstants.Limits.{INPUT_BYTES}
+use Rattle.cost_table.specs.Class.{Class}
+use Rattle.prices.specs.declared.plan.PlannedClass.{PlannedClass}
+use Rattle.prices.specs.Timetable.{Slot, end_of, own_slots}
+use Rattle.plan_text.specs.declared.fault.TextFault.{TextFault}
+use Rattle.plan_text.specs.declared.fault.TextFault.TheVariants.{BadLine, OutOfRange, NoEnd}
+use Rattle.plan_checker.specs.declared.verdict.Verdict.{Verdict}
+use Rattle.plan_checker.specs.declared.verdict.Verdict.TheVariants as verdicts
+use Rattle.plan_checker.specs.declared.verdict.PlanVerdict.{PlanVerdict}
+use Rattle.plan_checker.specs.declared.verdict.PlanVerdict.TheVariants.{Yes, No}
+use Rattle.plan_text.specs.NamedPlan.{NamedPlan}
+use Rattle.plan_checker.specs.Plan.{IsPlanVerdict}
+use Rattle.plan_text.specs.Whole.{plan_at}
+use Rattle.streams.specs.Input.{IsWhole, GaveMore}
+use Rattle.streams.specs.Said.{Said, refused_as}
+
+abbrev pub fault_name : TextFault → List ℕ
+fault_name BadLine = codes "BadLine"
+fault_name OutOfRange = codes "OutOfRange"
+fault_name NoEnd = codes "NoEnd"
+
+abbrev pub verdict_name : Verdict → List ℕ
+verdict_name verdicts.Yes = codes "Yes"
+verdict_name verdicts.UnknownName = codes "UnknownName"
+verdict_name verdicts.Twice = codes "Twice"
+verdict_name verdicts.Missing = codes "Missing"
+verdict_name verdicts.NotAble = codes "NotAble"
+verdict_name verdicts.WrongWait = codes "WrongWait"
+verdict_name verdicts.PositivePlacePrice = codes "PositivePlacePrice"
+verdict_name verdicts.PriceTooHigh = codes "PriceTooHigh"
+verdict_name verdicts.TotalsDiffer = codes "TotalsDiffer"
+
+-- the line of a start: the job's id, the name of its device, when it starts there and when it ends
+unfoldable pub start_line : List (List ℕ) → Class → Slot → List ℕ
+start_line devices c slot =
+    codes "start " ++ (decimal slot.job ++ (codes " " ++ (slice_index_or devices slot.device [] ++ (codes " " ++ (decimal slot.start ++ (codes " " ++ (decimal (end_of c slot) ++ codes "\n")))))))
+
+-- when a job starts in the way's own timetable, as a line
+unfoldable pub job_start : List (List ℕ) → PlannedClass → ℕ → List ℕ
+job_start devices class job = option_map_or (start_line devices class.problem) (find (λ slot. slot.job == job) (own_slots class.problem class.priced.way)) []
+
+abbrev pub job_starts : List (List ℕ) → PlannedClass → List ℕ → List ℕ
+job_starts devices class [] = []
+job_starts devices class (job ∷ jobs) = job_start devices class job ++ job_starts devices class jobs
+
+-- the starts of all jobs: the classes in order, and in each by rising id
+abbrev pub plan_starts : List (List ℕ) → List PlannedClass → List ℕ
+plan_starts devices [] = []
+plan_starts devices (class ∷ classes) = job_starts devices class class.problem.ids ++ plan_starts devices classes
+
+-- the priority of the class at a place, the highest counted as 0
+abbrev pub priority_at : List PlannedClass → ℕ → ℕ
+priority_at classes place = slice_index (map (λ class. class.priority) classes) place
+
+-- what is said of a plan with this verdict, where the starts are asked for or not
+abbrev pub said_of : Bool → NamedPlan → PlanVerdict → Said
+said_of starts named Yes = record { text = codes "yes\n" ++ (if starts then plan_starts named.devices named.plan.classes else []); status = 0 }
+said_of starts named (No place fault) = record { text = codes "no " ++ (verdict_name fault ++ (codes " class " ++ (decimal (priority_at named.plan.classes place) ++ codes "\n"))); status = 1 }
+
+-- what is said of a text: the verdict on the plan that it is, or its first fault
+abbrev pub IsSaidOf : Bool → List ℕ → Said → Type 0
+IsSaidOf starts text said = MatchResult (plan_at text)
+    (λ named. (verdict : PlanVerdict) × IsPlanVerdict named.plan verdict × (said ≡ said_of starts named verdict))
+    (λ fault. said ≡ refused_as (fault_name fault))
+
+-- what is said of an input: of the text that it is as a whole, or that it has too many bytes
+abbrev pub IsAnswer : Bool → Option (List ℕ) → Option (List ℕ) → Said → Type 0
+IsAnswer starts before after said =
+    ((text : List ℕ) × IsWhole INPUT_BYTES before after text × IsSaidOf starts text said)
+    ⊎ (GaveMore INPUT_BYTES before after × (said ≡ refused_as (codes "size")))
+
+-- the answer was written as a whole; or the program failed, and wrote nothing or a front of it
+abbrev pub Checks : Bool → Option (List ℕ) → Option (List ℕ) → Option (List ℕ) → Option (List ℕ) → ℕ → Type 0
+Checks starts before after held holds status =
+    ((said : Said) × IsAnswer starts before after said × Appends held holds said.text × (status ≡ said.status))
+    ⊎ ((status ≡ 3) × (Appends held holds [] ⊎ ((said : Said) × IsAnswer starts before after said × (n : ℕ) × Appends held holds (take n said.text))))

@@ -1,0 +1,147 @@
+//! The text of a plan, judged.
+ghost use Rattle.std.specs.Prelude.{◌≡◌, ◌++◌, ◌<◌, All, IfOk, IfSome, [], codes, if◌then◌else◌, length};
+ghost use Rattle.std.specs.Fmt.{decimal};
+ghost use Rattle.prices.specs.Plan.{HasOneListEach};
+ghost use Rattle.prices.specs.Prices.{IsProved};
+ghost use Rattle.plan_checker.specs.Plan.{IsPlanVerdict};
+ghost use Rattle.streams.specs.Said.{refused_as};
+ghost use Rattle.plan_audit.specs.Check.{verdict_name, plan_starts, priority_at, said_of, IsSaidOf, IsAnswer, Checks};
+
+use crate::names::{fault_name, verdict_name};
+use crate::starts::put_starts;
+use base_types::{Limits, Text};
+use plan_checker::{PlanVerdict, Verdict, check_plan};
+use plan_text::{PlanText, ReadError, read_plan_text};
+use prices::PlannedClass;
+use std::alloc::{AllocError, Global};
+use std::io::{Read, Write};
+use streams::{InputFault, read_whole, write_front};
+
+const YES: u8 = 0;
+
+const NO: u8 = 1;
+
+const REFUSED: u8 = 2;
+
+const FAILED: u8 = 3;
+
+/// What is written, and the exit status.
+#[derive(Drop)]
+struct Answer {
+    text: Vec<u8>,
+    status: u8,
+}
+
+/// Reads the text of a plan to its end, writes the verdict on it, and gives the exit status.
+///
+/// It writes `yes`, and where the starts are asked for a line `start ID NAME S E` for each job, with
+/// the ms from now at which it starts and ends; or `no NAME class P`, the first fault and the
+/// priority of its class; or `refused NAME`, where the text is no plan or has too many bytes. The
+/// status is 0 for yes, 1 for no and 2 for refused, or 3 for want of memory or a stream that fails.
+/// What is written is then a front of the answer.
+pub fn run_check<R: Read, W: Write>(
+    alloc: Global,
+    reader: &mut R,
+    writer: &mut W,
+    starts: bool,
+) -> u8
+    ensures { Checks starts (R.remaining reader.old) (R.remaining reader.new) (W.contents writer.old) (W.contents writer.new) result }
+{
+    let Some(answer) = answer_input(alloc, reader, starts) else {
+        return FAILED;
+    };
+    if write_front(writer, &answer.text) == answer.text.len() {
+        answer.status
+    } else {
+        FAILED
+    }
+}
+
+/// The answer to an input, unless memory or the stream fails.
+fn answer_input<R: Read>(alloc: Global, reader: &mut R, starts: bool) -> Option<Answer>
+    ensures { IfSome result (λ answer. IsAnswer starts (R.remaining reader.old) (R.remaining reader.new) (record { text = answer.text.items; status = answer.status })) }
+{
+    match read_whole(alloc, reader, Limits::INPUT_BYTES, Limits::INPUT_READS) {
+        Ok(text) => answer_text(alloc, &text, starts).ok(),
+        Err(InputFault::Size) => refused(alloc, "size").ok(),
+        Err(InputFault::Stream | InputFault::OutOfMemory) => None,
+    }
+}
+
+/// The answer to a text.
+fn answer_text(alloc: Global, text: &[u8], starts: bool) -> Result<Answer, AllocError>
+    ensures { IfOk result (λ answer. IsSaidOf starts text.now (record { text = answer.text.items; status = answer.status })) }
+{
+    match read_plan_text(alloc, text) {
+        Ok(named) => judge(alloc, &named, starts),
+        Err(ReadError::Fault(fault)) => refused(alloc, fault_name(fault)),
+        Err(ReadError::OutOfMemory) => Err(AllocError),
+    }
+}
+
+/// The answer to a text that is refused.
+fn refused(alloc: Global, name: &str) -> Result<Answer, AllocError>
+    ensures { IfOk result (λ answer. record { text = answer.text.items; status = answer.status } ≡ refused_as name.now) }
+{
+    let line = format!(in alloc; "refused {name}\n")?;
+    Ok(Answer {
+        text: Vec::from_slice(alloc, line.as_bytes())?,
+        status: REFUSED,
+    })
+}
+
+/// The answer to a plan.
+fn judge(alloc: Global, named: &PlanText, starts: bool) -> Result<Answer, AllocError>
+    requires { All HasOneListEach named.now.plan.classes }
+    ensures { IfOk result (λ answer. (verdict : PlanVerdict) × IsPlanVerdict named.now.plan verdict × (record { text = answer.text.items; status = answer.status } ≡ said_of starts named.now verdict)) }
+{
+    match check_plan(named.plan()) {
+        PlanVerdict::Yes => Ok(Answer {
+            text: yes_text(alloc, named.devices(), named.plan().classes(), starts)?,
+            status: YES,
+        }),
+        PlanVerdict::No { place, fault } => Ok(Answer {
+            text: no_text(alloc, fault, named.plan().classes(), place)?,
+            status: NO,
+        }),
+    }
+}
+
+fn no_text(
+    alloc: Global,
+    fault: Verdict,
+    classes: &[PlannedClass],
+    place: usize,
+) -> Result<Vec<u8>, AllocError>
+    requires { place < length classes.now }
+    ensures { IfOk result (λ text. text.items ≡ codes "no " ++ (verdict_name fault ++ (codes " class " ++ (decimal (priority_at classes.now place) ++ codes "\n")))) }
+{
+    let name = verdict_name(fault);
+    let priority = priority_at(classes, place);
+    let line = format!(in alloc; "no {name} class {priority}\n")?;
+    Vec::from_slice(alloc, line.as_bytes())
+}
+
+/// The priority of the class at a place.
+fn priority_at(classes: &[PlannedClass], place: usize) -> u8
+    requires { place < length classes.now }
+    ensures { result ≡ priority_at classes.now place }
+{
+    classes[place].priority.level()
+}
+
+fn yes_text(
+    alloc: Global,
+    devices: &[Text],
+    classes: &[PlannedClass],
+    starts: bool,
+) -> Result<Vec<u8>, AllocError>
+    requires { All (λ class. IsProved class.problem class.priced.way class.priced.prices class.priced.total) classes.now }
+    ensures { IfOk result (λ text. text.items ≡ codes "yes\n" ++ (if starts then plan_starts devices.now classes.now else [])) }
+{
+    let mut text = Vec::from_slice(alloc, b"yes\n")?;
+    if starts {
+        put_starts(alloc, &mut text, devices, classes)?;
+    }
+    Ok(text)
+}

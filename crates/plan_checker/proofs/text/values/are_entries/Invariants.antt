@@ -1,7 +1,0 @@
-use Rattle.std.proofs.Common.{◌≡◌, map, drop}
-use Rattle.std.specs.List.{list_all}
-use Rattle.plan_checker.specs.TextWord.{is_entry}
-use Rattle.plan_checker.proofs.text.values.are_entries.Given as goal
-
-abbrev pub invariant-loop-word : goal.invariant-loop-word
-invariant-loop-word l = list_all is_entry (map (λ word. word.now) (drop l.word-index l.words)) ≡ list_all is_entry (map (λ word. word.now) l.words)

@@ -1,7 +1,0 @@
-use Rattle.plan_checker.proofs.TextLines.{joined5, plan_text_is}
-use Rattle.plan_checker.proofs.text.write_plan.text_of.Goals as goal
-
-pub returns : goal.returns
-returns c =
-    joined5 _ _ _ _ _ _ _ _ _ _ _ (c.in_ok-text.ensures {u = tt}).items (c.in_ok-put_devices.ensures {u = tt}) (c.in_ok-put_classes.ensures {u = tt}) (c.in_ok-put_stranded.ensures {u = tt}) (c.in_ok-extend_from_slice.ensures {u = tt}).items
-    (plan_text_is (record { devices = c.args.devices.now; plan = record { classes = c.args.classes.now; stranded = c.args.stranded.now } }))

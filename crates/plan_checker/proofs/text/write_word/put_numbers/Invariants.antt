@@ -1,6 +1,0 @@
-use Rattle.std.proofs.Common.{◌≡◌, ◌++◌, drop}
-use Rattle.plan_checker.specs.TextWriting.{numbers_text}
-use Rattle.plan_checker.proofs.text.write_word.put_numbers.Given as goal
-
-abbrev pub invariant-loop-number : goal.invariant-loop-number
-invariant-loop-number l = l.output.items ++ numbers_text (drop l.number-index l.numbers) ≡ l.initial.output.items ++ numbers_text l.numbers

@@ -1,0 +1,254 @@
+-- The lines of a text that is written are read as what they say.
+use Rattle.std.proofs.Common.{◌≡◌, ◌==◌, ◌&&◌, ℕ, ℤ, ◌-◌, ◌≤◌, Bool, true, false, List, [], ◌∷◌, ◌++◌, length, map, take, slice_index_or, All, IfSome, Option, Result, Ok, Err, if◌then◌else◌, refl, sym, ap, ◌∙◌, arith, codes, append_assoc, append-nil, length-append}
+use Rattle.std.specs.List.{list_all}
+use Rattle.std.specs.Fmt.{decimal, signed_decimal}
+use Rattle.std.proofs.lemmas.Bool.{and_from}
+use Rattle.std.proofs.lemmas.List.Splits.{slice_split_at}
+use Rattle.base_types.specs.declared.limits.TheConstants.Limits.{HIGHEST_PRIORITY, LAST_JOB_ID, WAIT, AMOUNT, DEFAULT_PRIORITY}
+use Rattle.base_types.specs.declared.needs.Cause.{Cause}
+use Rattle.base_types.specs.declared.needs.Cause.TheVariants as causes
+use Rattle.base_types.specs.Forms.{is_name}
+use Rattle.base_types.specs.Ranges.{IsJobId, IsPriority}
+use Rattle.cost_table.specs.Time.{IsTime}
+use Rattle.plan_text.specs.declared.fault.TextFault.{TextFault}
+use Rattle.plan_text.specs.declared.fault.TextFault.TheVariants.{BadLine}
+use Rattle.plan_text.specs.declared.stage.Stage.TheVariants as stages
+use Rattle.plan_text.specs.Reading.{◌>>=◌}
+use Rattle.plan_text.specs.Word.{cause_at}
+use Rattle.plan_text.specs.Line.{Said, SaysPlan, SaysDevice, SaysClass, SaysJob, SaysWait, SaysWay, SaysTotal, SaysJobPrices, SaysPlacePrices, SaysStranded, SaysEnd, words_of, device_at, class_at, job_at, wait_at, way_at, total_at, job_prices_at, place_prices_at, stranded_at, line_of, line_at}
+use Rattle.plan_text.specs.Whole.{Heard, is_at, next, line_next, lines_next, nothing_heard, ended, plan_from, plan_in, plan_at, parts_of}
+use Rattle.plan_text.specs.Writing.{cause_word, entry_word, entries_text, numbers_text, prices_text, line_text, lines_text}
+use Rattle.plan_text.specs.Ranges.{IsPrice}
+use Rattle.plan_text.proofs.Sound.{ok}
+use Rattle.plan_text.proofs.Again.{lacks, spaced, split_words, lacks-spaced, lacks-append, lacks-map, number_again, numbers_again, all_numbers, decimal_is_number, decimal_lacks, entries_again, all_entries, entry_lacks, prices_again, all_prices, price_lacks, name_lacks, none_in}
+
+-- what a line may say
+abbrev pub SaidInRange : Said → Type 0
+SaidInRange SaysPlan = Unit {0}
+SaidInRange (SaysDevice name) = is_name name ≡ true
+SaidInRange (SaysClass priority) = IsPriority priority
+SaidInRange (SaysJob id times) = IsJobId id × All (λ entry. IfSome entry IsTime) times
+SaidInRange (SaysWait waits) = All (λ wait. wait ≤ WAIT) waits
+SaidInRange (SaysWay device jobs) = (is_name device ≡ true) × All IsJobId jobs
+SaidInRange (SaysTotal total) = total ≤ AMOUNT
+SaidInRange (SaysJobPrices prices) = All IsPrice prices
+SaidInRange (SaysPlacePrices device prices) = (is_name device ≡ true) × All IsPrice prices
+SaidInRange (SaysStranded stranded) = IsJobId stranded.job
+SaidInRange SaysEnd = Unit {0}
+
+-- its first word, and those after it
+abbrev pub first_of : Said → List ℕ
+first_of SaysPlan = codes "plan"
+first_of (SaysDevice name) = codes "device"
+first_of (SaysClass priority) = codes "class"
+first_of (SaysJob id times) = codes "job"
+first_of (SaysWait waits) = codes "wait"
+first_of (SaysWay device jobs) = codes "way"
+first_of (SaysTotal total) = codes "total"
+first_of (SaysJobPrices prices) = codes "jobprices"
+first_of (SaysPlacePrices device prices) = codes "placeprices"
+first_of (SaysStranded stranded) = codes "stranded"
+first_of SaysEnd = codes "end"
+
+abbrev pub rest_of : Said → List (List ℕ)
+rest_of SaysPlan = []
+rest_of (SaysDevice name) = name ∷ []
+rest_of (SaysClass priority) = decimal priority ∷ []
+rest_of (SaysJob id times) = decimal id ∷ map entry_word times
+rest_of (SaysWait waits) = map decimal waits
+rest_of (SaysWay device jobs) = device ∷ map decimal jobs
+rest_of (SaysTotal total) = decimal total ∷ []
+rest_of (SaysJobPrices prices) = map signed_decimal prices
+rest_of (SaysPlacePrices device prices) = device ∷ map signed_decimal prices
+rest_of (SaysStranded stranded) = decimal stranded.job ∷ cause_word stranded.cause ∷ []
+rest_of SaysEnd = []
+
+-- the line without its line feed
+abbrev pub body_of : Said → List ℕ
+body_of said = first_of said ++ spaced (rest_of said)
+
+entries_spaced : (times : List (Option ℕ)) → entries_text times ≡ spaced (map entry_word times)
+entries_spaced [] = refl
+entries_spaced (entry ∷ times) = ap (λ rest. 32 ∷ (entry_word entry ++ rest)) (entries_spaced times)
+
+numbers_spaced : (ns : List ℕ) → numbers_text ns ≡ spaced (map decimal ns)
+numbers_spaced [] = refl
+numbers_spaced (n ∷ ns) = ap (λ rest. 32 ∷ (decimal n ++ rest)) (numbers_spaced ns)
+
+prices_spaced : (prices : List ℤ) → prices_text prices ≡ spaced (map signed_decimal prices)
+prices_spaced [] = refl
+prices_spaced (price ∷ prices) = ap (λ rest. 32 ∷ (signed_decimal price ++ rest)) (prices_spaced prices)
+
+abbrev feed : List ℕ
+feed = 10 ∷ []
+
+-- a word, and then words after spaces
+word_and : (word text : List ℕ) (words : List (List ℕ)) → text ≡ spaced words → word ++ (text ++ feed) ≡ (word ++ spaced words) ++ feed
+word_and word text words e = ap (λ t. word ++ (t ++ feed)) e ∙ sym (append_assoc word (spaced words) feed)
+
+only_and : (word : List ℕ) → word ++ feed ≡ (word ++ []) ++ feed
+only_and word = ap (λ w. w ++ feed) (sym (append-nil word))
+
+line_is : (said : Said) → line_text said ≡ body_of said ++ feed
+unfolding line_text
+line_is SaysPlan = refl
+line_is (SaysDevice name) = ap (λ rest. codes "device " ++ rest) (only_and name)
+line_is (SaysClass priority) = ap (λ rest. codes "class " ++ rest) (only_and (decimal priority))
+line_is (SaysJob id times) = ap (λ rest. codes "job " ++ rest) (word_and (decimal id) (entries_text times) (map entry_word times) (entries_spaced times))
+line_is (SaysWait waits) = ap (λ rest. codes "wait" ++ (rest ++ feed)) (numbers_spaced waits)
+line_is (SaysWay device jobs) = ap (λ rest. codes "way " ++ rest) (word_and device (numbers_text jobs) (map decimal jobs) (numbers_spaced jobs))
+line_is (SaysTotal total) = ap (λ rest. codes "total " ++ rest) (only_and (decimal total))
+line_is (SaysJobPrices prices) = ap (λ rest. codes "jobprices" ++ (rest ++ feed)) (prices_spaced prices)
+line_is (SaysPlacePrices device prices) = ap (λ rest. codes "placeprices " ++ rest) (word_and device (prices_text prices) (map signed_decimal prices) (prices_spaced prices))
+line_is (SaysStranded stranded) =
+    ap (λ rest. codes "stranded " ++ (decimal stranded.job ++ (32 ∷ rest))) (only_and (cause_word stranded.cause))
+    ∙ ap (λ rest. codes "stranded " ++ rest) (sym (append_assoc (decimal stranded.job) (32 ∷ (cause_word stranded.cause ++ [])) feed))
+line_is SaysEnd = refl
+
+-- ---- the words of a line have no space and no line feed
+
+cause_lacks : (cause : Cause) → (lacks 32 (cause_word cause) ≡ true) × (lacks 10 (cause_word cause) ≡ true)
+cause_lacks causes.NoDevice = (refl, refl)
+cause_lacks causes.Format = (refl, refl)
+cause_lacks causes.Sides = (refl, refl)
+cause_lacks causes.Media = (refl, refl)
+cause_lacks causes.Running = (refl, refl)
+
+first_lacks : (said : Said) → (lacks 32 (first_of said) ≡ true) × (lacks 10 (first_of said) ≡ true)
+first_lacks SaysPlan = (refl, refl)
+first_lacks (SaysDevice name) = (refl, refl)
+first_lacks (SaysClass priority) = (refl, refl)
+first_lacks (SaysJob id times) = (refl, refl)
+first_lacks (SaysWait waits) = (refl, refl)
+first_lacks (SaysWay device jobs) = (refl, refl)
+first_lacks (SaysTotal total) = (refl, refl)
+first_lacks (SaysJobPrices prices) = (refl, refl)
+first_lacks (SaysPlacePrices device prices) = (refl, refl)
+first_lacks (SaysStranded stranded) = (refl, refl)
+first_lacks SaysEnd = (refl, refl)
+
+all_of_two : (a b : Bool) → a ≡ true → b ≡ true → (a && (b && true)) ≡ true
+all_of_two a b ha hb = rw (ha, hb) refl
+
+one_lacks : (byte : ℕ) (word : List ℕ) → lacks byte word ≡ true → list_all (lacks byte) (word ∷ []) ≡ true
+one_lacks byte word h = and_from (lacks byte word) true h refl
+
+rest_lacks_space : (said : Said) → SaidInRange said → list_all (lacks 32) (rest_of said) ≡ true
+rest_lacks_space SaysPlan h = refl
+rest_lacks_space (SaysDevice name) h = one_lacks 32 name (name_lacks 32 name refl h)
+rest_lacks_space (SaysClass priority) h = one_lacks 32 (decimal priority) (decimal_lacks 32 priority refl (omega (arith, h.1)))
+rest_lacks_space (SaysJob id times) h = and_from (lacks 32 (decimal id)) (list_all (lacks 32) (map entry_word times)) (decimal_lacks 32 id refl (omega (arith, h.0.1))) (lacks-map 32 (λ entry. IfSome entry IsTime) entry_word times (entry_lacks 32 refl refl) h.1)
+rest_lacks_space (SaysWait waits) h = lacks-map 32 (λ wait. wait ≤ WAIT) decimal waits (λ n l. decimal_lacks 32 n refl (omega (arith, l))) h
+rest_lacks_space (SaysWay device jobs) h = and_from (lacks 32 device) (list_all (lacks 32) (map decimal jobs)) (name_lacks 32 device refl h.0) (lacks-map 32 IsJobId decimal jobs (λ n l. decimal_lacks 32 n refl (omega (arith, l.1))) h.1)
+rest_lacks_space (SaysTotal total) h = one_lacks 32 (decimal total) (decimal_lacks 32 total refl (omega (arith, h)))
+rest_lacks_space (SaysJobPrices prices) h = lacks-map 32 IsPrice signed_decimal prices (price_lacks 32 refl refl) h
+rest_lacks_space (SaysPlacePrices device prices) h = and_from (lacks 32 device) (list_all (lacks 32) (map signed_decimal prices)) (name_lacks 32 device refl h.0) (lacks-map 32 IsPrice signed_decimal prices (price_lacks 32 refl refl) h.1)
+rest_lacks_space (SaysStranded stranded) h = all_of_two (lacks 32 (decimal stranded.job)) (lacks 32 (cause_word stranded.cause)) (decimal_lacks 32 stranded.job refl (omega (arith, h.1))) (cause_lacks stranded.cause).0
+rest_lacks_space SaysEnd h = refl
+
+rest_lacks_feed : (said : Said) → SaidInRange said → list_all (lacks 10) (rest_of said) ≡ true
+rest_lacks_feed SaysPlan h = refl
+rest_lacks_feed (SaysDevice name) h = one_lacks 10 name (name_lacks 10 name refl h)
+rest_lacks_feed (SaysClass priority) h = one_lacks 10 (decimal priority) (decimal_lacks 10 priority refl (omega (arith, h.1)))
+rest_lacks_feed (SaysJob id times) h = and_from (lacks 10 (decimal id)) (list_all (lacks 10) (map entry_word times)) (decimal_lacks 10 id refl (omega (arith, h.0.1))) (lacks-map 10 (λ entry. IfSome entry IsTime) entry_word times (entry_lacks 10 refl refl) h.1)
+rest_lacks_feed (SaysWait waits) h = lacks-map 10 (λ wait. wait ≤ WAIT) decimal waits (λ n l. decimal_lacks 10 n refl (omega (arith, l))) h
+rest_lacks_feed (SaysWay device jobs) h = and_from (lacks 10 device) (list_all (lacks 10) (map decimal jobs)) (name_lacks 10 device refl h.0) (lacks-map 10 IsJobId decimal jobs (λ n l. decimal_lacks 10 n refl (omega (arith, l.1))) h.1)
+rest_lacks_feed (SaysTotal total) h = one_lacks 10 (decimal total) (decimal_lacks 10 total refl (omega (arith, h)))
+rest_lacks_feed (SaysJobPrices prices) h = lacks-map 10 IsPrice signed_decimal prices (price_lacks 10 refl refl) h
+rest_lacks_feed (SaysPlacePrices device prices) h = and_from (lacks 10 device) (list_all (lacks 10) (map signed_decimal prices)) (name_lacks 10 device refl h.0) (lacks-map 10 IsPrice signed_decimal prices (price_lacks 10 refl refl) h.1)
+rest_lacks_feed (SaysStranded stranded) h = all_of_two (lacks 10 (decimal stranded.job)) (lacks 10 (cause_word stranded.cause)) (decimal_lacks 10 stranded.job refl (omega (arith, h.1))) (cause_lacks stranded.cause).1
+rest_lacks_feed SaysEnd h = refl
+
+body_lacks : (said : Said) → SaidInRange said → lacks 10 (body_of said) ≡ true
+body_lacks said h = lacks-append 10 (first_of said) (spaced (rest_of said)) (first_lacks said).1 (lacks-spaced (rest_of said) (rest_lacks_feed said h))
+
+-- ---- its words are read as what it says
+
+cause_again : (cause : Cause) → cause_at (cause_word cause) ≡ ok cause
+unfolding cause_at
+cause_again causes.NoDevice = refl
+cause_again causes.Format = refl
+cause_again causes.Sides = refl
+cause_again causes.Media = refl
+cause_again causes.Running = refl
+
+said_again : (said : Said) → SaidInRange said → line_at (first_of said ∷ rest_of said) ≡ ok said
+unfolding line_of device_at class_at job_at wait_at way_at total_at job_prices_at place_prices_at stranded_at
+said_again SaysPlan h = refl
+said_again (SaysDevice name) h = rw h refl
+said_again (SaysClass priority) h = rw (number_again 1 HIGHEST_PRIORITY priority h.0 h.1 (omega (arith, h.1))) refl
+said_again (SaysJob id times) h = rw (decimal_is_number id (omega (arith, h.0.1)), all_entries times h.1, number_again 1 LAST_JOB_ID id h.0.0 h.0.1 (omega (arith, h.0.1)), entries_again times h.1) refl
+said_again (SaysWait waits) h = rw (all_numbers WAIT waits (omega arith) h, numbers_again 0 WAIT waits (omega arith) (λ k d l. (omega arith, h k d l))) refl
+said_again (SaysWay device jobs) h = rw (h.0, all_numbers LAST_JOB_ID jobs (omega arith) (λ k d l. (h.1 k d l).1), numbers_again 1 LAST_JOB_ID jobs (omega arith) h.1) refl
+said_again (SaysTotal total) h = rw (number_again 0 AMOUNT total (omega arith) h (omega (arith, h))) refl
+said_again (SaysJobPrices prices) h = rw (all_prices prices h, prices_again prices h) refl
+said_again (SaysPlacePrices device prices) h = rw (h.0, all_prices prices h.1, prices_again prices h.1) refl
+said_again (SaysStranded stranded) h = rw (cause_again stranded.cause, number_again 1 LAST_JOB_ID stranded.job h.0 h.1 (omega (arith, h.1))) refl
+said_again SaysEnd h = refl
+
+pub line_again : (said : Said) → SaidInRange said → line_at (words_of (body_of said)) ≡ ok said
+line_again said h = ap line_at (split_words (first_of said) (rest_of said) (first_lacks said).0 (rest_lacks_space said h)) ∙ said_again said h
+
+-- ---- the lines of a text
+
+abbrev pub AllInRange : List Said → Type 0
+AllInRange [] = Unit {0}
+AllInRange (said ∷ lines) = SaidInRange said × AllInRange lines
+
+pub AllInRange-append : (xs ys : List Said) → AllInRange xs → AllInRange ys → AllInRange (xs ++ ys)
+AllInRange-append [] ys hx hy = hy
+AllInRange-append (x ∷ xs) ys hx hy = (hx.0, AllInRange-append xs ys hx.1 hy)
+
+none_breaks : (word : List ℕ) → lacks 10 word ≡ true → All (λ x. (x == 10) ≡ false) word
+none_breaks word h = none_in 10 word h
+
+parts_are : (lines : List Said) → AllInRange lines → parts_of (lines_text lines) ≡ map body_of lines ++ [] ∷ []
+parts_are [] h = refl
+parts_are (said ∷ lines) h =
+    ap (λ text. parts_of (text ++ lines_text lines)) (line_is said)
+    ∙ ap parts_of (append_assoc (body_of said) feed (lines_text lines))
+    ∙ slice_split_at (λ byte. byte == 10) (body_of said) 10 (lines_text lines) (none_breaks (body_of said) (body_lacks said h.0)) refl
+    ∙ ap (λ parts. body_of said ∷ parts) (parts_are lines h.1)
+
+-- what has been heard once lines have said these, each in turn
+abbrev pub said_next : Heard → Said → Result Heard TextFault
+said_next heard said = if is_at heard stages.Ended then Err BadLine else next heard said
+
+abbrev pub says_next : Heard → List Said → Result Heard TextFault
+says_next heard [] = Ok heard
+says_next heard (said ∷ lines) = said_next heard said >>= λ then'. says_next then' lines
+
+line_said : (heard : Heard) (said : Said) → SaidInRange said → line_next heard (body_of said) ≡ said_next heard said
+unfolding line_next
+line_said heard said h = ap (λ (r : Result Said TextFault). if is_at heard stages.Ended then Err BadLine else (r >>= λ said. next heard said)) (line_again said h)
+
+each_then : (r : Result Heard TextFault) (f g : Heard → Result Heard TextFault) → ((heard : Heard) → f heard ≡ g heard) → (r >>= f) ≡ (r >>= g)
+each_then (Ok heard) f g same = same heard
+each_then (Err fault) f g same = refl
+
+lines_said : (heard : Heard) (lines : List Said) → AllInRange lines → lines_next heard (map body_of lines) ≡ says_next heard lines
+lines_said heard [] h = refl
+lines_said heard (said ∷ lines) h =
+    ap (λ (r : Result Heard TextFault). r >>= λ then'. lines_next then' (map body_of lines)) (line_said heard said h.0)
+    ∙ each_then (said_next heard said) (λ then'. lines_next then' (map body_of lines)) (λ then'. says_next then' lines) (λ then'. lines_said then' lines h.1)
+
+front_is : (xs ys : List (List ℕ)) → take (length xs) (xs ++ ys) ≡ xs
+front_is [] ys = refl
+front_is (x ∷ xs) ys = ap (λ rest. x ∷ rest) (front_is xs ys)
+
+last_is : (xs : List (List ℕ)) (x : List ℕ) → slice_index_or (xs ++ x ∷ []) (length xs) [] ≡ x
+last_is [] x = refl
+last_is (y ∷ xs) x = last_is xs x
+
+-- what is read of a text of these lines
+pub text_said : (lines : List Said) → AllInRange lines → plan_at (lines_text lines) ≡ (says_next (nothing_heard DEFAULT_PRIORITY) lines >>= λ heard. ended heard [])
+unfolding plan_in plan_from
+text_said lines h =
+    let whole : List (List ℕ) = map body_of lines in
+    let all : List (List ℕ) = whole ++ [] ∷ [] in
+    let count : length all - 1 ≡ length whole = omega (arith, length-append whole ([] ∷ [])) in
+    ap plan_in (parts_are lines h)
+    ∙ ap (λ n. plan_from (take n all) (slice_index_or all n [])) count
+    ∙ ap (λ ls. plan_from ls (slice_index_or all (length whole) [])) (front_is whole ([] ∷ []))
+    ∙ ap (λ rest. plan_from whole rest) (last_is whole [])
+    ∙ ap (λ (r : Result Heard TextFault). r >>= λ heard. ended heard []) (lines_said (nothing_heard DEFAULT_PRIORITY) lines h)

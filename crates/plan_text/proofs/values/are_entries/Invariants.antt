@@ -1,0 +1,7 @@
+use Rattle.std.proofs.Common.{◌≡◌, map, drop}
+use Rattle.std.specs.List.{list_all}
+use Rattle.plan_text.specs.Word.{is_entry}
+use Rattle.plan_text.proofs.values.are_entries.Given as goal
+
+abbrev pub invariant-loop-word : goal.invariant-loop-word
+invariant-loop-word l = list_all is_entry (map (λ word. word.now) (drop l.word-index l.words)) ≡ list_all is_entry (map (λ word. word.now) l.words)

@@ -1,0 +1,122 @@
+-- The lines of a plan's text, each by itself. The form of all its words is judged first, then the
+-- ranges of its numbers; which line may follow which is judged elsewhere.
+use Rattle.std.specs.Prelude.{ℕ, ℤ, ◌&&◌, List, [], ◌∷◌, Option, Result, Ok, Err, if◌then◌else◌, codes, ◌==◌}
+use Rattle.std.specs.List.{list_all, slice_split}
+use Rattle.std.specs.Str.{bytes_eq}
+use Rattle.base_types.specs.declared.limits.TheConstants.Limits.{HIGHEST_PRIORITY, LAST_JOB_ID, WAIT, AMOUNT}
+use Rattle.base_types.specs.Forms.{is_name}
+use Rattle.base_types.specs.declared.needs.Stranded.{Stranded}
+use Rattle.plan_text.specs.declared.fault.TextFault.{TextFault}
+use Rattle.plan_text.specs.declared.fault.TextFault.TheVariants.{BadLine}
+use Rattle.plan_text.specs.declared.line.Line.{Line}
+use Rattle.plan_text.specs.declared.line.Line.TheVariants as lines
+use Rattle.plan_text.specs.Reading.{◌>>=◌}
+use Rattle.plan_text.specs.Word.{is_number, number_at, numbers_at, is_entry, entries_at, is_price, prices_at, cause_at}
+
+-- what a line says
+pub data Said : Type 0 where
+  SaysPlan : Said
+  SaysDevice : (name : List ℕ) → Said
+  SaysClass : (priority : ℕ) → Said
+  SaysJob : (id : ℕ) (times : List (Option ℕ)) → Said
+  SaysWait : (waits : List ℕ) → Said
+  SaysWay : (device : List ℕ) (jobs : List ℕ) → Said
+  SaysTotal : (total : ℕ) → Said
+  SaysJobPrices : (prices : List ℤ) → Said
+  SaysPlacePrices : (device : List ℕ) (prices : List ℤ) → Said
+  SaysStranded : Stranded → Said
+  SaysEnd : Said
+
+-- what a line that was read says
+abbrev pub said_by : Line → Said
+said_by lines.Plan = SaysPlan
+said_by (lines.Device name) = SaysDevice name
+said_by (lines.Class priority) = SaysClass priority
+said_by (lines.Job id times) = SaysJob id times.items
+said_by (lines.Wait waits) = SaysWait waits.items
+said_by (lines.Way device jobs) = SaysWay device jobs.items
+said_by (lines.Total total) = SaysTotal total
+said_by (lines.JobPrices prices) = SaysJobPrices prices.items
+said_by (lines.PlacePrices device prices) = SaysPlacePrices device prices.items
+said_by (lines.Stranded stranded) = SaysStranded stranded
+said_by lines.End = SaysEnd
+
+-- the words of a line stand between single spaces; two spaces have an empty word between them,
+-- which is no number and no name
+abbrev pub words_of : List ℕ → List (List ℕ)
+words_of line = slice_split (λ byte. byte == 32) line
+
+-- what may stand after the first word of each line
+
+abbrev pub alone_at : Said → List (List ℕ) → Result Said TextFault
+alone_at line [] = Ok line
+alone_at line (word ∷ words) = Err BadLine
+
+-- the one word
+abbrev pub only_word : List (List ℕ) → Result (List ℕ) TextFault
+only_word [] = Err BadLine
+only_word (word ∷ []) = Ok word
+only_word (word ∷ next ∷ words) = Err BadLine
+
+-- the first word, and those after it
+abbrev pub first_word : List (List ℕ) → Result (List ℕ × List (List ℕ)) TextFault
+first_word [] = Err BadLine
+first_word (word ∷ words) = Ok (word, words)
+
+unfoldable pub device_at : List (List ℕ) → Result Said TextFault
+device_at words = only_word words >>= λ name. if is_name name then Ok (SaysDevice name) else Err BadLine
+
+unfoldable pub class_at : List (List ℕ) → Result Said TextFault
+class_at words = only_word words >>= λ priority. (number_at 1 HIGHEST_PRIORITY priority >>= λ p. Ok (SaysClass p))
+
+unfoldable pub job_at : List (List ℕ) → Result Said TextFault
+job_at words = first_word words >>= λ w.
+    if is_number w.0 && list_all is_entry w.1
+    then (number_at 1 LAST_JOB_ID w.0 >>= λ id. (entries_at w.1 >>= λ times. Ok (SaysJob id times)))
+    else Err BadLine
+
+unfoldable pub wait_at : List (List ℕ) → Result Said TextFault
+wait_at words = if list_all is_number words then (numbers_at 0 WAIT words >>= λ waits. Ok (SaysWait waits)) else Err BadLine
+
+unfoldable pub way_at : List (List ℕ) → Result Said TextFault
+way_at words = first_word words >>= λ w.
+    if is_name w.0 && list_all is_number w.1
+    then (numbers_at 1 LAST_JOB_ID w.1 >>= λ jobs. Ok (SaysWay w.0 jobs))
+    else Err BadLine
+
+unfoldable pub total_at : List (List ℕ) → Result Said TextFault
+total_at words = only_word words >>= λ total. (number_at 0 AMOUNT total >>= λ n. Ok (SaysTotal n))
+
+unfoldable pub job_prices_at : List (List ℕ) → Result Said TextFault
+job_prices_at words = if list_all is_price words then (prices_at words >>= λ prices. Ok (SaysJobPrices prices)) else Err BadLine
+
+unfoldable pub place_prices_at : List (List ℕ) → Result Said TextFault
+place_prices_at words = first_word words >>= λ w.
+    if is_name w.0 && list_all is_price w.1
+    then (prices_at w.1 >>= λ prices. Ok (SaysPlacePrices w.0 prices))
+    else Err BadLine
+
+unfoldable pub stranded_at : List (List ℕ) → Result Said TextFault
+stranded_at words = first_word words >>= λ w.
+    (only_word w.1 >>= λ word. (cause_at word >>= λ cause. (number_at 1 LAST_JOB_ID w.0 >>= λ id.
+    Ok (SaysStranded (record { job = id; cause = cause })))))
+
+-- a line by its first word
+unfoldable pub line_of : List ℕ → List (List ℕ) → Result Said TextFault
+line_of first words =
+    if bytes_eq first (codes "plan") then alone_at SaysPlan words
+    else if bytes_eq first (codes "device") then device_at words
+    else if bytes_eq first (codes "class") then class_at words
+    else if bytes_eq first (codes "job") then job_at words
+    else if bytes_eq first (codes "wait") then wait_at words
+    else if bytes_eq first (codes "way") then way_at words
+    else if bytes_eq first (codes "total") then total_at words
+    else if bytes_eq first (codes "jobprices") then job_prices_at words
+    else if bytes_eq first (codes "placeprices") then place_prices_at words
+    else if bytes_eq first (codes "stranded") then stranded_at words
+    else if bytes_eq first (codes "end") then alone_at SaysEnd words
+    else Err BadLine
+
+-- what a line of these words says, or its fault
+abbrev pub line_at : List (List ℕ) → Result Said TextFault
+line_at words = first_word words >>= λ w. line_of w.0 w.1

@@ -1,0 +1,24 @@
+-- Reading step by step: each step gives a value, or the fault of the text.
+use Rattle.std.specs.Prelude.{◌≡◌, List, ◌++◌, Result, Ok, Err}
+use Rattle.plan_text.specs.declared.fault.TextFault.{TextFault}
+use Rattle.plan_text.specs.declared.fault.ReadError.{ReadError}
+use Rattle.plan_text.specs.declared.fault.ReadError.TheVariants as errors
+
+-- the second step goes on from what the first gave
+infixl 10 ◌>>=◌
+abbrev pub ◌>>=◌ : {A B : Type 0} → Result A TextFault → (A → Result B TextFault) → Result B TextFault
+(Ok x) >>= f = f x
+(Err fault) >>= f = Err fault
+
+-- what a function returned, seen by view, is what reading gives, unless memory ran out
+abbrev pub Fails : {Y : Type 0} → ReadError → Result Y TextFault → Type 0
+Fails errors.OutOfMemory read = Unit {0}
+Fails (errors.Fault fault) read = read ≡ Err fault
+
+abbrev pub Gives : {X Y : Type 0} → (X → Y) → Result X ReadError → Result Y TextFault → Type 0
+Gives view (Ok x) read = read ≡ Ok (view x)
+Gives view (Err error) read = Fails error read
+
+-- with these in front of what reading gives
+abbrev pub with_front : {X : Type 0} → List X → Result (List X) TextFault → Result (List X) TextFault
+with_front front read = read >>= λ xs. Ok (front ++ xs)

@@ -1,0 +1,113 @@
+ghost use Rattle.std.specs.Prelude.{◌≡◌, All, IfOk, map};
+ghost use Rattle.prices.specs.Plan.{HasOneListEach};
+ghost use Rattle.plan_text.specs.NamedPlan.{HasOneEach};
+ghost use Rattle.plan_text.specs.Reading.{Gives};
+ghost use Rattle.plan_text.specs.Whole.{Leaves, heard_by, nothing_heard, line_next, lines_next, ended, plan_from, plan_in, plan_at};
+
+use crate::cut::{parts, words};
+use crate::draft::Draft;
+use crate::fault::{ReadError, TextFault};
+use crate::named_plan::PlanText;
+use crate::open_class::OpenClass;
+use crate::read_line::read_line;
+use crate::stage::Stage;
+use base_types::{Limits, Priority};
+use prices::Plan;
+use std::alloc::Global;
+
+/// The plan that a text is. Each of its classes has a wait, a queue and a list of place prices for
+/// each device, so it may be judged and written.
+///
+/// # Errors
+///
+/// The fault of the first faulty line: a line is judged by itself, first for its form and then for
+/// its ranges, and then by those before it. A text that ends before the line `end` has no end.
+/// Otherwise want of memory.
+#[tactic(auto, using(crate::proofs::Sound::judged_since, crate::proofs::Sound::written_since))]
+pub fn read_plan_text(alloc: Global, text: &[u8]) -> Result<PlanText, ReadError>
+    ensures plan { Gives (λ plan. plan) result (plan_at text.now) }
+    ensures judged { IfOk result (λ named. All HasOneListEach named.plan.classes) }
+    ensures written { IfOk result (λ named. All (HasOneEach named.devices) named.plan.classes) }
+{
+    let parts = parts(alloc, text)?;
+    read_parts(alloc, &parts)
+}
+
+/// The plan of the parts of a text between line feeds.
+#[tactic(auto, using(crate::proofs::Parts::no_parts, crate::proofs::Parts::some_parts))]
+fn read_parts(alloc: Global, parts: &[&[u8]]) -> Result<PlanText, ReadError>
+    ensures { Gives (λ plan. plan) result (plan_in (map (λ part. part.now) parts.now)) }
+{
+    if parts.is_empty() {
+        return Err(ReadError::Fault(TextFault::NoEnd));
+    }
+    let count = parts.len() - 1;
+    read_from(alloc, &parts[..count], parts[count])
+}
+
+/// The plan of these lines, where this follows the last of them.
+#[tactic(auto, unfolding(crate::specs::Whole::plan_from))]
+fn read_from(alloc: Global, lines: &[&[u8]], rest: &[u8]) -> Result<PlanText, ReadError>
+    ensures { Gives (λ plan. plan) result (plan_from (map (λ line. line.now) lines.now) rest.now) }
+{
+    let draft = read_lines(alloc, lines)?;
+    finished(draft, rest)
+}
+
+/// What these lines say.
+fn read_lines(alloc: Global, lines: &[&[u8]]) -> Result<Draft, ReadError>
+    ensures { Gives heard_by result (lines_next (nothing_heard Limits.DEFAULT_PRIORITY) (map (λ line. line.now) lines.now)) }
+{
+    let mut draft = new_draft(alloc);
+    for line in lines {
+        take_line(alloc, &mut draft, *line)?;
+    }
+    Ok(draft)
+}
+
+/// Nothing heard yet.
+fn new_draft(alloc: Global) -> Draft
+    ensures { heard_by result ≡ nothing_heard Limits.DEFAULT_PRIORITY }
+{
+    Draft {
+        stage: Stage::Start,
+        devices: Vec::new(alloc),
+        classes: Vec::new(alloc),
+        stranded: Vec::new(alloc),
+        jobs: 0,
+        below: Limits::HIGHEST_PRIORITY + 1,
+        last: 0,
+        opened: OpenClass::new(alloc, Priority::normal()),
+    }
+}
+
+/// Goes on by a line.
+#[tactic(auto, unfolding(crate::specs::Whole::line_next))]
+fn take_line(alloc: Global, draft: &mut Draft, line: &[u8]) -> Result<(), ReadError>
+    ensures { Leaves result (heard_by draft.new) (line_next (heard_by draft.old) line.now) }
+{
+    if draft.stage.is(Stage::Ended) {
+        return Err(ReadError::Fault(TextFault::BadLine));
+    }
+    let words = words(alloc, line)?;
+    let line = read_line(alloc, &words)?;
+    draft.take(alloc, line)
+}
+
+/// The plan, where its last line has come and nothing follows it.
+#[tactic(auto, unfolding(crate::specs::Whole::ended))]
+fn finished(draft: Draft, rest: &[u8]) -> Result<PlanText, ReadError>
+    ensures { Gives (λ plan. plan) result (ended (heard_by draft) rest.now) }
+{
+    if !draft.stage.is(Stage::Ended) {
+        return Err(ReadError::Fault(TextFault::NoEnd));
+    }
+    if !rest.is_empty() {
+        return Err(ReadError::Fault(TextFault::BadLine));
+    }
+    let plan = Plan {
+        classes: draft.classes,
+        stranded: draft.stranded,
+    };
+    Ok(PlanText::new(draft.devices, plan))
+}

@@ -1,0 +1,48 @@
+ghost use Rattle.std.specs.Prelude.{◌≡◌, ◌==◌};
+ghost use Rattle.plan_text.specs.Whole.{stage_number};
+
+/// Which lines of a plan's text may come next.
+#[derive(Clone, Copy, Debug, PartialEq, Eq)]
+pub(crate) enum Stage {
+    /// `plan`.
+    Start,
+    /// A device, a class, a stranded job or `end`.
+    Devices,
+    /// A job of a class, or the waits.
+    Jobs,
+    /// The way of the next device, or the total after the last.
+    Ways,
+    /// The prices of the jobs.
+    JobPrices,
+    /// The place prices of the next device; after the last a class, a stranded job or `end`.
+    PlacePrices,
+    /// A stranded job or `end`.
+    Stranded,
+    /// None.
+    Ended,
+}
+
+impl Stage {
+    /// Whether it is this stage.
+    pub(crate) fn is(self, stage: Stage) -> bool
+        ensures { result ≡ (stage_number self == stage_number stage) }
+    {
+        self.number() == stage.number()
+    }
+
+    /// Its place in the order of the stages.
+    fn number(self) -> u8
+        ensures { result ≡ stage_number self }
+    {
+        match self {
+            Stage::Start => 0,
+            Stage::Devices => 1,
+            Stage::Jobs => 2,
+            Stage::Ways => 3,
+            Stage::JobPrices => 4,
+            Stage::PlacePrices => 5,
+            Stage::Stranded => 6,
+            Stage::Ended => 7,
+        }
+    }
+}
