@@ -1,4 +1,4 @@
-ghost use Rattle.std.specs.Prelude.{◌≡◌, ◌≤◌, ◌∷◌, [], IfOk, IsOk, IsErr, OnErr, None, if◌then◌else◌, position};
+ghost use Rattle.std.specs.Prelude.{◌≡◌, ◌≤◌, ◌∷◌, ◌&&◌, ◌==◌, [], IfOk, IsOk, IsErr, OnErr, None, if◌then◌else◌, length, not, position};
 ghost use Rattle.std.specs.Str.{bytes_eq};
 ghost use Rattle.ipp_codec.specs.Owned.{groups_owned};
 ghost use Rattle.job_objects.specs.Reasons.{one};
@@ -148,7 +148,7 @@ fn asked_of_format(
     let medium = medium_of(devices, printer, &request.template);
     let mut unsupported = mem::replace(&mut request.template, RequestAttributes::new(alloc));
     unsupported.make_unsupported(alloc, devices, printer);
-    if request.fidelity && !unsupported.is_empty() {
+    if breaks_fidelity(request.fidelity, &unsupported) {
         return Ok(Err(Refusal {
             status: Status::AttributesNotSupported,
             unsupported,
@@ -162,6 +162,13 @@ fn asked_of_format(
     }
     let job = new_job(alloc, place, format, medium, template, request, now)?;
     Ok(Ok(Accepted { job, unsupported }))
+}
+
+/// Whether a request that wants its template to the letter is refused for what isn't supported.
+fn breaks_fidelity(fidelity: bool, unsupported: &RequestAttributes) -> bool
+    ensures { result ≡ (fidelity && not (length unsupported.now == 0)) }
+{
+    fidelity && !unsupported.is_empty()
 }
 
 /// The job of a request's document, with what its job group comes to.
