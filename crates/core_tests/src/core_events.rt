@@ -4,9 +4,10 @@ mod reports;
 mod runs;
 
 use assignment::Lazy;
-use base_types::{Cause, DeviceId, Moment, Report, Sides, Text};
+use base_types::{Activity, Cause, DeviceId, JobId, Moment, Report, Sides, Text};
 use dispatcher::{Answer, Core, Dispatched, Event, PrintJob, Reply, Started, Status, Target};
 use ipp_codec::{Attribute, Value, ValueTag};
+use job_objects::JobState;
 use job_template::{RequestAttribute, RequestAttributes};
 use prices::Plan;
 use settings_file::read_settings;
@@ -68,13 +69,34 @@ enum Comes {
     },
 }
 
-/// What happens at a moment, and what the dispatch after it comes to.
+/// What the core shows.
+#[derive(Clone, Copy)]
+enum Shows {
+    /// The state of a job, and whether the last plan found no device for it.
+    Job(u32, JobState, bool),
+    /// How many documents are kept of a job.
+    Documents(u32, usize),
+    /// The job of a device, and the moment at which it is expected to end or, where the device is
+    /// stopped, the time left.
+    Device(usize, u32, u64),
+}
+
+/// What happens at a moment, what the dispatch after it comes to, and what is shown then.
 #[derive(Clone, Copy)]
 struct Row {
     millis: u64,
     happens: Happens,
     comes: Comes,
+    shows: &'static [Shows],
 }
+
+/// A device runs at the start, where nothing is to print.
+const READY: Row = Row {
+    millis: 0,
+    happens: Happens::Ready(A),
+    comes: Comes::NoPlan,
+    shows: &[],
+};
 
 fn at(millis: u64) -> Moment {
     Moment::new(millis).unwrap_or(Moment::start())
@@ -161,10 +183,14 @@ fn event_of(alloc: Global, happens: Happens) -> Result<Event, AllocError> {
     Ok(Event::Report(DeviceId::new(place), report))
 }
 
-fn status_of(reply: &Reply) -> Option<Status> {
-    match &reply.answer {
-        Answer::Ipp(answer) => Some(answer.status),
-        Answer::Nothing => None,
+/// Whether a job that comes is taken, and only a job that is done hands out its one document.
+fn is_answered(reply: &Reply, happens: Happens) -> bool {
+    let documents = reply.documents.len();
+    match (happens, &reply.answer) {
+        (Happens::Print(_), Answer::Ipp(answer)) => answer.status == Status::Ok && documents == 0,
+        (Happens::Print(_), Answer::Nothing) | (_, Answer::Ipp(_)) => false,
+        (Happens::Done(..), Answer::Nothing) => documents == 1,
+        (_, Answer::Nothing) => documents == 0,
     }
 }
 
@@ -221,12 +247,49 @@ fn dispatches(core: &mut Core<Lazy>, millis: u64, comes: Comes) -> Result<bool, 
     Ok(is_as(&made, comes))
 }
 
+fn job_shown(core: &Core<Lazy>, number: u32) -> Option<(JobState, bool)> {
+    let job = core.job(JobId::new(number)?)?;
+    Some((job.state, job.stranded))
+}
+
+fn documents_shown(core: &Core<Lazy>, number: u32) -> Option<usize> {
+    let documents = core.documents(JobId::new(number)?)?;
+    Some(documents.len())
+}
+
+fn device_shown(core: &Core<Lazy>, place: usize) -> Option<(u32, u64)> {
+    let device = core.device(DeviceId::new(place))?;
+    match device.activity {
+        Activity::Running(printing) => printing.map(|p| (p.job.number(), p.end)),
+        Activity::Stopped(interrupted) => interrupted.map(|i| (i.job.number(), i.left)),
+    }
+}
+
+fn is_shown(core: &Core<Lazy>, shows: Shows) -> bool {
+    match shows {
+        Shows::Job(number, state, stranded) => {
+            job_shown(core, number) == Some((state, stranded))
+        }
+        Shows::Documents(number, count) => documents_shown(core, number) == Some(count),
+        Shows::Device(place, job, millis) => device_shown(core, place) == Some((job, millis)),
+    }
+}
+
+/// Whether what happens comes to what the row says.
+fn plays(alloc: Global, core: &mut Core<Lazy>, row: Row) -> Result<bool, AllocError> {
+    let event = event_of(alloc, row.happens)?;
+    let reply = core.apply(event, at(row.millis))?;
+    let answered = is_answered(&reply, row.happens);
+    let dispatched = dispatches(core, row.millis, row.comes)?;
+    let core = &*core;
+    Ok(answered && dispatched && row.shows.iter().all(|shows| is_shown(core, *shows)))
+}
+
 /// Plays rows in order, up to the first that comes to something else than it says: that one's place.
-fn miss(alloc: Global, core: &mut Core<Lazy>, rows: &[Row]) -> Result<Option<usize>, AllocError> {
+fn miss(alloc: Global, text: &str, rows: &[Row]) -> Result<Option<usize>, Fail> {
+    let mut core = opened(alloc, text)?;
     for (place, row) in rows.iter().enumerate() {
-        let event = event_of(alloc, row.happens)?;
-        core.apply(event, at(row.millis))?;
-        if !dispatches(core, row.millis, row.comes)? {
+        if !plays(alloc, &mut core, *row)? {
             return Ok(Some(place));
         }
     }

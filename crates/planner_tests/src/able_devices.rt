@@ -53,46 +53,55 @@ fn printer(alloc: Global, places: &[usize]) -> Result<PrinterSet, AllocError> {
 }
 
 /// One device prints one-sided and has A4 loaded, the other prints two-sided and has letter loaded.
-#[test]
-fn stranded_causes(rt: HostRuntime) -> Result<(), Fail> {
-    let alloc = rt.alloc();
+fn two_kinds(alloc: Global) -> Result<Vec<DeviceNow>, AllocError> {
     let mut devices = Vec::new(alloc);
     devices.push(device(alloc, false, true, true)?)?;
     devices.push(device(alloc, true, false, true)?)?;
+    Ok(devices)
+}
 
-    let two_sided = job(alloc, b"text/plain", Sides::LongEdge)?;
-    let cases: [(&[usize], Cause); 4] = [
-        (&[0, 1], Cause::Media),
-        (&[0], Cause::Sides),
-        (&[], Cause::NoDevice),
-        (&[2], Cause::NoDevice),
+/// Why no device of these places prints a job.
+fn cause_of(
+    alloc: Global,
+    places: &[usize],
+    format: &[u8],
+    sides: Sides,
+) -> Result<Option<Cause>, AllocError> {
+    let devices = two_kinds(alloc)?;
+    let needs = job(alloc, format, sides)?;
+    let lab = printer(alloc, places)?;
+    Ok(stranded_cause(&needs, &lab, &devices))
+}
+
+#[test]
+fn stranded_causes(rt: HostRuntime) -> Result<(), Fail> {
+    let rows: [(&[usize], &[u8], Sides, Cause); 5] = [
+        (&[0, 1], b"text/plain", Sides::LongEdge, Cause::Media),
+        (&[0], b"text/plain", Sides::LongEdge, Cause::Sides),
+        (&[], b"text/plain", Sides::LongEdge, Cause::NoDevice),
+        (&[2], b"text/plain", Sides::LongEdge, Cause::NoDevice),
+        (&[0, 1], b"image/pwg-raster", Sides::One, Cause::Format),
     ];
-    for (places, cause) in cases {
-        let lab = printer(alloc, places)?;
-        assert_eq!(rt; stranded_cause(&two_sided, &lab, &devices), Some(cause));
+    for (places, format, sides, cause) in rows {
+        assert_eq!(rt; cause_of(rt.alloc(), places, format, sides)?, Some(cause));
     }
-
-    let lab = printer(alloc, &[0, 1])?;
-    let other_format = job(alloc, b"image/pwg-raster", Sides::One)?;
-    assert_eq!(rt;
-        stranded_cause(&other_format, &lab, &devices),
-        Some(Cause::Format)
-    );
     Ok(())
+}
+
+/// Whether a device that runs, or doesn't, is able to print a job, and why none is.
+fn standing(alloc: Global, runs: bool) -> Result<(bool, Option<Cause>), AllocError> {
+    let lab = printer(alloc, &[0])?;
+    let needs = job(alloc, b"text/plain", Sides::One)?;
+    let devices = [device(alloc, true, true, runs)?];
+    let is_able = able(&needs, DeviceId::new(0), &devices[0], &lab);
+    Ok((is_able, stranded_cause(&needs, &lab, &devices)))
 }
 
 /// A device that hasn't reported that it is ready, and then has.
 #[test]
 fn not_running(rt: HostRuntime) -> Result<(), Fail> {
-    let alloc = rt.alloc();
-    let lab = printer(alloc, &[0])?;
-    let needs = job(alloc, b"text/plain", Sides::One)?;
-    for (runs, cause) in [(false, Some(Cause::Running)), (true, None)] {
-        let now = device(alloc, true, true, runs)?;
-        assert_eq!(rt; able(&needs, DeviceId::new(0), &now, &lab), runs);
-        let mut devices = Vec::new(alloc);
-        devices.push(now)?;
-        assert_eq!(rt; stranded_cause(&needs, &lab, &devices), cause);
-    }
+    let stopped = (false, Some(Cause::Running));
+    assert_eq!(rt; standing(rt.alloc(), false)?, stopped);
+    assert_eq!(rt; standing(rt.alloc(), true)?, (true, None));
     Ok(())
 }

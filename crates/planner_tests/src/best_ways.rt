@@ -1,5 +1,5 @@
 //! The totals that the planners find.
-use crate::problems::class_of;
+use crate::problems::{ALONE, THREE, TWO, class_of};
 use assignment::{Counted, Dense, Lazy, Planner, Times, each_able};
 use base_types::Limits;
 use cost_table::ClassProblem;
@@ -23,18 +23,11 @@ fn agreed(alloc: Global, class: &ClassProblem) -> Result<u64, Fail> {
     Ok(total)
 }
 
-/// Three jobs on two devices.
-const THREE: [&[Option<u64>]; 3] = [
-    &[Some(10), Some(20)],
-    &[Some(10), Some(12)],
-    &[Some(30), Some(15)],
-];
-
 /// The best way is found, and each time looked at no more often than promised.
 #[test]
 fn best_of_three(rt: HostRuntime) -> Result<(), Fail> {
     let alloc = rt.alloc();
-    let class = class_of(alloc, &[1, 2, 3], &THREE, &[0, 0])?;
+    let class = class_of(alloc, &[1, 2, 3], THREE, &[0, 0])?;
     if !each_able(&class) {
         return Err(Fail::from("a job without a device"));
     }
@@ -49,13 +42,15 @@ fn best_of_three(rt: HostRuntime) -> Result<(), Fail> {
 #[test]
 fn known_totals(rt: HostRuntime) -> Result<(), Fail> {
     let alloc = rt.alloc();
-    let late_device = class_of(alloc, &[1, 2], &THREE[..2], &[100, 0])?;
-    assert_eq!(rt; agreed(alloc, &late_device)?, 44);
-    let one: [&[Option<u64>]; 3] = [&[Some(5)], &[Some(3)], &[Some(4)]];
-    let shortest_first = class_of(alloc, &[1, 2, 3], &one, &[0])?;
-    assert_eq!(rt; agreed(alloc, &shortest_first)?, 22);
-    let second_class = class_of(alloc, &[1, 2], &THREE[..2], &[0, 15])?;
-    assert_eq!(rt; agreed(alloc, &second_class)?, 30);
+    let rows: [(&[u32], &[&[Option<u64>]], &[u64], u64); 3] = [
+        (&[1, 2], TWO, &[100, 0], 44),
+        (&[1, 2, 3], ALONE, &[0], 22),
+        (&[1, 2], TWO, &[0, 15], 30),
+    ];
+    for (numbers, times, waits, total) in rows {
+        let class = class_of(alloc, numbers, times, waits)?;
+        assert_eq!(rt; agreed(alloc, &class)?, total);
+    }
     Ok(())
 }
 

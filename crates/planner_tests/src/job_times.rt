@@ -2,10 +2,11 @@
 ghost use Rattle.std.specs.Prelude.{◌≡◌, IfOk};
 ghost use Rattle.base_types.specs.Ranges.{IsImpressions, IsCopies, IsRate, IsSetup};
 
+use crate::problems::{THREE, class_of};
 use base_types::{
     Activity, DeviceId, DeviceNow, JobId, Limits, Medium, Needs, PrinterId, PrinterSet, Sides, Text,
 };
-use cost_table::{ClassJob, ClassProblem, Row, build, is_class, time};
+use cost_table::{ClassJob, build, time};
 use std::alloc::{AllocError, Global};
 use std::test::Fail;
 
@@ -57,27 +58,18 @@ fn largest_time(rt: HostRuntime) -> Result<(), Fail> {
     Ok(())
 }
 
+/// The time of the third of three jobs on a device.
+fn third_on(alloc: Global, place: usize) -> Result<Option<u64>, Fail> {
+    let class = class_of(alloc, &[1, 2, 3], THREE, &[0, 0])?;
+    let third = JobId::new(3).ok_or("id")?;
+    Ok(class.time(third, DeviceId::new(place)))
+}
+
 /// Three jobs on two devices, each of them able.
 #[test]
 fn best_of_three(rt: HostRuntime) -> Result<(), Fail> {
-    let alloc = rt.alloc();
-    let mut ids = Vec::new(alloc);
-    let mut rows = Vec::new(alloc);
-    for (number, one, other) in [(1, 10, 20), (2, 10, 12), (3, 30, 15)] {
-        ids.push(JobId::new(number).ok_or("id")?)?;
-        let mut times = Vec::new(alloc);
-        times.push(Some(one))?;
-        times.push(Some(other))?;
-        rows.push(Row::new(times))?;
-    }
-    let mut waits = Vec::new(alloc);
-    waits.push(0)?;
-    waits.push(0)?;
-    assert!(rt; is_class(&ids, &rows, &waits));
-    let class = ClassProblem::from_rows(ids, rows, waits);
-    let third = JobId::new(3).ok_or("id")?;
-    assert_eq!(rt; class.time(third, DeviceId::new(1)), Some(15));
-    assert_eq!(rt; class.time(third, DeviceId::new(2)), None);
+    assert_eq!(rt; third_on(rt.alloc(), 1)?, Some(15));
+    assert_eq!(rt; third_on(rt.alloc(), 2)?, None);
     Ok(())
 }
 

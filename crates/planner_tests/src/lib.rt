@@ -13,5 +13,3 @@ mod plan_texts;
 mod problems;
 #[cfg(test)]
 mod totals;
-#[cfg(test)]
-mod verdicts;

@@ -1,12 +1,25 @@
 //! Texts of plans, and verdicts on them.
-use plan_checker::{PlanVerdict, check_plan, has_one_list_each};
+use plan_checker::{PlanVerdict, Verdict, check_class, check_plan, has_one_list_each};
 use plan_text::{PlanText, ReadError, TextFault, read_plan_text};
+use prices::Plan;
 use std::alloc::Global;
 use std::test::Fail;
 
 /// Three jobs on two devices, with the prices that prove the way best.
 const BEST_OF_THREE: &str =
     "plan\ndevice A\ndevice B\nclass 50\njob 1 10 20\njob 2 10 12\njob 3 30 15\nwait 0 0\nway A 1 2\nway B 3\ntotal 45\njobprices 20 20 23\nplaceprices A -10 0\nplaceprices B -8\nend\n";
+
+/// Job 3 in a class above jobs 1 and 2, and job 4 that no device prints.
+const TWO_CLASSES: &str =
+    "plan\ndevice A\ndevice B\nclass 100\njob 3 30 15\nwait 0 0\nway A\nway B 3\ntotal 15\njobprices 15\nplaceprices A\nplaceprices B 0\nclass 50\njob 1 10 20\njob 2 10 12\nwait 0 15\nway A 1 2\nway B\ntotal 30\njobprices 20 20\nplaceprices A -10 0\nplaceprices B\nstranded 4 Media\nend\n";
+
+/// The same where a job of the lower class is stranded too.
+const LOWER_STRANDED: &str =
+    "plan\ndevice A\ndevice B\nclass 100\njob 3 30 15\nwait 0 0\nway A\nway B 3\ntotal 15\njobprices 15\nplaceprices A\nplaceprices B 0\nclass 50\njob 1 10 20\njob 2 10 12\nwait 0 15\nway A 1 2\nway B\ntotal 30\njobprices 20 20\nplaceprices A -10 0\nplaceprices B\nstranded 2 Media\nend\n";
+
+/// The same where the job of the upper class is.
+const UPPER_STRANDED: &str =
+    "plan\ndevice A\ndevice B\nclass 100\njob 3 30 15\nwait 0 0\nway A\nway B 3\ntotal 15\njobprices 15\nplaceprices A\nplaceprices B 0\nclass 50\njob 1 10 20\njob 2 10 12\nwait 0 15\nway A 1 2\nway B\ntotal 30\njobprices 20 20\nplaceprices A -10 0\nplaceprices B\nstranded 3 Media\nend\n";
 
 /// The fault of a text, if it has one.
 fn fault_of(alloc: Global, text: &str) -> Result<Option<TextFault>, Fail> {
@@ -33,10 +46,42 @@ fn verdict_of(alloc: Global, text: &str) -> Result<Option<PlanVerdict>, Fail> {
     Ok(Some(check_plan(plan.plan())))
 }
 
+/// That a job stands twice, seen at a class.
+fn twice(place: usize) -> PlanVerdict {
+    PlanVerdict::No {
+        place,
+        fault: Verdict::Twice,
+    }
+}
+
 #[test]
-fn best_of_three(rt: HostRuntime) -> Result<(), Fail> {
-    let verdict = verdict_of(rt.alloc(), BEST_OF_THREE)?;
-    assert_eq!(rt; verdict, Some(PlanVerdict::Yes));
+fn verdicts(rt: HostRuntime) -> Result<(), Fail> {
+    for (text, verdict) in [
+        (BEST_OF_THREE, PlanVerdict::Yes),
+        (TWO_CLASSES, PlanVerdict::Yes),
+        (LOWER_STRANDED, twice(1)),
+        (UPPER_STRANDED, twice(0)),
+    ] {
+        assert_eq!(rt; verdict_of(rt.alloc(), text)?, Some(verdict));
+    }
+    Ok(())
+}
+
+/// The verdict on the first class alone, where it has a list for each device.
+fn class_verdict(plan: &Plan) -> Option<Verdict> {
+    let class = plan.classes().first()?;
+    let devices = class.problem.waits().len();
+    let priced = &class.priced;
+    if priced.way.queues().len() != devices || priced.prices.places().len() != devices {
+        return None;
+    }
+    Some(check_class(&class.problem, priced))
+}
+
+#[test]
+fn verdict_on_a_class(rt: HostRuntime) -> Result<(), Fail> {
+    let plan = plan_of(rt.alloc(), BEST_OF_THREE)?;
+    assert_eq!(rt; class_verdict(plan.plan()), Some(Verdict::Yes));
     Ok(())
 }
 

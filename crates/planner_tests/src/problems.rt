@@ -5,8 +5,21 @@ use prices::{Queue, Way};
 use std::alloc::Global;
 use std::test::Fail;
 
+/// The times of three jobs on two devices.
+pub(crate) const THREE: &[&[Option<u64>]] = &[
+    &[Some(10), Some(20)],
+    &[Some(10), Some(12)],
+    &[Some(30), Some(15)],
+];
+
+/// The times of the first two of them.
+pub(crate) const TWO: &[&[Option<u64>]] = &[&[Some(10), Some(20)], &[Some(10), Some(12)]];
+
+/// The times of three jobs on one device.
+pub(crate) const ALONE: &[&[Option<u64>]] = &[&[Some(5)], &[Some(3)], &[Some(4)]];
+
 /// The jobs of these numbers.
-pub(crate) fn jobs_of(alloc: Global, numbers: &[u32]) -> Result<Vec<JobId>, Fail> {
+fn jobs_of(alloc: Global, numbers: &[u32]) -> Result<Vec<JobId>, Fail> {
     let mut jobs = Vec::new(alloc);
     for number in numbers {
         jobs.push(JobId::new(*number).ok_or("id")?)?;

@@ -1,5 +1,5 @@
 //! Totals, starts and waits of ways, and the least total against all orders of starts.
-use crate::problems::{class_of, way_of};
+use crate::problems::{ALONE, THREE, TWO, class_of, way_of};
 use base_types::{DeviceId, JobId};
 use cost_table::{ClassProblem, Row, is_class};
 use prices::{Queue, Way, is_way, leaves_waits, start_of, total, waits_after};
@@ -15,70 +15,117 @@ fn total_of(class: &ClassProblem, way: &Way) -> Option<u64> {
     }
 }
 
-/// Three jobs on two devices: the best way, and the one that puts each job where it ends first.
+/// A class, a way of its jobs, and what comes of it.
+#[derive(Clone, Copy)]
+struct Known {
+    numbers: &'static [u32],
+    times: &'static [&'static [Option<u64>]],
+    waits: &'static [u64],
+    queues: &'static [&'static [u32]],
+    total: u64,
+    /// A job, its device, and when it starts.
+    start: (u32, usize, u64),
+    /// When each device is free again.
+    left: &'static [u64],
+}
+
+const WAYS: [Known; 6] = [
+    // The best way of three jobs on two devices, and the one that puts each where it ends first.
+    Known {
+        numbers: &[1, 2, 3],
+        times: THREE,
+        waits: &[0, 0],
+        queues: &[&[1, 2], &[3]],
+        total: 45,
+        start: (2, 0, 10),
+        left: &[20, 15],
+    },
+    Known {
+        numbers: &[1, 2, 3],
+        times: THREE,
+        waits: &[0, 0],
+        queues: &[&[1], &[2, 3]],
+        total: 49,
+        start: (3, 1, 12),
+        left: &[10, 27],
+    },
+    // One device is late: both jobs wait for the other.
+    Known {
+        numbers: &[1, 2],
+        times: TWO,
+        waits: &[100, 0],
+        queues: &[&[], &[2, 1]],
+        total: 44,
+        start: (1, 1, 12),
+        left: &[100, 32],
+    },
+    // Jobs on one device, the shortest first.
+    Known {
+        numbers: &[1, 2, 3],
+        times: ALONE,
+        waits: &[0],
+        queues: &[&[2, 3, 1]],
+        total: 22,
+        start: (1, 0, 7),
+        left: &[12],
+    },
+    // The upper of two classes has one job, which the lower one waits for.
+    Known {
+        numbers: &[1],
+        times: &[&[Some(30), Some(15)]],
+        waits: &[0, 0],
+        queues: &[&[], &[1]],
+        total: 15,
+        start: (1, 1, 0),
+        left: &[0, 15],
+    },
+    Known {
+        numbers: &[1, 2],
+        times: TWO,
+        waits: &[0, 15],
+        queues: &[&[1, 2], &[]],
+        total: 30,
+        start: (2, 0, 10),
+        left: &[20, 15],
+    },
+];
+
+/// The total of a way, when the job starts, and whether these waits are left; nothing where it is no way.
+fn comes_of(
+    alloc: Global,
+    row: Known,
+) -> Result<Option<(u64, Option<(DeviceId, u64)>, bool)>, Fail> {
+    let class = class_of(alloc, row.numbers, row.times, row.waits)?;
+    let way = way_of(alloc, row.queues)?;
+    let (number, _, _) = row.start;
+    let job = JobId::new(number).ok_or("id")?;
+    if !is_way(&class, &way) || row.left.len() != class.waits().len() {
+        return Ok(None);
+    }
+    let left = waits_after(alloc, &class, &way)?.as_slice() == row.left;
+    Ok(Some((
+        total(&class, &way),
+        start_of(&class, &way, job),
+        left && leaves_waits(&class, &way, row.left),
+    )))
+}
+
 #[test]
-fn best_of_three(rt: HostRuntime) -> Result<(), Fail> {
-    let alloc = rt.alloc();
-    let times: [&[Option<u64>]; 3] = [
-        &[Some(10), Some(20)],
-        &[Some(10), Some(12)],
-        &[Some(30), Some(15)],
-    ];
-    let class = class_of(alloc, &[1, 2, 3], &times, &[0, 0])?;
-    assert_eq!(rt;
-        total_of(&class, &way_of(alloc, &[&[1, 2], &[3]])?),
-        Some(45)
-    );
-    assert_eq!(rt;
-        total_of(&class, &way_of(alloc, &[&[1], &[2, 3]])?),
-        Some(49)
-    );
-    assert_eq!(rt; total_of(&class, &way_of(alloc, &[&[1], &[3]])?), None);
+fn known_ways(rt: HostRuntime) -> Result<(), Fail> {
+    for row in WAYS {
+        let (_, place, start) = row.start;
+        let wanted = (row.total, Some((DeviceId::new(place), start)), true);
+        assert_eq!(rt; comes_of(rt.alloc(), row)?, Some(wanted));
+    }
     Ok(())
 }
 
-/// One device is late: both jobs wait for the other.
+/// A job of the class is left out.
 #[test]
-fn late_device(rt: HostRuntime) -> Result<(), Fail> {
-    let alloc = rt.alloc();
-    let times: [&[Option<u64>]; 2] = [&[Some(10), Some(20)], &[Some(10), Some(12)]];
-    let class = class_of(alloc, &[1, 2], &times, &[100, 0])?;
-    let way = way_of(alloc, &[&[], &[2, 1]])?;
-    assert!(rt; is_way(&class, &way));
-    assert_eq!(rt; total(&class, &way), 44);
-    let first = JobId::new(1).ok_or("id")?;
-    assert_eq!(rt; start_of(&class, &way, first), Some((DeviceId::new(1), 12)));
-    assert_eq!(rt; class.waits().len(), 2);
-    assert!(rt; leaves_waits(&class, &way, &[100, 32]));
-    Ok(())
-}
-
-/// Jobs on one device, the shortest first.
-#[test]
-fn shortest_first(rt: HostRuntime) -> Result<(), Fail> {
-    let alloc = rt.alloc();
-    let times: [&[Option<u64>]; 3] = [&[Some(5)], &[Some(3)], &[Some(4)]];
-    let class = class_of(alloc, &[1, 2, 3], &times, &[0])?;
-    assert_eq!(rt; total_of(&class, &way_of(alloc, &[&[2, 3, 1]])?), Some(22));
-    Ok(())
-}
-
-/// The upper of two classes has one job, which the lower one waits for.
-#[test]
-fn two_classes(rt: HostRuntime) -> Result<(), Fail> {
-    let alloc = rt.alloc();
-    let upper = class_of(alloc, &[1], &[&[Some(30), Some(15)]], &[0, 0])?;
-    let way = way_of(alloc, &[&[], &[1]])?;
-    assert!(rt; is_way(&upper, &way));
-    assert_eq!(rt; total(&upper, &way), 15);
-    let waits = waits_after(alloc, &upper, &way)?;
-    assert_eq!(rt; waits.as_slice(), [0, 15].as_slice());
-    let times: [&[Option<u64>]; 2] = [&[Some(10), Some(20)], &[Some(10), Some(12)]];
-    let lower = class_of(alloc, &[1, 2], &times, &waits)?;
-    assert_eq!(rt;
-        total_of(&lower, &way_of(alloc, &[&[1, 2], &[]])?),
-        Some(30)
-    );
+fn job_left_out(rt: HostRuntime) -> Result<(), Fail> {
+    let class = class_of(rt.alloc(), &[1, 2, 3], THREE, &[0, 0])?;
+    let way = way_of(rt.alloc(), &[&[1], &[3]])?;
+    assert!(rt; !is_way(&class, &way));
     Ok(())
 }
 
@@ -198,17 +245,24 @@ fn time_left(class: &ClassProblem, done: [bool; JOBS], job: usize, device: usize
     class.time(id, DeviceId::new(device))
 }
 
+/// The least total of all ways, and the least sum of ends of all orders of starts.
+fn leasts(alloc: Global, seed: &mut u64) -> Result<(Option<u64>, Option<u64>), Fail> {
+    let class = small_class(alloc, seed)?;
+    let [one, other, third] = class.waits() else {
+        return Err(Fail::from("not three devices"));
+    };
+    let free = [*one, *other, *third];
+    let ends = least_ends(&class, [false; JOBS], free, JOBS);
+    Ok((least_total(alloc, &class)?, ends))
+}
+
 /// The least total of all ways is the least sum of ends of all orders of starts.
 #[test]
 fn best_is_least_of_all_orders(rt: HostRuntime) -> Result<(), Fail> {
     let mut seed = 20_240_607;
     for _ in 0..6 {
-        let class = small_class(rt.alloc(), &mut seed)?;
-        assert_eq!(rt; class.waits().len(), DEVICES);
-        let waits = class.waits();
-        let free = [waits[0], waits[1], waits[2]];
-        let least = least_ends(&class, [false; JOBS], free, JOBS);
-        assert_eq!(rt; least_total(rt.alloc(), &class)?, least);
+        let (total, ends) = leasts(rt.alloc(), &mut seed)?;
+        assert_eq!(rt; total, ends);
     }
     Ok(())
 }

@@ -72,21 +72,39 @@ const TABLE: [(JobChange, [u32; 9]); 10] = [
     (JobChange::Fail, [0, 8, 0, 8, 8, 8, 0, 0, 0]),
 ];
 
+/// What a change makes of a job in a state: its code of job-state, whether the change is possible, and
+/// whether the job is finished, and stranded.
+fn stepped(
+    alloc: Global,
+    from: (JobState, bool, bool),
+    change: JobChange,
+) -> Result<(u32, bool, bool, bool), Fail> {
+    let (state, incoming, held) = from;
+    let now = Moment::new(7).ok_or("moment")?;
+    let mut job = job(alloc, state, incoming, held)?;
+    let is_possible = job_step(&mut job, change, now).is_ok();
+    Ok((
+        job.state.code(),
+        is_possible,
+        job.finished.is_some(),
+        job.stranded,
+    ))
+}
+
+/// What the table says of a job in a state.
+fn tabled(state: JobState, code: u32) -> (u32, bool, bool, bool) {
+    let is_possible = code != 0;
+    let after = if is_possible { code } else { state.code() };
+    let stranded = after == 3 && matches!(state, JobState::Pending);
+    (after, is_possible, code >= 7, stranded)
+}
+
 #[test]
 fn state_table(rt: HostRuntime) -> Result<(), Fail> {
-    let now = Moment::new(7).ok_or("moment")?;
     for (change, codes) in TABLE {
-        for ((state, incoming, held), code) in FROM.into_iter().zip(codes) {
-            let mut job = job(rt.alloc(), state, incoming, held)?;
-            let result = job_step(&mut job, change, now);
-            let expected = if code == 0 { state.code() } else { code };
-            assert_eq!(rt; job.state.code(), expected);
-            assert_eq!(rt; result.is_ok(), code != 0);
-            assert_eq!(rt; job.finished.is_some(), code >= 7);
-            assert_eq!(rt;
-                job.stranded,
-                expected == 3 && matches!(state, JobState::Pending)
-            );
+        for (from, code) in FROM.into_iter().zip(codes) {
+            let (state, _, _) = from;
+            assert_eq!(rt; stepped(rt.alloc(), from, change)?, tabled(state, code));
         }
     }
     Ok(())

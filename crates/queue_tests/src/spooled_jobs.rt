@@ -58,49 +58,83 @@ fn at(millis: u64) -> Moment {
     Moment::new(millis).unwrap_or(Moment::start())
 }
 
+/// How many jobs there are, whether this one is among them, and why another one is refused.
+fn after_the_last(alloc: Global, id: JobId) -> Result<(usize, bool, Option<SpoolRefusal>), Fail> {
+    let another = job(alloc)?;
+    let mut spool = spool_with_letter(alloc, id)?;
+    let (count, kept) = (spool.len(), spool.get(id).is_some());
+    let refusal = spool.submit(another).map_err(|refused| refused.refusal);
+    Ok((count, kept, refusal.err()))
+}
+
 /// The last id is given once; then the server is busy for ever.
 #[test]
 fn last_job_id(rt: HostRuntime) -> Result<(), Fail> {
-    let alloc = rt.alloc();
     let id = JobId::new(2_147_483_647).ok_or("id")?;
-    let another = job(alloc)?;
-    let mut spool = spool_with_letter(alloc, id)?;
-    assert_eq!(rt; spool.len(), 1);
-    assert!(rt; spool.get(id).is_some());
-    let refusal = spool.submit(another).map_err(|refused| refused.refusal);
-    assert_eq!(rt; refusal.err(), Some(SpoolRefusal::Busy));
+    let busy = Some(SpoolRefusal::Busy);
+    assert_eq!(rt; after_the_last(rt.alloc(), id)?, (1, true, busy));
     Ok(())
+}
+
+/// A cancel by its owner, anna, or by the operator, root.
+fn cancel(
+    alloc: Global,
+    spool: &mut Spool,
+    is_operator: bool,
+    id: JobId,
+    moment: Moment,
+) -> Result<bool, AllocError> {
+    let name: &[u8] = if is_operator { b"root" } else { b"anna" };
+    let name = Text::copy_of(alloc, name)?;
+    let asker = Asker {
+        name: &name,
+        is_operator,
+    };
+    Ok(spool.cancel(id, asker, moment).is_ok())
+}
+
+/// How a job stands after its cancel, and after the device is done, which hands out its documents.
+fn canceled_and_done(
+    alloc: Global,
+    id: JobId,
+) -> Result<[Option<(JobState, bool, usize)>; 2], Fail> {
+    let mut spool = spool_with_letter(alloc, id)?;
+    spool.start(id, at(10));
+    if !cancel(alloc, &mut spool, false, id, at(20))? {
+        return Err(Fail::from("cancel"));
+    }
+    let canceled = standing(&spool, id);
+    if spool.done(id, at(30)).len() != 1 {
+        return Err(Fail::from("documents"));
+    }
+    Ok([canceled, standing(&spool, id)])
 }
 
 /// A job that is canceled while a device has it keeps its documents until the device is done.
 #[test]
 fn cancel_printing(rt: HostRuntime) -> Result<(), Fail> {
-    let alloc = rt.alloc();
     let id = JobId::new(1).ok_or("id")?;
-    let anna = Text::copy_of(alloc, b"anna")?;
-    let asker = Asker {
-        name: &anna,
-        is_operator: false,
-    };
-    let mut spool = spool_with_letter(alloc, id)?;
-    spool.start(id, at(10));
-    let canceled = spool.cancel(id, asker, at(20));
-    assert!(rt; canceled.is_ok());
-    assert_eq!(rt; standing(&spool, id), Some((JobState::Canceled, true, 1)));
-    let documents = spool.done(id, at(30));
-    assert_eq!(rt; documents.len(), 1);
-    assert_eq!(rt; standing(&spool, id), Some((JobState::Canceled, false, 0)));
+    let canceled = Some((JobState::Canceled, true, 1));
+    let done = Some((JobState::Canceled, false, 0));
+    assert_eq!(rt; canceled_and_done(rt.alloc(), id)?, [canceled, done]);
     Ok(())
+}
+
+/// A spool that gave this id to a job whose documents are yet to come.
+fn spool_with_open(alloc: Global, id: JobId) -> Result<Spool, Fail> {
+    let new = job(alloc)?;
+    let mut spool = Spool::new(alloc, id);
+    match spool.create(new) {
+        Ok(_id) => Ok(spool),
+        Err(_refused) => Err("create")?,
+    }
 }
 
 /// A job whose documents stopped coming in is given up after 300,000 ms.
 #[test]
 fn given_up(rt: HostRuntime) -> Result<(), Fail> {
-    let alloc = rt.alloc();
     let id = JobId::new(1).ok_or("id")?;
-    let new = job(alloc)?;
-    let mut spool = Spool::new(alloc, id);
-    assert!(rt; spool.create(new).is_ok());
+    let mut spool = spool_with_open(rt.alloc(), id)?;
     for (millis, state) in [(299_999, JobState::Held), (300_000, JobState::Aborted)] {
         spool.expire(at(millis));
         assert_eq!(rt; standing(&spool, id), Some((state, false, 0)));
@@ -108,32 +142,36 @@ fn given_up(rt: HostRuntime) -> Result<(), Fail> {
     Ok(())
 }
 
-/// Cancels a new job.
-fn cancel_another(alloc: Global, spool: &mut Spool, millis: u64) -> Result<bool, Fail> {
-    let name = Text::copy_of(alloc, b"root")?;
-    let asker = Asker {
-        name: &name,
-        is_operator: true,
-    };
+/// Makes a job and cancels it.
+fn cancel_another(alloc: Global, spool: &mut Spool, moment: Moment) -> Result<bool, Fail> {
     let new = job(alloc)?;
-    let Ok(id) = spool.submit(new) else {
-        return Ok(false);
-    };
-    Ok(spool.cancel(id, asker, at(millis)).is_ok())
+    match spool.submit(new) {
+        Ok(id) => Ok(cancel(alloc, spool, true, id, moment)?),
+        Err(_refused) => Ok(false),
+    }
+}
+
+/// How many jobs are kept of 258 canceled ones, and whether these are.
+fn kept_of(alloc: Global, first: JobId, third: JobId) -> Result<(usize, bool, bool), Fail> {
+    let mut spool = Spool::new(alloc, first);
+    for millis in 1..259u64 {
+        if !cancel_another(alloc, &mut spool, at(millis))? {
+            return Err(Fail::from("cancel"));
+        }
+    }
+    Ok((
+        spool.len(),
+        spool.get(first).is_some(),
+        spool.get(third).is_some(),
+    ))
 }
 
 /// Of 258 canceled jobs the first two are forgotten.
 #[test]
 fn finished_jobs_kept(rt: HostRuntime) -> Result<(), Fail> {
-    let alloc = rt.alloc();
     let first = JobId::new(1).ok_or("id")?;
     let third = JobId::new(3).ok_or("id")?;
-    let mut spool = Spool::new(alloc, first);
-    for millis in 1..259u64 {
-        assert!(rt; cancel_another(alloc, &mut spool, millis)?);
-    }
-    assert_eq!(rt; spool.len(), Limits::FINISHED_JOBS_KEPT);
-    assert!(rt; spool.get(first).is_none());
-    assert!(rt; spool.get(third).is_some());
+    let kept = kept_of(rt.alloc(), first, third)?;
+    assert_eq!(rt; kept, (Limits::FINISHED_JOBS_KEPT, false, true));
     Ok(())
 }

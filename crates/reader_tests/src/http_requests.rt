@@ -63,95 +63,96 @@ fn is_heard(alloc: Global, stream: &[u8], wanted: &[u8]) -> Result<bool, AllocEr
     Ok(true)
 }
 
-/// One request after the other, and a client that waits to be told to go on, as CUPS's `lp` does.
-#[test]
-fn http_exchange(rt: HostRuntime) -> Result<(), Fail> {
-    let alloc = rt.alloc();
-    let rows: [(&[u8], &[u8]); 7] = [
-        (
-            b"POST /printers/lab HTTP/1.1\r\nHost: localhost\r\nContent-Type: application/ipp\r\nContent-Length: 125\r\n\r\n\x01\x01\x00\x02\x00\x00\x00\x01\x01G\x00\x12attributes-charset\x00\x05utf-8H\x00\x1battributes-natural-language\x00\x02enE\x00\x0bprinter-uri\x00 ipp://localhost:631/printers/lab\x03hello",
-            b"head \x01\x01\x00\x02\x00\x00\x00\x01\x01G\x00\x12attributes-charset\x00\x05utf-8H\x00\x1battributes-natural-language\x00\x02enE\x00\x0bprinter-uri\x00 ipp://localhost:631/printers/lab\x03hello end ",
-        ),
-        (
-            b"POST /printers/lab HTTP/1.1\r\nHost: localhost\r\nContent-Type: application/ipp\r\nTransfer-Encoding: chunked\r\nExpect: 100-continue\r\n\r\n7d\r\n\x01\x01\x00\x02\x00\x00\x00\x01\x01G\x00\x12attributes-charset\x00\x05utf-8H\x00\x1battributes-natural-language\x00\x02enE\x00\x0bprinter-uri\x00 ipp://localhost:631/printers/lab\x03hello\r\n0\r\n\r\n",
-            b"head continue \x01\x01\x00\x02\x00\x00\x00\x01\x01G\x00\x12attributes-charset\x00\x05utf-8H\x00\x1battributes-natural-language\x00\x02enE\x00\x0bprinter-uri\x00 ipp://localhost:631/printers/lab\x03hello end ",
-        ),
-        (
-            b"POST /printers/lab HTTP/1.1\r\nHost: localhost\r\nContent-Type: application/ipp\r\nContent-Length: 5\r\n\r\nhello\r\nPOST / HTTP/1.1\nHOST: b\nCONTENT-TYPE: Application/IPP ; a=b\n\n",
-            b"head hello end head  end ",
-        ),
-        (
-            b"POST /printers/lab HTTP/1.1\r\nHost: localhost\r\nContent-Type: application/ipp\r\nTransfer-Encoding: chunked\r\nExpect: 100-continue\r\n\r\n5\r\nhello\r\n0\r\n\r\n",
-            b"head continue hello end ",
-        ),
-        (
-            b"POST /printers/lab HTTP/1.1\r\nContent-Type: application/ipp\r\nDate: Sun, 22 Nov 2026 10:00:00 GMT\r\nHost: localhost:631\r\nUser-Agent: CUPS/2.4.7 (Linux; x86_64) IPP/2.0\r\nExpect: 100-continue\r\nTransfer-Encoding: chunked\r\n\r\n3\r\nhel\r\n2;a=b\r\nlo\r\n00\r\nA: b\r\n\r\nPOST",
-            b"head continue hello end ",
-        ),
-        (
-            b"POST / HTTP/1.0\r\nContent-Type: application/ipp\r\nContent-Length: 2\r\nExpect: 100-continue\r\n\r\nabc",
-            b"last head ab end ",
-        ),
-        (
-            b"POST / HTTP/1.1\r\nHost: a\r\nConnection: keep-alive, Close\r\nContent-Type: application/ipp\r\nContent-Length: 1\r\nContent-Length: 1\r\n\r\nabc",
-            b"last head a end ",
-        ),
-    ];
-    for (stream, wanted) in rows {
-        assert!(rt; is_heard(alloc, stream, wanted)?);
+/// Plays streams in order, up to the first of which something else is heard: that one's place.
+fn miss(alloc: Global, rows: &[(&[u8], &[u8])]) -> Result<Option<usize>, AllocError> {
+    for (place, (stream, wanted)) in rows.iter().enumerate() {
+        if !is_heard(alloc, stream, wanted)? {
+            return Ok(Some(place));
+        }
     }
-    Ok(())
+    Ok(None)
 }
 
+/// One request after the other, and a client that waits to be told to go on, as CUPS's `lp` does.
+const EXCHANGES: &[(&[u8], &[u8])] = &[
+    (
+        b"POST /printers/lab HTTP/1.1\r\nHost: localhost\r\nContent-Type: application/ipp\r\nContent-Length: 125\r\n\r\n\x01\x01\x00\x02\x00\x00\x00\x01\x01G\x00\x12attributes-charset\x00\x05utf-8H\x00\x1battributes-natural-language\x00\x02enE\x00\x0bprinter-uri\x00 ipp://localhost:631/printers/lab\x03hello",
+        b"head \x01\x01\x00\x02\x00\x00\x00\x01\x01G\x00\x12attributes-charset\x00\x05utf-8H\x00\x1battributes-natural-language\x00\x02enE\x00\x0bprinter-uri\x00 ipp://localhost:631/printers/lab\x03hello end ",
+    ),
+    (
+        b"POST /printers/lab HTTP/1.1\r\nHost: localhost\r\nContent-Type: application/ipp\r\nTransfer-Encoding: chunked\r\nExpect: 100-continue\r\n\r\n7d\r\n\x01\x01\x00\x02\x00\x00\x00\x01\x01G\x00\x12attributes-charset\x00\x05utf-8H\x00\x1battributes-natural-language\x00\x02enE\x00\x0bprinter-uri\x00 ipp://localhost:631/printers/lab\x03hello\r\n0\r\n\r\n",
+        b"head continue \x01\x01\x00\x02\x00\x00\x00\x01\x01G\x00\x12attributes-charset\x00\x05utf-8H\x00\x1battributes-natural-language\x00\x02enE\x00\x0bprinter-uri\x00 ipp://localhost:631/printers/lab\x03hello end ",
+    ),
+    (
+        b"POST /printers/lab HTTP/1.1\r\nHost: localhost\r\nContent-Type: application/ipp\r\nContent-Length: 5\r\n\r\nhello\r\nPOST / HTTP/1.1\nHOST: b\nCONTENT-TYPE: Application/IPP ; a=b\n\n",
+        b"head hello end head  end ",
+    ),
+    (
+        b"POST /printers/lab HTTP/1.1\r\nHost: localhost\r\nContent-Type: application/ipp\r\nTransfer-Encoding: chunked\r\nExpect: 100-continue\r\n\r\n5\r\nhello\r\n0\r\n\r\n",
+        b"head continue hello end ",
+    ),
+    (
+        b"POST /printers/lab HTTP/1.1\r\nContent-Type: application/ipp\r\nDate: Sun, 22 Nov 2026 10:00:00 GMT\r\nHost: localhost:631\r\nUser-Agent: CUPS/2.4.7 (Linux; x86_64) IPP/2.0\r\nExpect: 100-continue\r\nTransfer-Encoding: chunked\r\n\r\n3\r\nhel\r\n2;a=b\r\nlo\r\n00\r\nA: b\r\n\r\nPOST",
+        b"head continue hello end ",
+    ),
+    (
+        b"POST / HTTP/1.0\r\nContent-Type: application/ipp\r\nContent-Length: 2\r\nExpect: 100-continue\r\n\r\nabc",
+        b"last head ab end ",
+    ),
+    (
+        b"POST / HTTP/1.1\r\nHost: a\r\nConnection: keep-alive, Close\r\nContent-Type: application/ipp\r\nContent-Length: 1\r\nContent-Length: 1\r\n\r\nabc",
+        b"last head a end ",
+    ),
+];
+
+const REFUSED_HEADS: &[(&[u8], &[u8])] = &[
+    (b"\n\nPOST / HTTP/1.1\r\nHost a\r\n\r\n", b"400"),
+    (b"GET / HTTP/1.1\r\n\r\n", b"400"),
+    (b"POST / HTTP/1.1\r\nHost: a\r\nHost: a\r\n\r\n", b"400"),
+    (b"GET / HTTP/1.1\r\nHost: a\r\n\r\nPOST", b"405"),
+    (
+        b"POST / HTTP/1.1\r\nHost: a\r\nContent-Length: 5\r\nTransfer-Encoding: chunked\r\n\r\n",
+        b"400",
+    ),
+    (
+        b"POST / HTTP/1.0\r\nTransfer-Encoding: chunked\r\n\r\n",
+        b"400",
+    ),
+    (
+        b"POST / HTTP/1.0\r\nContent-Length: 5\r\nContent-Length: 05\r\n\r\n",
+        b"400",
+    ),
+    (
+        b"POST / HTTP/1.0\r\nContent-Length: 00000000000000000005\r\n\r\n",
+        b"400",
+    ),
+    (
+        b"POST / HTTP/1.1\r\nHost: a\r\nTransfer-Encoding: gzip, chunked\r\n\r\n",
+        b"501",
+    ),
+    (
+        b"POST / HTTP/1.0\r\nContent-Length: 16842753\r\n\r\n",
+        b"413",
+    ),
+    (
+        b"POST / HTTP/1.0\r\nContent-Type: text/plain\r\n\r\n",
+        b"415",
+    ),
+    (b"POST / HTTP/1.0\r\nContent-Length: 5\r\n\r\n", b"415"),
+    (
+        b"POST / HTTP/1.0\r\nContent-Type: application/ipp\r\nContent-Encoding: gzip\r\n\r\n",
+        b"415",
+    ),
+    (
+        b"POST / HTTP/1.0\r\nContent-Type: application/ipp\r\nExpect: 200-ok\r\n\r\n",
+        b"417",
+    ),
+];
+
 #[test]
-fn refused_heads(rt: HostRuntime) -> Result<(), Fail> {
-    let alloc = rt.alloc();
-    let rows: [(&[u8], &[u8]); 14] = [
-        (b"\n\nPOST / HTTP/1.1\r\nHost a\r\n\r\n", b"400"),
-        (b"GET / HTTP/1.1\r\n\r\n", b"400"),
-        (b"POST / HTTP/1.1\r\nHost: a\r\nHost: a\r\n\r\n", b"400"),
-        (b"GET / HTTP/1.1\r\nHost: a\r\n\r\nPOST", b"405"),
-        (
-            b"POST / HTTP/1.1\r\nHost: a\r\nContent-Length: 5\r\nTransfer-Encoding: chunked\r\n\r\n",
-            b"400",
-        ),
-        (
-            b"POST / HTTP/1.0\r\nTransfer-Encoding: chunked\r\n\r\n",
-            b"400",
-        ),
-        (
-            b"POST / HTTP/1.0\r\nContent-Length: 5\r\nContent-Length: 05\r\n\r\n",
-            b"400",
-        ),
-        (
-            b"POST / HTTP/1.0\r\nContent-Length: 00000000000000000005\r\n\r\n",
-            b"400",
-        ),
-        (
-            b"POST / HTTP/1.1\r\nHost: a\r\nTransfer-Encoding: gzip, chunked\r\n\r\n",
-            b"501",
-        ),
-        (
-            b"POST / HTTP/1.0\r\nContent-Length: 16842753\r\n\r\n",
-            b"413",
-        ),
-        (
-            b"POST / HTTP/1.0\r\nContent-Type: text/plain\r\n\r\n",
-            b"415",
-        ),
-        (b"POST / HTTP/1.0\r\nContent-Length: 5\r\n\r\n", b"415"),
-        (
-            b"POST / HTTP/1.0\r\nContent-Type: application/ipp\r\nContent-Encoding: gzip\r\n\r\n",
-            b"415",
-        ),
-        (
-            b"POST / HTTP/1.0\r\nContent-Type: application/ipp\r\nExpect: 200-ok\r\n\r\n",
-            b"417",
-        ),
-    ];
-    for (stream, wanted) in rows {
-        assert!(rt; is_heard(alloc, stream, wanted)?);
-    }
+fn http_exchange(rt: HostRuntime) -> Result<(), Fail> {
+    assert_eq!(rt; miss(rt.alloc(), EXCHANGES)?, None);
+    assert_eq!(rt; miss(rt.alloc(), REFUSED_HEADS)?, None);
     Ok(())
 }
 
@@ -168,9 +169,14 @@ fn joined(alloc: Global, parts: &[&[u8]]) -> Result<Vec<u8>, AllocError> {
     Ok(stream)
 }
 
+/// Whether a reader gives this of a stream of these parts, one after the other, cut at each place.
+fn is_heard_of(alloc: Global, parts: &[&[u8]], wanted: &[u8]) -> Result<bool, AllocError> {
+    let stream = joined(alloc, parts)?;
+    is_heard(alloc, &stream, wanted)
+}
+
 #[test]
 fn refused_chunks(rt: HostRuntime) -> Result<(), Fail> {
-    let alloc = rt.alloc();
     let rows: [(&[u8], &[u8]); 7] = [
         (b"x\r\n", b"head 400"),
         (b"1\nab", b"head 400"),
@@ -181,7 +187,7 @@ fn refused_chunks(rt: HostRuntime) -> Result<(), Fail> {
         (&[b'0'; 257], b"head 400"),
     ];
     for (chunks, wanted) in rows {
-        assert!(rt; is_heard(alloc, &joined(alloc, &[CHUNKED, chunks])?, wanted)?);
+        assert!(rt; is_heard_of(rt.alloc(), &[CHUNKED, chunks], wanted)?);
     }
     Ok(())
 }
@@ -205,20 +211,15 @@ fn limits_of_chunks(rt: HostRuntime) -> Result<(), Fail> {
         (&[CHUNKED, b"0\r\n", &[b'a'; 8_192], b""], b"head 400"),
     ];
     for (parts, wanted) in rows {
-        assert!(rt; is_heard(alloc, &joined(alloc, parts)?, wanted)?);
+        assert!(rt; is_heard_of(alloc, parts, wanted)?);
     }
     Ok(())
 }
 
-/// A head with so many fields besides its Host.
-fn with_fields(alloc: Global, count: u32) -> Result<Vec<u8>, AllocError> {
-    let mut head = Vec::from_slice(alloc, b"GET / HTTP/1.1\r\nHost: a\r\n")?;
-    for _ in 0..count {
-        head.extend_from_slice(b"A: b\r\n")?;
-    }
-    head.extend_from_slice(b"\r\n")?;
-    Ok(head)
-}
+/// The beginning of a head with a Host.
+const HOSTED: &[u8] = b"GET / HTTP/1.1\r\nHost: a\r\n";
+
+const SEVEN: &[u8] = b"A: b\r\nA: b\r\nA: b\r\nA: b\r\nA: b\r\nA: b\r\nA: b\r\n";
 
 /// The front of a head, 60 bytes up to a value of any length.
 const OPEN: &[u8] = b"POST / HTTP/1.1\r\nHost: a\r\nContent-Type: application/ipp\r\nA: ";
@@ -227,36 +228,67 @@ const OPEN: &[u8] = b"POST / HTTP/1.1\r\nHost: a\r\nContent-Type: application/ip
 #[test]
 fn limits_of_heads(rt: HostRuntime) -> Result<(), Fail> {
     let alloc = rt.alloc();
-    let rows: [(&[&[u8]], &[u8]); 6] = [
+    let rows: [(&[&[u8]], &[u8]); 8] = [
         (&[b"", &[b'A'; 8_191], b""], b""),
         (&[b"", &[b'A'; 8_192], b""], b"431"),
         (&[OPEN, &[b'a'; 8_128], b"\r\n\r\n"], b"head  end "),
         (&[OPEN, &[b'a'; 8_129], b"\r\n\r\n"], b"431"),
         (&[OPEN, b"a\r\nContent-Length: 16842752\r\n\r\n"], b"head "),
         (&[OPEN, b"a\r\nContent-Length: 16842753\r\n\r\n"], b"413"),
+        (
+            &[
+                HOSTED, SEVEN, SEVEN, SEVEN, SEVEN, SEVEN, SEVEN, SEVEN, SEVEN, SEVEN, b"\r\n",
+            ],
+            b"405",
+        ),
+        (
+            &[
+                HOSTED,
+                SEVEN,
+                SEVEN,
+                SEVEN,
+                SEVEN,
+                SEVEN,
+                SEVEN,
+                SEVEN,
+                SEVEN,
+                SEVEN,
+                b"A: b\r\n\r\n",
+            ],
+            b"400",
+        ),
     ];
     for (parts, wanted) in rows {
-        assert!(rt; is_heard(alloc, &joined(alloc, parts)?, wanted)?);
+        assert!(rt; is_heard_of(alloc, parts, wanted)?);
     }
-    assert!(rt; is_heard(alloc, &with_fields(alloc, 63)?, b"405")?);
-    assert!(rt; is_heard(alloc, &with_fields(alloc, 64)?, b"400")?);
     Ok(())
+}
+
+/// The head of a reply to a request that is taken.
+fn head_of(alloc: Global, length: usize, closes: bool) -> Result<Vec<u8>, AllocError> {
+    let mut output = Vec::new(alloc);
+    write_head(StatusCode::OK, length, closes, &mut output)?;
+    Ok(output)
 }
 
 #[test]
 fn heads_of_replies(rt: HostRuntime) -> Result<(), Fail> {
-    let mut output = Vec::new(rt.alloc());
-    write_head(StatusCode::OK, 170, false, &mut output)?;
-    assert!(rt;
-        output.as_slice()
-            == b"HTTP/1.1 200 OK\r\nContent-Type: application/ipp\r\nContent-Length: 170\r\n\r\n".as_slice()
-    );
-    output.clear();
-    write_head(StatusCode::OK, 72, true, &mut output)?;
-    assert!(rt;
-        output.as_slice()
-            == b"HTTP/1.1 200 OK\r\nContent-Type: application/ipp\r\nContent-Length: 72\r\nConnection: close\r\n\r\n".as_slice()
-    );
+    let rows: [(usize, bool, &[u8]); 2] = [
+        (
+            170,
+            false,
+            b"HTTP/1.1 200 OK\r\nContent-Type: application/ipp\r\nContent-Length: 170\r\n\r\n",
+        ),
+        (
+            72,
+            true,
+            b"HTTP/1.1 200 OK\r\nContent-Type: application/ipp\r\nContent-Length: 72\r\nConnection: close\r\n\r\n",
+        ),
+    ];
+    for (length, closes, wanted) in rows {
+        let output = head_of(rt.alloc(), length, closes)?;
+        assert!(rt; output.as_slice() == wanted);
+    }
     assert!(rt; continue_head() == b"HTTP/1.1 100 Continue\r\n\r\n".as_slice());
     Ok(())
 }

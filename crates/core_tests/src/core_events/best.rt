@@ -1,5 +1,5 @@
 //! Plans whose totals are worked out by hand.
-use crate::core_events::{A, Asked, B, Comes, Happens, LETTER, Row, miss, opened};
+use crate::core_events::{A, Asked, B, Comes, Happens, LETTER, Row, miss};
 use base_types::{Cause, Sides};
 use std::test::Fail;
 
@@ -60,167 +60,183 @@ const LONG: Asked = Asked {
     ..LETTER
 };
 
+const URGENT: Asked = Asked {
+    priority: 100,
+    ..LETTER
+};
+
 /// Something at the start that no dispatch follows.
-fn before(happens: Happens) -> Row {
-    Row {
-        millis: 0,
-        happens,
-        comes: Comes::Undispatched,
-    }
-}
+const BEFORE: Row = Row {
+    millis: 0,
+    happens: Happens::Tick,
+    comes: Comes::Undispatched,
+    shows: &[],
+};
 
 /// The best way has 1 and 2 on A, in any order, and 3 on B: 20 + 40 + 30. Each job in turn where it
 /// ends first would be 20 + 24 + 54.
-#[test]
-fn best_of_three(rt: HostRuntime) -> Result<(), Fail> {
-    let mut core = opened(rt.alloc(), TWO_RATES)?;
-    let last = Row {
-        millis: 0,
+const BEST_OF_THREE: &[Row] = &[
+    Row {
+        happens: Happens::Print(TWO_SIDED),
+        ..BEFORE
+    },
+    Row {
+        happens: Happens::Print(LETTER),
+        ..BEFORE
+    },
+    Row {
+        happens: Happens::Print(LONG),
+        ..BEFORE
+    },
+    Row {
+        happens: Happens::Ready(A),
+        ..BEFORE
+    },
+    Row {
         happens: Happens::Ready(B),
         comes: Comes::Plan {
             classes: &[(50, 90)],
             stranded: &[],
             started: &[(&[1, 2], A), (&[3], B)],
         },
-    };
-    let rows = [
-        before(Happens::Print(TWO_SIDED)),
-        before(Happens::Print(LETTER)),
-        before(Happens::Print(LONG)),
-        before(Happens::Ready(A)),
-        last,
-    ];
-    assert_eq!(rt; miss(rt.alloc(), &mut core, &rows)?, None);
-    Ok(())
-}
+        ..BEFORE
+    },
+];
 
 /// The third job is of a higher class, which is planned alone: B is taken for 30. Then 1 and 2 are
 /// best on A, 20 + 40; with 2 on B it would be 20 + 54.
-#[test]
-fn two_classes(rt: HostRuntime) -> Result<(), Fail> {
-    let mut core = opened(rt.alloc(), TWO_RATES)?;
-    let urgent = Asked {
-        priority: 100,
-        ..LONG
-    };
-    let last = Row {
-        millis: 0,
+const TWO_CLASSES: &[Row] = &[
+    Row {
+        happens: Happens::Print(TWO_SIDED),
+        ..BEFORE
+    },
+    Row {
+        happens: Happens::Print(LETTER),
+        ..BEFORE
+    },
+    Row {
+        happens: Happens::Print(Asked {
+            priority: 100,
+            ..LONG
+        }),
+        ..BEFORE
+    },
+    Row {
+        happens: Happens::Ready(A),
+        ..BEFORE
+    },
+    Row {
         happens: Happens::Ready(B),
         comes: Comes::Plan {
             classes: &[(100, 30), (50, 60)],
             stranded: &[],
             started: &[(&[1, 2], A), (&[3], B)],
         },
-    };
-    let rows = [
-        before(Happens::Print(TWO_SIDED)),
-        before(Happens::Print(LETTER)),
-        before(Happens::Print(urgent)),
-        before(Happens::Ready(A)),
-        last,
-    ];
-    assert_eq!(rt; miss(rt.alloc(), &mut core, &rows)?, None);
-    Ok(())
-}
+        ..BEFORE
+    },
+];
 
 /// A is taken for 200 when two jobs come: both go to B, the shorter first, 24 + 64.
-#[test]
-fn late_device(rt: HostRuntime) -> Result<(), Fail> {
-    let mut core = opened(rt.alloc(), TWO_RATES)?;
-    let book = Asked {
-        impressions: 10,
-        ..LETTER
-    };
-    let first = Row {
-        millis: 0,
-        happens: Happens::Print(book),
+const LATE_DEVICE: &[Row] = &[
+    Row {
+        happens: Happens::Ready(A),
+        ..BEFORE
+    },
+    Row {
+        happens: Happens::Print(Asked {
+            impressions: 10,
+            ..LETTER
+        }),
         comes: Comes::Plan {
             classes: &[(50, 200)],
             stranded: &[],
             started: &[(&[1], A)],
         },
-    };
-    let last = Row {
-        millis: 0,
+        ..BEFORE
+    },
+    Row {
+        happens: Happens::Print(TWO_SIDED),
+        ..BEFORE
+    },
+    Row {
+        happens: Happens::Print(LETTER),
+        ..BEFORE
+    },
+    Row {
         happens: Happens::Ready(B),
         comes: Comes::Plan {
             classes: &[(50, 88)],
             stranded: &[],
             started: &[(&[3], B)],
         },
-    };
-    let rows = [
-        before(Happens::Ready(A)),
-        first,
-        before(Happens::Print(TWO_SIDED)),
-        before(Happens::Print(LETTER)),
-        last,
-    ];
-    assert_eq!(rt; miss(rt.alloc(), &mut core, &rows)?, None);
-    Ok(())
-}
+        ..BEFORE
+    },
+];
 
 /// Three jobs come while both devices are stopped. A alone runs then: the urgent job is on it for 10,
 /// and the others end there at 20 and 30. With B they end at 10 on it and at 20 on A, or at 10 and 20
 /// on B.
+const DEVICES_ONE_BY_ONE: &[Row] = &[
+    Row {
+        happens: Happens::Print(LETTER),
+        comes: Comes::Plan {
+            classes: &[],
+            stranded: &[(1, Cause::Running)],
+            started: &[],
+        },
+        ..BEFORE
+    },
+    Row {
+        happens: Happens::Print(LETTER),
+        comes: Comes::Plan {
+            classes: &[],
+            stranded: &[(1, Cause::Running), (2, Cause::Running)],
+            started: &[],
+        },
+        ..BEFORE
+    },
+    Row {
+        happens: Happens::Print(URGENT),
+        comes: Comes::Plan {
+            classes: &[],
+            stranded: &[
+                (1, Cause::Running),
+                (2, Cause::Running),
+                (3, Cause::Running),
+            ],
+            started: &[],
+        },
+        ..BEFORE
+    },
+    Row {
+        happens: Happens::Ready(A),
+        comes: Comes::Plan {
+            classes: &[(100, 10), (50, 50)],
+            stranded: &[],
+            started: &[(&[3], A)],
+        },
+        ..BEFORE
+    },
+    Row {
+        happens: Happens::Ready(B),
+        comes: Comes::Plan {
+            classes: &[(50, 30)],
+            stranded: &[],
+            started: &[(&[1, 2], B)],
+        },
+        ..BEFORE
+    },
+];
+
 #[test]
-fn devices_one_by_one(rt: HostRuntime) -> Result<(), Fail> {
-    let mut core = opened(rt.alloc(), ALIKE)?;
-    let urgent = Asked {
-        priority: 100,
-        ..LETTER
-    };
-    let rows = [
-        Row {
-            millis: 0,
-            happens: Happens::Print(LETTER),
-            comes: Comes::Plan {
-                classes: &[],
-                stranded: &[(1, Cause::Running)],
-                started: &[],
-            },
-        },
-        Row {
-            millis: 0,
-            happens: Happens::Print(LETTER),
-            comes: Comes::Plan {
-                classes: &[],
-                stranded: &[(1, Cause::Running), (2, Cause::Running)],
-                started: &[],
-            },
-        },
-        Row {
-            millis: 0,
-            happens: Happens::Print(urgent),
-            comes: Comes::Plan {
-                classes: &[],
-                stranded: &[
-                    (1, Cause::Running),
-                    (2, Cause::Running),
-                    (3, Cause::Running),
-                ],
-                started: &[],
-            },
-        },
-        Row {
-            millis: 0,
-            happens: Happens::Ready(A),
-            comes: Comes::Plan {
-                classes: &[(100, 10), (50, 50)],
-                stranded: &[],
-                started: &[(&[3], A)],
-            },
-        },
-        Row {
-            millis: 0,
-            happens: Happens::Ready(B),
-            comes: Comes::Plan {
-                classes: &[(50, 30)],
-                stranded: &[],
-                started: &[(&[1, 2], B)],
-            },
-        },
-    ];
-    assert_eq!(rt; miss(rt.alloc(), &mut core, &rows)?, None);
+fn best_plans(rt: HostRuntime) -> Result<(), Fail> {
+    for (text, rows) in [
+        (TWO_RATES, BEST_OF_THREE),
+        (TWO_RATES, TWO_CLASSES),
+        (TWO_RATES, LATE_DEVICE),
+        (ALIKE, DEVICES_ONE_BY_ONE),
+    ] {
+        assert_eq!(rt; miss(rt.alloc(), text, rows)?, None);
+    }
     Ok(())
 }

@@ -1,10 +1,6 @@
 //! What devices say, ticks, and what the core shows of it.
-use crate::core_events::{
-    A, Asked, B, Comes, Happens, LETTER, Row, at, event_of, miss, opened, status_of,
-};
-use assignment::Lazy;
-use base_types::{Activity, Cause, DeviceId, JobId, Sides};
-use dispatcher::{Core, Status};
+use crate::core_events::{A, Asked, B, Comes, Happens, LETTER, READY, Row, Shows, miss};
+use base_types::{Cause, Sides};
 use job_objects::JobState;
 use std::test::Fail;
 
@@ -46,160 +42,138 @@ devices = []\n\
 media_default = \"iso_a4_210x297mm\"\n\
 format_default = \"text/plain\"\n";
 
-const READY: Row = Row {
-    millis: 0,
-    happens: Happens::Ready(A),
-    comes: Comes::NoPlan,
-};
-
-/// The state of a job, and whether the last plan found no device for it.
-fn standing(core: &Core<Lazy>, number: u32) -> Option<(JobState, bool)> {
-    let job = core.job(JobId::new(number)?)?;
-    Some((job.state, job.stranded))
-}
-
-/// How many documents are kept of a job.
-fn documents_kept(core: &Core<Lazy>, number: u32) -> Option<usize> {
-    let documents = core.documents(JobId::new(number)?)?;
-    Some(documents.len())
-}
-
-/// The job of a device, and the moment at which it is expected to end or, where the device is stopped,
-/// the time left.
-fn job_of(core: &Core<Lazy>, place: usize) -> Option<(u32, u64)> {
-    let device = core.device(DeviceId::new(place))?;
-    match device.activity {
-        Activity::Running(printing) => printing.map(|p| (p.job.number(), p.end)),
-        Activity::Stopped(interrupted) => interrupted.map(|i| (i.job.number(), i.left)),
-    }
-}
-
-#[test]
-fn one_job(rt: HostRuntime) -> Result<(), Fail> {
-    let mut core = opened(rt.alloc(), ONE_DEVICE)?;
-    assert_eq!(rt; core.settings().devices.len(), 1);
-    assert_eq!(rt; miss(rt.alloc(), &mut core, &[READY])?, None);
-    let print = event_of(rt.alloc(), Happens::Print(LETTER))?;
-    assert!(rt; !print.is_query());
-    let reply = core.apply(print, at(0))?;
-    assert_eq!(rt; status_of(&reply), Some(Status::Ok));
-    let started = Row {
-        millis: 0,
-        happens: Happens::Tick,
+const ONE_JOB: &[Row] = &[
+    READY,
+    Row {
+        happens: Happens::Print(LETTER),
         comes: Comes::Plan {
             classes: &[(50, 10)],
             stranded: &[],
             started: &[(&[1], A)],
         },
-    };
-    assert_eq!(rt; miss(rt.alloc(), &mut core, &[started])?, None);
-    assert_eq!(rt; documents_kept(&core, 1), Some(1));
-    let done = event_of(rt.alloc(), Happens::Done(A, 1))?;
-    let reply = core.apply(done, at(10))?;
-    assert_eq!(rt; reply.documents.len(), 1);
-    assert_eq!(rt; documents_kept(&core, 1), Some(0));
-    assert_eq!(rt; standing(&core, 1), Some((JobState::Completed, false)));
-    Ok(())
-}
+        shows: &[Shows::Documents(1, 1)],
+        ..READY
+    },
+    Row {
+        millis: 10,
+        happens: Happens::Done(A, 1),
+        comes: Comes::NoPlan,
+        shows: &[
+            Shows::Documents(1, 0),
+            Shows::Job(1, JobState::Completed, false),
+        ],
+    },
+];
 
 /// A job of 5 impressions in 2 copies is on a device that stops and goes on.
-#[test]
-fn stop_and_continue(rt: HostRuntime) -> Result<(), Fail> {
-    let mut core = opened(rt.alloc(), ONE_DEVICE)?;
-    let copies = Asked {
-        impressions: 5,
-        copies: 2,
-        ..LETTER
-    };
-    let begun = Comes::Plan {
-        classes: &[(50, 100)],
-        stranded: &[],
-        started: &[(&[1], A)],
-    };
-    let behind = Comes::Plan {
-        classes: &[(50, 49)],
-        stranded: &[],
-        started: &[],
-    };
-    assert_eq!(rt; miss(rt.alloc(), &mut core, &[READY])?, None);
-    for (millis, happens, comes, time, state) in [
-        (0, Happens::Print(copies), begun, 100, JobState::Processing),
-        (
-            30,
-            Happens::Pages(A, 1, 4),
-            Comes::NoPlan,
-            90,
-            JobState::Processing,
-        ),
-        (50, Happens::Stop(A), Comes::NoPlan, 40, JobState::Stopped),
-        (
-            200,
-            Happens::Ready(A),
-            Comes::NoPlan,
-            240,
-            JobState::Processing,
-        ),
-        (
-            201,
-            Happens::Print(LETTER),
-            behind,
-            240,
-            JobState::Processing,
-        ),
-    ] {
-        let row = Row {
-            millis,
-            happens,
-            comes,
-        };
-        assert_eq!(rt; miss(rt.alloc(), &mut core, &[row])?, None);
-        assert_eq!(rt; job_of(&core, A), Some((1, time)), "at {millis}");
-        assert_eq!(rt; standing(&core, 1), Some((state, false)), "at {millis}");
-    }
-    Ok(())
-}
+const STOP_AND_CONTINUE: &[Row] = &[
+    READY,
+    Row {
+        happens: Happens::Print(Asked {
+            impressions: 5,
+            copies: 2,
+            ..LETTER
+        }),
+        comes: Comes::Plan {
+            classes: &[(50, 100)],
+            stranded: &[],
+            started: &[(&[1], A)],
+        },
+        shows: &[
+            Shows::Device(A, 1, 100),
+            Shows::Job(1, JobState::Processing, false),
+        ],
+        ..READY
+    },
+    Row {
+        millis: 30,
+        happens: Happens::Pages(A, 1, 4),
+        comes: Comes::NoPlan,
+        shows: &[
+            Shows::Device(A, 1, 90),
+            Shows::Job(1, JobState::Processing, false),
+        ],
+    },
+    Row {
+        millis: 50,
+        happens: Happens::Stop(A),
+        comes: Comes::NoPlan,
+        shows: &[
+            Shows::Device(A, 1, 40),
+            Shows::Job(1, JobState::Stopped, false),
+        ],
+    },
+    Row {
+        millis: 200,
+        happens: Happens::Ready(A),
+        comes: Comes::NoPlan,
+        shows: &[
+            Shows::Device(A, 1, 240),
+            Shows::Job(1, JobState::Processing, false),
+        ],
+    },
+    Row {
+        millis: 201,
+        happens: Happens::Print(LETTER),
+        comes: Comes::Plan {
+            classes: &[(50, 49)],
+            stranded: &[],
+            started: &[],
+        },
+        shows: &[
+            Shows::Device(A, 1, 240),
+            Shows::Job(1, JobState::Processing, false),
+        ],
+    },
+];
 
 /// A two-sided job on A4, where only B prints two-sided and has letter alone; then a job of a printer
 /// without devices.
+const STRANDED_CAUSES: &[Row] = &[
+    READY,
+    Row {
+        happens: Happens::Ready(B),
+        ..READY
+    },
+    Row {
+        happens: Happens::Media(B, "na_letter_8.5x11in"),
+        ..READY
+    },
+    Row {
+        happens: Happens::Print(Asked {
+            sides: Sides::LongEdge,
+            ..LETTER
+        }),
+        comes: Comes::Plan {
+            classes: &[],
+            stranded: &[(1, Cause::Media)],
+            started: &[],
+        },
+        ..READY
+    },
+    Row {
+        happens: Happens::Print(Asked {
+            printer: Some("none"),
+            ..LETTER
+        }),
+        comes: Comes::Plan {
+            classes: &[],
+            stranded: &[(1, Cause::Media), (2, Cause::NoDevice)],
+            started: &[],
+        },
+        shows: &[Shows::Job(1, JobState::Pending, true)],
+        ..READY
+    },
+];
+
 #[test]
-fn stranded_causes(rt: HostRuntime) -> Result<(), Fail> {
-    let mut core = opened(rt.alloc(), TWO_KINDS)?;
-    let two_sided = Asked {
-        sides: Sides::LongEdge,
-        ..LETTER
-    };
-    let nowhere = Asked {
-        printer: Some("none"),
-        ..LETTER
-    };
-    for (happens, comes) in [
-        (Happens::Ready(A), Comes::NoPlan),
-        (Happens::Ready(B), Comes::NoPlan),
-        (Happens::Media(B, "na_letter_8.5x11in"), Comes::NoPlan),
-        (
-            Happens::Print(two_sided),
-            Comes::Plan {
-                classes: &[],
-                stranded: &[(1, Cause::Media)],
-                started: &[],
-            },
-        ),
-        (
-            Happens::Print(nowhere),
-            Comes::Plan {
-                classes: &[],
-                stranded: &[(1, Cause::Media), (2, Cause::NoDevice)],
-                started: &[],
-            },
-        ),
+fn what_devices_say(rt: HostRuntime) -> Result<(), Fail> {
+    for (text, rows) in [
+        (ONE_DEVICE, ONE_JOB),
+        (ONE_DEVICE, STOP_AND_CONTINUE),
+        (TWO_KINDS, STRANDED_CAUSES),
     ] {
-        let row = Row {
-            millis: 0,
-            happens,
-            comes,
-        };
-        assert_eq!(rt; miss(rt.alloc(), &mut core, &[row])?, None);
+        assert_eq!(rt; miss(rt.alloc(), text, rows)?, None);
     }
-    assert_eq!(rt; standing(&core, 1), Some((JobState::Pending, true)));
     Ok(())
 }

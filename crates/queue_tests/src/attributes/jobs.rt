@@ -3,8 +3,7 @@ use super::{reply, reply_of, rows, texts};
 use base_types::{JobId, Limits, Moment, Needs, PrinterId, Priority, Sides, Text};
 use job_objects::{Job, JobState};
 use printer_objects::{
-    JobShown, Printer, PrinterReason, PrinterState, job_attributes, keeps_busy, printer_reason,
-    printer_state,
+    JobShown, Printer, job_attributes, keeps_busy, printer_reason, printer_state,
 };
 use std::alloc::{AllocError, Global};
 use std::test::Fail;
@@ -32,15 +31,6 @@ fn new_job(alloc: Global) -> Result<Job, Fail> {
         started: None,
         finished: None,
     })
-}
-
-/// A job that still comes in, and is held.
-fn held_job(alloc: Global) -> Result<Job, Fail> {
-    let mut job = new_job(alloc)?;
-    job.state = JobState::Held;
-    job.incoming = true;
-    job.held = true;
-    Ok(job)
 }
 
 /// A job that was begun after a second, and printed at the last moment.
@@ -76,13 +66,50 @@ fn needs(alloc: Global, sides: Sides) -> Result<Needs, AllocError> {
     })
 }
 
+/// Which job is shown.
+#[derive(Clone, Copy)]
+enum Which {
+    New,
+    /// It still comes in, and is held.
+    Held,
+    Printed,
+}
+
+fn job_of(alloc: Global, which: Which) -> Result<Job, Fail> {
+    if matches!(which, Which::Printed) {
+        return printed_job(alloc);
+    }
+    let mut job = new_job(alloc)?;
+    if matches!(which, Which::Held) {
+        job.state = JobState::Held;
+        job.incoming = true;
+        job.held = true;
+    }
+    Ok(job)
+}
+
+/// A job, what is asked for of it, and what is told of it.
+type Row = (Which, &'static [&'static [u8]], &'static [&'static [u8]]);
+
+const ROWS: [Row; 3] = [
+    (Which::New, &[b"all"], rows::NEW_JOB),
+    (
+        Which::Held,
+        &[b"job-hold-until", b"job-state", b"job-state-reasons"],
+        rows::HELD_JOB,
+    ),
+    // Times are in seconds that have begun, up to the greatest integer; octets are rounded up.
+    (Which::Printed, rows::ASKED_OF_PRINTED, rows::PRINTED_JOB),
+];
+
 /// The reply with what is asked for of a job at the server's start.
-fn shown(alloc: Global, job: &Job, asked: &[&[u8]]) -> Result<Vec<u8>, Fail> {
+fn shown(alloc: Global, which: Which, asked: &[&[u8]]) -> Result<Vec<u8>, Fail> {
+    let job = job_of(alloc, which)?;
     let uri_base = Text::copy_of(alloc, b"ipp://localhost:631")?;
     let name = Text::copy_of(alloc, b"lab")?;
     let requested = texts(alloc, asked)?;
     let shown = JobShown {
-        job,
+        job: &job,
         uri_base: &uri_base,
         printer_name: &name,
         printer_paused: false,
@@ -92,52 +119,33 @@ fn shown(alloc: Global, job: &Job, asked: &[&[u8]]) -> Result<Vec<u8>, Fail> {
     reply_of(alloc, group)
 }
 
-#[test]
-fn all_attributes(rt: HostRuntime) -> Result<(), Fail> {
-    let alloc = rt.alloc();
-    let job = new_job(alloc)?;
-    let bytes = shown(alloc, &job, &[b"all"])?;
-    let want = reply(alloc, JOB, &[rows::NEW_JOB])?;
-    assert!(rt; bytes == want);
-    Ok(())
+/// Whether a job is shown as the row tells.
+fn is_shown(alloc: Global, row: Row) -> Result<bool, Fail> {
+    let (which, asked, told) = row;
+    let bytes = shown(alloc, which, asked)?;
+    let want = reply(alloc, JOB, &[told])?;
+    Ok(bytes == want)
 }
 
 #[test]
-fn held_while_incoming(rt: HostRuntime) -> Result<(), Fail> {
-    let alloc = rt.alloc();
-    let job = held_job(alloc)?;
-    let asked = [
-        b"job-hold-until".as_slice(),
-        b"job-state",
-        b"job-state-reasons",
-    ];
-    let bytes = shown(alloc, &job, &asked)?;
-    let want = reply(alloc, JOB, &[rows::HELD_JOB])?;
-    assert!(rt; bytes == want);
+fn jobs_shown(rt: HostRuntime) -> Result<(), Fail> {
+    for (place, row) in ROWS.iter().enumerate() {
+        assert!(rt; is_shown(rt.alloc(), *row)?, "row {place}");
+    }
     Ok(())
 }
 
-/// Times are in seconds that have begun, up to the greatest integer; octets are rounded up.
-#[test]
-fn printed(rt: HostRuntime) -> Result<(), Fail> {
-    let alloc = rt.alloc();
-    let job = printed_job(alloc)?;
-    let bytes = shown(alloc, &job, rows::ASKED_OF_PRINTED)?;
-    let want = reply(alloc, JOB, &[rows::PRINTED_JOB])?;
-    assert!(rt; bytes == want);
-    Ok(())
-}
-
-/// What a printer is while a job in this state is the only one.
+/// The code and the reason of a printer while a job in this state is the only one.
 fn standing(
     alloc: Global,
     printer: &Printer,
     state: JobState,
-) -> Result<(PrinterState, PrinterReason), Fail> {
+) -> Result<(u32, &'static str), Fail> {
     let mut job = new_job(alloc)?;
     job.state = state;
     let busy = keeps_busy(&job, PrinterId::new(0));
-    Ok((printer_state(printer, busy), printer_reason(printer, busy)))
+    let reason = printer_reason(printer, busy).keyword();
+    Ok((printer_state(printer, busy).code(), reason))
 }
 
 #[test]
@@ -150,9 +158,7 @@ fn pause_and_resume(rt: HostRuntime) -> Result<(), Fail> {
         } else {
             printer.resume();
         }
-        let (state, why) = standing(alloc, &printer, state)?;
-        assert_eq!(rt; state.code(), code);
-        assert_eq!(rt; why.keyword(), reason);
+        assert_eq!(rt; standing(alloc, &printer, state)?, (code, reason));
     }
     Ok(())
 }

@@ -19,20 +19,123 @@ const PDF: &[u8] = b"application/pdf";
 
 const ANY: &[u8] = b"application/octet-stream";
 
-/// A device that runs, has these formats and media, and has one of the media loaded.
-fn device(
-    alloc: Global,
-    formats: &[&[u8]],
-    media: &[&[u8]],
-    loaded: &[u8],
+/// A device that runs and has one of its media loaded.
+#[derive(Clone, Copy)]
+struct DeviceRow {
+    formats: &'static [&'static [u8]],
+    media: &'static [&'static [u8]],
+    loaded: &'static [u8],
     two_sided: bool,
-) -> Result<DeviceNow, AllocError> {
+}
+
+/// The one device of the small settings.
+const SMALL: &[DeviceRow] = &[DeviceRow {
+    formats: &[PLAIN],
+    media: &[A4],
+    loaded: A4,
+    two_sided: false,
+}];
+
+/// Three devices: the first has no medium loaded, the second prints two-sided.
+const THREE: &[DeviceRow] = &[
+    DeviceRow {
+        formats: &[PLAIN],
+        media: &[A4],
+        loaded: b"",
+        two_sided: false,
+    },
+    DeviceRow {
+        formats: &[PDF, PLAIN],
+        media: &[LETTER, A4],
+        loaded: LETTER,
+        two_sided: true,
+    },
+    DeviceRow {
+        formats: &[b"image/jpeg"],
+        media: &[b"iso_a3_297x420mm"],
+        loaded: A4,
+        two_sided: true,
+    },
+];
+
+/// What is asked for of an idle printer at the server's start, and what is told of it.
+#[derive(Clone, Copy)]
+struct Row {
+    /// The devices of the settings.
+    devices: &'static [DeviceRow],
+    /// How many of them, from the first on, are the printer's.
+    own: usize,
+    /// Its default format.
+    format: &'static [u8],
+    asked: &'static [&'static [u8]],
+    told: &'static [&'static [&'static [u8]]],
+}
+
+/// The printer of the small settings.
+const LAB: Row = Row {
+    devices: SMALL,
+    own: 1,
+    format: PLAIN,
+    asked: &[],
+    told: &[],
+};
+
+const ROWS: [Row; 6] = [
+    // The table's order counts, not that of requested-attributes.
+    Row {
+        asked: &[b"printer-state", b"none-such", b"printer-name"],
+        told: &[rows::NAMED],
+        ..LAB
+    },
+    Row {
+        asked: &[b"all"],
+        told: &[rows::IDENTITY, rows::ABILITIES, rows::TEMPLATE],
+        ..LAB
+    },
+    Row {
+        asked: &[b"printer-description"],
+        told: &[rows::IDENTITY, rows::ABILITIES],
+        ..LAB
+    },
+    Row {
+        asked: &[b"job-template"],
+        told: &[rows::TEMPLATE],
+        ..LAB
+    },
+    // What two devices offer together, and a third one, which isn't of the printer, doesn't.
+    Row {
+        devices: THREE,
+        own: 2,
+        format: ANY,
+        asked: &[
+            b"sides-supported",
+            b"media-supported",
+            b"media-ready",
+            b"document-format-supported",
+        ],
+        told: &[rows::TOGETHER],
+    },
+    // A printer without devices lists its defaults, and no medium that is ready.
+    Row {
+        devices: &[],
+        own: 0,
+        format: PLAIN,
+        asked: &[
+            b"document-format-supported",
+            b"media-supported",
+            b"media-ready",
+        ],
+        told: &[rows::ALONE],
+    },
+];
+
+fn device(alloc: Global, row: DeviceRow) -> Result<DeviceNow, AllocError> {
     Ok(DeviceNow {
         rate_one: 10,
-        rate_two: if two_sided { Some(20) } else { None },
+        rate_two: if row.two_sided { Some(20) } else { None },
         setup: 0,
-        formats: texts(alloc, formats)?,
-        media: media_of(alloc, media, loaded)?,
+        formats: texts(alloc, row.formats)?,
+        media: media_of(alloc, row.media, row.loaded)?,
         activity: Activity::Running(None),
     })
 }
@@ -50,6 +153,14 @@ fn media_of(alloc: Global, names: &[&[u8]], loaded: &[u8]) -> Result<Vec<Medium>
     Ok(media)
 }
 
+fn devices_of(alloc: Global, rows: &[DeviceRow]) -> Result<Vec<DeviceNow>, AllocError> {
+    let mut devices = Vec::new(alloc);
+    for row in rows {
+        devices.push(device(alloc, *row)?)?;
+    }
+    Ok(devices)
+}
+
 /// The printer lab of the first devices of the settings.
 fn lab(alloc: Global, devices: usize, format: &[u8]) -> Result<PrinterSettings, AllocError> {
     let mut places = Vec::new(alloc);
@@ -64,28 +175,17 @@ fn lab(alloc: Global, devices: usize, format: &[u8]) -> Result<PrinterSettings, 
     })
 }
 
-/// The one device of the small settings.
-fn small(alloc: Global) -> Result<Vec<DeviceNow>, AllocError> {
-    let mut devices = Vec::new(alloc);
-    devices.push(device(alloc, &[PLAIN], &[A4], A4, false)?)?;
-    Ok(devices)
-}
-
-/// The reply with what is asked for of an idle printer at the server's start.
-fn shown(
-    alloc: Global,
-    settings: &PrinterSettings,
-    devices: &[DeviceNow],
-    asked: &[&[u8]],
-) -> Result<Vec<u8>, Fail> {
+/// The reply with what is asked for.
+fn shown(alloc: Global, row: Row) -> Result<Vec<u8>, Fail> {
+    let settings = lab(alloc, row.own, row.format)?;
+    let devices = devices_of(alloc, row.devices)?;
     let uri_base = Text::copy_of(alloc, b"ipp://localhost:631")?;
-    let requested = texts(alloc, asked)?;
-    let printer = Printer::new();
+    let requested = texts(alloc, row.asked)?;
     let shown = PrinterShown {
-        printer: &printer,
-        settings,
+        printer: &Printer::new(),
+        settings: &settings,
         uri_base: &uri_base,
-        devices,
+        devices: &devices,
         busy: false,
         queued: 0,
         moment: Moment::start(),
@@ -94,87 +194,17 @@ fn shown(
     reply_of(alloc, group)
 }
 
-/// The table's order counts, not that of requested-attributes.
-#[test]
-fn named_attributes(rt: HostRuntime) -> Result<(), Fail> {
-    let alloc = rt.alloc();
-    let settings = lab(alloc, 1, PLAIN)?;
-    let devices = small(alloc)?;
-    let asked = [b"printer-state".as_slice(), b"none-such", b"printer-name"];
-    let bytes = shown(alloc, &settings, &devices, &asked)?;
-    let want = reply(alloc, PRINTER, &[rows::NAMED])?;
-    assert!(rt; bytes == want);
-    Ok(())
+/// Whether a printer is shown as the row tells.
+fn is_shown(alloc: Global, row: Row) -> Result<bool, Fail> {
+    let bytes = shown(alloc, row)?;
+    let want = reply(alloc, PRINTER, row.told)?;
+    Ok(bytes == want)
 }
 
 #[test]
-fn all_attributes(rt: HostRuntime) -> Result<(), Fail> {
-    let alloc = rt.alloc();
-    let settings = lab(alloc, 1, PLAIN)?;
-    let devices = small(alloc)?;
-    let bytes = shown(alloc, &settings, &devices, &[b"all"])?;
-    let want = reply(
-        alloc,
-        PRINTER,
-        &[rows::IDENTITY, rows::ABILITIES, rows::TEMPLATE],
-    )?;
-    assert!(rt; bytes == want);
-    Ok(())
-}
-
-#[test]
-fn attributes_of_a_group(rt: HostRuntime) -> Result<(), Fail> {
-    let alloc = rt.alloc();
-    let settings = lab(alloc, 1, PLAIN)?;
-    let devices = small(alloc)?;
-    let bytes = shown(alloc, &settings, &devices, &[b"printer-description"])?;
-    let want = reply(alloc, PRINTER, &[rows::IDENTITY, rows::ABILITIES])?;
-    assert!(rt; bytes == want);
-    let bytes = shown(alloc, &settings, &devices, &[b"job-template"])?;
-    let want = reply(alloc, PRINTER, &[rows::TEMPLATE])?;
-    assert!(rt; bytes == want);
-    Ok(())
-}
-
-/// What two devices of a printer offer together, and a third one, which isn't of the printer, doesn't.
-#[test]
-fn two_devices(rt: HostRuntime) -> Result<(), Fail> {
-    let alloc = rt.alloc();
-    let settings = lab(alloc, 2, ANY)?;
-    let devices = three(alloc)?;
-    let asked = [
-        b"sides-supported".as_slice(),
-        b"media-supported",
-        b"media-ready",
-        b"document-format-supported",
-    ];
-    let bytes = shown(alloc, &settings, &devices, &asked)?;
-    let want = reply(alloc, PRINTER, &[rows::TOGETHER])?;
-    assert!(rt; bytes == want);
-    Ok(())
-}
-
-/// Three devices: the first has no medium loaded, the second prints two-sided.
-fn three(alloc: Global) -> Result<Vec<DeviceNow>, AllocError> {
-    let mut devices = Vec::new(alloc);
-    devices.push(device(alloc, &[PLAIN], &[A4], b"", false)?)?;
-    devices.push(device(alloc, &[PDF, PLAIN], &[LETTER, A4], LETTER, true)?)?;
-    devices.push(device(alloc, &[b"image/jpeg"], &[b"iso_a3_297x420mm"], A4, true)?)?;
-    Ok(devices)
-}
-
-/// A printer without devices lists its defaults, and no medium that is ready.
-#[test]
-fn no_devices(rt: HostRuntime) -> Result<(), Fail> {
-    let alloc = rt.alloc();
-    let settings = lab(alloc, 0, PLAIN)?;
-    let asked = [
-        b"document-format-supported".as_slice(),
-        b"media-supported",
-        b"media-ready",
-    ];
-    let bytes = shown(alloc, &settings, &[], &asked)?;
-    let want = reply(alloc, PRINTER, &[rows::ALONE])?;
-    assert!(rt; bytes == want);
+fn printers_shown(rt: HostRuntime) -> Result<(), Fail> {
+    for (place, row) in ROWS.iter().enumerate() {
+        assert!(rt; is_shown(rt.alloc(), *row)?, "row {place}");
+    }
     Ok(())
 }
