@@ -137,13 +137,20 @@ fn interleaved(alloc: Global) -> Result<Memory, AllocError> {
     Ok(wire)
 }
 
+/// Whether just these bytes were taken for a peer.
+fn got(wire: &Memory, place: usize, bytes: &[u8]) -> bool {
+    match wire.peers.get(place) {
+        Some(peer) => peer.taken.as_slice() == bytes,
+        None => false,
+    }
+}
+
 /// The job whose last byte came first has the first id.
 #[test]
 fn ids_by_last_bytes(rt: HostRuntime) -> Result<(), Fail> {
     let wire = interleaved(rt.alloc())?;
-    assert_eq!(rt; wire.peers.len(), 2);
-    assert!(rt; wire.peers[0].taken.as_slice() == LAST_AS_SECOND);
-    assert!(rt; wire.peers[1].taken.as_slice() == PLAIN.answered);
+    assert!(rt; got(&wire, 0, LAST_AS_SECOND));
+    assert!(rt; got(&wire, 1, PLAIN.answered));
     Ok(())
 }
 
@@ -164,10 +171,10 @@ fn heard_of_two(alloc: Global) -> Result<Vec<Heard>, AllocError> {
 fn plan_after_each_request(rt: HostRuntime) -> Result<(), Fail> {
     let heard = heard_of_two(rt.alloc())?;
     assert_eq!(rt; heard.len(), 5);
-    assert!(rt; matches!(heard[1], Heard::Class { total: 10, .. }));
-    assert!(rt; matches!(heard[2], Heard::Began(_)));
-    assert!(rt; matches!(heard[3], Heard::Planned));
-    assert!(rt; matches!(heard[4], Heard::Class { total: 20, .. }));
+    assert!(rt; matches!(heard.get(1), Some(Heard::Class { total: 10, .. })));
+    assert!(rt; matches!(heard.get(2), Some(Heard::Began(_))));
+    assert!(rt; matches!(heard.get(3), Some(Heard::Planned)));
+    assert!(rt; matches!(heard.get(4), Some(Heard::Class { total: 20, .. })));
     Ok(())
 }
 
