@@ -80,7 +80,7 @@ fn parse<'a>(alloc: Global, words: &'a [&'a str]) -> Result<ArgMatches<'a>, Erro
     command(alloc)?.try_get_matches_from(words)
 }
 
-fn serving<'a>(found: &ArgMatches<'a>) -> Option<Serving<'a>> {
+fn serve_words<'a>(found: &ArgMatches<'a>) -> Option<Serving<'a>> {
     Some(Serving {
         settings: found.get_str("settings")?,
         ports: Ports {
@@ -96,7 +96,7 @@ fn serving<'a>(found: &ArgMatches<'a>) -> Option<Serving<'a>> {
 fn meaning<'a>(found: &ArgMatches<'a>) -> Option<Asked<'a>> {
     let (name, inner) = found.subcommand()?;
     match name {
-        "serve" => Some(Asked::Serve(serving(inner)?)),
+        "serve" => Some(Asked::Serve(serve_words(inner)?)),
         "replay" => Some(Asked::Replay {
             plans: inner.get_flag("plans"),
         }),
