@@ -35,38 +35,70 @@ fn engine(alloc: Global) -> Result<Engine<Lazy>, AllocError> {
     Engine::new(alloc, settings, Lazy::new(alloc))
 }
 
-/// A client that sends this, and whose input stays open.
-fn client(alloc: Global, sent: &[u8], cut: (usize, usize)) -> Result<Peer, AllocError> {
-    let input = Vec::from_slice(alloc, sent)?;
-    Ok(Peer::new(alloc, Door::Ipp, input, cut.0, cut.1))
-}
-
-/// What a client gets of a server that has just started, and whether it is closed then.
-fn served(
-    alloc: Global,
-    exchange: Exchange,
-    cut: (usize, usize),
-    fault_at: u64,
-) -> Result<Memory, AllocError> {
-    let mut engine = engine(alloc)?;
-    let mut peers = Vec::new(alloc);
-    peers.push(client(alloc, exchange.sent, cut)?)?;
-    let mut wire = Memory::new(peers);
-    wire.fault_at = fault_at;
-    let mut notes = NoteLog::new(alloc);
-    for _turn in 0..TURNS {
-        engine.turn(&mut wire, &mut notes, Moment::start());
+/// Turns of a server that has just started, over this wire; what is heard is left in the notes.
+fn serve(alloc: Global, wire: &mut Memory, notes: &mut NoteLog, turns: usize) -> bool {
+    let Ok(mut engine) = engine(alloc) else {
+        return false;
+    };
+    for _turn in 0..turns {
+        engine.turn(wire, notes, Moment::start());
     }
-    Ok(wire)
+    true
 }
 
-/// Whether a client got just its answer.
-fn is_answered(alloc: Global, exchange: Exchange, cut: (usize, usize)) -> Result<bool, AllocError> {
-    let wire = served(alloc, exchange, cut, u64::MAX)?;
-    Ok(match wire.peers.first() {
-        Some(peer) => peer.taken.as_slice() == exchange.answered && peer.closed == exchange.closes,
+/// The same of a server whose device runs.
+fn serve_running(alloc: Global, wire: &mut Memory, notes: &mut NoteLog, turns: usize) -> bool {
+    let Ok(mut engine) = engine(alloc) else {
+        return false;
+    };
+    let runs = engine.report(DeviceId::new(0), Report::Ready, notes, Moment::start());
+    for _turn in 0..turns {
+        engine.turn(wire, notes, Moment::start());
+    }
+    runs.is_ok()
+}
+
+/// A client that sends this at a door, and whose input stays open.
+fn client(alloc: Global, door: Door, sent: &[u8], cut: (usize, usize)) -> Result<Peer, AllocError> {
+    let input = Vec::from_slice(alloc, sent)?;
+    Ok(Peer::new(alloc, door, input, cut.0, cut.1))
+}
+
+/// Clients of the IPP door that send these.
+fn clients(alloc: Global, streams: &[&[u8]], cut: (usize, usize)) -> Result<Memory, AllocError> {
+    let mut peers = Vec::new(alloc);
+    for sent in streams {
+        peers.push(client(alloc, Door::Ipp, sent, cut)?)?;
+    }
+    Ok(Memory::new(peers))
+}
+
+/// Whether just these bytes were taken for a peer.
+fn got(wire: &Memory, place: usize, bytes: &[u8]) -> bool {
+    match wire.peers.get(place) {
+        Some(peer) => peer.taken.as_slice() == bytes,
         None => false,
-    })
+    }
+}
+
+/// Whether a peer was given up.
+fn is_closed(wire: &Memory, place: usize) -> bool {
+    match wire.peers.get(place) {
+        Some(peer) => peer.closed,
+        None => false,
+    }
+}
+
+/// Whether a client gets just its answer of a server that has just started, and is closed where it is
+/// to be.
+fn is_answered(alloc: Global, exchange: Exchange, cut: (usize, usize)) -> Result<bool, AllocError> {
+    let mut wire = clients(alloc, &[exchange.sent], cut)?;
+    let mut notes = NoteLog::new(alloc);
+    Ok(
+        serve(alloc, &mut wire, &mut notes, TURNS)
+            && got(&wire, 0, exchange.answered)
+            && is_closed(&wire, 0) == exchange.closes,
+    )
 }
 
 /// However the bytes are cut, each client gets its answer, and the connection closes where it is to.
@@ -81,14 +113,21 @@ fn exchanges_in_pieces(rt: HostRuntime) -> Result<(), Fail> {
     Ok(())
 }
 
-/// Whether a client got a front of its answer, and was closed.
-fn is_cut_off(alloc: Global, fault_at: u64) -> Result<bool, AllocError> {
-    let wire = served(alloc, PLAIN, (64, 100), fault_at)?;
-    Ok(match wire.peers.first() {
-        Some(peer) => PLAIN.answered.starts_with(peer.taken.as_slice())
-            && (peer.closed || peer.taken.as_slice() == PLAIN.answered),
+/// Whether a front of an answer was taken, and all of it unless the connection is closed.
+fn is_front(wire: &Memory, answered: &[u8]) -> bool {
+    match wire.peers.first() {
+        Some(peer) => answered.starts_with(peer.taken.as_slice())
+            && (peer.closed || peer.taken.as_slice() == answered),
         None => false,
-    })
+    }
+}
+
+/// Whether a client got a front of its answer where a poll faults, and was closed.
+fn is_cut_off(alloc: Global, fault_at: u64) -> Result<bool, AllocError> {
+    let mut wire = clients(alloc, &[PLAIN.sent], (64, 100))?;
+    wire.fault_at = fault_at;
+    let mut notes = NoteLog::new(alloc);
+    Ok(serve(alloc, &mut wire, &mut notes, 60) && is_front(&wire, PLAIN.answered))
 }
 
 /// A fault at any poll: what was taken is a front of what was due, and a connection at which it came
@@ -102,67 +141,49 @@ fn fault_at_each_poll(rt: HostRuntime) -> Result<(), Fail> {
     Ok(())
 }
 
-/// What the listener hears of a Print-Job on a device that doesn't run: the tick's dispatch finds no
-/// job, and the job's plan has it stranded.
-fn heard(alloc: Global) -> Result<Vec<Heard>, AllocError> {
-    let mut engine = engine(alloc)?;
-    let mut peers = Vec::new(alloc);
-    peers.push(client(alloc, PLAIN.sent, (4096, 4096))?)?;
-    let mut wire = Memory::new(peers);
+/// Whether two clients that send a byte at a time in turns, the first of which has more to send, get
+/// the second and the first job.
+fn are_interleaved(alloc: Global) -> Result<bool, AllocError> {
+    let mut wire = clients(alloc, &[LAST.sent, PLAIN.sent], (1, 1))?;
     let mut notes = NoteLog::new(alloc);
-    engine.turn(&mut wire, &mut notes, Moment::start());
+    Ok(
+        serve(alloc, &mut wire, &mut notes, TURNS)
+            && got(&wire, 0, LAST_AS_SECOND)
+            && got(&wire, 1, PLAIN.answered),
+    )
+}
+
+/// The job whose last byte came first has the first id.
+#[test]
+fn ids_by_last_bytes(rt: HostRuntime) -> Result<(), Fail> {
+    let interleaved = are_interleaved(rt.alloc())?;
+    assert!(rt; interleaved);
+    Ok(())
+}
+
+/// What is heard of a Print-Job on a device that doesn't run.
+fn heard_of_one(alloc: Global) -> Result<Vec<Heard>, AllocError> {
+    let mut wire = clients(alloc, &[PLAIN.sent], (4096, 4096))?;
+    let mut notes = NoteLog::new(alloc);
+    serve(alloc, &mut wire, &mut notes, 1);
     notes.take()
 }
 
+/// The tick's dispatch finds no job, and the job's plan has it stranded.
 #[test]
 fn listener_hears_the_plan(rt: HostRuntime) -> Result<(), Fail> {
-    let heard = heard(rt.alloc())?;
+    let heard = heard_of_one(rt.alloc())?;
     assert_eq!(rt; heard.len(), 2);
     assert!(rt; matches!(heard.first(), Some(Heard::Planned)));
     assert!(rt; matches!(heard.last(), Some(Heard::Stranded(_))));
     Ok(())
 }
 
-/// What two clients get that send a byte at a time in turns, the first of which has more to send.
-fn interleaved(alloc: Global) -> Result<Memory, AllocError> {
-    let mut engine = engine(alloc)?;
-    let mut peers = Vec::new(alloc);
-    peers.push(client(alloc, LAST.sent, (1, 1))?)?;
-    peers.push(client(alloc, PLAIN.sent, (1, 1))?)?;
-    let mut wire = Memory::new(peers);
-    let mut notes = NoteLog::new(alloc);
-    for _turn in 0..TURNS {
-        engine.turn(&mut wire, &mut notes, Moment::start());
-    }
-    Ok(wire)
-}
-
-/// Whether just these bytes were taken for a peer.
-fn got(wire: &Memory, place: usize, bytes: &[u8]) -> bool {
-    match wire.peers.get(place) {
-        Some(peer) => peer.taken.as_slice() == bytes,
-        None => false,
-    }
-}
-
-/// The job whose last byte came first has the first id.
-#[test]
-fn ids_by_last_bytes(rt: HostRuntime) -> Result<(), Fail> {
-    let wire = interleaved(rt.alloc())?;
-    assert!(rt; got(&wire, 0, LAST_AS_SECOND));
-    assert!(rt; got(&wire, 1, PLAIN.answered));
-    Ok(())
-}
-
 /// What is heard of two requests in one piece, on a device that runs.
 fn heard_of_two(alloc: Global) -> Result<Vec<Heard>, AllocError> {
-    let mut engine = engine(alloc)?;
-    let mut peers = Vec::new(alloc);
-    peers.push(client(alloc, TWO.sent, (4096, 4096))?)?;
-    let mut wire = Memory::new(peers);
+    let mut wire = clients(alloc, &[TWO.sent], (4096, 4096))?;
     let mut notes = NoteLog::new(alloc);
-    engine.report(DeviceId::new(0), Report::Ready, &mut notes, Moment::start())?;
-    engine.turn(&mut wire, &mut notes, Moment::start());
+    serve_running(alloc, &mut wire, &mut notes, 1);
     notes.take()
 }
 
@@ -178,61 +199,46 @@ fn plan_after_each_request(rt: HostRuntime) -> Result<(), Fail> {
     Ok(())
 }
 
-/// How many of 65 clients are accepted at most, one after each turn, and how many in the end, once the
-/// first has gone away.
-fn accepted(alloc: Global) -> Result<(usize, usize), AllocError> {
-    let mut engine = engine(alloc)?;
-    let mut peers = Vec::new(alloc);
-    for _client in 0..65 {
-        peers.push(client(alloc, &[], (1, 1))?)?;
-    }
-    let mut wire = Memory::new(peers);
-    let mut notes = NoteLog::new(alloc);
-    for _turn in 0..70 {
-        engine.turn(&mut wire, &mut notes, Moment::start());
-    }
-    let before = wire.peers.iter().filter(|peer| peer.accepted).count();
+/// 65 clients that say nothing, the first of which has gone away or not.
+fn crowd(alloc: Global, first_gone: bool) -> Result<Memory, AllocError> {
+    let mut wire = clients(alloc, &[b"".as_slice(); 65], (1, 1))?;
     if let Some(first) = wire.peers.first_mut() {
-        first.ended = true;
+        first.ended = first_gone;
     }
-    for _turn in 0..3 {
-        engine.turn(&mut wire, &mut notes, Moment::start());
-    }
-    let after = wire.peers.iter().filter(|peer| peer.accepted).count();
-    Ok((before, after))
+    Ok(wire)
+}
+
+/// How many clients of a crowd are accepted.
+fn accepted(alloc: Global, first_gone: bool) -> Result<usize, AllocError> {
+    let mut wire = crowd(alloc, first_gone)?;
+    let mut notes = NoteLog::new(alloc);
+    serve(alloc, &mut wire, &mut notes, 70);
+    Ok(wire.peers.iter().filter(|peer| peer.accepted).count())
 }
 
 #[test]
 fn one_client_too_many(rt: HostRuntime) -> Result<(), Fail> {
-    let (before, after) = accepted(rt.alloc())?;
-    assert_eq!(rt; before, 64);
-    assert_eq!(rt; after, 65);
+    let all_stay = accepted(rt.alloc(), false)?;
+    assert_eq!(rt; all_stay, 64);
+    let one_goes = accepted(rt.alloc(), true)?;
+    assert_eq!(rt; one_goes, 65);
     Ok(())
 }
 
-/// Whether clients at the other doors, which aren't served yet, are closed with nothing said.
-fn others_closed(alloc: Global) -> Result<bool, AllocError> {
-    let mut engine = engine(alloc)?;
+/// Whether a client at a door that isn't served yet is closed with nothing said.
+fn is_turned_away(alloc: Global, door: Door) -> Result<bool, AllocError> {
     let mut peers = Vec::new(alloc);
-    for door in [Door::Lpd, Door::Devices] {
-        let input = Vec::from_slice(alloc, b"\x02lab\n")?;
-        peers.push(Peer::new(alloc, door, input, 1, 1))?;
-    }
+    peers.push(client(alloc, door, b"\x02lab\n", (1, 1))?)?;
     let mut wire = Memory::new(peers);
     let mut notes = NoteLog::new(alloc);
-    for _turn in 0..3 {
-        engine.turn(&mut wire, &mut notes, Moment::start());
-    }
-    Ok(
-        wire.peers
-            .iter()
-            .all(|peer| peer.closed && peer.taken.is_empty()),
-    )
+    Ok(serve(alloc, &mut wire, &mut notes, 3) && got(&wire, 0, b"") && is_closed(&wire, 0))
 }
 
 #[test]
 fn other_doors_close(rt: HostRuntime) -> Result<(), Fail> {
-    let closed = others_closed(rt.alloc())?;
-    assert!(rt; closed);
+    for door in [Door::Lpd, Door::Devices] {
+        let turned_away = is_turned_away(rt.alloc(), door)?;
+        assert!(rt; turned_away);
+    }
     Ok(())
 }

@@ -72,16 +72,21 @@ fn exchanges(rt: HostRuntime) -> Result<(), Fail> {
     Ok(())
 }
 
-/// What a second client gets, after a first that went away in the middle of a body.
+/// A client comes, and goes away in the middle of a body.
+fn leave_midway(rt: &HostRuntime, server: &mut Server) -> io::Result<()> {
+    let mut client = connect(rt, server)?;
+    if let Some(front) = PLAIN.sent.get(..150) {
+        client.write_all(front)?;
+    }
+    turns(server, 5)?;
+    drop(client);
+    turns(server, 5)
+}
+
+/// What a second client gets, after a first that went away.
 fn after_one_gone(rt: &HostRuntime) -> io::Result<Vec<u8>> {
     let mut server = start(rt)?;
-    let mut gone = connect(rt, &server)?;
-    if let Some(front) = PLAIN.sent.get(..150) {
-        gone.write_all(front)?;
-    }
-    turns(&mut server, 5)?;
-    drop(gone);
-    turns(&mut server, 5)?;
+    leave_midway(rt, &mut server)?;
     answered(rt, &mut server, PLAIN.sent)
 }
 
@@ -92,32 +97,51 @@ fn client_goes_away(rt: HostRuntime) -> Result<(), Fail> {
     Ok(())
 }
 
-/// What the last of 65 clients gets, 64 of which say nothing, before any has gone and once one has.
-fn last_of_many(rt: &HostRuntime) -> io::Result<(Vec<u8>, Vec<u8>)> {
-    let mut server = start(rt)?;
+/// So many clients that say nothing.
+fn crowd(rt: &HostRuntime, server: &Server, count: usize) -> io::Result<Vec<TcpStream>> {
     let mut idle = Vec::new(rt.alloc());
-    for _client in 0..64 {
-        idle.push(connect(rt, &server)?)?;
+    for _client in 0..count {
+        idle.push(connect(rt, server)?)?;
     }
-    turns(&mut server, 70)?;
-    let mut client = connect(rt, &server)?;
-    client.write_all(PLAIN.sent)?;
-    client.shutdown(Shutdown::Write)?;
-    turns(&mut server, TURNS)?;
+    Ok(idle)
+}
+
+/// What a client gets in so many turns after it has sent a request, as far as it has come.
+fn got_so_far(
+    rt: &HostRuntime,
+    server: &mut Server,
+    client: &mut TcpStream,
+) -> io::Result<Vec<u8>> {
+    turns(server, TURNS)?;
     client.set_nonblocking(true)?;
-    let mut early = Vec::new(rt.alloc());
-    let _waits = client.read_to_end(&mut early);
+    let mut bytes = Vec::new(rt.alloc());
+    let _waits = client.read_to_end(&mut bytes);
+    Ok(bytes)
+}
+
+/// How many bytes the last of 65 clients gets, 64 of which say nothing, before any has gone; and
+/// whether it gets its answer once one has.
+fn last_of_many(rt: &HostRuntime, server: &mut Server) -> io::Result<(usize, bool)> {
+    let mut idle = crowd(rt, server, 64)?;
+    turns(server, 70)?;
+    let mut client = connect(rt, server)?;
+    client.write_all(PLAIN.sent)?;
+    let early = got_so_far(rt, server, &mut client)?.len();
     drop(idle.pop());
-    turns(&mut server, TURNS)?;
-    let mut late = Vec::new(rt.alloc());
-    client.read_to_end(&mut late)?;
-    Ok((early, late))
+    let late = got_so_far(rt, server, &mut client)?;
+    Ok((early, late.as_slice() == PLAIN.answered))
+}
+
+/// The same of a server that has just started.
+fn many(rt: &HostRuntime) -> io::Result<(usize, bool)> {
+    let mut server = start(rt)?;
+    last_of_many(rt, &mut server)
 }
 
 #[test]
 fn one_client_too_many(rt: HostRuntime) -> Result<(), Fail> {
-    let (early, late) = last_of_many(&rt)?;
-    assert!(rt; early.is_empty());
-    assert!(rt; late.as_slice() == PLAIN.answered);
+    let (early, answered) = many(&rt)?;
+    assert_eq!(rt; early, 0);
+    assert!(rt; answered);
     Ok(())
 }
