@@ -16,6 +16,8 @@ use Rattle.plan_checker.specs.declared.verdict.PlanVerdict.TheVariants.{Yes, No}
 use Rattle.plan_text.specs.NamedPlan.{NamedPlan}
 use Rattle.plan_checker.specs.Plan.{IsPlanVerdict}
 use Rattle.plan_text.specs.Whole.{plan_at}
+use Rattle.streams.specs.declared.exit_status.ExitStatus.{ExitStatus}
+use Rattle.streams.specs.declared.exit_status.ExitStatus.TheVariants as Ends
 use Rattle.streams.specs.Input.{IsWhole, GaveMore}
 use Rattle.streams.specs.Said.{Said, refused_as}
 
@@ -59,8 +61,8 @@ priority_at classes place = slice_index (map (λ class. class.priority) classes)
 
 -- what is said of a plan with this verdict, where the starts are asked for or not
 abbrev pub said_of : Bool → NamedPlan → PlanVerdict → Said
-said_of starts named Yes = record { text = codes "yes\n" ++ (if starts then plan_starts named.devices named.plan.classes else []); status = 0 }
-said_of starts named (No place fault) = record { text = codes "no " ++ (verdict_name fault ++ (codes " class " ++ (decimal (priority_at named.plan.classes place) ++ codes "\n"))); status = 1 }
+said_of starts named Yes = record { text = codes "yes\n" ++ (if starts then plan_starts named.devices named.plan.classes else []); status = Ends.Done }
+said_of starts named (No place fault) = record { text = codes "no " ++ (verdict_name fault ++ (codes " class " ++ (decimal (priority_at named.plan.classes place) ++ codes "\n"))); status = Ends.No }
 
 -- what is said of a text: the verdict on the plan that it is, or its first fault
 abbrev pub IsSaidOf : Bool → List ℕ → Said → Type 0
@@ -75,7 +77,7 @@ IsAnswer starts before after said =
     ⊎ (GaveMore INPUT_BYTES before after × (said ≡ refused_as (codes "size")))
 
 -- the answer was written as a whole; or the program failed, and wrote nothing or a front of it
-abbrev pub Checks : Bool → Option (List ℕ) → Option (List ℕ) → Option (List ℕ) → Option (List ℕ) → ℕ → Type 0
+abbrev pub Checks : Bool → Option (List ℕ) → Option (List ℕ) → Option (List ℕ) → Option (List ℕ) → ExitStatus → Type 0
 Checks starts before after held holds status =
     ((said : Said) × IsAnswer starts before after said × Appends held holds said.text × (status ≡ said.status))
-    ⊎ ((status ≡ 3) × (Appends held holds [] ⊎ ((said : Said) × IsAnswer starts before after said × (n : ℕ) × Appends held holds (take n said.text))))
+    ⊎ ((status ≡ Ends.Failed) × (Appends held holds [] ⊎ ((said : Said) × IsAnswer starts before after said × (n : ℕ) × Appends held holds (take n said.text))))

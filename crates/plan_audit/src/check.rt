@@ -15,21 +15,22 @@ use plan_text::{PlanText, ReadError, read_plan_text};
 use prices::PlannedClass;
 use std::alloc::{AllocError, Global};
 use std::io::{Read, Write};
-use streams::{InputFault, read_whole, write_front};
+use std::marker::Model;
+use streams::{ExitStatus, InputFault, read_whole, write_front};
 
-const YES: u8 = 0;
-
-const NO: u8 = 1;
-
-const REFUSED: u8 = 2;
-
-const FAILED: u8 = 3;
-
-/// What is written, and the exit status.
+/// What is written, and how the program ends.
 #[derive(Drop)]
 struct Answer {
     text: Vec<u8>,
-    status: u8,
+    status: ExitStatus,
+}
+
+impl Model for Answer {
+    ghost use Rattle.streams.specs.Said.{Said};
+
+    ghost Value = { Said };
+
+    ghost view = { λ a. record { text = a.text.items; status = a.status } };
 }
 
 /// Reads the text of a plan to its end, writes the verdict on it, and gives the exit status.
@@ -37,29 +38,29 @@ struct Answer {
 /// It writes `yes`, and where the starts are asked for a line `start ID NAME S E` for each job, with
 /// the ms from now at which it starts and ends; or `no NAME class P`, the first fault and the
 /// priority of its class; or `refused NAME`, where the text is no plan or has too many bytes. The
-/// status is 0 for yes, 1 for no and 2 for refused, or 3 for want of memory or a stream that fails.
-/// What is written is then a front of the answer.
+/// status says which of these it was, or that memory or a stream failed. What is written is then a
+/// front of the answer.
 pub fn run_check<R: Read, W: Write>(
     alloc: Global,
     reader: &mut R,
     writer: &mut W,
     starts: bool,
-) -> u8
+) -> ExitStatus
     ensures { Checks starts (R.remaining reader.old) (R.remaining reader.new) (W.contents writer.old) (W.contents writer.new) result }
 {
     let Some(answer) = answer_input(alloc, reader, starts) else {
-        return FAILED;
+        return ExitStatus::Failed;
     };
     if write_front(writer, &answer.text) == answer.text.len() {
         answer.status
     } else {
-        FAILED
+        ExitStatus::Failed
     }
 }
 
 /// The answer to an input, unless memory or the stream fails.
 fn answer_input<R: Read>(alloc: Global, reader: &mut R, starts: bool) -> Option<Answer>
-    ensures { IfSome result (λ answer. IsAnswer starts (R.remaining reader.old) (R.remaining reader.new) (record { text = answer.text.items; status = answer.status })) }
+    ensures { IfSome result (λ answer. IsAnswer starts (R.remaining reader.old) (R.remaining reader.new) answer) }
 {
     match read_whole(alloc, reader, Limits::INPUT_BYTES, Limits::INPUT_READS) {
         Ok(text) => answer_text(alloc, &text, starts).ok(),
@@ -70,7 +71,7 @@ fn answer_input<R: Read>(alloc: Global, reader: &mut R, starts: bool) -> Option<
 
 /// The answer to a text.
 fn answer_text(alloc: Global, text: &[u8], starts: bool) -> Result<Answer, AllocError>
-    ensures { IfOk result (λ answer. IsSaidOf starts text.now (record { text = answer.text.items; status = answer.status })) }
+    ensures { IfOk result (λ answer. IsSaidOf starts text.now answer) }
 {
     match read_plan_text(alloc, text) {
         Ok(named) => judge(alloc, &named, starts),
@@ -81,28 +82,28 @@ fn answer_text(alloc: Global, text: &[u8], starts: bool) -> Result<Answer, Alloc
 
 /// The answer to a text that is refused.
 fn refused(alloc: Global, name: &str) -> Result<Answer, AllocError>
-    ensures { IfOk result (λ answer. record { text = answer.text.items; status = answer.status } ≡ refused_as name.now) }
+    ensures { IfOk result (λ answer. answer ≡ refused_as name.now) }
 {
     let line = format!(in alloc; "refused {name}\n")?;
     Ok(Answer {
         text: Vec::from_slice(alloc, line.as_bytes())?,
-        status: REFUSED,
+        status: ExitStatus::Refused,
     })
 }
 
 /// The answer to a plan.
 fn judge(alloc: Global, named: &PlanText, starts: bool) -> Result<Answer, AllocError>
     requires { All HasOneListEach named.now.plan.classes }
-    ensures { IfOk result (λ answer. (verdict : PlanVerdict) × IsPlanVerdict named.now.plan verdict × (record { text = answer.text.items; status = answer.status } ≡ said_of starts named.now verdict)) }
+    ensures { IfOk result (λ answer. (verdict : PlanVerdict) × IsPlanVerdict named.now.plan verdict × (answer ≡ said_of starts named.now verdict)) }
 {
     match check_plan(named.plan()) {
         PlanVerdict::Yes => Ok(Answer {
             text: yes_text(alloc, named.devices(), named.plan().classes(), starts)?,
-            status: YES,
+            status: ExitStatus::Done,
         }),
         PlanVerdict::No { place, fault } => Ok(Answer {
             text: no_text(alloc, fault, named.plan().classes(), place)?,
-            status: NO,
+            status: ExitStatus::No,
         }),
     }
 }

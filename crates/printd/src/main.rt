@@ -14,12 +14,7 @@ use std::io::ErrorKind;
 use std::net::IpAddr;
 use std::process::ExitCode;
 use std::{env, fs, io};
-
-/// The status of what ends well.
-const DONE: u8 = 0;
-
-/// The status of want of memory, or of a file, a stream, a socket or the clock that fails.
-const FAILED: u8 = 3;
+use streams::ExitStatus;
 
 /// The words that the program was given.
 fn words_of(rt: &HostRuntime) -> io::Result<Vec<String>> {
@@ -40,7 +35,7 @@ fn lent<'a>(rt: &HostRuntime, words: &'a [String]) -> Result<Vec<&'a str>, Alloc
 }
 
 /// Serves. The error is the system's: of the file, the sockets, the clock or the output.
-fn run_serve(rt: &HostRuntime, serving: Serving<'_>) -> io::Result<u8> {
+fn run_serve(rt: &HostRuntime, serving: Serving<'_>) -> io::Result<ExitStatus> {
     let bytes = fs::read(rt, serving.settings)?;
     let settings = match read_serve(rt.alloc(), &bytes, &mut rt.stderr()) {
         Ok(settings) => settings,
@@ -57,13 +52,13 @@ fn run_serve(rt: &HostRuntime, serving: Serving<'_>) -> io::Result<u8> {
     println!(rt; "lpd {lpd}")?;
     println!(rt; "devices {devices}")?;
     serve(rt, &mut server, serving.turns)?;
-    Ok(DONE)
+    Ok(ExitStatus::Done)
 }
 
 /// Does what the words ask for, and gives the status.
-fn run(rt: &HostRuntime, asked: Asked<'_>) -> u8 {
+fn run(rt: &HostRuntime, asked: Asked<'_>) -> ExitStatus {
     match asked {
-        Asked::Serve(serving) => run_serve(rt, serving).unwrap_or(FAILED),
+        Asked::Serve(serving) => run_serve(rt, serving).unwrap_or(ExitStatus::Failed),
         Asked::Replay { plans } => run_replay(
             rt.alloc(),
             &mut rt.reader(),
@@ -80,9 +75,9 @@ fn run(rt: &HostRuntime, asked: Asked<'_>) -> u8 {
 }
 
 /// What the program does, and its status; the error is the status where it isn't known what to do.
-fn run_words(rt: &HostRuntime) -> Result<u8, u8> {
-    let words = words_of(rt).map_err(|_| FAILED)?;
-    let texts = lent(rt, &words).map_err(|_| FAILED)?;
+fn run_words(rt: &HostRuntime) -> Result<ExitStatus, ExitStatus> {
+    let words = words_of(rt).map_err(|_| ExitStatus::Failed)?;
+    let texts = lent(rt, &words).map_err(|_| ExitStatus::Failed)?;
     let asked = read_words(rt.alloc(), &texts, &mut rt.stderr())?;
     Ok(run(rt, asked))
 }
@@ -92,7 +87,7 @@ fn main(rt: HostRuntime) -> ExitCode {
         Ok(status) => status,
         Err(status) => status,
     };
-    ExitCode::from(status)
+    ExitCode::from(status.code())
 }
 
 #[cfg(test)]

@@ -8,13 +8,14 @@ mod totals;
 use crate::words::{Asked, read_words};
 use replay::run_replay;
 use std::test::Fail;
+use streams::ExitStatus;
 
 /// The status and the output of a trace.
 fn run(rt: &HostRuntime, trace: &str) -> (u8, Vec<u8>) {
     let mut output = Vec::new(rt.alloc());
     let mut input = trace.as_bytes();
     let status = run_replay(rt.alloc(), &mut input, &mut output, false);
-    (status, output)
+    (status.code(), output)
 }
 
 #[test]
@@ -89,7 +90,7 @@ fn words(rt: HostRuntime) {
     assert!(rt; text.is_empty());
     assert_eq!(rt;
         read_words(rt.alloc(), &["printd", "reply"], &mut text),
-        Err(2)
+        Err(ExitStatus::Refused)
     );
     assert!(rt; !text.is_empty());
 }

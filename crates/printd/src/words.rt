@@ -3,6 +3,7 @@ use clap::{Arg, ArgAction, ArgMatches, Command, Error};
 use serve::Ports;
 use std::alloc::{AllocError, Global};
 use std::io::Write;
+use streams::ExitStatus;
 
 /// Turns without an end: at ten a second, three thousand years.
 const MOST_TURNS: u64 = 1_000_000_000_000;
@@ -107,17 +108,26 @@ fn meaning<'a>(found: &ArgMatches<'a>) -> Option<Asked<'a>> {
     }
 }
 
-/// What the words ask for, or the status to end with once the text about them is written: 2, or 3
-/// for want of memory or a writer that fails.
+/// Writes what is wrong with the words.
+fn told<W: Write>(error: &Error, err: &mut W) -> ExitStatus {
+    if write!(err, "{error}").is_ok() {
+        ExitStatus::Refused
+    } else {
+        ExitStatus::Failed
+    }
+}
+
+/// What the words ask for, or how to end once the text about them is written: refused, or failed for
+/// want of memory or a writer that fails.
 pub fn read_words<'a, W: Write>(
     alloc: Global,
     words: &'a [&'a str],
     err: &mut W,
-) -> Result<Asked<'a>, u8> {
+) -> Result<Asked<'a>, ExitStatus> {
     let matches = match parse(alloc, words) {
         Ok(matches) => matches,
-        Err(error) if error.kind() == ErrorKind::OutOfMemory => return Err(3),
-        Err(error) => return Err(if write!(err, "{error}").is_ok() { 2 } else { 3 }),
+        Err(error) if error.kind() == ErrorKind::OutOfMemory => return Err(ExitStatus::Failed),
+        Err(error) => return Err(told(&error, err)),
     };
-    meaning(&matches).ok_or(2)
+    meaning(&matches).ok_or(ExitStatus::Refused)
 }

@@ -3,6 +3,7 @@ use Rattle.std.proofs.Common.{◌≡◌, ℕ, Bool, List, Option, Some, None, Is
 use Rattle.std.specs.Result.{result_ok}
 use Rattle.std.specs.Io.KnownBytes.{Appends}
 use Rattle.base_types.specs.declared.limits.TheConstants.Limits.{INPUT_BYTES}
+use Rattle.streams.specs.declared.exit_status.ExitStatus.{ExitStatus}
 use Rattle.streams.specs.Input.{IsWhole}
 use Rattle.streams.specs.Said.{Said}
 use Rattle.replay.specs.Replay.{TraceGives, InputGives, InputLeaves, Replays}
@@ -27,5 +28,5 @@ due_left texts before after text (Some status) given left = inr (inr (_, given, 
 pub fails : (texts : Bool) (before after held holds : Option (List ℕ)) (text lent : List ℕ) (n : ℕ) → InputLeaves texts before after text → lent ≡ text → Appends held holds (take n lent) → Replays texts before after held holds 3
 fails texts before after held holds text lent n left same written = inr (refl, text, n, left, subst (λ t. Appends held holds (take n t)) same written)
 
-pub succeeds : (texts : Bool) (before after held holds : Option (List ℕ)) (text : List ℕ) (status : ℕ) → InputGives texts before after (record { text = text; status = status }) → Appends held holds text → Replays texts before after held holds status
+pub succeeds : (texts : Bool) (before after held holds : Option (List ℕ)) (text : List ℕ) (status : ExitStatus) → InputGives texts before after (record { text = text; status = status }) → Appends held holds text → Replays texts before after held holds status
 succeeds texts before after held holds text status given written = inl (_, given, written, refl)

@@ -5,6 +5,7 @@ use Rattle.replay.specs.declared.trace.Line.{Line}
 use Rattle.replay.specs.Acting.{Acts}
 use Rattle.replay.specs.Log.{LogRecord}
 use Rattle.replay.specs.Replay.{Standing, Gives, IsNoLine, LinesGive, LinesLeave}
+use Rattle.streams.specs.declared.exit_status.ExitStatus.TheVariants as Ends
 use Rattle.streams.specs.Said.{Said, refused_as, said_after}
 use Rattle.replay.specs.TraceLine.{IsLine}
 
@@ -39,8 +40,8 @@ left_off texts names first all start done number rest now r = subst (λ t. Lines
 
 -- after the last line
 pub at_end : (texts : Bool) (names : List (List ℕ)) (first : ℕ) (all : List (List ℕ)) (start : Standing) (done : List ℕ) (number : ℕ) (rest : List (List ℕ)) (now : Standing)
-    → Reached texts names first all start done number rest now → rest ≡ [] → LinesGive texts names first all start (record { text = done ++ []; status = 0 })
-at_end texts names first all start done number rest now r none = r.gives (record { text = []; status = 0 }) (subst (λ ls. LinesGive texts names number ls now (record { text = []; status = 0 })) (sym none) refl)
+    → Reached texts names first all start done number rest now → rest ≡ [] → LinesGive texts names first all start (record { text = done ++ []; status = Ends.Done })
+at_end texts names first all start done number rest now r none = r.gives (record { text = []; status = Ends.Done }) (subst (λ ls. LinesGive texts names number ls now (record { text = []; status = Ends.Done })) (sym none) refl)
 
 -- at bytes that are no line
 pub at_no_line : (texts : Bool) (names : List (List ℕ)) (first : ℕ) (all : List (List ℕ)) (start : Standing) (done : List ℕ) (number printed : ℕ) (rest : List (List ℕ)) (now : Standing) (bytes : List ℕ) (more : List (List ℕ))

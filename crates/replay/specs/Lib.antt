@@ -4,3 +4,4 @@ pub mod Printed
 pub mod Log
 pub mod Replay
 pub mod Acting
+pub mod OneRun

@@ -24,6 +24,8 @@ use Rattle.replies.specs.Asked.{Asks}
 use Rattle.replies.specs.Reply.{IsReply, refusal_bytes}
 use Rattle.replay.specs.declared.trace.Line.{Line}
 use Rattle.replay.specs.declared.trace.Line.TheVariants as Form
+use Rattle.streams.specs.declared.exit_status.ExitStatus.{ExitStatus}
+use Rattle.streams.specs.declared.exit_status.ExitStatus.TheVariants as Ends
 use Rattle.streams.specs.Input.{IsWhole, GaveMore}
 use Rattle.replay.specs.Lines.{lines_of, IsSplit, HasNoStop}
 use Rattle.replay.specs.Printed.{Prints, reply_line, cancel_lines}
@@ -85,7 +87,7 @@ IsNoLine names bytes = (line : Line) → ¬ (IsLine names bytes line)
 
 -- Each line in turn, the first of which has this number, up to one that is no line of a trace.
 abbrev pub LinesGive : Bool → List (List ℕ) → ℕ → List (List ℕ) → Standing → Said → Type 0
-LinesGive texts names number [] old said = said ≡ record { text = []; status = 0 }
+LinesGive texts names number [] old said = said ≡ record { text = []; status = Ends.Done }
 LinesGive texts names number (bytes ∷ more) old said =
     (IsNoLine names bytes × (said ≡ refused_as (codes "line " ++ decimal number)))
     ⊎ ((line : Line) × (text : List ℕ) × (new : Standing) × (rest : Said)
@@ -109,7 +111,7 @@ abbrev pub start_of : ServerSettings → Standing
 start_of settings = record { moment = 0; state = opening settings 1 }
 
 abbrev pub settings_refused : Fault → Said
-settings_refused fault = record { text = fault_line fault; status = 2 }
+settings_refused fault = record { text = fault_line fault; status = Ends.Refused }
 
 -- the settings, and the lines that come after so many
 abbrev pub SettingsGive : Bool → List ℕ → List ℕ → ℕ → Said → Type 0
@@ -152,7 +154,7 @@ InputLeaves texts before after left =
 
 -- What the input gives was written as a whole; or memory, the reader or the writer failed, and a front
 -- was written of what was due till then.
-abbrev pub Replays : Bool → Option (List ℕ) → Option (List ℕ) → Option (List ℕ) → Option (List ℕ) → ℕ → Type 0
+abbrev pub Replays : Bool → Option (List ℕ) → Option (List ℕ) → Option (List ℕ) → Option (List ℕ) → ExitStatus → Type 0
 Replays texts before after held holds status =
     ((said : Said) × InputGives texts before after said × Appends held holds said.text × (status ≡ said.status))
-    ⊎ ((status ≡ 3) × (left : List ℕ) × (n : ℕ) × InputLeaves texts before after left × Appends held holds (take n left))
+    ⊎ ((status ≡ Ends.Failed) × (left : List ℕ) × (n : ℕ) × InputLeaves texts before after left × Appends held holds (take n left))

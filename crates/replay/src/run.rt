@@ -9,6 +9,7 @@ ghost use Rattle.settings_file.specs.Fault.{Fault, fault_of, fault_line};
 ghost use Rattle.settings_file.specs.Reading.{settings_of};
 ghost use Rattle.replies.specs.Asked.{Asks};
 ghost use Rattle.replay.specs.Lines.{lines_of, IsOneLine};
+ghost use Rattle.streams.specs.declared.exit_status.ExitStatus.TheVariants as Ends;
 ghost use Rattle.streams.specs.Said.{Said, refused_as};
 ghost use Rattle.replay.specs.Printed.{reply_line};
 ghost use Rattle.replay.specs.Log.{Hears};
@@ -26,13 +27,7 @@ use replies::{Asked, ipp_event, ipp_refusal, ipp_reply};
 use settings_file::{Settings, SettingsFault, read_settings, write_fault};
 use std::alloc::{AllocError, Global};
 use std::io::{Read, Write};
-use streams::{InputFault, read_whole, write_front};
-
-const DONE: u8 = 0;
-
-const REFUSED: u8 = 2;
-
-const FAILED: u8 = 3;
+use streams::{ExitStatus, InputFault, read_whole, write_front};
 
 /// A server whose events come from a trace.
 #[derive(Drop)]
@@ -47,24 +42,24 @@ struct Run {
 ///
 /// It writes what the lines give, in order: the replies, the cancels, the plans, with their texts
 /// where these are asked for, and the jobs that start; or why the settings, a line or the size is
-/// refused. The status is 0, or 2 where something is refused, or 3 for want of memory or a stream
-/// that fails. What is written is then a front of what some of the lines give.
+/// refused. The status says that it is done, that something is refused, or that memory or a stream
+/// failed. What is written is then a front of what some of the lines give.
 pub fn run_replay<R: Read, W: Write>(
     alloc: Global,
     reader: &mut R,
     writer: &mut W,
     texts: bool,
-) -> u8
+) -> ExitStatus
     ensures { Replays texts (R.remaining reader.old) (R.remaining reader.new) (W.contents writer.old) (W.contents writer.new) result }
 {
     let mut output = Vec::new(alloc);
     let due = answer_input(alloc, reader, texts, &mut output);
     if write_front(writer, &output) < output.len() {
-        return FAILED;
+        return ExitStatus::Failed;
     }
     match due {
         Some(status) => status,
-        None => FAILED,
+        None => ExitStatus::Failed,
     }
 }
 
@@ -74,7 +69,7 @@ fn answer_input<R: Read>(
     reader: &mut R,
     texts: bool,
     output: &mut Vec<u8>,
-) -> Option<u8>
+) -> Option<ExitStatus>
     requires { output.old.items ≡ [] }
     ensures some { IfSome result (λ status. InputGives texts (R.remaining reader.old) (R.remaining reader.new) (record { text = output.new.items; status = status })) }
     ensures none { IsNone result → InputLeaves texts (R.remaining reader.old) (R.remaining reader.new) output.new.items }
@@ -87,16 +82,21 @@ fn answer_input<R: Read>(
 }
 
 /// Appends the line of a refusal, and gives its status.
-fn refuse(output: &mut Vec<u8>, line: &[u8]) -> Result<u8, AllocError>
-    ensures ok { IfOk result (λ status. (status ≡ 2) × (output.new.items ≡ output.old.items ++ line.now)) }
+fn refuse(output: &mut Vec<u8>, line: &[u8]) -> Result<ExitStatus, AllocError>
+    ensures ok { IfOk result (λ status. (status ≡ Ends.Refused) × (output.new.items ≡ output.old.items ++ line.now)) }
     ensures err { OnErr result (output.new.items ≡ output.old.items) }
 {
     output.extend_from_slice(line)?;
-    Ok(REFUSED)
+    Ok(ExitStatus::Refused)
 }
 
 /// Runs a trace, appends what it gives, and gives the status.
-fn replay(alloc: Global, trace: &[u8], texts: bool, output: &mut Vec<u8>) -> Result<u8, AllocError>
+fn replay(
+    alloc: Global,
+    trace: &[u8],
+    texts: bool,
+    output: &mut Vec<u8>,
+) -> Result<ExitStatus, AllocError>
     requires empty { output.old.items ≡ [] }
     requires short { length trace.now ≤ INPUT_BYTES }
     ensures ok { IfOk result (λ status. TraceGives texts trace.now (record { text = output.new.items; status = status })) }
@@ -116,7 +116,7 @@ fn run_lines(
     before: usize,
     texts: bool,
     output: &mut Vec<u8>,
-) -> Result<u8, AllocError>
+) -> Result<ExitStatus, AllocError>
     requires empty { output.old.items ≡ [] }
     requires short { before + length lines.now ≤ INPUT_BYTES }
     ensures ok { IfOk result (λ status. SettingsGive texts settings.now lines.now before (record { text = output.new.items; status = status })) }
@@ -130,15 +130,15 @@ fn run_lines(
 
 /// Appends the line of refused settings, and gives its status. The error is want of memory, which the
 /// fault may be already.
-fn refuse_settings(fault: &SettingsFault, output: &mut Vec<u8>) -> Result<u8, AllocError>
-    ensures ok { IfOk result (λ status. (status ≡ 2) × (named : Fault) × (fault_of fault.now ≡ Some named) × (output.new.items ≡ output.old.items ++ fault_line named)) }
+fn refuse_settings(fault: &SettingsFault, output: &mut Vec<u8>) -> Result<ExitStatus, AllocError>
+    ensures ok { IfOk result (λ status. (status ≡ Ends.Refused) × (named : Fault) × (fault_of fault.now ≡ Some named) × (output.new.items ≡ output.old.items ++ fault_line named)) }
     ensures err { OnErr result (output.new.items ≡ output.old.items) }
 {
     match fault {
         SettingsFault::OutOfMemory => Err(AllocError),
         _ => {
             write_fault(fault, output)?;
-            Ok(REFUSED)
+            Ok(ExitStatus::Refused)
         }
     }
 }
@@ -182,8 +182,8 @@ fn device_names(alloc: Global, settings: &Settings) -> Result<Vec<Text>, AllocEr
 }
 
 /// Appends the line of refused bytes that aren't a line of a trace, and gives its status.
-fn refuse_line(alloc: Global, number: usize, output: &mut Vec<u8>) -> Result<u8, AllocError>
-    ensures ok { IfOk result (λ status. (status ≡ 2) × (output.new.items ≡ output.old.items ++ (refused_as (codes "line " ++ decimal number)).text)) }
+fn refuse_line(alloc: Global, number: usize, output: &mut Vec<u8>) -> Result<ExitStatus, AllocError>
+    ensures ok { IfOk result (λ status. (status ≡ Ends.Refused) × (output.new.items ≡ output.old.items ++ (refused_as (codes "line " ++ decimal number)).text)) }
     ensures err { OnErr result (output.new.items ≡ output.old.items) }
 {
     let line = format!(in alloc; "refused line {number}\n")?;
@@ -217,7 +217,7 @@ impl Run {
         lines: &[u8],
         before: usize,
         output: &mut Vec<u8>,
-    ) -> Result<u8, AllocError>
+    ) -> Result<ExitStatus, AllocError>
         requires silent { self.old.log.heard ≡ Some [] }
         requires short { before + length lines.now ≤ INPUT_BYTES }
         ensures ok { IfOk result (λ status. (said : Said) × LinesGive self.old.log.texts self.old.log.names (suc before) (lines_of lines.now) (record { moment = self.old.moment; state = self.old.core }) said × (output.new.items ≡ output.old.items ++ said.text) × (status ≡ said.status)) }
@@ -232,7 +232,7 @@ impl Run {
             }
             rest = parts.1;
         }
-        Ok(DONE)
+        Ok(ExitStatus::Done)
     }
 
     /// Acts on one line, if it is one of a trace, and appends what it gives: whether it is one.

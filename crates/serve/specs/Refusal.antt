@@ -4,21 +4,23 @@ use Rattle.std.specs.Str.{IsUtf8}
 use Rattle.std.specs.Io.KnownBytes.{Appends}
 use Rattle.settings_file.specs.Fault.{Fault, not_toml, fault_line}
 use Rattle.settings_file.specs.Reading.{settings_of}
+use Rattle.streams.specs.declared.exit_status.ExitStatus.{ExitStatus}
+use Rattle.streams.specs.declared.exit_status.ExitStatus.TheVariants as Ends
 
 -- the first fault of a file's bytes: where they aren't UTF-8 they are no TOML
 abbrev pub IsFaultOf : List ℕ → Fault → Type 0
 IsFaultOf bytes fault = (¬ (IsUtf8 bytes) × (fault ≡ not_toml)) ⊎ (IsUtf8 bytes × (settings_of bytes ≡ Err fault))
 
--- a line is written whole, with status 2; or the writer failed, and a front of it was written
-abbrev pub Says : List ℕ → Option (List ℕ) → Option (List ℕ) → ℕ → Type 0
-Says line held holds status = ((status ≡ 2) × Appends held holds line) ⊎ ((status ≡ 3) × (n : ℕ) × Appends held holds (take n line))
+-- a line is written whole, with that status; or the writer failed, and a front of it was written
+abbrev pub Says : List ℕ → Option (List ℕ) → Option (List ℕ) → ExitStatus → Type 0
+Says line held holds status = ((status ≡ Ends.Refused) × Appends held holds line) ⊎ ((status ≡ Ends.Failed) × (n : ℕ) × Appends held holds (take n line))
 
 -- the line of a fault is written; or memory was refused, and nothing was
-abbrev pub RefusesAs : Option Fault → Option (List ℕ) → Option (List ℕ) → ℕ → Type 0
+abbrev pub RefusesAs : Option Fault → Option (List ℕ) → Option (List ℕ) → ExitStatus → Type 0
 RefusesAs named held holds status =
-    ((fault : Fault) × (named ≡ Some fault) × Says (fault_line fault) held holds status) ⊎ ((status ≡ 3) × (holds ≡ held))
+    ((fault : Fault) × (named ≡ Some fault) × Says (fault_line fault) held holds status) ⊎ ((status ≡ Ends.Failed) × (holds ≡ held))
 
 -- the bytes have a fault, which is said; or memory was refused, and nothing was written
-abbrev pub Refuses : List ℕ → Option (List ℕ) → Option (List ℕ) → ℕ → Type 0
+abbrev pub Refuses : List ℕ → Option (List ℕ) → Option (List ℕ) → ExitStatus → Type 0
 Refuses bytes held holds status =
-    ((fault : Fault) × IsFaultOf bytes fault × Says (fault_line fault) held holds status) ⊎ ((status ≡ 3) × (holds ≡ held))
+    ((fault : Fault) × IsFaultOf bytes fault × Says (fault_line fault) held holds status) ⊎ ((status ≡ Ends.Failed) × (holds ≡ held))

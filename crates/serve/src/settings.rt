@@ -10,19 +10,19 @@ ghost use Rattle.serve.specs.Refusal.{IsFaultOf, Refuses, RefusesAs, Says};
 use settings_file::{Settings, SettingsFault, read_settings, write_fault};
 use std::alloc::{AllocError, Global};
 use std::io::Write;
-use streams::write_front;
-
-const REFUSED: u8 = 2;
-
-const FAILED: u8 = 3;
+use streams::{ExitStatus, write_front};
 
 /// The settings that a file's bytes are.
 ///
 /// # Errors
 ///
-/// The exit status, once the line of the first fault is written to `err`: 2, or 3 for want of memory
-/// or a writer that fails. Bytes that aren't UTF-8 are no TOML.
-pub fn read_serve<W: Write>(alloc: Global, bytes: &[u8], err: &mut W) -> Result<Settings, u8>
+/// The exit status, once the line of the first fault is written to `err`: refused, or failed for want
+/// of memory or a writer that fails. Bytes that aren't UTF-8 are no TOML.
+pub fn read_serve<W: Write>(
+    alloc: Global,
+    bytes: &[u8],
+    err: &mut W,
+) -> Result<Settings, ExitStatus>
     ensures read { IfOk result (λ settings. settings_of bytes.now ≡ Ok settings) }
     ensures within_limits { IfOk result MeetsLimits }
     ensures silent { OnOk result (err.new ≡ err.old) }
@@ -60,22 +60,22 @@ fn line_of(alloc: Global, fault: &SettingsFault) -> Result<Vec<u8>, AllocError>
 }
 
 /// Writes a line, and gives the exit status.
-fn say<W: Write>(line: &[u8], err: &mut W) -> u8
+fn say<W: Write>(line: &[u8], err: &mut W) -> ExitStatus
     ensures { Says line.now (W.contents err.old) (W.contents err.new) result }
 {
     if write_front(err, line) < line.len() {
-        FAILED
+        ExitStatus::Failed
     } else {
-        REFUSED
+        ExitStatus::Refused
     }
 }
 
 /// Writes the line of a fault, and gives the exit status.
-fn refuse<W: Write>(alloc: Global, fault: &SettingsFault, err: &mut W) -> u8
+fn refuse<W: Write>(alloc: Global, fault: &SettingsFault, err: &mut W) -> ExitStatus
     ensures { RefusesAs (fault_of fault.now) (W.contents err.old) (W.contents err.new) result }
 {
     match line_of(alloc, fault) {
         Ok(line) => say(&line, err),
-        Err(_) => FAILED,
+        Err(_) => ExitStatus::Failed,
     }
 }

@@ -1,2 +1,3 @@
 pub mod Input
+pub mod ExitStatus
 pub mod Said

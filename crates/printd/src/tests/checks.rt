@@ -7,7 +7,7 @@ fn check(rt: &HostRuntime, text: &str, starts: bool) -> (u8, Vec<u8>) {
     let mut output = Vec::new(rt.alloc());
     let mut input = text.as_bytes();
     let status = run_check(rt.alloc(), &mut input, &mut output, starts);
-    (status, output)
+    (status.code(), output)
 }
 
 #[test]

@@ -1,6 +1,7 @@
 //! The words of `printd serve`.
 use crate::words::{Asked, Serving, read_words};
 use serve::Ports;
+use streams::ExitStatus;
 
 /// The words that are wanted.
 const WORDS: [&str; 10] = [
@@ -94,7 +95,10 @@ fn refused_words(rt: HostRuntime) {
     ];
     for words in rows {
         let mut text = Vec::new(rt.alloc());
-        assert_eq!(rt; read_words(rt.alloc(), words, &mut text), Err(2));
+        assert_eq!(rt;
+            read_words(rt.alloc(), words, &mut text),
+            Err(ExitStatus::Refused)
+        );
         assert!(rt; !text.is_empty());
     }
 }

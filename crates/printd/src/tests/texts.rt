@@ -10,7 +10,7 @@ use std::test::Fail;
 fn is_proved(alloc: Global, text: &[u8]) -> bool {
     let mut output = Vec::new(alloc);
     let mut input = text;
-    run_check(alloc, &mut input, &mut output, false) == 0
+    run_check(alloc, &mut input, &mut output, false).code() == 0
         && output.as_slice() == b"yes\n".as_slice()
 }
 
@@ -51,7 +51,7 @@ fn each_plan_is_proved(rt: HostRuntime) -> Result<(), Fail> {
     ] {
         let mut output = Vec::new(alloc);
         let mut input = trace.as_bytes();
-        assert_eq!(rt; run_replay(alloc, &mut input, &mut output, true), 0);
+        assert_eq!(rt; run_replay(alloc, &mut input, &mut output, true).code(), 0);
         assert_eq!(rt; proved_texts(alloc, &output)?, Some(plans));
     }
     Ok(())

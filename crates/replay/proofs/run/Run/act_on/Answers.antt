@@ -1,3 +1,4 @@
+use Rattle.streams.specs.declared.exit_status.ExitStatus.TheVariants as Ends
 use Rattle.std.proofs.Common.{arith, suc, ◌++◌, ◌+◌, [], refl, sym, ap, ◌∙◌, append-nil, codes}
 use Rattle.std.specs.Fmt.{decimal}
 use Rattle.std.proofs.lemmas.Result.{IfOk-weaker, on_err_weaker}
@@ -31,4 +32,4 @@ loop-parts-preserved c =
 pub returns-clause-ok : goal.returns-clause-ok
 returns-clause-ok c =
     let inv = c.loop-parts.invariant in
-    (record { text = inv.0 ++ []; status = 0 }, at_end _ _ _ _ _ _ _ _ _ inv.2 c.in_default.ensures.lines, inv.1 ∙ ap (λ d. c.args.output.now.items ++ d) (sym (append-nil inv.0)), refl)
+    (record { text = inv.0 ++ []; status = Ends.Done }, at_end _ _ _ _ _ _ _ _ _ inv.2 c.in_default.ensures.lines, inv.1 ∙ ap (λ d. c.args.output.now.items ++ d) (sym (append-nil inv.0)), refl)

@@ -1,0 +1,5 @@
+use Rattle.replay.proofs.Runs.{lines_run}
+use Rattle.replay.proofs.law.lines_are_one_run.Goals as goal
+
+pub returns : goal.returns
+returns c texts names number lines old said gives = lines_run texts names number lines old said gives

@@ -1,0 +1,84 @@
+-- That what a trace's lines give is given by one run of the core over their events.
+use Rattle.std.specs.Prelude.{ℕ, suc, ◌≡◌, ◌⊎◌, Bool, List, [], ◌∷◌, ◌++◌, Option, codes}
+use Rattle.std.specs.List.{concat}
+use Rattle.std.specs.Fmt.{decimal}
+use Rattle.prices.specs.Plan.{PlanRecord}
+use Rattle.print_room.specs.State.{State}
+use Rattle.print_room.specs.declared.started.Started.{Started}
+use Rattle.dispatcher.specs.declared.event.Event.{Event}
+use Rattle.dispatcher.specs.declared.event.Event.TheVariants as Is
+use Rattle.dispatcher.specs.declared.reply.Reply.{Reply}
+use Rattle.dispatcher.specs.declared.run.Timed.{Timed}
+use Rattle.dispatcher.specs.declared.run.Outcome.{Outcome}
+use Rattle.dispatcher.specs.declared.run.Outcome.TheVariants.{Queried, Dispatched}
+use Rattle.dispatcher.specs.Run.{Run}
+use Rattle.replies.specs.declared.asked.Asked.{Asked}
+use Rattle.replies.specs.declared.asked.Asked.TheVariants as Body
+use Rattle.replies.specs.Asked.{Asks}
+use Rattle.replies.specs.Reply.{refusal_bytes}
+use Rattle.streams.specs.declared.exit_status.ExitStatus.TheVariants as Ends
+use Rattle.streams.specs.Said.{Said, refused_as, said_after}
+use Rattle.replay.specs.declared.trace.Line.{Line}
+use Rattle.replay.specs.declared.trace.Line.TheVariants as Form
+use Rattle.replay.specs.TraceLine.{IsLine}
+use Rattle.replay.specs.Printed.{dispatch_lines, reply_line, cancel_lines}
+use Rattle.replay.specs.Replay.{Standing, IsReplyOf, IsNoLine}
+
+-- a listener that keeps the lines of each dispatch, one text a dispatch
+abbrev pub PrintsEach : Bool → List (List ℕ) → List (List ℕ) → Option PlanRecord → List Started → List (List ℕ) → Type 0
+PrintsEach texts names before plan started after = after ≡ before ++ dispatch_lines texts names plan started ∷ []
+
+-- a part of a run: events, what became of each, and the text of each dispatch
+pub record Part : Type 0 where
+  pub events : List Timed
+  pub outcomes : List Outcome
+  pub heard : List (List ℕ)
+
+abbrev pub nothing : Part
+nothing = record { events = []; outcomes = []; heard = [] }
+
+-- one part, and then another
+abbrev pub then_part : Part → Part → Part
+then_part first later = record { events = first.events ++ later.events; outcomes = first.outcomes ++ later.outcomes; heard = first.heard ++ later.heard }
+
+-- an event was asked and answered, or a dispatch followed; no memory was refused
+abbrev pub IsOne : Event → ℕ → Reply → Part → Type 0
+IsOne event moment reply part =
+    (part ≡ record { events = record { event = event; moment = moment } ∷ []; outcomes = Queried reply ∷ []; heard = [] })
+    ⊎ ((dispatch : List ℕ) × (part ≡ record { events = record { event = event; moment = moment } ∷ []; outcomes = Dispatched reply ∷ []; heard = dispatch ∷ [] }))
+
+-- what a body is to the core, and what is printed of its reply
+abbrev pub BodyMeans : List (List ℕ) → Asked → ℕ → Part → List ℕ → Type 0
+BodyMeans names Body.TooShort moment part text = (part ≡ nothing) × (text ≡ codes "http 400\n")
+BodyMeans names (Body.Refused status request_id) moment part text = (part ≡ nothing) × (text ≡ reply_line (refusal_bytes status request_id))
+BodyMeans names (Body.Event request_id event) moment part text =
+    (reply : Reply) × (bytes : List ℕ) × IsOne event moment reply part × IsReplyOf reply.answer request_id bytes × (text ≡ reply_line bytes ++ cancel_lines names reply.cancels.items)
+
+-- what a line is to the core at the moment that the trace told last, and what is printed of its reply
+abbrev pub Means : List (List ℕ) → Line → ℕ → Part → List ℕ → Type 0
+Means names (Form.At later) moment part text = (part ≡ nothing) × (text ≡ [])
+Means names (Form.Ipp body) moment part text = (asked : Asked) × Asks body.items asked × BodyMeans names asked moment part text
+Means names (Form.Device device report) moment part text = (reply : Reply) × IsOne (Is.Report device report) moment reply part × (text ≡ cancel_lines names reply.cancels.items)
+Means names Form.Tick moment part text = (reply : Reply) × IsOne Is.Tick moment reply part × (text ≡ cancel_lines names reply.cancels.items)
+
+-- the moment that the trace told last, after a line
+abbrev pub moment_after : Line → ℕ → ℕ
+moment_after (Form.At later) moment = later
+moment_after _ moment = moment
+
+-- Each line in turn, up to one that is no line of a trace: what it is to the core; and of each what is
+-- printed of its reply, followed by what was heard of its dispatch.
+abbrev pub LinesMean : List (List ℕ) → ℕ → List (List ℕ) → ℕ → Part → Said → Type 0
+LinesMean names number [] moment all said = (all ≡ nothing) × (said ≡ record { text = []; status = Ends.Done })
+LinesMean names number (bytes ∷ more) moment all said =
+    (IsNoLine names bytes × (all ≡ nothing) × (said ≡ refused_as (codes "line " ++ decimal number)))
+    ⊎ ((line : Line) × (part : Part) × (text : List ℕ) × (later : Part) × (rest : Said)
+    × IsLine names bytes line × Means names line moment part text × LinesMean names (suc number) more (moment_after line moment) later rest
+    × (all ≡ then_part part later) × (said ≡ said_after (text ++ concat part.heard) rest))
+
+-- one run of the core over the events of the lines, and what is printed of it
+pub record IsOneRun (texts : Bool) (names : List (List ℕ)) (number : ℕ) (lines : List (List ℕ)) (old : Standing) (said : Said) : Type 0 where
+  pub part : Part
+  pub new : State
+  pub run : Run (PrintsEach texts names) old.state [] part.events part.outcomes new part.heard
+  pub printed : LinesMean names number lines old.moment part said
