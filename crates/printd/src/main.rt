@@ -16,6 +16,17 @@ use std::process::ExitCode;
 use std::{env, fs, io};
 use streams::ExitStatus;
 
+/// Why the words can't be read: one isn't UTF-8, which is said, or the system fails.
+fn unread(rt: &HostRuntime, error: &io::Error) -> ExitStatus {
+    if error.kind() != ErrorKind::InvalidData {
+        return ExitStatus::Failed;
+    }
+    match eprintln!(rt; "error: invalid UTF-8 was detected in one or more arguments") {
+        Ok(()) => ExitStatus::Refused,
+        Err(_) => ExitStatus::Failed,
+    }
+}
+
 /// The words that the program was given.
 fn words_of(rt: &HostRuntime) -> io::Result<Vec<String>> {
     let mut words = Vec::new(rt.alloc());
@@ -76,7 +87,7 @@ fn run(rt: &HostRuntime, asked: Asked<'_>) -> ExitStatus {
 
 /// What the program does, and its status; the error is the status where it isn't known what to do.
 fn run_words(rt: &HostRuntime) -> Result<ExitStatus, ExitStatus> {
-    let words = words_of(rt).map_err(|_| ExitStatus::Failed)?;
+    let words = words_of(rt).map_err(|error| unread(rt, &error))?;
     let texts = lent(rt, &words).map_err(|_| ExitStatus::Failed)?;
     let asked = read_words(rt.alloc(), &texts, &mut rt.stderr())?;
     Ok(run(rt, asked))

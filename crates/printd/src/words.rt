@@ -31,9 +31,10 @@ pub struct Serving<'a> {
     pub turns: u64,
 }
 
-fn port<'a>(alloc: Global, name: &'a str) -> Arg<'a> {
+fn port<'a>(alloc: Global, name: &'a str, help: &'a str) -> Arg<'a> {
     Arg::new(alloc, name)
         .long(name)
+        .help(help)
         .required(true)
         .action(ArgAction::Set)
         .value_name("PORT")
@@ -45,20 +46,38 @@ fn serve_command<'a>(alloc: Global) -> Result<Command<'a>, AllocError> {
         .long("settings")
         .required(true)
         .action(ArgAction::Set)
-        .value_name("FILE");
+        .value_name("FILE")
+        .help("The settings: devices, printers, operators");
     let address = Arg::new(alloc, "address")
         .long("address")
         .action(ArgAction::Set)
-        .default_value("127.0.0.1");
+        .value_name("ADDRESS")
+        .default_value("127.0.0.1")
+        .help("The address to listen at");
     let turns = Arg::new(alloc, "turns")
         .long("turns")
         .action(ArgAction::Set)
-        .value_parser(clap::value_parser!(u64).range(1..1_000_000_000_001));
+        .value_name("N")
+        .value_parser(clap::value_parser!(u64).range(1..1_000_000_000_001))
+        .help("End after so many turns; without it, serve until told to stop");
     Command::new(alloc, "serve")
+        .about("Serve print clients and devices over the network")
         .arg(settings)?
-        .arg(port(alloc, "ipp"))?
-        .arg(port(alloc, "lpd"))?
-        .arg(port(alloc, "devices"))?
+        .arg(port(
+            alloc,
+            "ipp",
+            "Where IPP clients come in; 0 for any free port",
+        ))?
+        .arg(port(
+            alloc,
+            "lpd",
+            "Where LPD clients come in; 0 for any free port",
+        ))?
+        .arg(port(
+            alloc,
+            "devices",
+            "Where devices come in; 0 for any free port",
+        ))?
         .arg(address)?
         .arg(turns)
 }
@@ -66,15 +85,24 @@ fn serve_command<'a>(alloc: Global) -> Result<Command<'a>, AllocError> {
 fn command<'a>(alloc: Global) -> Result<Command<'a>, AllocError> {
     let plans = Arg::new(alloc, "plans")
         .long("plans")
-        .action(ArgAction::SetTrue);
+        .action(ArgAction::SetTrue)
+        .help("Write the text of each plan too, as `check` reads it");
     let starts = Arg::new(alloc, "starts")
         .long("starts")
-        .action(ArgAction::SetTrue);
+        .action(ArgAction::SetTrue)
+        .help("With a yes, write when each job starts and ends");
+    let replay = Command::new(alloc, "replay")
+        .about("Play a trace from standard input, and write what the server does")
+        .arg(plans)?;
+    let check = Command::new(alloc, "check")
+        .about("Judge the text of a plan from standard input: yes, or its first fault")
+        .arg(starts)?;
     Command::new(alloc, "printd")
+        .about("A print server that proves its plans are the best")
         .subcommand_required(true)
         .subcommand(serve_command(alloc)?)?
-        .subcommand(Command::new(alloc, "replay").arg(plans)?)?
-        .subcommand(Command::new(alloc, "check").arg(starts)?)
+        .subcommand(replay)?
+        .subcommand(check)
 }
 
 fn parse<'a>(alloc: Global, words: &'a [&'a str]) -> Result<ArgMatches<'a>, Error> {

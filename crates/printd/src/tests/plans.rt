@@ -1,25 +1,5 @@
 //! Texts of plans, each with what the program must write about it.
 
-/// Three jobs on two devices, in the best way.
-pub const BEST_OF_THREE: (&str, &str) = (
-    "plan\n\
-device A\n\
-device B\n\
-class 50\n\
-job 1 10 20\n\
-job 2 10 12\n\
-job 3 30 15\n\
-wait 0 0\n\
-way A 1 2\n\
-way B 3\n\
-total 45\n\
-jobprices 20 20 23\n\
-placeprices A -10 0\n\
-placeprices B -8\n\
-end\n",
-    "yes\n",
-);
-
 /// One device is free only late.
 pub const LATE_DEVICE: (&str, &str) = (
     "plan\n\
@@ -122,34 +102,6 @@ jobprices 12 9 11\n\
 placeprices A -7 -3 0\n\
 end\n",
     "no UnknownName class 50\n",
-);
-
-/// One of three jobs in a class above.
-pub const TWO_CLASSES: (&str, &str) = (
-    "plan\n\
-device A\n\
-device B\n\
-class 100\n\
-job 3 30 15\n\
-wait 0 0\n\
-way A\n\
-way B 3\n\
-total 15\n\
-jobprices 15\n\
-placeprices A\n\
-placeprices B 0\n\
-class 50\n\
-job 1 10 20\n\
-job 2 10 12\n\
-wait 0 15\n\
-way A 1 2\n\
-way B\n\
-total 30\n\
-jobprices 20 20\n\
-placeprices A -10 0\n\
-placeprices B\n\
-end\n",
-    "yes\n",
 );
 
 /// The same where the lower class hasn't the waits that the upper one leaves.
@@ -268,26 +220,6 @@ end\n",
     "no NotAble class 50\n",
 );
 
-/// Each job in turn on the device that ends it first, with prices that add up to the total.
-pub const GREEDY: (&str, &str) = (
-    "plan\n\
-device A\n\
-device B\n\
-class 50\n\
-job 1 10 20\n\
-job 2 10 12\n\
-job 3 30 15\n\
-wait 0 0\n\
-way A 1\n\
-way B 2 3\n\
-total 49\n\
-jobprices 10 24 27\n\
-placeprices A 0\n\
-placeprices B -12 0\n\
-end\n",
-    "no PriceTooHigh class 50\n",
-);
-
 /// A text that ends before its last line.
 pub const NO_END: (&str, &str) = (
     "plan\n\
@@ -346,12 +278,6 @@ placeprices B -8\n\
 end\n",
     "refused BadLine\n",
 );
-
-/// When the jobs of two classes start.
-pub const TWO_CLASSES_STARTS: &str = "yes\n\
-start 3 B 0 15\n\
-start 1 A 0 10\n\
-start 2 A 10 20\n";
 
 /// A job on a device that is free later, and when it starts.
 pub const LATER_START: (&str, &str) = (

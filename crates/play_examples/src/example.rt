@@ -1,0 +1,123 @@
+use streams::ExitStatus;
+
+/// What plays an example.
+#[derive(Clone, Copy)]
+pub enum Program {
+    /// `printd replay`.
+    Replay,
+    /// `printd check --starts`.
+    Check,
+}
+
+/// An example: a file that is given to a program, a file with what it must write, and how it must end.
+pub struct Example {
+    pub input: &'static str,
+    pub output: &'static str,
+    pub program: Program,
+    pub status: ExitStatus,
+}
+
+pub const EXAMPLES: [Example; 17] = [
+    Example {
+        input: "one_job.trace",
+        output: "one_job.out",
+        program: Program::Replay,
+        status: ExitStatus::Done,
+    },
+    Example {
+        input: "two_devices.trace",
+        output: "two_devices.out",
+        program: Program::Replay,
+        status: ExitStatus::Done,
+    },
+    Example {
+        input: "two_priorities.trace",
+        output: "two_priorities.out",
+        program: Program::Replay,
+        status: ExitStatus::Done,
+    },
+    Example {
+        input: "not_running.trace",
+        output: "not_running.out",
+        program: Program::Replay,
+        status: ExitStatus::Done,
+    },
+    Example {
+        input: "stop_and_continue.trace",
+        output: "stop_and_continue.out",
+        program: Program::Replay,
+        status: ExitStatus::Done,
+    },
+    Example {
+        input: "device_reports.trace",
+        output: "device_reports.out",
+        program: Program::Replay,
+        status: ExitStatus::Done,
+    },
+    Example {
+        input: "clock_never_back.trace",
+        output: "clock_never_back.out",
+        program: Program::Replay,
+        status: ExitStatus::Done,
+    },
+    Example {
+        input: "no_device.trace",
+        output: "no_device.out",
+        program: Program::Replay,
+        status: ExitStatus::Done,
+    },
+    Example {
+        input: "stranded_by_media.trace",
+        output: "stranded_by_media.out",
+        program: Program::Replay,
+        status: ExitStatus::Done,
+    },
+    Example {
+        input: "unsupported_template.trace",
+        output: "unsupported_template.out",
+        program: Program::Replay,
+        status: ExitStatus::Done,
+    },
+    Example {
+        input: "collection.trace",
+        output: "collection.out",
+        program: Program::Replay,
+        status: ExitStatus::Done,
+    },
+    Example {
+        input: "refused_requests.trace",
+        output: "refused_requests.out",
+        program: Program::Replay,
+        status: ExitStatus::Done,
+    },
+    Example {
+        input: "malformed_messages.trace",
+        output: "malformed_messages.out",
+        program: Program::Replay,
+        status: ExitStatus::Done,
+    },
+    Example {
+        input: "refused_line.trace",
+        output: "refused_line.out",
+        program: Program::Replay,
+        status: ExitStatus::Refused,
+    },
+    Example {
+        input: "two_classes.plan",
+        output: "two_classes.out",
+        program: Program::Check,
+        status: ExitStatus::Done,
+    },
+    Example {
+        input: "best_of_three.plan",
+        output: "best_of_three.out",
+        program: Program::Check,
+        status: ExitStatus::Done,
+    },
+    Example {
+        input: "greedy.plan",
+        output: "greedy.out",
+        program: Program::Check,
+        status: ExitStatus::No,
+    },
+];

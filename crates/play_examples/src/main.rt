@@ -1,0 +1,78 @@
+//! Plays each example of `data/` (`examples/` at the top), and compares what is written with what its
+//! file says must be; of a trace also the texts of its plans are put before the checker. It prints a
+//! line for each, and ends with status 1 where one differs.
+//!
+//! What a trace or a plan gives is the contract of `replay` and of `plan_audit`; here the definitions
+//! behind these contracts are held against rows that were worked out by hand.
+#![tactic(auto)]
+
+mod example;
+mod texts;
+
+use crate::example::{EXAMPLES, Example, Program};
+use crate::texts::each_is_proved;
+use plan_audit::run_check;
+use replay::run_replay;
+use std::process::ExitCode;
+use std::{fs, io};
+use streams::ExitStatus;
+
+/// How an example ends, and what it writes.
+fn play(rt: &HostRuntime, program: Program, input: &[u8]) -> (ExitStatus, Vec<u8>) {
+    let mut reader = input;
+    let mut output = Vec::new(rt.alloc());
+    let status = match program {
+        Program::Replay => run_replay(rt.alloc(), &mut reader, &mut output, false),
+        Program::Check => run_check(rt.alloc(), &mut reader, &mut output, true),
+    };
+    (status, output)
+}
+
+/// Whether the texts of a trace's plans are proved; any other example has none.
+fn has_proved_plans(
+    rt: &HostRuntime,
+    program: Program,
+    input: &[u8],
+    wanted: &[u8],
+) -> io::Result<bool> {
+    match program {
+        Program::Replay => Ok(each_is_proved(rt.alloc(), input, wanted)?),
+        Program::Check => Ok(true),
+    }
+}
+
+/// Whether an example ends and writes as it must. The error is the system's, of its files.
+fn is_as_wanted(rt: &HostRuntime, example: &Example) -> io::Result<bool> {
+    let input = fs::read(rt, example.input)?;
+    let wanted = fs::read(rt, example.output)?;
+    let (status, output) = play(rt, example.program, &input);
+    Ok(
+        status.code() == example.status.code()
+            && output.as_slice() == wanted.as_slice()
+            && has_proved_plans(rt, example.program, &input, &wanted)?,
+    )
+}
+
+/// Plays them all: whether each is as it must be.
+fn play_all(rt: &HostRuntime) -> io::Result<bool> {
+    let mut all = true;
+    for example in &EXAMPLES {
+        let name = example.input;
+        if is_as_wanted(rt, example)? {
+            println!(rt; "{name}: as wanted")?;
+        } else {
+            println!(rt; "{name}: DIFFERS")?;
+            all = false;
+        }
+    }
+    Ok(all)
+}
+
+fn main(rt: HostRuntime) -> ExitCode {
+    let status = match play_all(&rt) {
+        Ok(true) => ExitStatus::Done,
+        Ok(false) => ExitStatus::No,
+        Err(_) => ExitStatus::Failed,
+    };
+    ExitCode::from(status.code())
+}
