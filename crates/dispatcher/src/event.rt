@@ -1,4 +1,6 @@
-ghost use Rattle.std.specs.Prelude.{◌≡◌, false};
+//! What the core acts on.
+ghost use Rattle.std.specs.Prelude.{◌≡◌};
+ghost use Rattle.dispatcher.specs.Run.{is_query};
 
 use base_types::{DeviceId, Report, Text};
 use job_template::RequestAttributes;
@@ -48,7 +50,7 @@ pub enum Event {
 impl Event {
     /// Whether it only asks: no dispatch follows a query.
     pub fn is_query(&self) -> bool
-        ensures { result ≡ false }
+        ensures { result ≡ is_query self.now }
     {
         match self {
             Event::PrintJob(_) | Event::Report(_, _) | Event::Tick => false,

@@ -1,3 +1,4 @@
+//! The core: what it is made of, and its calls.
 ghost use Rattle.std.specs.Prelude.{◌≡◌, IfOk, IsOk, OnErr, option_map, slice_get};
 ghost use Rattle.std.specs.Option.{option_copied};
 ghost use Rattle.settings_file.specs.Settings.{MeetsLimits};
@@ -11,7 +12,7 @@ use crate::reply::Reply;
 use assignment::Planner;
 use base_types::{DeviceId, DeviceNow, JobId, Moment};
 use job_objects::Job;
-use print_room::PrintRoom;
+use print_room::{PrintRoom, Started};
 use settings_file::Settings;
 use spool::Document;
 use std::alloc::{AllocError, Global};
@@ -68,6 +69,15 @@ impl<P: Planner + Drop> Core<P> {
         ensures { result ≡ self.now.last }
     {
         self.room.last()
+    }
+
+    /// What began with the last plan, by device. Until the next dispatch it can be read with
+    /// [`Core::job`] and [`Core::documents`], once the dispatch's own result is let go. It takes no
+    /// memory.
+    pub fn begun(&self) -> &[Started]
+        ensures { result.now ≡ self.now.begun }
+    {
+        self.room.begun()
     }
 
     /// The settings that it was made with.
