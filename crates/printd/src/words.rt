@@ -41,28 +41,44 @@ fn port<'a>(alloc: Global, name: &'a str, help: &'a str) -> Arg<'a> {
         .value_parser(clap::value_parser!(u16))
 }
 
-fn serve_command<'a>(alloc: Global) -> Result<Command<'a>, AllocError> {
-    let settings = Arg::new(alloc, "settings")
+fn settings<'a>(alloc: Global) -> Arg<'a> {
+    Arg::new(alloc, "settings")
         .long("settings")
         .required(true)
         .action(ArgAction::Set)
         .value_name("FILE")
-        .help("The settings: devices, printers, operators");
-    let address = Arg::new(alloc, "address")
+        .help("The settings: devices, printers, operators")
+}
+
+fn address<'a>(alloc: Global) -> Arg<'a> {
+    Arg::new(alloc, "address")
         .long("address")
         .action(ArgAction::Set)
         .value_name("ADDRESS")
         .default_value("127.0.0.1")
-        .help("The address to listen at");
-    let turns = Arg::new(alloc, "turns")
+        .help("The address to listen at")
+}
+
+fn turns<'a>(alloc: Global) -> Arg<'a> {
+    Arg::new(alloc, "turns")
         .long("turns")
         .action(ArgAction::Set)
         .value_name("N")
         .value_parser(clap::value_parser!(u64).range(1..1_000_000_000_001))
-        .help("End after so many turns; without it, serve until told to stop");
+        .help("End after so many turns; without it, serve until told to stop")
+}
+
+fn flag<'a>(alloc: Global, name: &'a str, help: &'a str) -> Arg<'a> {
+    Arg::new(alloc, name)
+        .long(name)
+        .action(ArgAction::SetTrue)
+        .help(help)
+}
+
+fn serve_command<'a>(alloc: Global) -> Result<Command<'a>, AllocError> {
     Command::new(alloc, "serve")
         .about("Serve print clients and devices over the network")
-        .arg(settings)?
+        .arg(settings(alloc))?
         .arg(port(
             alloc,
             "ipp",
@@ -78,31 +94,37 @@ fn serve_command<'a>(alloc: Global) -> Result<Command<'a>, AllocError> {
             "devices",
             "Where devices come in; 0 for any free port",
         ))?
-        .arg(address)?
-        .arg(turns)
+        .arg(address(alloc))?
+        .arg(turns(alloc))
+}
+
+fn replay_command<'a>(alloc: Global) -> Result<Command<'a>, AllocError> {
+    Command::new(alloc, "replay")
+        .about("Play a trace from standard input, and write what the server does")
+        .arg(flag(
+            alloc,
+            "plans",
+            "Write the text of each plan too, as `check` reads it",
+        ))
+}
+
+fn check_command<'a>(alloc: Global) -> Result<Command<'a>, AllocError> {
+    Command::new(alloc, "check")
+        .about("Judge the text of a plan from standard input: yes, or its first fault")
+        .arg(flag(
+            alloc,
+            "starts",
+            "With a yes, write when each job starts and ends",
+        ))
 }
 
 fn command<'a>(alloc: Global) -> Result<Command<'a>, AllocError> {
-    let plans = Arg::new(alloc, "plans")
-        .long("plans")
-        .action(ArgAction::SetTrue)
-        .help("Write the text of each plan too, as `check` reads it");
-    let starts = Arg::new(alloc, "starts")
-        .long("starts")
-        .action(ArgAction::SetTrue)
-        .help("With a yes, write when each job starts and ends");
-    let replay = Command::new(alloc, "replay")
-        .about("Play a trace from standard input, and write what the server does")
-        .arg(plans)?;
-    let check = Command::new(alloc, "check")
-        .about("Judge the text of a plan from standard input: yes, or its first fault")
-        .arg(starts)?;
     Command::new(alloc, "printd")
         .about("A print server that proves its plans are the best")
         .subcommand_required(true)
         .subcommand(serve_command(alloc)?)?
-        .subcommand(replay)?
-        .subcommand(check)
+        .subcommand(replay_command(alloc)?)?
+        .subcommand(check_command(alloc)?)
 }
 
 fn parse<'a>(alloc: Global, words: &'a [&'a str]) -> Result<ArgMatches<'a>, Error> {

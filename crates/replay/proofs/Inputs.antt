@@ -4,6 +4,7 @@ use Rattle.std.specs.Result.{result_ok}
 use Rattle.std.specs.Io.KnownBytes.{Appends}
 use Rattle.base_types.specs.declared.limits.TheConstants.Limits.{INPUT_BYTES}
 use Rattle.streams.specs.declared.exit_status.ExitStatus.{ExitStatus}
+use Rattle.streams.specs.declared.exit_status.ExitStatus.TheVariants as Ends
 use Rattle.streams.specs.Input.{IsWhole}
 use Rattle.streams.specs.Said.{Said}
 use Rattle.replay.specs.Replay.{TraceGives, InputGives, InputLeaves, Replays}
@@ -20,12 +21,12 @@ pub input_gives : (texts : Bool) (before after : Option (List ℕ)) (trace lent 
 input_gives texts before after trace lent said whole same gives = inl (trace, whole, subst (λ t. TraceGives texts t said) same gives)
 
 -- what is due, where the program fails
-pub due_left : (texts : Bool) (before after : Option (List ℕ)) (text : List ℕ) (due : Option ℕ)
+pub due_left : (texts : Bool) (before after : Option (List ℕ)) (text : List ℕ) (due : Option ExitStatus)
     → IfSome due (λ status. InputGives texts before after (record { text = text; status = status })) → (IsNone due → InputLeaves texts before after text) → InputLeaves texts before after text
 due_left texts before after text None given left = left refl
 due_left texts before after text (Some status) given left = inr (inr (_, given, refl))
 
-pub fails : (texts : Bool) (before after held holds : Option (List ℕ)) (text lent : List ℕ) (n : ℕ) → InputLeaves texts before after text → lent ≡ text → Appends held holds (take n lent) → Replays texts before after held holds 3
+pub fails : (texts : Bool) (before after held holds : Option (List ℕ)) (text lent : List ℕ) (n : ℕ) → InputLeaves texts before after text → lent ≡ text → Appends held holds (take n lent) → Replays texts before after held holds Ends.Failed
 fails texts before after held holds text lent n left same written = inr (refl, text, n, left, subst (λ t. Appends held holds (take n t)) same written)
 
 pub succeeds : (texts : Bool) (before after held holds : Option (List ℕ)) (text : List ℕ) (status : ExitStatus) → InputGives texts before after (record { text = text; status = status }) → Appends held holds text → Replays texts before after held holds status

@@ -33,6 +33,8 @@ run_after : (texts : Bool) (names : List (List ℕ)) (first : List (List ℕ)) (
 run_after texts names first old new [] [] before after (same, silent) = (same, ap (λ h. first ++ h) silent)
 run_after texts names first old new (timed ∷ events) (outcome ∷ outcomes) before after (mid, heard, comes, later) =
     (mid, first ++ heard, heard_after texts names first old mid timed outcome before heard comes, run_after texts names first mid new events outcomes heard after later)
+run_after texts names first old new [] (outcome ∷ outcomes) before after none = absurd none
+run_after texts names first old new (timed ∷ events) [] before after none = absurd none
 
 -- ---- a line is no event, or one
 
@@ -48,6 +50,8 @@ then_runs texts names [] [] before heard later old mid new (same, silent) runs =
     (run_after texts names heard mid new later.events later.outcomes [] later.heard runs))
 then_runs texts names (timed ∷ events) (outcome ∷ outcomes) before heard later old mid new (next, told, comes, rest) runs =
     (next, told, comes, then_runs texts names events outcomes told heard later next mid new rest runs)
+then_runs texts names [] (outcome ∷ outcomes) before heard later old mid new none runs = absurd none
+then_runs texts names (timed ∷ events) [] before heard later old mid new none runs = absurd none
 
 -- what a line means, and what it does
 record IsMeant (texts : Bool) (names : List (List ℕ)) (line : Line) (old : Standing) (text : List ℕ) (new : Standing) : Type 0 where
@@ -80,7 +84,7 @@ happened texts names event old reply text heard new (inr (query, mid, step, plan
 }
 
 happens : (texts : Bool) (names : List (List ℕ)) (event : Event) (old : Standing) (reply : Reply) (text : List ℕ) (new : Standing) → Happens texts names event old reply text new → Happened texts names event old reply text new
-happens texts names event old reply text new happens = happened texts names event old reply text happens.heard new happens.answers happens.printed
+happens texts names event old reply text new done = happened texts names event old reply text done.heard new done.answers done.printed
 
 -- a body, what it means and what it does
 record BodyMeant (texts : Bool) (names : List (List ℕ)) (asked : Asked) (old : Standing) (text : List ℕ) (new : Standing) : Type 0 where
