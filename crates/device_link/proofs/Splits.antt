@@ -5,7 +5,7 @@ use Rattle.std.proofs.Common.{rules, arith, refl}
 use Rattle.std.proofs.lemmas.List.Splits.{slice_split_none, slice_split_first, length-slice_split}
 use Rattle.std.proofs.lemmas.List.Quantifiers.{position-Some}
 use Rattle.std.proofs.lemmas.List.{take-append-le, drop-append-le, length-take-le}
-use Rattle.base_types.proofs.Positions.{position_before, each_fails, passes_late}
+use Rattle.text.proofs.Positions.{position_before, each_fails, passes_late}
 use Rattle.device_link.specs.Line.{said}
 
 pub split_at : (p : ℕ → Bool) (xs : List ℕ) (i : ℕ) → position p xs ≡ Some i → slice_split p xs ≡ take i xs ∷ slice_split p (drop (i + 1) xs)

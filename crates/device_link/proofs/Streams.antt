@@ -10,9 +10,9 @@ use Rattle.device_link.specs.declared.fault.LinkFault.TheVariants.{BadLine, Line
 use Rattle.device_link.specs.declared.fault.LinkError.TheVariants.{Fault}
 use Rattle.device_link.specs.Line.{report_in}
 use Rattle.device_link.specs.Stream.{Unfinished, Faulty, LinkState, Stands, Answers, ahead, silence, with_front, heard_after, heard_in, texts_of}
-use Rattle.base_types.specs.FirstLine.{first_line_of}
-use Rattle.base_types.specs.declared.line.FirstLine.TheVariants as Front
-use Rattle.base_types.proofs.FirstLines.{whole_line, unfinished_line, endless_line, endless_grown}
+use Rattle.text.specs.FirstLine.{first_line_of}
+use Rattle.text.specs.declared.line.FirstLine.TheVariants as Front
+use Rattle.text.proofs.FirstLines.{whole_line, unfinished_line, endless_line, endless_grown}
 use Rattle.device_link.proofs.Splits.{parts, split_before, split_nowhere, first_is_long}
 
 -- a piece of which nothing is read yet

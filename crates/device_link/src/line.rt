@@ -7,8 +7,9 @@ ghost use Rattle.base_types.specs.Report.{report_of};
 ghost use Rattle.device_link.specs.Line.{words_of, media_in, name_in, said_alone, said_of_one, said_of_two, said, in_turn, report_in};
 
 use crate::number::number_in;
-use base_types::{Report, Text, find_byte, is_media, is_name};
+use base_types::{Report, Text, is_media, is_name};
 use std::alloc::{AllocError, Global};
+use text::find_byte;
 
 /// The report that a line is, if it is one that may come now: a device says its name first, and
 /// once.

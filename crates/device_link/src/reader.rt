@@ -2,14 +2,15 @@ ghost use Rattle.std.specs.Prelude.{◌≡◌, ◌≤◌, ◌<◌, ◌+◌, ◌+
 ghost use Rattle.base_types.specs.Report.{ReportRecord, report_of};
 ghost use Rattle.device_link.specs.Line.{report_in};
 ghost use Rattle.device_link.specs.Stream.{Stands, Answers};
-ghost use Rattle.base_types.specs.FirstLine.{first_line_of};
-ghost use Rattle.base_types.specs.declared.line.FirstLine.TheVariants.{Whole};
+ghost use Rattle.text.specs.FirstLine.{first_line_of};
+ghost use Rattle.text.specs.declared.line.FirstLine.TheVariants.{Whole};
 
 use crate::fault::{LinkError, LinkFault};
 use crate::line::read_line;
-use base_types::{FirstLine, Limits, Report, drop_front, first_line};
+use base_types::{Limits, Report};
 use std::alloc::{AllocError, Global};
 use std::marker::Model;
+use text::{FirstLine, drop_front, first_line};
 
 /// A reader of what a device sends, in pieces of any length. In clauses it is a record of what it
 /// still has to read, whether the device has said its name, and its fault.

@@ -1,7 +1,7 @@
 ghost use Rattle.std.specs.Prelude.{◌≡◌, ◌≤◌, ◌<◌, ◌+◌, ◌++◌, [], List, ℕ, OnOk, OnErr, IsSome, None, true, take, drop, length as length_of};
 ghost use Rattle.http_front.specs.Stream.{Said, SaysOne, StaysInFront, Stands, Answers, Steps, IsOver, work, after_body, body_by, after_head, begins_head};
-ghost use Rattle.base_types.specs.FirstLine.{first_line_of};
-ghost use Rattle.base_types.specs.declared.line.FirstLine.TheVariants.{Whole};
+ghost use Rattle.text.specs.FirstLine.{first_line_of};
+ghost use Rattle.text.specs.declared.line.FirstLine.TheVariants.{Whole};
 ghost use Rattle.http_front.specs.Section.{section_in};
 ghost use Rattle.http_front.specs.Order.{SaysInOrder};
 
@@ -12,9 +12,10 @@ use crate::head::read_head;
 use crate::item::HttpItem;
 use crate::refusal::Refusal;
 use crate::section::section_in;
-use base_types::{FirstLine, Limits, drop_front, first_line};
+use base_types::Limits;
 use std::alloc::{AllocError, Global};
 use std::marker::Model;
+use text::{FirstLine, drop_front, first_line};
 
 /// A reader of what an HTTP client sends, in pieces of any length. In clauses it is a record of the
 /// part of a body that it lends, what it still has to read, and what it awaits.

@@ -1,7 +1,7 @@
 ghost use Rattle.std.specs.Prelude.{◌≡◌, reverse};
 ghost use Rattle.http_front.specs.Words.{is_word, from_word, trimmed, media_type, lists_word, length_in};
 
-use base_types::{decimal, find_byte};
+use text::{decimal, find_byte};
 
 /// Whether bytes are a word, in any case of ASCII letters.
 pub(crate) fn is_word(bytes: &[u8], word: &[u8]) -> bool
@@ -60,7 +60,7 @@ pub(crate) fn lists_word(word: &[u8], value: &[u8]) -> bool
 }
 
 /// The number that a text of 1 to 19 digits is; the greatest where it is above that.
-#[tactic(auto, unfolding(crate::specs::Words::length_in, base_types::specs::Digits::decimal_in))]
+#[tactic(auto, unfolding(crate::specs::Words::length_in, text::specs::Digits::decimal_in))]
 pub(crate) fn length_in(value: &[u8]) -> Option<u32>
     ensures { result ≡ length_in value.now }
 {

@@ -7,8 +7,9 @@ use crate::fault::LpdFault;
 use crate::file_name::is_file_name;
 use crate::item::{FileHead, FileKind, LpdCommand, LpdItem};
 use crate::words::{first_word, later_words, operands, words};
-use base_types::{Limits, Text, decimal};
+use base_types::{Limits, Text};
 use std::alloc::{AllocError, Global};
+use text::decimal;
 
 /// A line that is a command or its fault (RFC 1179, section 5).
 pub(crate) fn read_command(
@@ -98,7 +99,7 @@ fn announced(
 }
 
 /// A file's length in decimal digits that is not 0, or the greatest number where it is above that.
-#[tactic(auto, unfolding(base_types::specs::Digits::decimal_in))]
+#[tactic(auto, unfolding(text::specs::Digits::decimal_in))]
 fn file_length(word: &[u8]) -> Option<u32>
     ensures { MatchOption result (is_count word.now ≡ false) (λ length. (is_count word.now ≡ true) × (length ≡ min (digits_value 10 word.now) (2 ^ 32 - 1))) }
 {

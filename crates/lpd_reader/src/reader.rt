@@ -1,6 +1,6 @@
 ghost use Rattle.std.specs.Prelude.{◌≡◌, ◌<◌, ◌+◌, ◌++◌, [], List, ℕ, None, Some, Err, IfOk, IfSome, OnOk, OnErr, take, drop, length as length_of, true};
-ghost use Rattle.base_types.specs.FirstLine.{first_line_of};
-ghost use Rattle.base_types.specs.declared.line.FirstLine.TheVariants.{Whole};
+ghost use Rattle.text.specs.FirstLine.{first_line_of};
+ghost use Rattle.text.specs.declared.line.FirstLine.TheVariants.{Whole};
 ghost use Rattle.lpd_reader.specs.Session.{ItemRecord, item_record, awaited_after, told};
 ghost use Rattle.lpd_reader.specs.Command.{meaning_of, awaits_line};
 ghost use Rattle.lpd_reader.specs.Stream.{Stands, Answers};
@@ -8,10 +8,11 @@ ghost use Rattle.lpd_reader.specs.Stream.{Stands, Answers};
 use crate::command::{read_command, read_subcommand};
 use crate::fault::{LpdError, LpdFault};
 use crate::item::{LpdCommand, LpdItem};
-use base_types::{FirstLine, Limits, drop_front, first_line};
+use base_types::Limits;
 use std::alloc::{AllocError, Global};
 use std::marker::Model;
 use std::mem;
+use text::{FirstLine, drop_front, first_line};
 
 /// What a reader reads next.
 #[derive(Clone, Copy, Debug, PartialEq, Eq)]

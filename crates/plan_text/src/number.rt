@@ -4,7 +4,8 @@ ghost use Rattle.base_types.specs.Ranges.{IsJobId};
 ghost use Rattle.plan_text.specs.Word.{is_number, number_at, is_dash, is_entry, entry_at, has_minus, is_price, price_at, cause_at};
 
 use crate::fault::TextFault;
-use base_types::{Cause, JobId, Limits, all_digits, capped_value};
+use base_types::{Cause, JobId, Limits};
+use text::{all_digits, capped_value};
 
 /// Whether a word is a number: decimal, without leading zeros.
 #[tactic(auto, unfolding(crate::specs::Word::is_number))]

@@ -7,7 +7,7 @@ use Rattle.std.proofs.lemmas.List.Splits.{slice_split_none, slice_split_at, slic
 use Rattle.std.proofs.lemmas.List.Quantifiers.{position-Some}
 use Rattle.std.proofs.lemmas.Grind.{get_or_default_zero}
 use Rattle.std.proofs.Math.Seq.{split_at}
-use Rattle.base_types.proofs.Positions.{each_fails}
+use Rattle.text.proofs.Positions.{each_fails}
 use Rattle.replay.specs.Lines.{texts_of, without_end, lines_of, Lacks, IsEnded}
 
 pub nothing_in : (bytes : List ℕ) → length bytes ≡ 0 → bytes ≡ []

@@ -2,7 +2,7 @@ ghost use Rattle.std.specs.Prelude.{◌≡◌, ◌<◌, ◌≤◌, ◌+◌, ◌�
 ghost use Rattle.std.specs.Option.{option_map_or};
 ghost use Rattle.replay.specs.Lines.{lines_of, IsOneLine, IsFirst, HasNoStop, IsSplit};
 
-use base_types::find_byte;
+use text::find_byte;
 
 /// The first line of the bytes, without its line feed, and what follows; the last line may lack its
 /// line feed. Nothing where there are no bytes.

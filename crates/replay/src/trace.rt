@@ -7,10 +7,11 @@ ghost use Rattle.device_link.specs.Stream.{Stands};
 ghost use Rattle.replay.specs.Lines.{IsOneLine};
 ghost use Rattle.replay.specs.TraceLine.{Finds, IsMomentIn, IsBodyIn, IsReportIn, IsDeviceIn, IsLine};
 
-use base_types::{DeviceId, Moment, Report, Text, all_digits, capped_value, find_byte};
+use base_types::{DeviceId, Moment, Report, Text};
 use device_link::{LinkError, LinkReader};
 use hex::FromHexError;
 use std::alloc::{AllocError, Global};
+use text::{all_digits, capped_value, find_byte};
 
 /// A line of a trace, after the settings.
 #[derive(Drop)]

@@ -1,5 +1,5 @@
 ghost use Rattle.std.specs.Prelude.{◌≡◌};
-ghost use Rattle.base_types.specs.FirstLine.{first_line_of};
+ghost use Rattle.text.specs.FirstLine.{first_line_of};
 
 use crate::bytes::find_byte;
 

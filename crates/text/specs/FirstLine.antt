@@ -1,7 +1,7 @@
 -- The first line of bytes that come in pieces: it is whole once its line feed is there, and its length is bounded.
 use Rattle.std.specs.Prelude.{ℕ, ◌==◌, nat_lt, if◌then◌else◌, List, length, Option, Some, None, position}
-use Rattle.base_types.specs.declared.line.FirstLine.{FirstLine}
-use Rattle.base_types.specs.declared.line.FirstLine.TheVariants.{Whole, TooLong, Unfinished}
+use Rattle.text.specs.declared.line.FirstLine.{FirstLine}
+use Rattle.text.specs.declared.line.FirstLine.TheVariants.{Whole, TooLong, Unfinished}
 
 -- where the line feed stands, if there is one, among so many bytes
 abbrev pub line_of : ℕ → ℕ → Option ℕ → FirstLine

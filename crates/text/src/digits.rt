@@ -2,7 +2,7 @@
 ghost use Rattle.std.specs.Prelude.{◌≡◌, IsTrue, min};
 ghost use Rattle.std.specs.Str.{all_ascii_digits};
 ghost use Rattle.std.specs.Str.Parse.{digits_value};
-ghost use Rattle.base_types.specs.Digits.{decimal_in};
+ghost use Rattle.text.specs.Digits.{decimal_in};
 
 /// The number that a word is in decimal digits, which may begin with zeros; none where it is no
 /// such word. A number that doesn't fit is the greatest.

@@ -3,9 +3,9 @@ use Rattle.std.specs.Prelude.{ℕ, ◌≡◌, ◌==◌, ◌++◌, ◌<◌, ◌�
 use Rattle.std.proofs.Common.{rules, arith, refl}
 use Rattle.std.proofs.lemmas.List.Quantifiers.{position-Some}
 use Rattle.std.proofs.lemmas.List.{get_or_append_left, length-append}
-use Rattle.base_types.specs.declared.line.FirstLine.TheVariants.{Whole, TooLong, Unfinished}
-use Rattle.base_types.specs.FirstLine.{line_of, first_line_of}
-use Rattle.base_types.proofs.Positions.{position_before, passes_late, each_fails}
+use Rattle.text.specs.declared.line.FirstLine.TheVariants.{Whole, TooLong, Unfinished}
+use Rattle.text.specs.FirstLine.{line_of, first_line_of}
+use Rattle.text.proofs.Positions.{position_before, passes_late, each_fails}
 
 whole_by : (most length count : ℕ) (found : Option ℕ) → line_of most length found ≡ Whole count → (found ≡ Some count) × (count < most)
 whole_by most length count None line = grind (arith, line)

@@ -1,7 +1,7 @@
 use Rattle.std.proofs.Common.{rules, arith, ◌≡◌, ◌+◌, ◌*◌, ◌-◌, slice_index_or, take}
 use Rattle.std.specs.Str.Parse.{digits_value}
-use Rattle.base_types.proofs.DigitValues.{rest_digits, value_more}
-use Rattle.base_types.proofs.digits.capped_value.Goals as goal
+use Rattle.text.proofs.DigitValues.{rest_digits, value_more}
+use Rattle.text.proofs.digits.capped_value.Goals as goal
 
 pub loop-byte-preserved : goal.loop-byte-preserved
 loop-byte-preserved c =
