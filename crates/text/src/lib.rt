@@ -1,7 +1,7 @@
 //! Bytes of text: what every reader asks of bytes that come from outside.
 //!
 //! Here live questions about bytes alone: where a byte stands, what the first line is, which number
-//! digits are. Each answer is its definition in `specs/`, over the list of the bytes. The words of
+//! digits are, what a word is without the blanks around it. Each answer is its definition in `specs/`, over the list of the bytes. The words of
 //! the server may not live here: names and other forms with their limits stand in `base_types`, and
 //! what a line says stands with its reader.
 //!
@@ -12,7 +12,9 @@
 mod bytes;
 mod digits;
 mod line;
+mod trim;
 
 pub use bytes::{drop_front, find_byte};
 pub use digits::{all_digits, capped_value, decimal};
 pub use line::{FirstLine, first_line};
+pub use trim::{trimmed, without_parameters};
