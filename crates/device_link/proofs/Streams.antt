@@ -9,11 +9,12 @@ use Rattle.device_link.specs.declared.fault.LinkFault.{LinkFault}
 use Rattle.device_link.specs.declared.fault.LinkFault.TheVariants.{BadLine, LineTooLong}
 use Rattle.device_link.specs.declared.fault.LinkError.TheVariants.{Fault}
 use Rattle.device_link.specs.Line.{report_in}
-use Rattle.device_link.specs.Stream.{Unfinished, Faulty, LinkState, Stands, Answers, ahead, silence, with_front, heard_after, heard_in, texts_of}
+use Rattle.device_link.specs.Stream.{Unfinished, Faulty, LinkState, Stands, Answers, ahead, silence, with_front, heard_after, heard_in}
+use Rattle.text.specs.Parts.{texts_of}
 use Rattle.text.specs.FirstLine.{first_line_of}
 use Rattle.text.specs.declared.line.FirstLine.TheVariants as Front
 use Rattle.text.proofs.FirstLines.{whole_line, unfinished_line, endless_line, endless_grown}
-use Rattle.device_link.proofs.Splits.{parts, split_before, split_nowhere, first_is_long}
+use Rattle.text.proofs.Splits.{parts, split_before, split_nowhere, first_is_long}
 
 -- a piece of which nothing is read yet
 pub stands_fed : (stream : List ℕ) (given : List ReportRecord) (piece : List ℕ) (reader : LinkState) → Stands stream given reader → Stands (stream ++ piece) given (record reader { rest = reader.rest ++ piece })

@@ -1,6 +1,6 @@
 -- What a device's connection says: the reports of its whole lines, and then a fault or an unfinished line.
-use Rattle.std.specs.Prelude.{ℕ, ◌≡◌, ◌==◌, nat_lt, Bool, true, false, if◌then◌else◌, List, [], ◌∷◌, ◌++◌, length, Option, Some, None, Result, Ok, Err}
-use Rattle.std.specs.List.{slice_split}
+use Rattle.std.specs.Prelude.{ℕ, ◌≡◌, nat_lt, Bool, true, false, if◌then◌else◌, List, [], ◌∷◌, ◌++◌, length, Option, Some, None, Result, Ok, Err}
+use Rattle.text.specs.Parts.{texts_of}
 use Rattle.base_types.specs.declared.limits.TheConstants.Limits.{DEVICE_LINE_BYTES}
 use Rattle.base_types.specs.declared.report.Report.{Report}
 use Rattle.base_types.specs.Report.{ReportRecord, report_of}
@@ -40,9 +40,6 @@ heard_in greeted [] = silence Unfinished
 heard_in greeted (rest ∷ []) = if fits rest then silence Unfinished else silence (Faulty LineTooLong)
 heard_in greeted (line ∷ next ∷ more) =
     if fits line then heard_after (report_in greeted line) (heard_in true (next ∷ more)) else silence (Faulty LineTooLong)
-
-abbrev pub texts_of : List ℕ → List (List ℕ)
-texts_of stream = slice_split (λ byte. byte == 10) stream
 
 -- what a whole stream of bytes says
 abbrev pub device_reports : List ℕ → Heard

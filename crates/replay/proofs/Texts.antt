@@ -3,29 +3,18 @@ use Rattle.std.specs.Prelude.{ℕ, ◌≡◌, ◌≢◌, ◌==◌, ◌+◌, ◌<
 use Rattle.std.specs.List.{onto_first}
 use Rattle.std.proofs.Common.{rules, arith, add-one, refl, sym, ap, ◌∙◌, inl, inr}
 use Rattle.std.proofs.lemmas.List.{get_or-take, length-take-le, append_assoc, append-nil}
-use Rattle.std.proofs.lemmas.List.Splits.{slice_split_none, slice_split_at, slice_split-cons_yes, slice_split-cons_no, length-slice_split}
+use Rattle.std.proofs.lemmas.List.Splits.{slice_split_none, slice_split_at, slice_split-cons_yes, slice_split-cons_no}
 use Rattle.std.proofs.lemmas.List.Quantifiers.{position-Some}
 use Rattle.std.proofs.lemmas.Grind.{get_or_default_zero}
 use Rattle.std.proofs.Math.Seq.{split_at}
 use Rattle.text.proofs.Positions.{each_fails}
-use Rattle.replay.specs.Lines.{texts_of, without_end, lines_of, Lacks, IsEnded}
+use Rattle.text.specs.Parts.{texts_of}
+use Rattle.text.proofs.Splits.{parts}
+use Rattle.replay.specs.Lines.{without_end, lines_of, Lacks, IsEnded}
 
 pub nothing_in : (bytes : List ℕ) → length bytes ≡ 0 → bytes ≡ []
 nothing_in [] none = refl
 nothing_in (byte ∷ bytes) none = absurd (omega (arith, none))
-
--- a text is cut into one part at least
-pub record Parts (xs : List ℕ) : Type 0 where
-  pub first : List ℕ
-  pub later : List (List ℕ)
-  pub cut : texts_of xs ≡ first ∷ later
-
-parts_of : (xs : List ℕ) (parts : List (List ℕ)) (count : ℕ) → texts_of xs ≡ parts → length parts ≡ count + 1 → Parts xs
-parts_of xs [] count cut many = absurd (omega (arith, many))
-parts_of xs (part ∷ parts) count cut many = record { first = part; later = parts; cut = cut }
-
-pub parts : (xs : List ℕ) → Parts xs
-parts xs = parts_of xs (texts_of xs) _ refl (length-slice_split (λ byte. byte == 10) xs)
 
 -- what stands before the last text keeps its texts, also the empty ones
 end_after : (front : List (List ℕ)) (text : List ℕ) (more : List (List ℕ)) → without_end (front ++ (text ∷ more)) ≡ front ++ without_end (text ∷ more)
@@ -39,7 +28,7 @@ end_after ((x ∷ xs) ∷ next ∷ front) text more = ap (λ l. (x ∷ xs) ∷ l
 -- a line and its line feed
 pub first_line : (line rest : List ℕ) → Lacks 10 line → lines_of (line ++ (10 ∷ rest)) ≡ line ∷ lines_of rest
 first_line line rest lacks =
-    let it = parts rest in
+    let it = parts (λ byte. byte == 10) rest in
     rw (slice_split_at (λ byte. byte == 10) line 10 rest lacks refl, it.cut) (end_after (line ∷ []) it.first it.later)
 
 alone : (line : List ℕ) → line ≢ [] → without_end (line ∷ []) ≡ line ∷ []
@@ -88,12 +77,12 @@ texts_joined (x ∷ xs) ys = by_byte (texts_joined xs ys) (x == 10) refl
     by_byte more true is =
         rw (slice_split-cons_yes (λ byte. byte == 10) x (xs ++ (10 ∷ ys)) is, slice_split-cons_yes (λ byte. byte == 10) x xs is) (ap (λ l. [] ∷ l) more)
     by_byte more false is =
-        let it = parts xs in
+        let it = parts (λ byte. byte == 10) xs in
         rw (slice_split-cons_no (λ byte. byte == 10) x (xs ++ (10 ∷ ys)) is, slice_split-cons_no (λ byte. byte == 10) x xs is, more) (onto (texts_of xs) (texts_of ys) it.first it.later it.cut)
 
 lines_after : (front rest : List ℕ) → lines_of (front ++ (10 ∷ rest)) ≡ texts_of front ++ lines_of rest
 lines_after front rest =
-    let it = parts rest in
+    let it = parts (λ byte. byte == 10) rest in
     rw (texts_joined front rest, it.cut) (end_after (texts_of front) it.first it.later)
 
 pub lines_joined : (bytes rest : List ℕ) → IsEnded bytes → lines_of (bytes ++ rest) ≡ lines_of bytes ++ lines_of rest

@@ -1,10 +1,8 @@
 -- The lines of some bytes. A line ends in a line feed, which the last may lack.
 use Rattle.std.specs.Prelude.{ℕ, ◌≡◌, ◌==◌, ◌⊎◌, not, Bool, true, false, All, List, [], ◌∷◌, ◌++◌, length, codes, suc}
-use Rattle.std.specs.List.{slice_split, list_all}
+use Rattle.std.specs.List.{list_all}
 use Rattle.std.specs.Str.{bytes_eq}
-
-abbrev pub texts_of : List ℕ → List (List ℕ)
-texts_of bytes = slice_split (λ byte. byte == 10) bytes
+use Rattle.text.specs.Parts.{texts_of}
 
 -- without an empty text at the end
 unfoldable pub without_end : List (List ℕ) → List (List ℕ)

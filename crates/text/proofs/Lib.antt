@@ -1,3 +1,4 @@
 mod DigitValues
 pub mod Positions
 pub mod FirstLines
+pub mod Splits

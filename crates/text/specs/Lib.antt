@@ -1,3 +1,4 @@
 pub mod Digits
 pub mod FirstLine
+pub mod Parts
 pub mod Trimmed

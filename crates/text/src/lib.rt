@@ -1,9 +1,10 @@
 //! Bytes of text: what every reader asks of bytes that come from outside.
 //!
-//! Here live questions about bytes alone: where a byte stands, what the first line is, which number
-//! digits are, what a word is without the blanks around it. Each answer is its definition in `specs/`, over the list of the bytes. The words of
-//! the server may not live here: names and other forms with their limits stand in `base_types`, and
-//! what a line says stands with its reader.
+//! Here live questions about bytes alone: where a byte stands, what the first line is, what stands
+//! between separators, which number digits are, what a word is without the blanks around it. Each
+//! answer is its definition in `specs/`, over the list of the bytes. The words of the server may not
+//! live here: names and other forms with their limits stand in `base_types`, and what a line says
+//! stands with its reader.
 //!
 //! The call that each reader makes is [`first_line`]: a line of at most `most` bytes, whole only once
 //! its line feed is there. The readers' rows in `reader_tests` try it, on each of their formats.
@@ -12,9 +13,11 @@
 mod bytes;
 mod digits;
 mod line;
+mod split;
 mod trim;
 
 pub use bytes::{drop_front, find_byte};
 pub use digits::{all_digits, capped_value, decimal};
 pub use line::{FirstLine, first_line};
+pub use split::{parts, words};
 pub use trim::{trimmed, without_parameters};

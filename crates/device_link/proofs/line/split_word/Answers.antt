@@ -1,6 +1,6 @@
 use Rattle.std.proofs.Common.{rules, ◌≡◌, ◌==◌, ◌+◌, position, Some}
 use Rattle.std.proofs.lemmas.List.{take_rest}
-use Rattle.device_link.proofs.Splits.{split_at}
+use Rattle.text.proofs.Splits.{split_at}
 use Rattle.device_link.proofs.line.split_word.Goals as goal
 
 pub returns-in-Some : goal.returns-in-Some

@@ -6,7 +6,6 @@ use Rattle.std.proofs.lemmas.List.Splits.{slice_split_none, slice_split_first, l
 use Rattle.std.proofs.lemmas.List.Quantifiers.{position-Some}
 use Rattle.std.proofs.lemmas.List.{take-append-le, drop-append-le, length-take-le}
 use Rattle.text.proofs.Positions.{position_before, each_fails, passes_late}
-use Rattle.device_link.specs.Line.{said}
 
 pub split_at : (p : ℕ → Bool) (xs : List ℕ) (i : ℕ) → position p xs ≡ Some i → slice_split p xs ≡ take i xs ∷ slice_split p (drop (i + 1) xs)
 split_at p xs i found = search (rules, slice_split_first)
@@ -27,12 +26,6 @@ parts_of p xs (part ∷ parts) count cut many = record { first = part; later = p
 
 pub parts : (p : ℕ → Bool) (xs : List ℕ) → Parts p xs
 parts p xs = parts_of p xs (slice_split p xs) _ refl (length-slice_split p xs)
-
--- a word and three operands or more say nothing
-pub nothing_said : (p : ℕ → Bool) (xs word first second : List ℕ) → said (word ∷ first ∷ second ∷ slice_split p xs) ≡ None
-nothing_said p xs word first second =
-    let it = parts p xs in
-    rw it.cut refl
 
 -- where more follows, the first text is the same
 pub split_before : (p : ℕ → Bool) (xs ys : List ℕ) (i : ℕ) → position p xs ≡ Some i → slice_split p (xs ++ ys) ≡ take i xs ∷ slice_split p (drop (i + 1) xs ++ ys)
