@@ -1,18 +1,18 @@
 -- What a line of a device says. A line is a word, and its operands after single spaces; a carriage return at its end is dropped.
-use Rattle.std.specs.Prelude.{ℕ, ◌&&◌, nat_le, nat_lt, Bool, true, false, if◌then◌else◌, List, [], ◌∷◌, length, Option, Some, None, option_map, codes}
+use Rattle.std.specs.Prelude.{ℕ, Bool, true, false, if◌then◌else◌, List, [], ◌∷◌, Option, Some, None, option_map, codes}
 use Rattle.std.specs.Option.{option_and_then}
 use Rattle.std.specs.List.{list_all}
-use Rattle.std.specs.Str.{bytes_eq, all_ascii_digits}
+use Rattle.std.specs.Str.{bytes_eq}
 use Rattle.std.specs.Str.Lines.{strip_carriage_return}
-use Rattle.std.specs.Str.Parse.{digits_value}
 use Rattle.base_types.specs.declared.limits.TheConstants.Limits.{LAST_JOB_ID}
+use Rattle.text.specs.Digits.{number_up_to}
 use Rattle.text.specs.Parts.{parts_at, words_of}
 use Rattle.base_types.specs.Forms.{is_name, is_media}
 use Rattle.base_types.specs.Report.{ReportRecord, SaysHello, SaysMedia, SaysReady, SaysStop, SaysPages, SaysDone, SaysFail}
 
--- a number in decimal digits, which may begin with zeros, up to the last job id
-unfoldable pub number_in : List ℕ → Option ℕ
-number_in word = if nat_lt 0 (length word) && all_ascii_digits word && nat_le (digits_value 10 word) LAST_JOB_ID then Some (digits_value 10 word) else None
+-- a number up to the last job id
+abbrev pub number_in : List ℕ → Option ℕ
+number_in word = number_up_to LAST_JOB_ID word
 
 -- the names of media, with commas between them
 unfoldable pub media_in : List ℕ → Option (List (List ℕ))

@@ -1,22 +1,19 @@
 -- What a line of a trace says, after the settings.
-use Rattle.std.specs.Prelude.{ℕ, ◌≡◌, ◌≢◌, ◌≤◌, ◌<◌, true, IsTrue, List, [], ◌++◌, length, codes, position, Option, Some, None}
-use Rattle.std.specs.Str.{bytes_eq, all_ascii_digits}
-use Rattle.std.specs.Str.Parse.{digits_value}
+use Rattle.std.specs.Prelude.{ℕ, ◌≡◌, ◌≢◌, ◌<◌, true, List, [], ◌++◌, length, codes, position, Option, Some, None}
+use Rattle.std.specs.Str.{bytes_eq}
 use Rattle.hex.specs.Hex.{encode_lower, IsBytes}
 use Rattle.base_types.specs.declared.limits.TheConstants.Limits.{LAST_MOMENT, DEVICE_LINE_BYTES}
 use Rattle.base_types.specs.declared.report.Report.{Report}
 use Rattle.base_types.specs.Report.{report_of}
+use Rattle.text.specs.Digits.{number_up_to}
 use Rattle.device_link.specs.Line.{report_in}
 use Rattle.replay.specs.Lines.{Lacks}
 use Rattle.replay.specs.declared.trace.Line.{Line}
 use Rattle.replay.specs.declared.trace.Line.TheVariants.{At, Ipp, Device, Tick}
 
--- decimal digits, one at least, of a moment up to the last
-pub record IsMomentIn (digits : List ℕ) (moment : ℕ) : Type 0 where
-  pub some : digits ≢ []
-  pub decimal : IsTrue (all_ascii_digits digits)
-  pub value : moment ≡ digits_value 10 digits
-  pub within : moment ≤ LAST_MOMENT
+-- decimal digits of a moment up to the last
+abbrev pub IsMomentIn : List ℕ → ℕ → Type 0
+IsMomentIn digits moment = number_up_to LAST_MOMENT digits ≡ Some moment
 
 -- the lower-case hexadecimal digits of a body, which isn't empty
 pub record IsBodyIn (digits body : List ℕ) : Type 0 where

@@ -7,11 +7,11 @@ ghost use Rattle.device_link.specs.Stream.{Stands};
 ghost use Rattle.replay.specs.Lines.{IsOneLine};
 ghost use Rattle.replay.specs.TraceLine.{Finds, IsMomentIn, IsBodyIn, IsReportIn, IsDeviceIn, IsLine};
 
-use base_types::{DeviceId, Moment, Report, Text};
+use base_types::{DeviceId, Limits, Moment, Report, Text};
 use device_link::{LinkError, LinkReader};
 use hex::FromHexError;
 use std::alloc::{AllocError, Global};
-use text::{all_digits, capped_value, find_byte};
+use text::{find_byte, number_up_to};
 
 /// A line of a trace, after the settings.
 #[derive(Drop)]
@@ -53,10 +53,8 @@ pub fn read_line(alloc: Global, text: &[u8], devices: &[Text]) -> Result<Option<
 fn read_moment(digits: &[u8]) -> Option<Moment>
     ensures { Finds (IsMomentIn digits.now) result }
 {
-    if digits.is_empty() || !all_digits(digits) {
-        return None;
-    }
-    Moment::new(capped_value(digits, u64::MAX))
+    let number = number_up_to(digits, Limits::LAST_MOMENT)?;
+    Moment::new(number)
 }
 
 /// Bytes in lower-case hexadecimal digits, at least one byte.

@@ -17,7 +17,7 @@ mod split;
 mod trim;
 
 pub use bytes::{drop_front, find_byte};
-pub use digits::{all_digits, capped_value, decimal};
+pub use digits::{capped_value, decimal, is_number, number_up_to};
 pub use line::{FirstLine, first_line};
 pub use split::{parts, words};
 pub use trim::{trimmed, without_parameters};
