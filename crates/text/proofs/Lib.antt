@@ -2,3 +2,4 @@ mod DigitValues
 pub mod Positions
 pub mod FirstLines
 pub mod Splits
+mod Rests
