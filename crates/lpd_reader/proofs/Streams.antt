@@ -17,9 +17,6 @@ use Rattle.lpd_reader.specs.Session.{ItemRecord, HasFile, item_record, awaited_a
 use Rattle.lpd_reader.specs.Command.{meaning_of, awaits_line}
 use Rattle.lpd_reader.specs.Stream.{Gives, Fails, Waits, line_says, by_line, front_of, Open, Faulty, Hears, HearsOn, LpdItems, LpdState, Stands, Answers}
 
-pub rest_with : (start : ℕ) (bytes piece : List ℕ) → start ≤ length bytes → drop start (bytes ++ piece) ≡ drop start bytes ++ piece
-rest_with start bytes piece within = drop-append-le start bytes piece within
-
 -- a piece of which nothing is read yet
 pub stands_fed : (stream : List ℕ) (given : List ItemRecord) (piece : List ℕ) (reader : LpdState) → Stands stream given reader → Stands (stream ++ piece) given (record reader { rest = reader.rest ++ piece })
 stands_fed stream given piece reader stands coming items ending hears =
