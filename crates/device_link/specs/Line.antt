@@ -1,10 +1,10 @@
 -- What a line of a device says. A line is a word, and its operands after single spaces; a carriage return at its end is dropped.
-use Rattle.std.specs.Prelude.{ℕ, Bool, true, false, if◌then◌else◌, List, [], ◌∷◌, Option, Some, None, option_map, codes}
+use Rattle.std.specs.Prelude.{ℕ, nat_lt, Bool, true, false, if◌then◌else◌, List, [], ◌∷◌, length, Option, Some, None, option_map, codes}
 use Rattle.std.specs.Option.{option_and_then}
 use Rattle.std.specs.List.{list_all}
 use Rattle.std.specs.Str.{bytes_eq}
 use Rattle.std.specs.Str.Lines.{strip_carriage_return}
-use Rattle.base_types.specs.declared.limits.TheConstants.Limits.{LAST_JOB_ID}
+use Rattle.base_types.specs.declared.limits.TheConstants.Limits.{LAST_JOB_ID, DEVICE_LINE_BYTES}
 use Rattle.text.specs.Digits.{number_up_to}
 use Rattle.text.specs.Parts.{parts_at, words_of}
 use Rattle.base_types.specs.Forms.{is_name, is_media}
@@ -62,3 +62,11 @@ in_turn false (Some report) = None
 -- what a line says, if it is one of those that may come now
 abbrev pub report_in : Bool → List ℕ → Option ReportRecord
 report_in greeted line = in_turn greeted (said (words_of (strip_carriage_return line)))
+
+-- a line and its line feed together have at most so many bytes
+abbrev pub fits : List ℕ → Bool
+fits line = nat_lt (length line) DEVICE_LINE_BYTES
+
+-- what a line reports of a device that has said its name
+abbrev pub reported_by : List ℕ → Option ReportRecord
+reported_by line = if fits line then report_in true line else None

@@ -1,14 +1,13 @@
 -- What a device's connection says: the reports of its whole lines, and then a fault or an unfinished line.
-use Rattle.std.specs.Prelude.{ℕ, ◌≡◌, nat_lt, Bool, true, false, if◌then◌else◌, List, [], ◌∷◌, ◌++◌, length, Option, Some, None, Result, Ok, Err}
+use Rattle.std.specs.Prelude.{ℕ, ◌≡◌, Bool, true, false, if◌then◌else◌, List, [], ◌∷◌, ◌++◌, Option, Some, None, Result, Ok, Err}
 use Rattle.text.specs.Parts.{texts_of}
-use Rattle.base_types.specs.declared.limits.TheConstants.Limits.{DEVICE_LINE_BYTES}
 use Rattle.base_types.specs.declared.report.Report.{Report}
 use Rattle.base_types.specs.Report.{ReportRecord, report_of}
 use Rattle.device_link.specs.declared.fault.LinkFault.{LinkFault}
 use Rattle.device_link.specs.declared.fault.LinkFault.TheVariants.{BadLine, LineTooLong}
 use Rattle.device_link.specs.declared.fault.LinkError.{LinkError}
 use Rattle.device_link.specs.declared.fault.LinkError.TheVariants.{Fault, OutOfMemory}
-use Rattle.device_link.specs.Line.{report_in}
+use Rattle.device_link.specs.Line.{fits, report_in}
 
 pub data Ending : Type 0 where
   Unfinished : Ending
@@ -29,10 +28,6 @@ with_front reports later = record { reports = reports ++ later.reports; ending =
 abbrev pub heard_after : Option ReportRecord → Heard → Heard
 heard_after None later = silence (Faulty BadLine)
 heard_after (Some report) later = with_front (report ∷ []) later
-
--- a line and its line feed together have at most so many bytes
-abbrev pub fits : List ℕ → Bool
-fits line = nat_lt (length line) DEVICE_LINE_BYTES
 
 -- what the texts between line feeds say, the last of which is no whole line yet
 abbrev pub heard_in : Bool → List (List ℕ) → Heard

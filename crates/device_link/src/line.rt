@@ -5,12 +5,27 @@ ghost use Rattle.std.specs.Str.Lines.{strip_carriage_return};
 ghost use Rattle.base_types.specs.Forms.{is_media};
 ghost use Rattle.base_types.specs.Report.{report_of};
 ghost use Rattle.text.specs.Parts.{parts_at, words_of};
-ghost use Rattle.device_link.specs.Line.{media_in, name_in, said_alone, said_of_one, said_of_two, said, in_turn, report_in};
+ghost use Rattle.device_link.specs.Line.{media_in, name_in, said_alone, said_of_one, said_of_two, said, in_turn, report_in, reported_by};
 
 use crate::number::number_in;
-use base_types::{Report, Text, is_media, is_name};
+use base_types::{Limits, Report, Text, is_media, is_name};
 use std::alloc::{AllocError, Global};
 use text::{find_byte, parts};
+
+/// The report that a line is, without its line feed, if it is one that a device may write once it
+/// has said its name. [`LinkReader`](crate::LinkReader) reads each line so.
+///
+/// # Errors
+///
+/// Where there is no memory for the names of the report.
+pub fn read_report(alloc: Global, line: &[u8]) -> Result<Option<Report>, AllocError>
+    ensures { IfOk result (λ report. option_map report_of report ≡ reported_by line.now) }
+{
+    if line.len() >= Limits::DEVICE_LINE_BYTES {
+        return Ok(None);
+    }
+    read_line(alloc, true, line)
+}
 
 /// The report that a line is, if it is one that may come now: a device says its name first, and
 /// once.

@@ -6,6 +6,8 @@ use Rattle.std.proofs.lemmas.List.Splits.{slice_split_none, slice_split_at, leng
 use Rattle.std.proofs.Math.Seq.{drop-append_seam}
 use Rattle.std.proofs.Common.{arith, refl, sym, ap, ◌∙◌}
 use Rattle.base_types.specs.declared.report.Report.{Report}
+use Rattle.base_types.specs.Report.{report_of}
+use Rattle.device_link.specs.Line.{reported_by}
 use Rattle.replay.specs.declared.trace.Line.{Line}
 use Rattle.replay.specs.declared.trace.Line.TheVariants.{At, Ipp, Device, Tick}
 use Rattle.replay.specs.Lines.{Lacks}
@@ -51,6 +53,11 @@ no_name names said name rest cut word unknown = no_device names said (λ place r
     let same = same_cut name rest it.name it.line word it.word (sym cut ∙ it.joined) in
     let known : position (λ device. bytes_eq device name) names ≡ Some place = rw same.0 it.known in
     cc (sym known ∙ unknown))
+
+-- what a line reports is found, or it reports nothing
+pub found_report : (line : List ℕ) (found : Option Report) → option_map report_of found ≡ reported_by line → Finds (IsReportIn line) found
+found_report line (Some report) is = sym is
+found_report line None is = λ report says. let no : None ≡ Some (report_of report) = is ∙ says in cc
 
 pub found_device : (names : List (List ℕ)) (said name rest : List ℕ) (place : ℕ) (found : Option Report) → said ≡ name ++ (32 ∷ rest) → Lacks 32 name → position (λ device. bytes_eq device name) names ≡ Some place → Finds (IsReportIn rest) found → Finds (IsLine names (codes "dev " ++ said)) (option_map (Device place) found)
 found_device names said name rest place (Some report) cut word known is =

@@ -1,12 +1,12 @@
 -- What a line of a trace says, after the settings.
-use Rattle.std.specs.Prelude.{ℕ, ◌≡◌, ◌≢◌, ◌<◌, true, List, [], ◌++◌, length, codes, position, Option, Some, None}
+use Rattle.std.specs.Prelude.{ℕ, ◌≡◌, ◌≢◌, List, [], ◌++◌, codes, position, Option, Some, None}
 use Rattle.std.specs.Str.{bytes_eq}
 use Rattle.hex.specs.Hex.{encode_lower, IsBytes}
-use Rattle.base_types.specs.declared.limits.TheConstants.Limits.{LAST_MOMENT, DEVICE_LINE_BYTES}
+use Rattle.base_types.specs.declared.limits.TheConstants.Limits.{LAST_MOMENT}
 use Rattle.base_types.specs.declared.report.Report.{Report}
 use Rattle.base_types.specs.Report.{report_of}
 use Rattle.text.specs.Digits.{number_up_to}
-use Rattle.device_link.specs.Line.{report_in}
+use Rattle.device_link.specs.Line.{reported_by}
 use Rattle.replay.specs.Lines.{Lacks}
 use Rattle.replay.specs.declared.trace.Line.{Line}
 use Rattle.replay.specs.declared.trace.Line.TheVariants.{At, Ipp, Device, Tick}
@@ -26,9 +26,8 @@ abbrev pub IsOneWord : List ℕ → Type 0
 IsOneWord word = Lacks 32 word
 
 -- a line that a device may write once it has said its name, and what it reports
-pub record IsReportIn (line : List ℕ) (report : Report) : Type 0 where
-  pub short : length line < DEVICE_LINE_BYTES
-  pub says : report_in true line ≡ Some (report_of report)
+abbrev pub IsReportIn : List ℕ → Report → Type 0
+IsReportIn line report = reported_by line ≡ Some (report_of report)
 
 -- the name of the device at this place, and of none before it, and such a line
 pub record IsDeviceIn (names : List (List ℕ)) (text : List ℕ) (place : ℕ) (report : Report) : Type 0 where

@@ -8,7 +8,7 @@ ghost use Rattle.settings_file.specs.Settings.{ServerSettings, MeetsLimits};
 ghost use Rattle.settings_file.specs.Fault.{Fault, fault_of, fault_line};
 ghost use Rattle.settings_file.specs.Reading.{settings_of};
 ghost use Rattle.replies.specs.Asked.{Asks};
-ghost use Rattle.replay.specs.Lines.{lines_of, IsOneLine};
+ghost use Rattle.replay.specs.Lines.{lines_of};
 ghost use Rattle.streams.specs.Said.{Said, refused_as};
 ghost use Rattle.replay.specs.Printed.{reply_line};
 ghost use Rattle.replay.specs.Log.{Hears};
@@ -238,7 +238,6 @@ impl Run {
     /// Acts on one line, if it is one of a trace, and appends what it gives: whether it is one.
     fn act(&mut self, bytes: &[u8], output: &mut Vec<u8>) -> Result<bool, AllocError>
         requires silent { self.old.log.heard ≡ Some [] }
-        requires one_line { IsOneLine bytes.now }
         ensures ok { IfOk result (λ is_line. Acts self.old.log bytes.now (record { moment = self.old.moment; state = self.old.core }) output.old.items is_line self.new.log (record { moment = self.new.moment; state = self.new.core }) output.new.items) }
         ensures err { OnErr result (output.new.items ≡ output.old.items) }
     {

@@ -1,14 +1,12 @@
 //! What a line of a trace says.
-ghost use Rattle.std.specs.Prelude.{◌≡◌, ◌++◌, [], IfOk, codes, position};
+ghost use Rattle.std.specs.Prelude.{◌≡◌, ◌++◌, IfOk, codes, position};
 ghost use Rattle.std.specs.Char.{is_ascii_uppercase};
 ghost use Rattle.std.specs.List.{list_any};
 ghost use Rattle.std.specs.Str.{bytes_eq};
-ghost use Rattle.device_link.specs.Stream.{Stands};
-ghost use Rattle.replay.specs.Lines.{IsOneLine};
-ghost use Rattle.replay.specs.TraceLine.{Finds, IsMomentIn, IsBodyIn, IsReportIn, IsDeviceIn, IsLine};
+ghost use Rattle.replay.specs.TraceLine.{Finds, IsMomentIn, IsBodyIn, IsDeviceIn, IsLine};
 
 use base_types::{DeviceId, Limits, Moment, Report, Text};
-use device_link::{LinkError, LinkReader};
+use device_link::read_report;
 use hex::FromHexError;
 use std::alloc::{AllocError, Global};
 use text::{find_byte, number_up_to};
@@ -31,7 +29,6 @@ pub enum Line {
 ///
 /// The error is want of memory.
 pub fn read_line(alloc: Global, text: &[u8], devices: &[Text]) -> Result<Option<Line>, AllocError>
-    requires { IsOneLine text.now }
     ensures { IfOk result (λ line. Finds (IsLine devices.now text.now) line) }
 {
     if text == b"tick".as_slice() {
@@ -86,7 +83,6 @@ fn read_device_line(
     said: &[u8],
     devices: &[Text],
 ) -> Result<Option<Line>, AllocError>
-    requires { IsOneLine said.now }
     ensures { IfOk result (λ line. Finds (IsLine devices.now (codes "dev " ++ said.now)) line) }
 {
     let Some(end) = find_byte(said, b' ') else {
@@ -105,33 +101,4 @@ fn place_of(devices: &[Text], name: &[u8]) -> Option<usize>
     ensures { result ≡ position (λ device. bytes_eq device name.now) devices.now }
 {
     devices.iter().position(|device| device.as_bytes() == name)
-}
-
-/// The report that a line is which a device writes once it has said its name.
-fn read_report(alloc: Global, line: &[u8]) -> Result<Option<Report>, AllocError>
-    requires { IsOneLine line.now }
-    ensures { IfOk result (λ report. Finds (IsReportIn line.now) report) }
-{
-    let mut reader = hear(alloc, line)?;
-    match reader.next_report() {
-        Ok(_) => {}
-        Err(LinkError::Fault(_)) => return Ok(None),
-        Err(LinkError::OutOfMemory) => return Err(AllocError),
-    }
-    match reader.next_report() {
-        Ok(report) => Ok(report),
-        Err(LinkError::Fault(_)) => Ok(None),
-        Err(LinkError::OutOfMemory) => Err(AllocError),
-    }
-}
-
-/// A reader that was fed a device's name and then a line.
-fn hear(alloc: Global, line: &[u8]) -> Result<LinkReader, AllocError>
-    ensures { IfOk result (λ reader. Stands (codes "HELLO device\n" ++ (line.now ++ codes "\n")) [] reader) }
-{
-    let mut reader = LinkReader::new(alloc);
-    reader.feed(b"HELLO device\n")?;
-    reader.feed(line)?;
-    reader.feed(b"\n")?;
-    Ok(reader)
 }

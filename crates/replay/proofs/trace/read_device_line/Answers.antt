@@ -4,7 +4,7 @@ use Rattle.std.proofs.lemmas.List.{take_rest}
 use Rattle.replay.specs.TraceLine.{Finds, IsReportIn}
 use Rattle.replay.specs.declared.trace.Line.TheVariants.{Device}
 use Rattle.replay.proofs.Texts.{found_at, found_nowhere}
-use Rattle.replay.proofs.Forms.{no_space, no_name, found_device}
+use Rattle.replay.proofs.Forms.{no_space, no_name, found_report, found_device}
 use Rattle.replay.proofs.trace.read_device_line.Goals as goal
 
 pub returns-in_default : goal.returns-in_default
@@ -22,6 +22,6 @@ returns c =
     let said = c.args.said.now in
     let end = c.in-Some.end in
     let it = found_at 32 said end (search rules) in
-    let heard : Finds (IsReportIn (drop (end + 1) said)) c.in_ok-report.report = rw (take_rest said (end + 1)) at c.in_ok-report.ensures in
+    let heard : Finds (IsReportIn (drop (end + 1) said)) c.in_ok-report.report = rw (take_rest said (end + 1)) at found_report _ _ c.in_ok-report.ensures in
     let is : c.map.result ≡ option_map (Device c.in-Some-place_of.place) c.in_ok-report.report = search rules in
     rw is (found_device c.args.devices.now said (take end said) (drop (end + 1) said) c.in-Some-place_of.place c.in_ok-report.report it.cut it.lacks (search rules) heard)
