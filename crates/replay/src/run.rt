@@ -5,7 +5,7 @@ ghost use Rattle.std.specs.Str.{IsUtf8};
 ghost use Rattle.std.specs.Fmt.{decimal};
 ghost use Rattle.base_types.specs.declared.limits.TheConstants.Limits.{INPUT_BYTES};
 ghost use Rattle.settings_file.specs.Settings.{ServerSettings, MeetsLimits};
-ghost use Rattle.settings_file.specs.Fault.{Fault, fault_of, fault_line};
+ghost use Rattle.settings_file.specs.Fault.{Fault, fault_of};
 ghost use Rattle.settings_file.specs.Reading.{settings_of};
 ghost use Rattle.replies.specs.Asked.{Asks};
 ghost use Rattle.replay.specs.Lines.{lines_of};
@@ -13,7 +13,7 @@ ghost use Rattle.streams.specs.Said.{Said, refused_as};
 ghost use Rattle.replay.specs.Printed.{reply_line};
 ghost use Rattle.replay.specs.Log.{Hears};
 ghost use Rattle.replay.specs.Acting.{Acts, IsRequest, IsStart, IsFaultOf};
-ghost use Rattle.replay.specs.Replay.{Answers, Happens, Serves, ComesTo, IsReplyOf, Gives, LinesGive, LinesLeave, names_of, SettingsGive, SettingsLeave, TraceGives, TraceLeaves, InputGives, InputLeaves, Replays};
+ghost use Rattle.replay.specs.Replay.{Answers, Happens, Serves, ComesTo, IsReplyOf, Gives, LinesGive, LinesLeave, names_of, settings_refused, SettingsGive, SettingsLeave, TraceGives, TraceLeaves, InputGives, InputLeaves, Replays};
 
 use crate::lines::{next_line, split_settings};
 use crate::log::Log;
@@ -26,7 +26,7 @@ use replies::{Asked, ipp_event, ipp_refusal, ipp_reply};
 use settings_file::{Settings, SettingsFault, read_settings, write_fault};
 use std::alloc::{AllocError, Global};
 use std::io::{Read, Write};
-use streams::{InputFault, read_whole, write_front};
+use streams::{InputFault, read_whole, refused_line, write_front};
 
 const DONE: u8 = 0;
 
@@ -103,7 +103,7 @@ fn replay(alloc: Global, trace: &[u8], texts: bool, output: &mut Vec<u8>) -> Res
     ensures err { OnErr result (TraceLeaves texts trace.now output.new.items) }
 {
     let Some(parts) = split_settings(trace) else {
-        return refuse_settings(&SettingsFault::NotToml, output);
+        return refuse_settings(alloc, &SettingsFault::NotToml, output);
     };
     run_lines(alloc, parts.0, parts.1, parts.2, texts, output)
 }
@@ -124,23 +124,31 @@ fn run_lines(
 {
     match read_run(alloc, settings, texts) {
         Ok(mut run) => run.act_on(lines, before, output),
-        Err(fault) => refuse_settings(&fault, output),
+        Err(fault) => refuse_settings(alloc, &fault, output),
     }
 }
 
 /// Appends the line of refused settings, and gives its status. The error is want of memory, which the
 /// fault may be already.
-fn refuse_settings(fault: &SettingsFault, output: &mut Vec<u8>) -> Result<u8, AllocError>
-    ensures ok { IfOk result (λ status. (status ≡ 2) × (named : Fault) × (fault_of fault.now ≡ Some named) × (output.new.items ≡ output.old.items ++ fault_line named)) }
+fn refuse_settings(
+    alloc: Global,
+    fault: &SettingsFault,
+    output: &mut Vec<u8>,
+) -> Result<u8, AllocError>
+    ensures ok { IfOk result (λ status. (status ≡ 2) × (named : Fault) × (fault_of fault.now ≡ Some named) × (output.new.items ≡ output.old.items ++ (settings_refused named).text)) }
     ensures err { OnErr result (output.new.items ≡ output.old.items) }
 {
-    match fault {
-        SettingsFault::OutOfMemory => Err(AllocError),
-        _ => {
-            write_fault(fault, output)?;
-            Ok(REFUSED)
-        }
-    }
+    let line = settings_line(alloc, fault)?;
+    refuse(output, &line)
+}
+
+/// The line of refused settings.
+fn settings_line(alloc: Global, fault: &SettingsFault) -> Result<Vec<u8>, AllocError>
+    ensures { IfOk result (λ line. (named : Fault) × (fault_of fault.now ≡ Some named) × (line.items ≡ (settings_refused named).text)) }
+{
+    let mut words = Vec::new(alloc);
+    write_fault(fault, &mut words)?;
+    refused_line(alloc, &words)
 }
 
 /// A server that starts, of the bytes of its settings.

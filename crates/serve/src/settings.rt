@@ -3,14 +3,14 @@ ghost use Rattle.std.specs.Prelude.{◌≡◌, IfOk, IfErr, OnOk, Ok, Some};
 ghost use Rattle.std.specs.Option.{ForSome};
 ghost use Rattle.std.specs.Str.{IsUtf8};
 ghost use Rattle.settings_file.specs.Settings.{MeetsLimits};
-ghost use Rattle.settings_file.specs.Fault.{Fault, fault_of, fault_line};
+ghost use Rattle.settings_file.specs.Fault.{Fault, fault_of};
 ghost use Rattle.settings_file.specs.Reading.{settings_of};
-ghost use Rattle.serve.specs.Refusal.{IsFaultOf, Refuses, RefusesAs, Says};
+ghost use Rattle.serve.specs.Refusal.{fault_line, IsFaultOf, Refuses, RefusesAs, Says};
 
 use settings_file::{Settings, SettingsFault, read_settings, write_fault};
 use std::alloc::{AllocError, Global};
 use std::io::Write;
-use streams::write_front;
+use streams::{refused_line, write_front};
 
 const REFUSED: u8 = 2;
 
@@ -49,14 +49,9 @@ fn read_bytes(alloc: Global, bytes: &[u8]) -> Result<Settings, SettingsFault>
 fn line_of(alloc: Global, fault: &SettingsFault) -> Result<Vec<u8>, AllocError>
     ensures { IfOk result (λ line. (named : Fault) × (fault_of fault.now ≡ Some named) × (line.items ≡ fault_line named)) }
 {
-    match fault {
-        SettingsFault::OutOfMemory => Err(AllocError),
-        _ => {
-            let mut line = Vec::new(alloc);
-            write_fault(fault, &mut line)?;
-            Ok(line)
-        }
-    }
+    let mut words = Vec::new(alloc);
+    write_fault(fault, &mut words)?;
+    refused_line(alloc, &words)
 }
 
 /// Writes a line, and gives the exit status.
