@@ -3,6 +3,7 @@ use Rattle.std.specs.Prelude.{ℕ, ◌==◌, ◌-◌, ◌||◌, nat_lt, Bool, if
 use Rattle.std.specs.Option.{option_or}
 use Rattle.std.specs.Char.{is_ascii_uppercase, is_ascii_digit}
 use Rattle.text.specs.Parts.{texts_of}
+use Rattle.text.specs.Steps.{◌>>=◌}
 use Rattle.base_types.specs.declared.limits.TheConstants.Limits.{LPD_LINE_BYTES}
 use Rattle.lpd_reader.specs.declared.control.ControlFault.{ControlFault}
 use Rattle.lpd_reader.specs.declared.control.ControlFault.TheVariants.{NoHost, NoUser, NoPrintLine, BadLine, FormatLeftOut}
@@ -51,11 +52,6 @@ lettered letter operand =
 abbrev pub line_in : List ℕ → Result LineRecord ControlFault
 line_in [] = Err BadLine
 line_in (letter ∷ operand) = if nat_lt (length (letter ∷ operand)) LPD_LINE_BYTES then lettered letter operand else Err BadLine
-
-infixl 10 ◌>>=◌
-abbrev pub ◌>>=◌ : {A B : Type 0} → Result A ControlFault → (A → Result B ControlFault) → Result B ControlFault
-(Ok value) >>= next = next value
-(Err fault) >>= next = Err fault
 
 -- the first faulty line decides
 abbrev pub lines_in : List (List ℕ) → Result (List LineRecord) ControlFault

@@ -13,7 +13,7 @@ use Rattle.cost_table.specs.Time.{IsTime}
 use Rattle.plan_text.specs.declared.fault.TextFault.{TextFault}
 use Rattle.plan_text.specs.declared.fault.TextFault.TheVariants.{BadLine}
 use Rattle.plan_text.specs.declared.stage.Stage.TheVariants as stages
-use Rattle.plan_text.specs.Reading.{◌>>=◌}
+use Rattle.text.specs.Steps.{◌>>=◌}
 use Rattle.plan_text.specs.Word.{cause_at}
 use Rattle.plan_text.specs.Line.{Said, SaysPlan, SaysDevice, SaysClass, SaysJob, SaysWait, SaysWay, SaysTotal, SaysJobPrices, SaysPlacePrices, SaysStranded, SaysEnd, device_at, class_at, job_at, wait_at, way_at, total_at, job_prices_at, place_prices_at, stranded_at, line_of, line_at}
 use Rattle.plan_text.specs.Whole.{Heard, is_at, next, line_next, lines_next, nothing_heard, ended, plan_from, plan_in, plan_at}

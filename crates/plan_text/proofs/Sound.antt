@@ -9,7 +9,9 @@ use Rattle.plan_text.specs.declared.fault.TextFault.{TextFault}
 use Rattle.plan_text.specs.declared.fault.TextFault.TheVariants.{BadLine, OutOfRange, NoEnd}
 use Rattle.plan_text.specs.declared.stage.Stage.TheVariants as stages
 use Rattle.plan_text.specs.declared.fault.ReadError.{ReadError}
-use Rattle.plan_text.specs.Reading.{◌>>=◌, Gives}
+use Rattle.text.specs.Steps.{◌>>=◌}
+use Rattle.text.proofs.Chains.{went_on}
+use Rattle.plan_text.specs.Reading.{Gives}
 use Rattle.plan_text.specs.NamedPlan.{NamedPlan, HasOneEach}
 use Rattle.prices.specs.Plan.{HasOneListEach}
 use Rattle.plan_text.specs.Line.{Said, SaysPlan, SaysDevice, SaysClass, SaysJob, SaysWait, SaysWay, SaysTotal, SaysJobPrices, SaysPlacePrices, SaysStranded, SaysEnd, line_at}
@@ -35,10 +37,6 @@ passed false r fault x h = (refl, h)
 pub either : {X : Type 0} (b : Bool) (r q : Result X TextFault) (x : X) → (if b then r else q) ≡ ok x → ((b ≡ true) × (r ≡ ok x)) ⊎ ((b ≡ false) × (q ≡ ok x))
 either true r q x h = inl (refl, h)
 either false r q x h = inr (refl, h)
-
-pub went_on : {X Y : Type 0} (r : Result X TextFault) (f : X → Result Y TextFault) (y : Y) → (r >>= f) ≡ ok y → (x : X) × (r ≡ ok x) × (f x ≡ ok y)
-went_on (Ok x) f y h = (x, refl, h)
-went_on (Err fault) f y h = absurd (cc)
 
 -- a class with a wait, a way and place prices for each of so many devices
 pub record HasEach (devices : ℕ) (c : PlannedClass) : Type 0 where

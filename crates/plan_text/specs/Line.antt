@@ -10,7 +10,7 @@ use Rattle.plan_text.specs.declared.fault.TextFault.{TextFault}
 use Rattle.plan_text.specs.declared.fault.TextFault.TheVariants.{BadLine}
 use Rattle.plan_text.specs.declared.line.Line.{Line}
 use Rattle.plan_text.specs.declared.line.Line.TheVariants as lines
-use Rattle.plan_text.specs.Reading.{◌>>=◌}
+use Rattle.text.specs.Steps.{◌>>=◌}
 use Rattle.text.specs.Digits.{is_number}
 use Rattle.plan_text.specs.Word.{number_at, numbers_at, is_entry, entries_at, is_price, prices_at, cause_at}
 

@@ -15,7 +15,8 @@ use Rattle.plan_text.specs.declared.stage.Stage.TheVariants as stages
 use Rattle.plan_text.specs.declared.draft.Draft.{Draft}
 use Rattle.plan_text.specs.declared.open_class.OpenClass.{OpenClass}
 use Rattle.plan_text.specs.NamedPlan.{NamedPlan}
-use Rattle.plan_text.specs.Reading.{◌>>=◌, Fails}
+use Rattle.text.specs.Steps.{◌>>=◌}
+use Rattle.plan_text.specs.Reading.{Fails}
 use Rattle.plan_text.specs.Line.{Said, SaysPlan, SaysDevice, SaysClass, SaysJob, SaysWait, SaysWay, SaysTotal, SaysJobPrices, SaysPlacePrices, SaysStranded, SaysEnd, line_at}
 
 -- the class whose lines are being read

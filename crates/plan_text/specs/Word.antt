@@ -9,7 +9,7 @@ use Rattle.base_types.specs.declared.needs.Cause.{Cause}
 use Rattle.base_types.specs.declared.needs.Cause.TheVariants as causes
 use Rattle.plan_text.specs.declared.fault.TextFault.{TextFault}
 use Rattle.plan_text.specs.declared.fault.TextFault.TheVariants.{BadLine, OutOfRange}
-use Rattle.plan_text.specs.Reading.{◌>>=◌}
+use Rattle.text.specs.Steps.{◌>>=◌}
 
 -- the number that a word spells, within a range
 unfoldable pub number_at : ℕ → ℕ → List ℕ → Result ℕ TextFault

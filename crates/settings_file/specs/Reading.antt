@@ -9,7 +9,8 @@ use Rattle.settings_file.specs.declared.key.Key.{Key}
 use Rattle.settings_file.specs.declared.key.Key.TheVariants.{Version, UriBase, Operators, Device, Printer}
 use Rattle.settings_file.specs.Fault.{Fault, not_toml}
 use Rattle.settings_file.specs.Settings.{ServerSettings}
-use Rattle.settings_file.specs.Entry.{◌>>=◌, number, text, optional_list, tables, other_key, unless_unknown}
+use Rattle.text.specs.Steps.{◌>>=◌}
+use Rattle.settings_file.specs.Entry.{number, text, optional_list, tables, other_key, unless_unknown}
 use Rattle.settings_file.specs.Device.{devices_of}
 use Rattle.settings_file.specs.Printer.{printers_of}
 

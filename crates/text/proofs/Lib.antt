@@ -3,3 +3,4 @@ pub mod Positions
 pub mod FirstLines
 pub mod Splits
 mod Rests
+pub mod Chains

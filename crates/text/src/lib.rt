@@ -2,10 +2,10 @@
 //!
 //! Here live questions about bytes alone: where a byte stands, what the first line is, what stands
 //! between separators, which number digits are, what a word is without the blanks around it. Each
-//! answer is its definition in `specs/`, over the list of the bytes. [`Unread`] keeps what a reader
-//! was given and hasn't read, and is the list of those bytes. The words of the server may not live
-//! here: names and other forms with their limits stand in `base_types`, and what a line says stands
-//! with its reader.
+//! answer is its definition in `specs/`, over the list of the bytes, where the chain of a reader's
+//! steps stands too. [`Unread`] keeps what a reader was given and hasn't read, and is the list of
+//! those bytes. The words of the server may not live here: names and other forms with their limits
+//! stand in `base_types`, and what a line says stands with its reader.
 //!
 //! The call that each reader makes is [`first_line`]: a line of at most `most` bytes, whole only once
 //! its line feed is there. The readers' rows in `reader_tests` try it, on each of their formats.
