@@ -3,7 +3,7 @@ use Rattle.std.proofs.Common.{◌≡◌, ℕ, suc, Bool, List, [], ◌++◌, Opt
 use Rattle.std.specs.Option.{ForSome}
 use Rattle.settings_file.specs.declared.fault.SettingsFault.TheVariants as code
 use Rattle.settings_file.specs.Fault.{Fault, not_toml, fault_of}
-use Rattle.replay.specs.Acting.{IsFaultOf}
+use Rattle.settings_file.specs.Reading.{IsFaultOf}
 use Rattle.replay.specs.Lines.{HasNoStop, lines_of}
 use Rattle.streams.specs.Said.{Said}
 use Rattle.replay.specs.Replay.{LinesGive, SettingsGive, TraceGives, names_of, start_of, settings_refused}

@@ -6,13 +6,13 @@ ghost use Rattle.std.specs.Fmt.{decimal};
 ghost use Rattle.base_types.specs.declared.limits.TheConstants.Limits.{INPUT_BYTES};
 ghost use Rattle.settings_file.specs.Settings.{ServerSettings, MeetsLimits};
 ghost use Rattle.settings_file.specs.Fault.{Fault, fault_of};
-ghost use Rattle.settings_file.specs.Reading.{settings_of};
+ghost use Rattle.settings_file.specs.Reading.{settings_of, IsFaultOf};
 ghost use Rattle.replies.specs.Asked.{Asks};
 ghost use Rattle.replay.specs.Lines.{lines_of};
 ghost use Rattle.streams.specs.Said.{Said, refused_as};
 ghost use Rattle.replay.specs.Printed.{reply_line};
 ghost use Rattle.replay.specs.Log.{Hears};
-ghost use Rattle.replay.specs.Acting.{Acts, IsRequest, IsStart, IsFaultOf};
+ghost use Rattle.replay.specs.Acting.{Acts, IsRequest, IsStart};
 ghost use Rattle.replay.specs.Replay.{Answers, Happens, Serves, ComesTo, IsReplyOf, Gives, LinesGive, LinesLeave, names_of, settings_refused, SettingsGive, SettingsLeave, TraceGives, TraceLeaves, InputGives, InputLeaves, Replays};
 
 use crate::lines::{next_line, split_settings};
@@ -23,7 +23,7 @@ use assignment::Lazy;
 use base_types::{Limits, Moment, Text};
 use dispatcher::{Answer, Core, Event, Outcome, Reply, Timed};
 use replies::{Asked, ipp_event, ipp_refusal, ipp_reply};
-use settings_file::{Settings, SettingsFault, read_settings, write_fault};
+use settings_file::{Settings, SettingsFault, read_settings_bytes, write_fault};
 use std::alloc::{AllocError, Global};
 use std::io::{Read, Write};
 use streams::{InputFault, read_whole, refused_line, write_front};
@@ -156,10 +156,7 @@ fn read_run(alloc: Global, settings: &[u8], texts: bool) -> Result<Run, Settings
     ensures ok { IfOk result (λ run. IsUtf8 settings.now × (read : ServerSettings) × (settings_of settings.now ≡ Ok read) × IsStart texts read run.log run.moment run.core) }
     ensures err { IfErr result (λ e. ForSome (fault_of e) (IsFaultOf settings.now)) }
 {
-    let Ok(text) = std::str::from_utf8(settings) else {
-        return Err(SettingsFault::NotToml);
-    };
-    let settings = read_settings(alloc, text)?;
+    let settings = read_settings_bytes(alloc, settings)?;
     start_run(alloc, settings, texts).map_err(|_| SettingsFault::OutOfMemory)
 }
 

@@ -1,14 +1,9 @@
 -- Settings that are refused: what is written, and the exit status.
-use Rattle.std.specs.Prelude.{ℕ, ◌≡◌, ◌⊎◌, List, take, Option, Some, Err}
-use Rattle.std.specs.Str.{IsUtf8}
+use Rattle.std.specs.Prelude.{ℕ, ◌≡◌, ◌⊎◌, List, take, Option, Some}
 use Rattle.std.specs.Io.KnownBytes.{Appends}
-use Rattle.settings_file.specs.Fault.{Fault, not_toml, fault_words}
-use Rattle.settings_file.specs.Reading.{settings_of}
+use Rattle.settings_file.specs.Fault.{Fault, fault_words}
+use Rattle.settings_file.specs.Reading.{IsFaultOf}
 use Rattle.streams.specs.Said.{refused_as}
-
--- the first fault of a file's bytes: where they aren't UTF-8 they are no TOML
-abbrev pub IsFaultOf : List ℕ → Fault → Type 0
-IsFaultOf bytes fault = (¬ (IsUtf8 bytes) × (fault ≡ not_toml)) ⊎ (IsUtf8 bytes × (settings_of bytes ≡ Err fault))
 
 -- the line of a fault
 abbrev pub fault_line : Fault → List ℕ

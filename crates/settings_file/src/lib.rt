@@ -19,5 +19,5 @@ mod settings;
 
 pub use fault::{SettingsFault, write_fault};
 pub use key::Key;
-pub use read::read_settings;
+pub use read::{read_settings, read_settings_bytes};
 pub use settings::{DeviceSettings, PrinterSettings, Settings};
