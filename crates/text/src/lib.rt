@@ -8,7 +8,7 @@
 //! stand in `base_types`, and what a line says stands with its reader.
 //!
 //! The call that each reader makes is [`first_line`]: a line of at most `most` bytes, whole only once
-//! its line feed is there. The readers' rows in `reader_tests` try it, on each of their formats.
+//! its line feed is there. The tests are in `reader_tests` (`text_bytes`, and each reader's rows).
 #![tactic(auto)]
 
 mod bytes;
