@@ -10,7 +10,7 @@ ghost use Rattle.device_link.specs.Line.{media_in, name_in, said_alone, said_of_
 use crate::number::number_in;
 use base_types::{Limits, Report, Text, is_media, is_name};
 use std::alloc::{AllocError, Global};
-use text::{find_byte, parts};
+use text::{cut_at, parts};
 
 /// The report that a line is, without its line feed, if it is one that a device may write once it
 /// has said its name. [`LinkReader`](crate::LinkReader) reads each line so.
@@ -67,12 +67,12 @@ fn read_words(alloc: Global, line: &[u8]) -> Result<Option<Report>, AllocError>
 }
 
 /// A word up to a space, and what follows the space, where there is one.
-#[tactic(auto, using(text::proofs::Splits::split_at, text::proofs::Splits::split_nowhere))]
+#[tactic(auto, using(text::proofs::Cuts::parts_cut, text::proofs::Cuts::parts_uncut))]
 fn split_word(text: &[u8]) -> (&[u8], Option<&[u8]>)
     ensures { words_of text.now ≡ result.0.now ∷ option_map_or (λ more. words_of more.now) result.1 [] }
 {
-    match find_byte(text, b' ') {
-        Some(end) => (&text[..end], Some(&text[end + 1..])),
+    match cut_at(text, b' ') {
+        Some(cut) => (cut.0, Some(cut.1)),
         None => (text, None),
     }
 }

@@ -6,8 +6,8 @@ use Rattle.base_types.specs.declared.limits.TheConstants.Limits.{LAST_MOMENT}
 use Rattle.base_types.specs.declared.report.Report.{Report}
 use Rattle.base_types.specs.Report.{report_of}
 use Rattle.text.specs.Digits.{number_up_to}
+use Rattle.text.specs.Parts.{IsCut}
 use Rattle.device_link.specs.Line.{reported_by}
-use Rattle.replay.specs.Lines.{Lacks}
 use Rattle.replay.specs.declared.trace.Line.{Line}
 use Rattle.replay.specs.declared.trace.Line.TheVariants.{At, Ipp, Device, Tick}
 
@@ -21,10 +21,6 @@ pub record IsBodyIn (digits body : List ℕ) : Type 0 where
   pub bytes : IsBytes body
   pub written : digits ≡ encode_lower body
 
--- there is no space in it
-abbrev pub IsOneWord : List ℕ → Type 0
-IsOneWord word = Lacks 32 word
-
 -- a line that a device may write once it has said its name, and what it reports
 abbrev pub IsReportIn : List ℕ → Report → Type 0
 IsReportIn line report = reported_by line ≡ Some (report_of report)
@@ -33,8 +29,7 @@ IsReportIn line report = reported_by line ≡ Some (report_of report)
 pub record IsDeviceIn (names : List (List ℕ)) (text : List ℕ) (place : ℕ) (report : Report) : Type 0 where
   pub name : List ℕ
   pub line : List ℕ
-  pub joined : text ≡ name ++ (codes " " ++ line)
-  pub word : IsOneWord name
+  pub cut : IsCut 32 text name line
   pub known : position (λ device. bytes_eq device name) names ≡ Some place
   pub heard : IsReportIn line report
 

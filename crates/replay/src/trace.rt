@@ -9,7 +9,7 @@ use base_types::{DeviceId, Limits, Moment, Report, Text};
 use device_link::read_report;
 use hex::FromHexError;
 use std::alloc::{AllocError, Global};
-use text::{find_byte, number_up_to};
+use text::{cut_at, number_up_to};
 
 /// A line of a trace, after the settings.
 #[derive(Drop)]
@@ -85,14 +85,14 @@ fn read_device_line(
 ) -> Result<Option<Line>, AllocError>
     ensures { IfOk result (λ line. Finds (IsLine devices.now (codes "dev " ++ said.now)) line) }
 {
-    let Some(end) = find_byte(said, b' ') else {
+    let Some(cut) = cut_at(said, b' ') else {
         return Ok(None);
     };
-    let Some(place) = place_of(devices, &said[..end]) else {
+    let Some(place) = place_of(devices, cut.0) else {
         return Ok(None);
     };
     let device = DeviceId::new(place);
-    let report = read_report(alloc, &said[end + 1..])?;
+    let report = read_report(alloc, cut.1)?;
     Ok(report.map(|report| Line::Device(device, report)))
 }
 

@@ -4,3 +4,4 @@ pub mod FirstLines
 pub mod Splits
 mod Rests
 pub mod Chains
+pub mod Cuts

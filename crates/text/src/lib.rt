@@ -21,6 +21,6 @@ mod unread;
 pub use bytes::{drop_front, find_byte};
 pub use digits::{capped_value, decimal, is_number, number_up_to};
 pub use line::{FirstLine, first_line};
-pub use split::{parts, words};
+pub use split::{cut_at, parts, words};
 pub use trim::{trimmed, without_parameters};
 pub use unread::Unread;
