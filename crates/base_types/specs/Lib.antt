@@ -1,6 +1,4 @@
 pub mod Ranges
-pub mod Digits
-pub mod FirstLine
 pub mod Forms
 pub mod Needs
 pub mod Device

@@ -1,2 +1,2 @@
-mod Splits
+mod Says
 mod Streams

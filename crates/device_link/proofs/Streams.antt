@@ -1,7 +1,7 @@
 -- Where a reader stands after a piece, a line, or a fault.
 use Rattle.std.specs.Prelude.{ℕ, ◌≡◌, ◌==◌, ◌+◌, ◌<◌, ◌≤◌, Bool, true, List, [], ◌∷◌, ◌++◌, length, take, drop, Some, None, Ok, Err}
 use Rattle.std.proofs.Common.{rules, refl, subst}
-use Rattle.std.proofs.lemmas.List.{append_assoc, append-nil, drop-append-le}
+use Rattle.std.proofs.lemmas.List.{append_assoc, append-nil}
 use Rattle.base_types.specs.declared.limits.TheConstants.Limits.{DEVICE_LINE_BYTES}
 use Rattle.base_types.specs.declared.report.Report.{Report}
 use Rattle.base_types.specs.Report.{ReportRecord, report_of}
@@ -9,19 +9,17 @@ use Rattle.device_link.specs.declared.fault.LinkFault.{LinkFault}
 use Rattle.device_link.specs.declared.fault.LinkFault.TheVariants.{BadLine, LineTooLong}
 use Rattle.device_link.specs.declared.fault.LinkError.TheVariants.{Fault}
 use Rattle.device_link.specs.Line.{report_in}
-use Rattle.device_link.specs.Stream.{Unfinished, Faulty, LinkState, Stands, Answers, ahead, silence, with_front, heard_after, heard_in, texts_of}
-use Rattle.base_types.specs.FirstLine.{first_line_of}
-use Rattle.base_types.specs.declared.line.FirstLine.TheVariants as Front
-use Rattle.base_types.proofs.FirstLines.{whole_line, unfinished_line, endless_line, endless_grown}
-use Rattle.device_link.proofs.Splits.{parts, split_before, split_nowhere, first_is_long}
+use Rattle.device_link.specs.Stream.{Unfinished, Faulty, LinkState, Stands, Answers, ahead, silence, with_front, heard_after, heard_in}
+use Rattle.text.specs.Parts.{texts_of}
+use Rattle.text.specs.FirstLine.{first_line_of}
+use Rattle.text.specs.declared.line.FirstLine.TheVariants as Front
+use Rattle.text.proofs.FirstLines.{whole_line, unfinished_line, endless_line, endless_grown}
+use Rattle.text.proofs.Splits.{parts, split_before, split_nowhere, first_is_long}
 
 -- a piece of which nothing is read yet
 pub stands_fed : (stream : List ℕ) (given : List ReportRecord) (piece : List ℕ) (reader : LinkState) → Stands stream given reader → Stands (stream ++ piece) given (record reader { rest = reader.rest ++ piece })
 stands_fed stream given piece reader stands coming =
     rw (append_assoc stream piece coming, append_assoc reader.rest piece coming) (stands (piece ++ coming))
-
-pub rest_with : (start : ℕ) (bytes piece : List ℕ) → start ≤ length bytes → drop start (bytes ++ piece) ≡ drop start bytes ++ piece
-rest_with start bytes piece within = drop-append-le start bytes piece within
 
 -- after a fault nothing counts
 pub stands_still : (stream : List ℕ) (given : List ReportRecord) (piece : List ℕ) (reader : LinkState) (fault : LinkFault) → reader.fault ≡ Some fault → Stands stream given reader → Stands (stream ++ piece) given reader

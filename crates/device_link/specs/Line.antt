@@ -1,24 +1,22 @@
 -- What a line of a device says. A line is a word, and its operands after single spaces; a carriage return at its end is dropped.
-use Rattle.std.specs.Prelude.{ℕ, ◌==◌, ◌&&◌, nat_le, nat_lt, Bool, true, false, if◌then◌else◌, List, [], ◌∷◌, length, Option, Some, None, option_map, codes}
+use Rattle.std.specs.Prelude.{ℕ, nat_lt, Bool, true, false, if◌then◌else◌, List, [], ◌∷◌, length, Option, Some, None, option_map, codes}
 use Rattle.std.specs.Option.{option_and_then}
-use Rattle.std.specs.List.{slice_split, list_all}
-use Rattle.std.specs.Str.{bytes_eq, all_ascii_digits}
+use Rattle.std.specs.List.{list_all}
+use Rattle.std.specs.Str.{bytes_eq}
 use Rattle.std.specs.Str.Lines.{strip_carriage_return}
-use Rattle.std.specs.Str.Parse.{digits_value}
-use Rattle.base_types.specs.declared.limits.TheConstants.Limits.{LAST_JOB_ID}
+use Rattle.base_types.specs.declared.limits.TheConstants.Limits.{LAST_JOB_ID, DEVICE_LINE_BYTES}
+use Rattle.text.specs.Digits.{number_up_to}
+use Rattle.text.specs.Parts.{parts_at, words_of}
 use Rattle.base_types.specs.Forms.{is_name, is_media}
 use Rattle.base_types.specs.Report.{ReportRecord, SaysHello, SaysMedia, SaysReady, SaysStop, SaysPages, SaysDone, SaysFail}
 
-abbrev pub words_of : List ℕ → List (List ℕ)
-words_of line = slice_split (λ byte. byte == 32) (strip_carriage_return line)
-
--- a number in decimal digits, which may begin with zeros, up to the last job id
-unfoldable pub number_in : List ℕ → Option ℕ
-number_in word = if nat_lt 0 (length word) && all_ascii_digits word && nat_le (digits_value 10 word) LAST_JOB_ID then Some (digits_value 10 word) else None
+-- a number up to the last job id
+abbrev pub number_in : List ℕ → Option ℕ
+number_in word = number_up_to LAST_JOB_ID word
 
 -- the names of media, with commas between them
 unfoldable pub media_in : List ℕ → Option (List (List ℕ))
-media_in operand = if list_all is_media (slice_split (λ byte. byte == 44) operand) then Some (slice_split (λ byte. byte == 44) operand) else None
+media_in operand = if list_all is_media (parts_at 44 operand) then Some (parts_at 44 operand) else None
 
 unfoldable pub name_in : List ℕ → Option (List ℕ)
 name_in operand = if is_name operand then Some operand else None
@@ -63,4 +61,12 @@ in_turn false (Some report) = None
 
 -- what a line says, if it is one of those that may come now
 abbrev pub report_in : Bool → List ℕ → Option ReportRecord
-report_in greeted line = in_turn greeted (said (words_of line))
+report_in greeted line = in_turn greeted (said (words_of (strip_carriage_return line)))
+
+-- a line and its line feed together have at most so many bytes
+abbrev pub fits : List ℕ → Bool
+fits line = nat_lt (length line) DEVICE_LINE_BYTES
+
+-- what a line reports of a device that has said its name
+abbrev pub reported_by : List ℕ → Option ReportRecord
+reported_by line = if fits line then report_in true line else None

@@ -1,14 +1,13 @@
 -- What a device's connection says: the reports of its whole lines, and then a fault or an unfinished line.
-use Rattle.std.specs.Prelude.{ℕ, ◌≡◌, ◌==◌, nat_lt, Bool, true, false, if◌then◌else◌, List, [], ◌∷◌, ◌++◌, length, Option, Some, None, Result, Ok, Err}
-use Rattle.std.specs.List.{slice_split}
-use Rattle.base_types.specs.declared.limits.TheConstants.Limits.{DEVICE_LINE_BYTES}
+use Rattle.std.specs.Prelude.{ℕ, ◌≡◌, Bool, true, false, if◌then◌else◌, List, [], ◌∷◌, ◌++◌, Option, Some, None, Result, Ok, Err}
+use Rattle.text.specs.Parts.{texts_of}
 use Rattle.base_types.specs.declared.report.Report.{Report}
 use Rattle.base_types.specs.Report.{ReportRecord, report_of}
 use Rattle.device_link.specs.declared.fault.LinkFault.{LinkFault}
 use Rattle.device_link.specs.declared.fault.LinkFault.TheVariants.{BadLine, LineTooLong}
 use Rattle.device_link.specs.declared.fault.LinkError.{LinkError}
 use Rattle.device_link.specs.declared.fault.LinkError.TheVariants.{Fault, OutOfMemory}
-use Rattle.device_link.specs.Line.{report_in}
+use Rattle.device_link.specs.Line.{fits, report_in}
 
 pub data Ending : Type 0 where
   Unfinished : Ending
@@ -30,19 +29,12 @@ abbrev pub heard_after : Option ReportRecord → Heard → Heard
 heard_after None later = silence (Faulty BadLine)
 heard_after (Some report) later = with_front (report ∷ []) later
 
--- a line and its line feed together have at most so many bytes
-abbrev pub fits : List ℕ → Bool
-fits line = nat_lt (length line) DEVICE_LINE_BYTES
-
 -- what the texts between line feeds say, the last of which is no whole line yet
 abbrev pub heard_in : Bool → List (List ℕ) → Heard
 heard_in greeted [] = silence Unfinished
 heard_in greeted (rest ∷ []) = if fits rest then silence Unfinished else silence (Faulty LineTooLong)
 heard_in greeted (line ∷ next ∷ more) =
     if fits line then heard_after (report_in greeted line) (heard_in true (next ∷ more)) else silence (Faulty LineTooLong)
-
-abbrev pub texts_of : List ℕ → List (List ℕ)
-texts_of stream = slice_split (λ byte. byte == 10) stream
 
 -- what a whole stream of bytes says
 abbrev pub device_reports : List ℕ → Heard

@@ -3,7 +3,7 @@
 //!
 //! It promises that a [`LinkReader`] gives exactly the reports of the whole lines that it was fed,
 //! in order, and then the first fault, and that [`write_job`] and [`write_cancel`] append exactly
-//! their lines. It opens no connection, and what a report does to a job or a device stands
+//! their lines; [`read_report`] reads one line by itself. It opens no connection, and what a report does to a job or a device stands
 //! elsewhere. `docs/DEVICES.md` has the protocol for someone who writes an adapter.
 #![tactic(auto)]
 
@@ -14,5 +14,6 @@ mod order;
 mod reader;
 
 pub use fault::{LinkError, LinkFault};
+pub use line::read_report;
 pub use order::{write_cancel, write_job};
 pub use reader::LinkReader;

@@ -1,14 +1,31 @@
 ghost use Rattle.std.specs.Prelude.{◌≡◌, ◌==◌, ◌∷◌, [], IfOk, option_map, map};
-ghost use Rattle.std.specs.List.{slice_split, list_all};
+ghost use Rattle.std.specs.List.{list_all};
 ghost use Rattle.std.specs.Option.{option_map_or};
 ghost use Rattle.std.specs.Str.Lines.{strip_carriage_return};
 ghost use Rattle.base_types.specs.Forms.{is_media};
 ghost use Rattle.base_types.specs.Report.{report_of};
-ghost use Rattle.device_link.specs.Line.{words_of, media_in, name_in, said_alone, said_of_one, said_of_two, said, in_turn, report_in};
+ghost use Rattle.text.specs.Parts.{parts_at, words_of};
+ghost use Rattle.device_link.specs.Line.{media_in, name_in, said_alone, said_of_one, said_of_two, said, in_turn, report_in, reported_by};
 
 use crate::number::number_in;
-use base_types::{Report, Text, find_byte, is_media, is_name};
+use base_types::{Limits, Report, Text, is_media, is_name};
 use std::alloc::{AllocError, Global};
+use text::{cut_at, parts};
+
+/// The report that a line is, without its line feed, if it is one that a device may write once it
+/// has said its name. [`LinkReader`](crate::LinkReader) reads each line so.
+///
+/// # Errors
+///
+/// Where there is no memory for the names of the report.
+pub fn read_report(alloc: Global, line: &[u8]) -> Result<Option<Report>, AllocError>
+    ensures { IfOk result (λ report. option_map report_of report ≡ reported_by line.now) }
+{
+    if line.len() >= Limits::DEVICE_LINE_BYTES {
+        return Ok(None);
+    }
+    read_line(alloc, true, line)
+}
 
 /// The report that a line is, if it is one that may come now: a device says its name first, and
 /// once.
@@ -30,9 +47,9 @@ pub(crate) fn read_line(
 }
 
 /// The report that a word and its operands are.
-#[tactic(auto, using(crate::proofs::Splits::nothing_said))]
+#[tactic(auto, using(crate::proofs::Says::nothing_said))]
 fn read_words(alloc: Global, line: &[u8]) -> Result<Option<Report>, AllocError>
-    ensures { IfOk result (λ report. option_map report_of report ≡ said (slice_split (λ byte. byte == 32) line.now)) }
+    ensures { IfOk result (λ report. option_map report_of report ≡ said (words_of line.now)) }
 {
     let (word, operands) = split_word(line);
     let Some(operands) = operands else {
@@ -50,13 +67,12 @@ fn read_words(alloc: Global, line: &[u8]) -> Result<Option<Report>, AllocError>
 }
 
 /// A word up to a space, and what follows the space, where there is one.
-#[tactic(auto, using(crate::proofs::Splits::split_at, crate::proofs::Splits::split_nowhere))]
+#[tactic(auto, using(text::proofs::Cuts::parts_cut, text::proofs::Cuts::parts_uncut))]
 fn split_word(text: &[u8]) -> (&[u8], Option<&[u8]>)
-    ensures { slice_split (λ byte. byte == 32) text.now
-        ≡ result.0.now ∷ option_map_or (λ more. slice_split (λ byte. byte == 32) more.now) result.1 [] }
+    ensures { words_of text.now ≡ result.0.now ∷ option_map_or (λ more. words_of more.now) result.1 [] }
 {
-    match find_byte(text, b' ') {
-        Some(end) => (&text[..end], Some(&text[end + 1..])),
+    match cut_at(text, b' ') {
+        Some(cut) => (cut.0, Some(cut.1)),
         None => (text, None),
     }
 }
@@ -124,18 +140,11 @@ fn read_name(alloc: Global, operand: &[u8]) -> Result<Option<Text>, AllocError>
 fn read_media(alloc: Global, operand: &[u8]) -> Result<Option<Vec<Text>>, AllocError>
     ensures { IfOk result (λ names. option_map (λ v. v.items) names ≡ media_in operand.now) }
 {
-    let names = media_texts(alloc, operand)?;
+    let names = parts(alloc, operand, b',')?;
     if !are_media(&names) {
         return Ok(None);
     }
     Ok(Some(copies(alloc, &names)?))
-}
-
-/// The texts between commas.
-fn media_texts<'a>(alloc: Global, operand: &'a [u8]) -> Result<Vec<&'a [u8]>, AllocError>
-    ensures { IfOk result (λ names. map (λ name. name.now) names.items ≡ slice_split (λ byte. byte == 44) operand.now) }
-{
-    operand.split(|byte| *byte == b',').collect(alloc)
 }
 
 /// Whether each text is the name of a medium.

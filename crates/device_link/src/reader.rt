@@ -1,37 +1,33 @@
-ghost use Rattle.std.specs.Prelude.{◌≡◌, ◌≤◌, ◌<◌, ◌+◌, ◌++◌, [], List, ℕ, None, Some, Err, true, IfOk, IfSome, OnOk, OnErr, option_map, take, drop, length as length_of};
+ghost use Rattle.std.specs.Prelude.{◌≡◌, ◌<◌, ◌+◌, ◌++◌, [], List, ℕ, None, Some, Err, true, IfOk, IfSome, OnOk, OnErr, option_map, take, drop, length as length_of};
 ghost use Rattle.base_types.specs.Report.{ReportRecord, report_of};
 ghost use Rattle.device_link.specs.Line.{report_in};
 ghost use Rattle.device_link.specs.Stream.{Stands, Answers};
-ghost use Rattle.base_types.specs.FirstLine.{first_line_of};
-ghost use Rattle.base_types.specs.declared.line.FirstLine.TheVariants.{Whole};
+ghost use Rattle.text.specs.FirstLine.{first_line_of};
+ghost use Rattle.text.specs.declared.line.FirstLine.TheVariants.{Whole};
 
 use crate::fault::{LinkError, LinkFault};
 use crate::line::read_line;
-use base_types::{FirstLine, Limits, Report, drop_front, first_line};
+use base_types::{Limits, Report};
 use std::alloc::{AllocError, Global};
 use std::marker::Model;
+use text::{FirstLine, Unread, first_line};
 
 /// A reader of what a device sends, in pieces of any length. In clauses it is a record of what it
 /// still has to read, whether the device has said its name, and its fault.
 #[derive(Debug, Drop)]
 pub struct LinkReader {
     alloc: Global,
-    buffer: Vec<u8>,
-    /// How many bytes of the buffer are read.
-    start: usize,
+    unread: Unread,
     greeted: bool,
     fault: Option<LinkFault>,
 }
 
 impl Model for LinkReader {
-    ghost use Rattle.std.specs.Prelude.{◌≤◌, drop, length};
     ghost use Rattle.device_link.specs.Stream.{LinkState};
 
     ghost Value = { LinkState };
 
-    ghost view = { λ r. record { rest = drop r.start r.buffer.items; greeted = r.greeted; fault = r.fault } };
-
-    ghost invariant = { λ r. r.start ≤ length r.buffer.items };
+    ghost view = { λ r. record { rest = r.unread; greeted = r.greeted; fault = r.fault } };
 }
 
 impl LinkReader {
@@ -41,8 +37,7 @@ impl LinkReader {
     {
         LinkReader {
             alloc,
-            buffer: Vec::new(alloc),
-            start: 0,
+            unread: Unread::new(alloc),
             greeted: false,
             fault: None,
         }
@@ -101,7 +96,7 @@ impl LinkReader {
     fn rest(&self) -> &[u8]
         ensures { result.now ≡ self.now.rest }
     {
-        &self.buffer[self.start..]
+        self.unread.bytes()
     }
 
     /// The fault, once there is one.
@@ -124,7 +119,7 @@ impl LinkReader {
         requires { length < length_of self.old.rest }
         ensures { self.new ≡ record { rest = drop (length + 1) self.old.rest; greeted = true; fault = self.old.fault } }
     {
-        self.start = self.start + length + 1;
+        self.unread.pass_line(length);
         self.greeted = true;
     }
 
@@ -138,20 +133,10 @@ impl LinkReader {
     }
 
     /// Keeps these bytes to be read.
-    #[tactic(auto, using(crate::proofs::Streams::rest_with))]
     fn append(&mut self, piece: &[u8]) -> Result<(), AllocError>
         ensures ok { OnOk result (self.new ≡ record self.old { rest = self.old.rest ++ piece.now }) }
         ensures err { OnErr result (self.new ≡ self.old) }
     {
-        self.forget_read();
-        self.buffer.extend_from_slice(piece)
-    }
-
-    /// Gives the room of what is read to what comes.
-    fn forget_read(&mut self)
-        ensures { self.new ≡ self.old }
-    {
-        drop_front(&mut self.buffer, self.start);
-        self.start = 0;
+        self.unread.append(piece)
     }
 }

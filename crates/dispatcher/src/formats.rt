@@ -4,8 +4,9 @@ ghost use Rattle.std.specs.Option.{option_copied};
 ghost use Rattle.std.specs.List.{flat_map};
 ghost use Rattle.dispatcher.specs.PrintJob.{from_word, trimmed, plain_format, is_same_format, formats_at, format_of};
 
-use base_types::{DeviceId, DeviceNow, Text, find_byte};
+use base_types::{DeviceId, DeviceNow, Text};
 use settings_file::PrinterSettings;
+use text::find_byte;
 
 /// The format of a document, as the settings write it: the first of the printer's devices' that is
 /// the one asked for, or the printer's default. Without one asked for it is the default.

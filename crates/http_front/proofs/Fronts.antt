@@ -3,10 +3,10 @@ use Rattle.std.specs.Prelude.{ℕ, ◌≡◌, ◌+◌, ◌-◌, ◌<◌, ◌≤�
 use Rattle.std.proofs.Common.{rules, arith, refl, subst, sym, ap, ◌∙◌}
 use Rattle.std.proofs.lemmas.List.{take-append-le, drop-append-le, length-drop}
 use Rattle.std.proofs.lemmas.List.Quantifiers.{position-Some}
-use Rattle.base_types.specs.FirstLine.{first_line_of}
-use Rattle.base_types.specs.declared.line.FirstLine.TheVariants.{Whole, TooLong, Unfinished}
+use Rattle.text.specs.FirstLine.{first_line_of}
+use Rattle.text.specs.declared.line.FirstLine.TheVariants.{Whole, TooLong, Unfinished}
 use Rattle.base_types.specs.declared.limits.TheConstants.Limits.{HTTP_HEAD_BYTES, HTTP_CHUNK_LINE_BYTES, HTTP_TRAILER_BYTES}
-use Rattle.base_types.proofs.FirstLines.{whole_line, line_grown, too_long_grown}
+use Rattle.text.proofs.FirstLines.{whole_line, line_grown, too_long_grown}
 use Rattle.http_front.specs.declared.refusal.Refusal.{Refusal}
 use Rattle.http_front.specs.declared.refusal.Refusal.TheVariants.{BadRequest, ContentTooLarge, HeadTooLarge}
 use Rattle.http_front.specs.declared.awaited.Request.{Request}

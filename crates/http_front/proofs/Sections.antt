@@ -2,7 +2,7 @@
 use Rattle.std.specs.Prelude.{ℕ, suc, zero, ◌==◌, ◌&&◌, ◌≡◌, ◌++◌, ◌+◌, ◌<◌, ◌≤◌, Bool, true, false, nat_lt, if◌then◌else◌, List, [], ◌∷◌, length, take, Option, Some, None}
 use Rattle.std.proofs.Common.{arith, refl, ap, ◌∙◌}
 use Rattle.std.proofs.lemmas.List.{take-append-le, length-append, length-take}
-use Rattle.base_types.specs.declared.line.FirstLine.TheVariants.{Whole, TooLong}
+use Rattle.text.specs.declared.line.FirstLine.TheVariants.{Whole, TooLong}
 use Rattle.http_front.specs.Section.{empty_line, empty_line_end, section_of, section_in}
 
 -- where an empty line ends, it ends there where more follows

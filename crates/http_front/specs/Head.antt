@@ -10,7 +10,8 @@ use Rattle.http_front.specs.declared.refusal.Refusal.TheVariants.{BadRequest, Me
 use Rattle.http_front.specs.declared.awaited.Request.{Request}
 use Rattle.http_front.specs.declared.awaited.Framing.{Framing}
 use Rattle.http_front.specs.declared.awaited.Framing.TheVariants.{Length, Chunked}
-use Rattle.http_front.specs.Words.{is_word, media_type, length_in}
+use Rattle.text.specs.Trimmed.{without_parameters}
+use Rattle.http_front.specs.Words.{is_word, length_in}
 use Rattle.http_front.specs.Fields.{Fields, count_of, first_of, all_have, any_lists}
 
 -- the transfer coding is chunked, by one field (RFC 9112, section 6.1)
@@ -42,7 +43,7 @@ framing_of minor fields =
 
 -- the body is IPP (RFC 8010, section 4)
 abbrev pub is_ipp : Fields → Bool
-is_ipp fields = option_map_or (λ value. is_word (media_type value) (codes "application/ipp")) (first_of (codes "content-type") fields) false
+is_ipp fields = option_map_or (λ value. is_word (without_parameters value) (codes "application/ipp")) (first_of (codes "content-type") fields) false
 
 -- the body isn't compressed
 abbrev pub is_plain : Fields → Bool

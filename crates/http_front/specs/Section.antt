@@ -1,7 +1,7 @@
 -- Lines up to the first empty one, which end a head and a trailer section (RFC 9112, section 2.1). A line ends in LF or CR LF.
 use Rattle.std.specs.Prelude.{ℕ, ◌==◌, ◌&&◌, ◌+◌, nat_lt, Bool, true, if◌then◌else◌, List, [], ◌∷◌, length, take, Option, Some, None}
-use Rattle.base_types.specs.declared.line.FirstLine.{FirstLine}
-use Rattle.base_types.specs.declared.line.FirstLine.TheVariants.{Whole, TooLong, Unfinished}
+use Rattle.text.specs.declared.line.FirstLine.{FirstLine}
+use Rattle.text.specs.declared.line.FirstLine.TheVariants.{Whole, TooLong, Unfinished}
 
 -- the bytes of the empty line at the front, 0 where there is none
 abbrev pub empty_line : List ℕ → ℕ

@@ -1,27 +1,12 @@
 -- Words of field values, compared in any case of ASCII letters (RFC 9110, section 5.6).
-use Rattle.std.specs.Prelude.{ℕ, ◌==◌, ◌||◌, nat_le, Bool, if◌then◌else◌, List, [], ◌∷◌, length, reverse, Option, None}
-use Rattle.std.specs.List.{slice_split, before_first, list_any}
+use Rattle.std.specs.Prelude.{ℕ, ◌==◌, nat_le, Bool, if◌then◌else◌, List, length, Option, None}
+use Rattle.std.specs.List.{slice_split, list_any}
 use Rattle.std.specs.Str.{str_eq_ignore_ascii_case}
-use Rattle.base_types.specs.Digits.{decimal_in}
-
-abbrev pub is_blank : ℕ → Bool
-is_blank byte = (byte == 32) || (byte == 9)
-
--- the bytes from the first that is no space or tab
-abbrev pub from_word : List ℕ → List ℕ
-from_word [] = []
-from_word (byte ∷ bytes) = if is_blank byte then from_word bytes else byte ∷ bytes
-
--- the bytes without the spaces and tabs around them
-unfoldable pub trimmed : List ℕ → List ℕ
-trimmed bytes = reverse (from_word (reverse (from_word bytes)))
+use Rattle.text.specs.Digits.{decimal_in}
+use Rattle.text.specs.Trimmed.{trimmed}
 
 abbrev pub is_word : List ℕ → List ℕ → Bool
 is_word bytes word = str_eq_ignore_ascii_case bytes word
-
--- a media type, without its parameters
-unfoldable pub media_type : List ℕ → List ℕ
-media_type value = trimmed (before_first (λ byte. byte == 59) value)
 
 -- whether a word stands in a list with commas (RFC 9110, section 5.6.1)
 unfoldable pub lists_word : List ℕ → List ℕ → Bool

@@ -6,9 +6,10 @@ ghost use Rattle.http_front.specs.Fields.{first_of};
 use crate::awaited::{Framing, Request};
 use crate::fields::{all_have, any_lists, count_of, first_of};
 use crate::refusal::Refusal;
-use crate::words::{is_word, length_in, media_type};
+use crate::words::{is_word, length_in};
 use base_types::Limits;
 use httparse::{EMPTY_HEADER, Header, Status};
+use text::without_parameters;
 
 const FIELDS: usize = Limits::HTTP_FIELDS;
 
@@ -119,7 +120,7 @@ fn is_ipp(fields: &[Header]) -> bool
     ensures { result ≡ is_ipp (map header_parts fields.now) }
 {
     match first_of(b"content-type", fields) {
-        Some(value) => is_word(media_type(value), b"application/ipp"),
+        Some(value) => is_word(without_parameters(value), b"application/ipp"),
         None => false,
     }
 }

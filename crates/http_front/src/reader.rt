@@ -1,7 +1,7 @@
 ghost use Rattle.std.specs.Prelude.{◌≡◌, ◌≤◌, ◌<◌, ◌+◌, ◌++◌, [], List, ℕ, OnOk, OnErr, IsSome, None, true, take, drop, length as length_of};
 ghost use Rattle.http_front.specs.Stream.{Said, SaysOne, StaysInFront, Stands, Answers, Steps, IsOver, work, after_body, body_by, after_head, begins_head};
-ghost use Rattle.base_types.specs.FirstLine.{first_line_of};
-ghost use Rattle.base_types.specs.declared.line.FirstLine.TheVariants.{Whole};
+ghost use Rattle.text.specs.FirstLine.{first_line_of};
+ghost use Rattle.text.specs.declared.line.FirstLine.TheVariants.{Whole};
 ghost use Rattle.http_front.specs.Section.{section_in};
 ghost use Rattle.http_front.specs.Order.{SaysInOrder};
 
@@ -12,9 +12,10 @@ use crate::head::read_head;
 use crate::item::HttpItem;
 use crate::refusal::Refusal;
 use crate::section::section_in;
-use base_types::{FirstLine, Limits, drop_front, first_line};
+use base_types::Limits;
 use std::alloc::{AllocError, Global};
 use std::marker::Model;
+use text::{FirstLine, Unread, first_line};
 
 /// A reader of what an HTTP client sends, in pieces of any length. In clauses it is a record of the
 /// part of a body that it lends, what it still has to read, and what it awaits.
@@ -23,23 +24,21 @@ use std::marker::Model;
 /// and what it is fed is dropped.
 #[derive(Debug, Drop)]
 pub struct HttpReader {
-    buffer: Vec<u8>,
-    /// Where the part that is lent begins in the buffer.
-    part: usize,
-    /// How many bytes of the buffer are read.
-    start: usize,
+    unread: Unread,
+    /// How many of the unread bytes are read already, and lent as a part.
+    lent: usize,
     awaited: Awaited,
 }
 
 impl Model for HttpReader {
-    ghost use Rattle.std.specs.Prelude.{◌≤◌, drop, length, slice_range};
+    ghost use Rattle.std.specs.Prelude.{◌≤◌, take, drop, length};
     ghost use Rattle.http_front.specs.Stream.{HttpState};
 
     ghost Value = { HttpState };
 
-    ghost view = { λ r. record { part = slice_range r.buffer.items r.part r.start; rest = drop r.start r.buffer.items; awaited = r.awaited } };
+    ghost view = { λ r. record { part = take r.lent r.unread; rest = drop r.lent r.unread; awaited = r.awaited } };
 
-    ghost invariant = { λ r. (r.part ≤ r.start) × (r.start ≤ length r.buffer.items) };
+    ghost invariant = { λ r. r.lent ≤ length r.unread };
 }
 
 /// What one step of a reader came to.
@@ -63,9 +62,8 @@ impl HttpReader {
         ensures front { StaysInFront }
     {
         HttpReader {
-            buffer: Vec::new(alloc),
-            part: 0,
-            start: 0,
+            unread: Unread::new(alloc),
+            lent: 0,
             awaited: Awaited::Head,
         }
     }
@@ -106,7 +104,7 @@ impl HttpReader {
     pub fn part(&self) -> &[u8]
         ensures { result.now ≡ self.now.part }
     {
-        &self.buffer[self.part..self.start]
+        &self.unread.bytes()[..self.lent]
     }
 
     /// One step: at most one item.
@@ -274,7 +272,7 @@ impl HttpReader {
     fn rest(&self) -> &[u8]
         ensures { result.now ≡ self.now.rest }
     {
-        &self.buffer[self.start..]
+        &self.unread.bytes()[self.lent..]
     }
 
     /// What is read next.
@@ -289,8 +287,9 @@ impl HttpReader {
         requires { count ≤ length_of self.old.rest }
         ensures { self.new ≡ record { part = []; rest = drop count self.old.rest; awaited = awaited } }
     {
-        self.start = self.start + count;
-        self.part = self.start;
+        self.unread.pass(self.lent);
+        self.unread.pass(count);
+        self.lent = 0;
         self.awaited = awaited;
     }
 
@@ -299,8 +298,8 @@ impl HttpReader {
         requires { count ≤ length_of self.old.rest }
         ensures { self.new ≡ record { part = take count self.old.rest; rest = drop count self.old.rest; awaited = awaited } }
     {
-        self.part = self.start;
-        self.start = self.start + count;
+        self.unread.pass(self.lent);
+        self.lent = count;
         self.awaited = awaited;
     }
 
@@ -319,16 +318,8 @@ impl HttpReader {
         ensures ok { OnOk result (self.new ≡ record { part = []; rest = self.old.rest ++ piece.now; awaited = self.old.awaited }) }
         ensures err { OnErr result (self.new ≡ record self.old { part = [] }) }
     {
-        self.forget_read();
-        self.buffer.extend_from_slice(piece)
-    }
-
-    /// Gives the room of what is read to what comes.
-    fn forget_read(&mut self)
-        ensures { self.new ≡ record self.old { part = [] } }
-    {
-        drop_front(&mut self.buffer, self.start);
-        self.start = 0;
-        self.part = 0;
+        self.unread.pass(self.lent);
+        self.lent = 0;
+        self.unread.append(piece)
     }
 }

@@ -1,7 +1,7 @@
 ghost use Rattle.std.specs.Prelude.{◌≡◌, true};
 ghost use Rattle.http_front.specs.Section.{empty_line, empty_line_end, section_in};
 
-use base_types::FirstLine;
+use text::FirstLine;
 
 /// The lines up to the first empty one, where these have at most so many bytes.
 pub(crate) fn section_in(bytes: &[u8], most: usize) -> FirstLine

@@ -5,7 +5,8 @@ use Rattle.std.proofs.Common.{refl, sym, ◌∙◌}
 use Rattle.std.proofs.lemmas.List.{append_assoc, at_drop_more}
 use denote.Ref.{Bor}
 use Rattle.lpd_reader.specs.declared.control.ControlFault.{ControlFault}
-use Rattle.lpd_reader.specs.Control.{LineRecord, Draft, before, alone, together, line_in, lines_in, ◌>>=◌, joined}
+use Rattle.lpd_reader.specs.Control.{LineRecord, Draft, before, alone, together, line_in, lines_in, joined}
+use Rattle.text.specs.Steps.{◌>>=◌}
 
 or_assoc : (one two three : Option (List ℕ)) → option_or (option_or one two) three ≡ option_or one (option_or two three)
 or_assoc None two three = refl

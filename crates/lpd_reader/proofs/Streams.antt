@@ -3,10 +3,10 @@ use Rattle.std.specs.Prelude.{ℕ, ◌==◌, ◌≡◌, ◌≢◌, ◌++◌, ◌
 use Rattle.std.proofs.Common.{rules, arith, refl, subst, sym}
 use Rattle.std.proofs.lemmas.List.{append_assoc, append-nil, drop-append-le, take-append-le, length-append, get_or_append_left}
 use Rattle.std.proofs.lemmas.List.Quantifiers.{position-Some}
-use Rattle.base_types.specs.FirstLine.{first_line_of}
-use Rattle.base_types.specs.declared.line.FirstLine.TheVariants as line
+use Rattle.text.specs.FirstLine.{first_line_of}
+use Rattle.text.specs.declared.line.FirstLine.TheVariants as line
 use Rattle.base_types.specs.declared.limits.TheConstants.Limits.{LPD_LINE_BYTES}
-use Rattle.base_types.proofs.FirstLines.{whole_line, line_grown, too_long_grown}
+use Rattle.text.proofs.FirstLines.{whole_line, line_grown, too_long_grown}
 use Rattle.lpd_reader.specs.declared.fault.LpdFault.{LpdFault}
 use Rattle.lpd_reader.specs.declared.fault.LpdFault.TheVariants.{LineTooLong, MissingZero}
 use Rattle.lpd_reader.specs.declared.fault.LpdError.TheVariants.{Fault}
@@ -16,9 +16,6 @@ use Rattle.lpd_reader.specs.declared.reader.Awaited.TheVariants.{Command, Subcom
 use Rattle.lpd_reader.specs.Session.{ItemRecord, HasFile, item_record, awaited_after}
 use Rattle.lpd_reader.specs.Command.{meaning_of, awaits_line}
 use Rattle.lpd_reader.specs.Stream.{Gives, Fails, Waits, line_says, by_line, front_of, Open, Faulty, Hears, HearsOn, LpdItems, LpdState, Stands, Answers}
-
-pub rest_with : (start : ℕ) (bytes piece : List ℕ) → start ≤ length bytes → drop start (bytes ++ piece) ≡ drop start bytes ++ piece
-rest_with start bytes piece within = drop-append-le start bytes piece within
 
 -- a piece of which nothing is read yet
 pub stands_fed : (stream : List ℕ) (given : List ItemRecord) (piece : List ℕ) (reader : LpdState) → Stands stream given reader → Stands (stream ++ piece) given (record reader { rest = reader.rest ++ piece })

@@ -1,8 +1,8 @@
 -- What a line of an LPD client says (RFC 1179, sections 5 and 6): a code byte, and operands after single spaces. Empty operands don't count.
 use Rattle.std.specs.Prelude.{ℕ, ◌==◌, ◌&&◌, nat_lt, nat_le, Bool, true, false, if◌then◌else◌, List, [], ◌∷◌, length, filter, drop, Result, Ok, Err}
-use Rattle.std.specs.List.{slice_split}
-use Rattle.std.specs.Str.{all_ascii_digits}
 use Rattle.std.specs.Str.Parse.{digits_value}
+use Rattle.text.specs.Digits.{is_decimal}
+use Rattle.text.specs.Parts.{words_of}
 use Rattle.base_types.specs.declared.limits.TheConstants.Limits.{LPD_CONTROL_BYTES, JOB_OCTETS}
 use Rattle.lpd_reader.specs.declared.fault.LpdFault.{LpdFault}
 use Rattle.lpd_reader.specs.declared.fault.LpdFault.TheVariants.{UnknownCode, BadCount, BadName, TooLarge}
@@ -12,9 +12,6 @@ use Rattle.lpd_reader.specs.declared.reader.Awaited.{Awaited}
 use Rattle.lpd_reader.specs.declared.reader.Awaited.TheVariants as await
 use Rattle.lpd_reader.specs.Session.{CommandRecord, PrintsWaiting, ReceivesJob, ListsShort, ListsLong, RemovesJobs, ItemRecord, Says, Aborts, Announces}
 use Rattle.lpd_reader.specs.FileName.{is_file_name}
-
-abbrev pub words_of : List ℕ → List (List ℕ)
-words_of text = slice_split (λ byte. byte == 32) text
 
 -- the first word, which may be empty
 abbrev pub first_word : List (List ℕ) → List ℕ
@@ -45,7 +42,7 @@ most_bytes Data = JOB_OCTETS
 
 -- a length in decimal digits that is not 0
 abbrev pub is_count : List ℕ → Bool
-is_count word = (nat_lt 0 (length word) && all_ascii_digits word) && nat_lt 0 (digits_value 10 word)
+is_count word = is_decimal word && nat_lt 0 (digits_value 10 word)
 
 -- a file is announced by its length and its name; the first that is wrong is the fault
 abbrev pub named : FileKind → ℕ → List (List ℕ) → Result ItemRecord LpdFault

@@ -1,8 +1,9 @@
 -- What a control file says of a job (RFC 1179, section 7): lines of a letter and its operand.
 use Rattle.std.specs.Prelude.{ℕ, ◌==◌, ◌-◌, ◌||◌, nat_lt, Bool, if◌then◌else◌, List, [], ◌∷◌, ◌++◌, length, take, slice_index_or, codes, Option, Some, None, unwrap_or, Result, Ok, Err}
-use Rattle.std.specs.List.{slice_split}
 use Rattle.std.specs.Option.{option_or}
 use Rattle.std.specs.Char.{is_ascii_uppercase, is_ascii_digit}
+use Rattle.text.specs.Parts.{texts_of}
+use Rattle.text.specs.Steps.{◌>>=◌}
 use Rattle.base_types.specs.declared.limits.TheConstants.Limits.{LPD_LINE_BYTES}
 use Rattle.lpd_reader.specs.declared.control.ControlFault.{ControlFault}
 use Rattle.lpd_reader.specs.declared.control.ControlFault.TheVariants.{NoHost, NoUser, NoPrintLine, BadLine, FormatLeftOut}
@@ -51,11 +52,6 @@ lettered letter operand =
 abbrev pub line_in : List ℕ → Result LineRecord ControlFault
 line_in [] = Err BadLine
 line_in (letter ∷ operand) = if nat_lt (length (letter ∷ operand)) LPD_LINE_BYTES then lettered letter operand else Err BadLine
-
-infixl 10 ◌>>=◌
-abbrev pub ◌>>=◌ : {A B : Type 0} → Result A ControlFault → (A → Result B ControlFault) → Result B ControlFault
-(Ok value) >>= next = next value
-(Err fault) >>= next = Err fault
 
 -- the first faulty line decides
 abbrev pub lines_in : List (List ℕ) → Result (List LineRecord) ControlFault
@@ -116,7 +112,7 @@ whole draft = owned draft.host draft.owner (unwrap_or (option_or draft.job_name 
 abbrev pub joined : Draft → List (List ℕ) → Result Draft ControlFault
 joined draft texts = lines_in texts >>= λ lines. Ok (before draft (together lines))
 
--- the texts between line feeds: the last must be empty, since each line has its line feed
+-- of the texts between line feeds the last must be empty, since each line has its line feed
 abbrev pub whole_lines : List (List ℕ) → List (List ℕ)
 whole_lines texts = take (length texts - 1) texts
 
@@ -126,9 +122,6 @@ unfinished texts = slice_index_or texts (length texts - 1) []
 abbrev pub finished : List ℕ → Draft → Result ControlRecord ControlFault
 finished [] draft = whole draft
 finished (byte ∷ bytes) draft = Err BadLine
-
-abbrev pub texts_of : List ℕ → List (List ℕ)
-texts_of text = slice_split (λ byte. byte == 10) text
 
 -- what a control file says, or its first fault
 abbrev pub control_in : List ℕ → Result ControlRecord ControlFault

@@ -1,8 +1,8 @@
 -- What an LPD client's stream of bytes says: its items in order, and then a fault or an unfinished part.
 use Rattle.std.specs.Prelude.{ℕ, ◌≡◌, ◌==◌, ◌+◌, nat_le, if◌then◌else◌, List, [], ◌∷◌, ◌++◌, length, take, drop, slice_index_or, Option, Some, None, Result, Ok, Err}
-use Rattle.base_types.specs.FirstLine.{first_line_of}
-use Rattle.base_types.specs.declared.line.FirstLine.{FirstLine}
-use Rattle.base_types.specs.declared.line.FirstLine.TheVariants.{Whole, TooLong, Unfinished}
+use Rattle.text.specs.FirstLine.{first_line_of}
+use Rattle.text.specs.declared.line.FirstLine.{FirstLine}
+use Rattle.text.specs.declared.line.FirstLine.TheVariants.{Whole, TooLong, Unfinished}
 use Rattle.base_types.specs.declared.limits.TheConstants.Limits.{LPD_LINE_BYTES}
 use Rattle.lpd_reader.specs.declared.fault.LpdFault.{LpdFault}
 use Rattle.lpd_reader.specs.declared.fault.LpdFault.TheVariants.{LineTooLong, MissingZero}

@@ -1,14 +1,16 @@
 ghost use Rattle.std.specs.Prelude.{◌≡◌, IfOk, MatchOption, ◌-◌, ◌^◌, map, min, true, false};
 ghost use Rattle.std.specs.Str.Parse.{digits_value};
 ghost use Rattle.lpd_reader.specs.Session.{command_record, item_record, told};
-ghost use Rattle.lpd_reader.specs.Command.{words_of, command_of, command_line, subcommand_of, subcommand_line, announced, is_count, removal, most_bytes};
+ghost use Rattle.text.specs.Parts.{words_of};
+ghost use Rattle.lpd_reader.specs.Command.{command_of, command_line, subcommand_of, subcommand_line, announced, is_count, removal, most_bytes};
 
 use crate::fault::LpdFault;
 use crate::file_name::is_file_name;
 use crate::item::{FileHead, FileKind, LpdCommand, LpdItem};
-use crate::words::{first_word, later_words, operands, words};
-use base_types::{Limits, Text, decimal};
+use crate::words::{first_word, later_words, operands};
+use base_types::{Limits, Text};
 use std::alloc::{AllocError, Global};
+use text::{decimal, words};
 
 /// A line that is a command or its fault (RFC 1179, section 5).
 pub(crate) fn read_command(
@@ -98,7 +100,7 @@ fn announced(
 }
 
 /// A file's length in decimal digits that is not 0, or the greatest number where it is above that.
-#[tactic(auto, unfolding(base_types::specs::Digits::decimal_in))]
+#[tactic(auto, unfolding(text::specs::Digits::decimal_in))]
 fn file_length(word: &[u8]) -> Option<u32>
     ensures { MatchOption result (is_count word.now ≡ false) (λ length. (is_count word.now ≡ true) × (length ≡ min (digits_value 10 word.now) (2 ^ 32 - 1))) }
 {

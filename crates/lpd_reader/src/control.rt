@@ -1,12 +1,13 @@
 ghost use Rattle.std.specs.Prelude.{◌≡◌, ◌++◌, IfOk, OnOk, OnErr, Some, map};
 ghost use Rattle.std.specs.Option.{option_or};
-ghost use Rattle.lpd_reader.specs.Control.{before, alone, nothing, joined, whole, texts_of, control_in};
+ghost use Rattle.lpd_reader.specs.Control.{before, alone, nothing, joined, whole, control_in};
 ghost use Rattle.lpd_reader.specs.ControlLine.{line_record, Gives};
 
 use crate::control_line::{ControlLine, read_line};
 use base_types::Text;
 use std::alloc::{AllocError, Global};
 use std::marker::Model;
+use text::parts;
 use thiserror::Error;
 
 /// What is wrong with a control file.
@@ -131,7 +132,7 @@ impl Model for Draft {
 pub fn read_control(alloc: Global, text: &[u8]) -> Result<Control, ControlError>
     ensures { Gives result (control_in text.now) }
 {
-    let texts = lines(alloc, text)?;
+    let texts = parts(alloc, text, b'\n')?;
     let Some((last, lines)) = texts.split_last() else {
         return Err(ControlError::Fault(ControlFault::NoHost));
     };
@@ -140,13 +141,6 @@ pub fn read_control(alloc: Global, text: &[u8]) -> Result<Control, ControlError>
         return Err(ControlError::Fault(ControlFault::BadLine));
     }
     finish(alloc, draft)
-}
-
-/// The texts between line feeds.
-fn lines<'a>(alloc: Global, text: &'a [u8]) -> Result<Vec<&'a [u8]>, AllocError>
-    ensures { IfOk result (λ lines. map (λ line. line.now) lines.items ≡ texts_of text.now) }
-{
-    text.split(|byte| *byte == b'\n').collect(alloc)
 }
 
 /// What whole lines say together, or the first fault.

@@ -3,7 +3,7 @@ ghost use Rattle.std.specs.List.{list_all};
 ghost use Rattle.lpd_reader.specs.FileName.{is_file_name, is_numbered, is_host};
 
 use crate::item::FileKind;
-use base_types::{Limits, find_byte};
+use base_types::Limits;
 
 /// Whether a text is the name of a file of a kind (RFC 1179, sections 6.2 and 6.3).
 #[tactic(auto, unfolding(crate::specs::FileName::is_file_name))]

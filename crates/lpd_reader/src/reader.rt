@@ -1,6 +1,6 @@
 ghost use Rattle.std.specs.Prelude.{◌≡◌, ◌<◌, ◌+◌, ◌++◌, [], List, ℕ, None, Some, Err, IfOk, IfSome, OnOk, OnErr, take, drop, length as length_of, true};
-ghost use Rattle.base_types.specs.FirstLine.{first_line_of};
-ghost use Rattle.base_types.specs.declared.line.FirstLine.TheVariants.{Whole};
+ghost use Rattle.text.specs.FirstLine.{first_line_of};
+ghost use Rattle.text.specs.declared.line.FirstLine.TheVariants.{Whole};
 ghost use Rattle.lpd_reader.specs.Session.{ItemRecord, item_record, awaited_after, told};
 ghost use Rattle.lpd_reader.specs.Command.{meaning_of, awaits_line};
 ghost use Rattle.lpd_reader.specs.Stream.{Stands, Answers};
@@ -8,10 +8,10 @@ ghost use Rattle.lpd_reader.specs.Stream.{Stands, Answers};
 use crate::command::{read_command, read_subcommand};
 use crate::fault::{LpdError, LpdFault};
 use crate::item::{LpdCommand, LpdItem};
-use base_types::{FirstLine, Limits, drop_front, first_line};
+use base_types::Limits;
 use std::alloc::{AllocError, Global};
 use std::marker::Model;
-use std::mem;
+use text::{FirstLine, Unread, first_line};
 
 /// What a reader reads next.
 #[derive(Clone, Copy, Debug, PartialEq, Eq)]
@@ -30,22 +30,17 @@ enum Awaited {
 #[derive(Debug, Drop)]
 pub struct LpdReader {
     alloc: Global,
-    buffer: Vec<u8>,
-    /// How many bytes of the buffer are read.
-    start: usize,
+    unread: Unread,
     awaited: Awaited,
     fault: Option<LpdFault>,
 }
 
 impl Model for LpdReader {
-    ghost use Rattle.std.specs.Prelude.{◌≤◌, drop, length};
     ghost use Rattle.lpd_reader.specs.Stream.{LpdState};
 
     ghost Value = { LpdState };
 
-    ghost view = { λ r. record { rest = drop r.start r.buffer.items; awaited = r.awaited; fault = r.fault } };
-
-    ghost invariant = { λ r. r.start ≤ length r.buffer.items };
+    ghost view = { λ r. record { rest = r.unread; awaited = r.awaited; fault = r.fault } };
 }
 
 impl LpdReader {
@@ -55,8 +50,7 @@ impl LpdReader {
     {
         LpdReader {
             alloc,
-            buffer: Vec::new(alloc),
-            start: 0,
+            unread: Unread::new(alloc),
             awaited: Awaited::Command,
             fault: None,
         }
@@ -141,16 +135,15 @@ impl LpdReader {
         Ok(Some(LpdItem::File(contents)))
     }
 
-    /// Takes the bytes of the file at the front, without a copy.
+    /// Takes the bytes of the file at the front, without a copy, and passes the byte after them.
     fn take_file(&mut self, length: usize) -> Result<Vec<u8>, AllocError>
         requires { length < length_of self.old.rest }
         ensures file { IfOk result (λ contents. contents.items ≡ take length self.old.rest) }
         ensures ok { OnOk result (self.new ≡ record { rest = drop (length + 1) self.old.rest; awaited = Awaited.Subcommand; fault = self.old.fault }) }
         ensures err { OnErr result (self.new ≡ self.old) }
     {
-        drop_front(&mut self.buffer, self.start);
-        self.start = 0;
-        let contents = split_file(&mut self.buffer, length)?;
+        let contents = self.unread.take_front(length)?;
+        self.unread.pass(1);
         self.awaited = Awaited::Subcommand;
         Ok(contents)
     }
@@ -159,7 +152,7 @@ impl LpdReader {
     fn rest(&self) -> &[u8]
         ensures { result.now ≡ self.now.rest }
     {
-        &self.buffer[self.start..]
+        self.unread.bytes()
     }
 
     /// The fault, once there is one.
@@ -193,7 +186,7 @@ impl LpdReader {
         requires { length < length_of self.old.rest }
         ensures { self.new ≡ record { rest = drop (length + 1) self.old.rest; awaited = awaited; fault = self.old.fault } }
     {
-        self.start = self.start + length + 1;
+        self.unread.pass_line(length);
         self.awaited = awaited;
     }
 
@@ -207,35 +200,12 @@ impl LpdReader {
     }
 
     /// Keeps these bytes to be read.
-    #[tactic(auto, using(crate::proofs::Streams::rest_with))]
     fn append(&mut self, piece: &[u8]) -> Result<(), AllocError>
         ensures ok { OnOk result (self.new ≡ record self.old { rest = self.old.rest ++ piece.now }) }
         ensures err { OnErr result (self.new ≡ self.old) }
     {
-        self.forget_read();
-        self.buffer.extend_from_slice(piece)
+        self.unread.append(piece)
     }
-
-    /// Gives the room of what is read to what comes.
-    fn forget_read(&mut self)
-        ensures { self.new ≡ self.old }
-    {
-        drop_front(&mut self.buffer, self.start);
-        self.start = 0;
-    }
-}
-
-/// Splits off the first bytes, and drops the byte after them.
-fn split_file(buffer: &mut Vec<u8>, length: usize) -> Result<Vec<u8>, AllocError>
-    requires { length < length_of buffer.old.items }
-    ensures file { IfOk result (λ contents. contents.items ≡ take length buffer.old.items) }
-    ensures ok { OnOk result (buffer.new.items ≡ drop (length + 1) buffer.old.items) }
-    ensures err { OnErr result (buffer.new.items ≡ buffer.old.items) }
-{
-    let rest = buffer.split_off(length + 1)?;
-    let mut contents = mem::replace(buffer, rest);
-    contents.truncate(length);
-    Ok(contents)
 }
 
 /// What is read after an item.

@@ -1,15 +1,8 @@
-ghost use Rattle.std.specs.Prelude.{◌≡◌, ◌==◌, ◌<◌, IfOk, filter, length, map, nat_lt};
-ghost use Rattle.lpd_reader.specs.Command.{words_of, first_word, later_words, operands_of};
+ghost use Rattle.std.specs.Prelude.{◌≡◌, ◌<◌, IfOk, filter, length, map, nat_lt};
+ghost use Rattle.lpd_reader.specs.Command.{first_word, later_words, operands_of};
 
 use base_types::Text;
 use std::alloc::{AllocError, Global};
-
-/// The words of a text, which stand between single spaces.
-pub(crate) fn words<'a>(alloc: Global, text: &'a [u8]) -> Result<Vec<&'a [u8]>, AllocError>
-    ensures { IfOk result (λ words. map (λ word. word.now) words.items ≡ words_of text.now) }
-{
-    text.split(|byte| *byte == b' ').collect(alloc)
-}
 
 /// The first word.
 pub(crate) fn first_word<'a>(words: &[&'a [u8]]) -> &'a [u8]

@@ -16,7 +16,7 @@ use prices::PlannedClass;
 use std::alloc::{AllocError, Global};
 use std::io::{Read, Write};
 use std::marker::Model;
-use streams::{ExitStatus, InputFault, read_whole, write_front};
+use streams::{ExitStatus, InputFault, read_whole, refused_line, write_front};
 
 /// What is written, and how the program ends.
 #[derive(Drop)]
@@ -84,9 +84,8 @@ fn answer_text(alloc: Global, text: &[u8], starts: bool) -> Result<Answer, Alloc
 fn refused(alloc: Global, name: &str) -> Result<Answer, AllocError>
     ensures { IfOk result (λ answer. answer ≡ refused_as name.now) }
 {
-    let line = format!(in alloc; "refused {name}\n")?;
     Ok(Answer {
-        text: Vec::from_slice(alloc, line.as_bytes())?,
+        text: refused_line(alloc, name.as_bytes())?,
         status: ExitStatus::Refused,
     })
 }

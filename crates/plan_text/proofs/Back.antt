@@ -14,7 +14,7 @@ use Rattle.plan_text.specs.declared.fault.TextFault.{TextFault}
 use Rattle.plan_text.specs.declared.stage.Stage.{Stage}
 use Rattle.plan_text.specs.declared.stage.Stage.TheVariants as stages
 use Rattle.plan_text.specs.NamedPlan.{NamedPlan}
-use Rattle.plan_text.specs.Reading.{◌>>=◌}
+use Rattle.text.specs.Steps.{◌>>=◌}
 use Rattle.plan_text.specs.Line.{Said, SaysPlan, SaysDevice, SaysClass, SaysJob, SaysWait, SaysWay, SaysTotal, SaysJobPrices, SaysPlacePrices, SaysStranded, SaysEnd}
 use Rattle.plan_text.specs.Whole.{Heard, Opened, is_at, plan_next, device_next, opened_at, closed, class_opened, class_next, job_next, wait_next, way_next, total_next, job_prices_next, place_prices_next, classes_over, stranded_added, stranded_next, end_next, next, nothing_heard, ended, plan_at}
 use Rattle.plan_text.specs.Writing.{job_lines, way_lines, place_price_lines, class_job_lines, class_way_lines, class_price_lines, class_lines, device_lines, stranded_lines, classes_lines, plan_lines, plan_text}

@@ -13,10 +13,11 @@ use Rattle.cost_table.specs.Time.{IsTime}
 use Rattle.plan_text.specs.declared.fault.TextFault.{TextFault}
 use Rattle.plan_text.specs.declared.fault.TextFault.TheVariants.{BadLine}
 use Rattle.plan_text.specs.declared.stage.Stage.TheVariants as stages
-use Rattle.plan_text.specs.Reading.{◌>>=◌}
+use Rattle.text.specs.Steps.{◌>>=◌}
 use Rattle.plan_text.specs.Word.{cause_at}
-use Rattle.plan_text.specs.Line.{Said, SaysPlan, SaysDevice, SaysClass, SaysJob, SaysWait, SaysWay, SaysTotal, SaysJobPrices, SaysPlacePrices, SaysStranded, SaysEnd, words_of, device_at, class_at, job_at, wait_at, way_at, total_at, job_prices_at, place_prices_at, stranded_at, line_of, line_at}
-use Rattle.plan_text.specs.Whole.{Heard, is_at, next, line_next, lines_next, nothing_heard, ended, plan_from, plan_in, plan_at, parts_of}
+use Rattle.plan_text.specs.Line.{Said, SaysPlan, SaysDevice, SaysClass, SaysJob, SaysWait, SaysWay, SaysTotal, SaysJobPrices, SaysPlacePrices, SaysStranded, SaysEnd, device_at, class_at, job_at, wait_at, way_at, total_at, job_prices_at, place_prices_at, stranded_at, line_of, line_at}
+use Rattle.plan_text.specs.Whole.{Heard, is_at, next, line_next, lines_next, nothing_heard, ended, plan_from, plan_in, plan_at}
+use Rattle.text.specs.Parts.{words_of, texts_of}
 use Rattle.plan_text.specs.Writing.{cause_word, entry_word, entries_text, numbers_text, prices_text, line_text, lines_text}
 use Rattle.plan_text.specs.Ranges.{IsPrice}
 use Rattle.plan_text.proofs.Sound.{ok}
@@ -202,11 +203,11 @@ AllInRange-append (x ∷ xs) ys hx hy = (hx.0, AllInRange-append xs ys hx.1 hy)
 none_breaks : (word : List ℕ) → lacks 10 word ≡ true → All (λ x. (x == 10) ≡ false) word
 none_breaks word h = none_in 10 word h
 
-parts_are : (lines : List Said) → AllInRange lines → parts_of (lines_text lines) ≡ map body_of lines ++ [] ∷ []
+parts_are : (lines : List Said) → AllInRange lines → texts_of (lines_text lines) ≡ map body_of lines ++ [] ∷ []
 parts_are [] h = refl
 parts_are (said ∷ lines) h =
-    ap (λ text. parts_of (text ++ lines_text lines)) (line_is said)
-    ∙ ap parts_of (append_assoc (body_of said) feed (lines_text lines))
+    ap (λ text. texts_of (text ++ lines_text lines)) (line_is said)
+    ∙ ap texts_of (append_assoc (body_of said) feed (lines_text lines))
     ∙ slice_split_at (λ byte. byte == 10) (body_of said) 10 (lines_text lines) (none_breaks (body_of said) (body_lacks said h.0)) refl
     ∙ ap (λ parts. body_of said ∷ parts) (parts_are lines h.1)
 

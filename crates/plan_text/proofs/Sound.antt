@@ -9,11 +9,14 @@ use Rattle.plan_text.specs.declared.fault.TextFault.{TextFault}
 use Rattle.plan_text.specs.declared.fault.TextFault.TheVariants.{BadLine, OutOfRange, NoEnd}
 use Rattle.plan_text.specs.declared.stage.Stage.TheVariants as stages
 use Rattle.plan_text.specs.declared.fault.ReadError.{ReadError}
-use Rattle.plan_text.specs.Reading.{◌>>=◌, Gives}
+use Rattle.text.specs.Steps.{◌>>=◌}
+use Rattle.text.proofs.Chains.{went_on}
+use Rattle.plan_text.specs.Reading.{Gives}
 use Rattle.plan_text.specs.NamedPlan.{NamedPlan, HasOneEach}
 use Rattle.prices.specs.Plan.{HasOneListEach}
-use Rattle.plan_text.specs.Line.{Said, SaysPlan, SaysDevice, SaysClass, SaysJob, SaysWait, SaysWay, SaysTotal, SaysJobPrices, SaysPlacePrices, SaysStranded, SaysEnd, line_at, words_of}
-use Rattle.plan_text.specs.Whole.{Heard, stage_number, is_at, one_each, is_named, may_have, plan_next, device_next, is_problem, problem_of, planned, opened_at, opened_kept, closed, class_opened, class_next, job_next, wait_next, way_next, total_next, job_prices_next, place_prices_next, classes_over, stranded_added, stranded_next, end_next, next, line_next, lines_next, nothing_heard, plan_of, ended, plan_from, plan_in, plan_at, parts_of}
+use Rattle.plan_text.specs.Line.{Said, SaysPlan, SaysDevice, SaysClass, SaysJob, SaysWait, SaysWay, SaysTotal, SaysJobPrices, SaysPlacePrices, SaysStranded, SaysEnd, line_at}
+use Rattle.plan_text.specs.Whole.{Heard, stage_number, is_at, one_each, is_named, may_have, plan_next, device_next, is_problem, problem_of, planned, opened_at, opened_kept, closed, class_opened, class_next, job_next, wait_next, way_next, total_next, job_prices_next, place_prices_next, classes_over, stranded_added, stranded_next, end_next, next, line_next, lines_next, nothing_heard, plan_of, ended, plan_from, plan_in, plan_at}
+use Rattle.text.specs.Parts.{words_of, texts_of}
 
 -- steps that end well
 
@@ -34,10 +37,6 @@ passed false r fault x h = (refl, h)
 pub either : {X : Type 0} (b : Bool) (r q : Result X TextFault) (x : X) → (if b then r else q) ≡ ok x → ((b ≡ true) × (r ≡ ok x)) ⊎ ((b ≡ false) × (q ≡ ok x))
 either true r q x h = inl (refl, h)
 either false r q x h = inr (refl, h)
-
-pub went_on : {X Y : Type 0} (r : Result X TextFault) (f : X → Result Y TextFault) (y : Y) → (r >>= f) ≡ ok y → (x : X) × (r ≡ ok x) × (f x ≡ ok y)
-went_on (Ok x) f y h = (x, refl, h)
-went_on (Err fault) f y h = absurd (cc)
 
 -- a class with a wait, a way and place prices for each of so many devices
 pub record HasEach (devices : ℕ) (c : PlannedClass) : Type 0 where
@@ -240,7 +239,7 @@ ended_kept heard rest named h s =
 pub plan_kept : (text : List ℕ) (named : NamedPlan) → plan_at text ≡ ok named → EachHasLists named
 unfolding plan_in plan_from
 plan_kept text named h =
-    let parts : List (List ℕ) = parts_of text in
+    let parts : List (List ℕ) = texts_of text in
     let lines : List (List ℕ) = take (length parts - 1) parts in
     let rest : List ℕ = slice_index_or parts (length parts - 1) [] in
     let w = went_on (lines_next (nothing_heard DEFAULT_PRIORITY) lines) (λ heard. ended heard rest) named h in

@@ -1,7 +1,7 @@
 -- The lines of a plan's text, each by itself. The form of all its words is judged first, then the
 -- ranges of its numbers; which line may follow which is judged elsewhere.
-use Rattle.std.specs.Prelude.{ℕ, ℤ, ◌&&◌, List, [], ◌∷◌, Option, Result, Ok, Err, if◌then◌else◌, codes, ◌==◌}
-use Rattle.std.specs.List.{list_all, slice_split}
+use Rattle.std.specs.Prelude.{ℕ, ℤ, ◌&&◌, List, [], ◌∷◌, Option, Result, Ok, Err, if◌then◌else◌, codes}
+use Rattle.std.specs.List.{list_all}
 use Rattle.std.specs.Str.{bytes_eq}
 use Rattle.base_types.specs.declared.limits.TheConstants.Limits.{HIGHEST_PRIORITY, LAST_JOB_ID, WAIT, AMOUNT}
 use Rattle.base_types.specs.Forms.{is_name}
@@ -10,8 +10,9 @@ use Rattle.plan_text.specs.declared.fault.TextFault.{TextFault}
 use Rattle.plan_text.specs.declared.fault.TextFault.TheVariants.{BadLine}
 use Rattle.plan_text.specs.declared.line.Line.{Line}
 use Rattle.plan_text.specs.declared.line.Line.TheVariants as lines
-use Rattle.plan_text.specs.Reading.{◌>>=◌}
-use Rattle.plan_text.specs.Word.{is_number, number_at, numbers_at, is_entry, entries_at, is_price, prices_at, cause_at}
+use Rattle.text.specs.Steps.{◌>>=◌}
+use Rattle.text.specs.Digits.{is_number}
+use Rattle.plan_text.specs.Word.{number_at, numbers_at, is_entry, entries_at, is_price, prices_at, cause_at}
 
 -- what a line says
 pub data Said : Type 0 where
@@ -41,12 +42,7 @@ said_by (lines.PlacePrices device prices) = SaysPlacePrices device prices.items
 said_by (lines.Stranded stranded) = SaysStranded stranded
 said_by lines.End = SaysEnd
 
--- the words of a line stand between single spaces; two spaces have an empty word between them,
--- which is no number and no name
-abbrev pub words_of : List ℕ → List (List ℕ)
-words_of line = slice_split (λ byte. byte == 32) line
-
--- what may stand after the first word of each line
+-- what may stand after the first word of each line; an empty word is no number and no name
 
 abbrev pub alone_at : Said → List (List ℕ) → Result Said TextFault
 alone_at line [] = Ok line

@@ -1,14 +1,9 @@
 -- Reading step by step: each step gives a value, or the fault of the text.
 use Rattle.std.specs.Prelude.{◌≡◌, List, ◌++◌, Result, Ok, Err}
+use Rattle.text.specs.Steps.{◌>>=◌}
 use Rattle.plan_text.specs.declared.fault.TextFault.{TextFault}
 use Rattle.plan_text.specs.declared.fault.ReadError.{ReadError}
 use Rattle.plan_text.specs.declared.fault.ReadError.TheVariants as errors
-
--- the second step goes on from what the first gave
-infixl 10 ◌>>=◌
-abbrev pub ◌>>=◌ : {A B : Type 0} → Result A TextFault → (A → Result B TextFault) → Result B TextFault
-(Ok x) >>= f = f x
-(Err fault) >>= f = Err fault
 
 -- what a function returned, seen by view, is what reading gives, unless memory ran out
 abbrev pub Fails : {Y : Type 0} → ReadError → Result Y TextFault → Type 0

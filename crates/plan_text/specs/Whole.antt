@@ -1,6 +1,7 @@
 -- The text of a plan as a whole: which line may follow which, and the plan that the lines make.
 use Rattle.std.specs.Prelude.{◌≡◌, ◌==◌, ◌&&◌, ◌+◌, ◌-◌, not, ℕ, ℤ, Bool, true, List, [], ◌∷◌, ◌++◌, length, take, slice_index_or, nat_le, nat_lt, Result, Ok, Err, Option, Some, None, if◌then◌else◌}
-use Rattle.std.specs.List.{list_all, slice_split}
+use Rattle.std.specs.List.{list_all}
+use Rattle.text.specs.Parts.{words_of, texts_of}
 use Rattle.std.specs.Str.{bytes_eq}
 use Rattle.base_types.specs.declared.limits.TheConstants.Limits.{HIGHEST_PRIORITY, DEFAULT_PRIORITY, UNFINISHED_JOBS, DEVICES, JOB_TIME, WAIT}
 use Rattle.base_types.specs.declared.needs.Stranded.{Stranded}
@@ -14,8 +15,9 @@ use Rattle.plan_text.specs.declared.stage.Stage.TheVariants as stages
 use Rattle.plan_text.specs.declared.draft.Draft.{Draft}
 use Rattle.plan_text.specs.declared.open_class.OpenClass.{OpenClass}
 use Rattle.plan_text.specs.NamedPlan.{NamedPlan}
-use Rattle.plan_text.specs.Reading.{◌>>=◌, Fails}
-use Rattle.plan_text.specs.Line.{Said, SaysPlan, SaysDevice, SaysClass, SaysJob, SaysWait, SaysWay, SaysTotal, SaysJobPrices, SaysPlacePrices, SaysStranded, SaysEnd, line_at, words_of}
+use Rattle.text.specs.Steps.{◌>>=◌}
+use Rattle.plan_text.specs.Reading.{Fails}
+use Rattle.plan_text.specs.Line.{Said, SaysPlan, SaysDevice, SaysClass, SaysJob, SaysWait, SaysWay, SaysTotal, SaysJobPrices, SaysPlacePrices, SaysStranded, SaysEnd, line_at}
 
 -- the class whose lines are being read
 pub record Opened : Type 0 where
@@ -224,10 +226,6 @@ ended heard rest =
     if not (is_at heard stages.Ended) then Err NoEnd
     else if length rest == 0 then Ok (plan_of heard) else Err BadLine
 
--- the parts of a text between line feeds: the last of them is no whole line
-abbrev pub parts_of : List ℕ → List (List ℕ)
-parts_of text = slice_split (λ byte. byte == 10) text
-
 unfoldable pub plan_from : List (List ℕ) → List ℕ → Result NamedPlan TextFault
 plan_from lines rest = lines_next (nothing_heard DEFAULT_PRIORITY) lines >>= λ heard. ended heard rest
 
@@ -236,7 +234,7 @@ plan_in parts = plan_from (take (length parts - 1) parts) (slice_index_or parts 
 
 -- the plan that a text is, or its first fault
 abbrev pub plan_at : List ℕ → Result NamedPlan TextFault
-plan_at text = plan_in (parts_of text)
+plan_at text = plan_in (texts_of text)
 
 -- what a reader has heard
 abbrev pub opened_of : OpenClass → Opened

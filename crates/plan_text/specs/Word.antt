@@ -1,18 +1,15 @@
 -- The words of a plan's text. A number is decimal without leading zeros, and may have any length;
 -- a word that has the form of a number and is out of its range is told apart from one that has not.
 use Rattle.std.specs.Prelude.{◌==◌, ◌&&◌, ◌||◌, not, ℕ, ℤ, pos, neg_ℤ, Bool, List, [], ◌∷◌, length, drop, slice_index, nat_lt, Result, Ok, Err, Option, Some, None, if◌then◌else◌, codes}
-use Rattle.std.specs.Str.{all_ascii_digits, bytes_eq}
+use Rattle.std.specs.Str.{bytes_eq}
 use Rattle.std.specs.Str.Parse.{digits_value}
+use Rattle.text.specs.Digits.{is_number}
 use Rattle.base_types.specs.declared.limits.TheConstants.Limits.{JOB_TIME, AMOUNT}
 use Rattle.base_types.specs.declared.needs.Cause.{Cause}
 use Rattle.base_types.specs.declared.needs.Cause.TheVariants as causes
 use Rattle.plan_text.specs.declared.fault.TextFault.{TextFault}
 use Rattle.plan_text.specs.declared.fault.TextFault.TheVariants.{BadLine, OutOfRange}
-use Rattle.plan_text.specs.Reading.{◌>>=◌}
-
--- digits, the first of them 0 only where it stands alone
-unfoldable pub is_number : List ℕ → Bool
-is_number word = nat_lt 0 (length word) && all_ascii_digits word && (not (slice_index word 0 == 48) || length word == 1)
+use Rattle.text.specs.Steps.{◌>>=◌}
 
 -- the number that a word spells, within a range
 unfoldable pub number_at : ℕ → ℕ → List ℕ → Result ℕ TextFault

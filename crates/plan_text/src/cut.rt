@@ -1,24 +1,8 @@
-ghost use Rattle.std.specs.Prelude.{◌≡◌, ◌==◌, IfOk, map};
-ghost use Rattle.std.specs.List.{slice_split};
+ghost use Rattle.std.specs.Prelude.{map};
 ghost use Rattle.plan_text.specs.Reading.{Gives};
-ghost use Rattle.plan_text.specs.Line.{words_of, only_word, first_word};
+ghost use Rattle.plan_text.specs.Line.{only_word, first_word};
 
 use crate::fault::{ReadError, TextFault};
-use std::alloc::{AllocError, Global};
-
-/// The parts of a text between line feeds. The last of them is no whole line yet.
-pub(crate) fn parts<'a>(alloc: Global, text: &'a [u8]) -> Result<Vec<&'a [u8]>, AllocError>
-    ensures { IfOk result (λ parts. map (λ part. part.now) parts.items ≡ slice_split (λ byte. byte == 10) text.now) }
-{
-    text.split(|byte| *byte == b'\n').collect(alloc)
-}
-
-/// The words of a line, which stand between single spaces.
-pub(crate) fn words<'a>(alloc: Global, line: &'a [u8]) -> Result<Vec<&'a [u8]>, AllocError>
-    ensures { IfOk result (λ words. map (λ word. word.now) words.items ≡ words_of line.now) }
-{
-    line.split(|byte| *byte == b' ').collect(alloc)
-}
 
 /// The one word.
 #[tactic(auto, using(crate::proofs::Words::one_word, crate::proofs::Words::not_one_word))]

@@ -1,19 +1,12 @@
-ghost use Rattle.std.specs.Prelude.{◌≡◌, ◌==◌, ◌<◌, ◌≤◌, ◌^◌, ◌+◌, IfOk, IsTrue};
-ghost use Rattle.std.specs.Str.{all_ascii_digits, bytes_eq};
+ghost use Rattle.std.specs.Prelude.{◌≡◌, ◌==◌, ◌<◌, ◌≤◌, ◌^◌, ◌+◌, IfOk};
+ghost use Rattle.std.specs.Str.{bytes_eq};
 ghost use Rattle.base_types.specs.Ranges.{IsJobId};
-ghost use Rattle.plan_text.specs.Word.{is_number, number_at, is_dash, is_entry, entry_at, has_minus, is_price, price_at, cause_at};
+ghost use Rattle.text.specs.Digits.{is_number};
+ghost use Rattle.plan_text.specs.Word.{number_at, is_dash, is_entry, entry_at, has_minus, is_price, price_at, cause_at};
 
 use crate::fault::TextFault;
-use base_types::{Cause, JobId, Limits, all_digits, capped_value};
-
-/// Whether a word is a number: decimal, without leading zeros.
-#[tactic(auto, unfolding(crate::specs::Word::is_number))]
-pub(crate) fn is_number(word: &[u8]) -> bool
-    ensures test { result ≡ is_number word.now }
-    ensures digits { IsTrue result → IsTrue (all_ascii_digits word.now) }
-{
-    !word.is_empty() && all_digits(word) && (word[0] != b'0' || word.len() == 1)
-}
+use base_types::{Cause, JobId, Limits};
+use text::{capped_value, is_number};
 
 /// The number that a word is, within a range.
 #[tactic(auto, unfolding(crate::specs::Word::number_at))]

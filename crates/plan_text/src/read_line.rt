@@ -6,13 +6,14 @@ ghost use Rattle.plan_text.specs.Line.{said_by, alone_at, device_at, class_at, j
 use crate::cut::{first_word, only_word};
 use crate::fault::{ReadError, TextFault};
 use crate::line::Line;
-use crate::number::{is_number, read_cause, read_id, read_number};
+use crate::number::{read_cause, read_id, read_number};
 use crate::values::{
     are_entries, are_numbers, are_prices, read_entries, read_ids, read_prices, read_waits,
 };
 use base_types::{Limits, Priority, Text, is_name};
 use prices::Stranded;
 use std::alloc::Global;
+use text::is_number;
 
 /// What a line of these words says.
 pub(crate) fn read_line(alloc: Global, words: &[&[u8]]) -> Result<Line, ReadError>

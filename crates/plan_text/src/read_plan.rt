@@ -4,7 +4,6 @@ ghost use Rattle.plan_text.specs.NamedPlan.{HasOneEach};
 ghost use Rattle.plan_text.specs.Reading.{Gives};
 ghost use Rattle.plan_text.specs.Whole.{Leaves, heard_by, nothing_heard, line_next, lines_next, ended, plan_from, plan_in, plan_at};
 
-use crate::cut::{parts, words};
 use crate::draft::Draft;
 use crate::fault::{ReadError, TextFault};
 use crate::named_plan::PlanText;
@@ -14,6 +13,7 @@ use crate::stage::Stage;
 use base_types::{Limits, Priority};
 use prices::Plan;
 use std::alloc::Global;
+use text::{parts, words};
 
 /// The plan that a text is. Each of its classes has a wait, a queue and a list of place prices for
 /// each device, so it may be judged and written.
@@ -29,7 +29,7 @@ pub fn read_plan_text(alloc: Global, text: &[u8]) -> Result<PlanText, ReadError>
     ensures judged { IfOk result (λ named. All HasOneListEach named.plan.classes) }
     ensures written { IfOk result (λ named. All (HasOneEach named.devices) named.plan.classes) }
 {
-    let parts = parts(alloc, text)?;
+    let parts = parts(alloc, text, b'\n')?;
     read_parts(alloc, &parts)
 }
 

@@ -1,12 +1,14 @@
 ghost use Rattle.std.specs.Prelude.{◌≡◌, ◌<◌, ◌≤◌, ◌^◌, map};
 ghost use Rattle.std.specs.List.{list_all};
 ghost use Rattle.plan_text.specs.Reading.{Gives};
-ghost use Rattle.plan_text.specs.Word.{is_number, numbers_at, is_entry, entries_at, is_price, prices_at};
+ghost use Rattle.text.specs.Digits.{is_number};
+ghost use Rattle.plan_text.specs.Word.{numbers_at, is_entry, entries_at, is_price, prices_at};
 
 use crate::fault::ReadError;
-use crate::number::{is_entry, is_number, is_price, read_entry, read_id, read_number, read_price};
+use crate::number::{is_entry, is_price, read_entry, read_id, read_number, read_price};
 use base_types::{JobId, Limits};
 use std::alloc::Global;
+use text::is_number;
 
 pub(crate) fn are_numbers(words: &[&[u8]]) -> bool
     ensures { result ≡ list_all is_number (map (λ word. word.now) words.now) }

@@ -1,6 +1,6 @@
 //! Lines between the server and its devices.
 use base_types::{JobId, Needs, PrinterId, Report, Sides, Text};
-use device_link::{LinkError, LinkReader, write_cancel, write_job};
+use device_link::{LinkError, LinkReader, read_report, write_cancel, write_job};
 use std::alloc::{AllocError, Global};
 use std::test::Fail;
 
@@ -132,6 +132,16 @@ fn faults_are_kept(rt: HostRuntime) -> Result<(), Fail> {
         }
         assert!(rt; is_kept(alloc, bytes)?);
     }
+    Ok(())
+}
+
+#[test]
+fn lines_by_themselves(rt: HostRuntime) -> Result<(), Fail> {
+    let alloc = rt.alloc();
+    let done = read_report(alloc, b"DONE 7\r")?;
+    assert!(rt; matches!(done, Some(Report::Done { job: 7 })));
+    assert!(rt; read_report(alloc, b"HELLO A")?.is_none());
+    assert!(rt; read_report(alloc, &[b'A'; 1024])?.is_none());
     Ok(())
 }
 

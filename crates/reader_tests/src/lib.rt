@@ -11,3 +11,5 @@ mod ipp_messages;
 mod lpd_sessions;
 #[cfg(test)]
 mod settings_texts;
+#[cfg(test)]
+mod text_bytes;

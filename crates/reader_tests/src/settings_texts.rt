@@ -20,26 +20,23 @@ fn joined(alloc: Global, parts: &[&str]) -> Result<String, Fail> {
     Ok(text)
 }
 
-// The line of a text's fault; no bytes where it has none.
-fn line_of(alloc: Global, text: &str) -> Result<Vec<u8>, Fail> {
-    let mut line = Vec::new(alloc);
+// A text's fault in words; no bytes where it has none.
+fn words_of(alloc: Global, text: &str) -> Result<Vec<u8>, Fail> {
+    let mut words = Vec::new(alloc);
     match read_settings(alloc, text) {
-        Ok(_) => Ok(line),
+        Ok(_) => Ok(words),
         Err(SettingsFault::OutOfMemory) => Err(Fail::from(SettingsFault::OutOfMemory)),
         Err(fault) => {
-            write_fault(&fault, &mut line)?;
-            Ok(line)
+            write_fault(&fault, &mut words)?;
+            Ok(words)
         }
     }
 }
 
-/// Texts that are no settings, each with the line of its first fault.
+/// Texts that are no settings, each with its first fault in words.
 const FAULTY: [(&[&str], &str); 8] = [
-    (&["version = 1"], "refused settings Missing uri_base\n"),
-    (
-        &[ROOT, DEVICE, PRINTER, PRINTER],
-        "refused settings Twice lab\n",
-    ),
+    (&["version = 1"], "settings Missing uri_base"),
+    (&[ROOT, DEVICE, PRINTER, PRINTER], "settings Twice lab"),
     (
         &[
             ROOT,
@@ -47,11 +44,11 @@ const FAULTY: [(&[&str], &str); 8] = [
             media = [\"iso_a4_210x297mm\"]\nformats = [\"text/plain\"]\n",
             PRINTER,
         ],
-        "refused settings OutOfRange rate_one\n",
+        "settings OutOfRange rate_one",
     ),
     (
         &["colour = 1\n", ROOT, DEVICE, PRINTER],
-        "refused settings Unknown colour\n",
+        "settings Unknown colour",
     ),
     (
         &[
@@ -60,7 +57,7 @@ const FAULTY: [(&[&str], &str); 8] = [
             "[[printer]]\nname = \"lab\"\ndevices = [\"Z\"]\n\
             media_default = \"iso_a4_210x297mm\"\nformat_default = \"text/plain\"\n",
         ],
-        "refused settings Unknown Z\n",
+        "settings Unknown Z",
     ),
     (
         &[
@@ -68,25 +65,25 @@ const FAULTY: [(&[&str], &str); 8] = [
             DEVICE,
             PRINTER,
         ],
-        "refused settings WrongKind version\n",
+        "settings WrongKind version",
     ),
-    (&["="], "refused settings NotToml\n"),
+    (&["="], "settings NotToml"),
     (
         &[
             "version = 3\nuri_base = \"ipp://localhost:631\"\n",
             DEVICE,
             PRINTER,
         ],
-        "refused settings OutOfRange version\n",
+        "settings OutOfRange version",
     ),
 ];
 
 #[test]
 fn settings_faults(rt: HostRuntime) -> Result<(), Fail> {
-    for (parts, line) in FAULTY {
+    for (parts, words) in FAULTY {
         let text = joined(rt.alloc(), parts)?;
-        let told = line_of(rt.alloc(), text.as_str())?;
-        assert_eq!(rt; told.as_slice(), line.as_bytes(), "of {line}");
+        let told = words_of(rt.alloc(), text.as_str())?;
+        assert_eq!(rt; told.as_slice(), words.as_bytes(), "of {words}");
     }
     Ok(())
 }

@@ -6,9 +6,11 @@ use Rattle.std.proofs.lemmas.List.Splits.{slice_split_none, slice_split_at, leng
 use Rattle.std.proofs.Math.Seq.{drop-append_seam}
 use Rattle.std.proofs.Common.{arith, refl, sym, ap, ◌∙◌}
 use Rattle.base_types.specs.declared.report.Report.{Report}
+use Rattle.base_types.specs.Report.{report_of}
+use Rattle.device_link.specs.Line.{reported_by}
 use Rattle.replay.specs.declared.trace.Line.{Line}
 use Rattle.replay.specs.declared.trace.Line.TheVariants.{At, Ipp, Device, Tick}
-use Rattle.replay.specs.Lines.{Lacks}
+use Rattle.text.specs.Parts.{Lacks, IsCut}
 use Rattle.replay.specs.TraceLine.{Finds, IsLine, IsDeviceIn, IsReportIn}
 
 -- texts whose first bytes differ
@@ -44,17 +46,22 @@ no_device names said none (Device place report) it =
 no_device names said none Tick it = other_word (codes "dev " ++ said) (codes "tick") it (λ first. omega (arith, first))
 
 pub no_space : (names : List (List ℕ)) (said : List ℕ) → Lacks 32 said → (line : Line) → IsLine names (codes "dev " ++ said) line → ⊥
-no_space names said lacks = no_device names said (λ place report it. uncut said it.name it.line lacks it.word it.joined)
+no_space names said lacks = no_device names said (λ place report it. uncut said it.name it.line lacks it.cut.lacks it.cut.joined)
 
-pub no_name : (names : List (List ℕ)) (said name rest : List ℕ) → said ≡ name ++ (32 ∷ rest) → Lacks 32 name → position (λ device. bytes_eq device name) names ≡ None → (line : Line) → IsLine names (codes "dev " ++ said) line → ⊥
-no_name names said name rest cut word unknown = no_device names said (λ place report it.
-    let same = same_cut name rest it.name it.line word it.word (sym cut ∙ it.joined) in
+pub no_name : (names : List (List ℕ)) (said name rest : List ℕ) → IsCut 32 said name rest → position (λ device. bytes_eq device name) names ≡ None → (line : Line) → IsLine names (codes "dev " ++ said) line → ⊥
+no_name names said name rest cut unknown = no_device names said (λ place report it.
+    let same = same_cut name rest it.name it.line cut.lacks it.cut.lacks (sym cut.joined ∙ it.cut.joined) in
     let known : position (λ device. bytes_eq device name) names ≡ Some place = rw same.0 it.known in
     cc (sym known ∙ unknown))
 
-pub found_device : (names : List (List ℕ)) (said name rest : List ℕ) (place : ℕ) (found : Option Report) → said ≡ name ++ (32 ∷ rest) → Lacks 32 name → position (λ device. bytes_eq device name) names ≡ Some place → Finds (IsReportIn rest) found → Finds (IsLine names (codes "dev " ++ said)) (option_map (Device place) found)
-found_device names said name rest place (Some report) cut word known is =
-    (said, refl, record { name = name; line = rest; joined = cut; word = word; known = known; heard = is })
-found_device names said name rest place None cut word known none = no_device names said (λ other report it.
-    let same = same_cut name rest it.name it.line word it.word (sym cut ∙ it.joined) in
+-- what a line reports is found, or it reports nothing
+pub found_report : (line : List ℕ) (found : Option Report) → option_map report_of found ≡ reported_by line → Finds (IsReportIn line) found
+found_report line (Some report) is = sym is
+found_report line None is = λ report says. let no : None ≡ Some (report_of report) = is ∙ says in cc
+
+pub found_device : (names : List (List ℕ)) (said name rest : List ℕ) (place : ℕ) (found : Option Report) → IsCut 32 said name rest → position (λ device. bytes_eq device name) names ≡ Some place → Finds (IsReportIn rest) found → Finds (IsLine names (codes "dev " ++ said)) (option_map (Device place) found)
+found_device names said name rest place (Some report) cut known is =
+    (said, refl, record { name = name; line = rest; cut = cut; known = known; heard = is })
+found_device names said name rest place None cut known none = no_device names said (λ other report it.
+    let same = same_cut name rest it.name it.line cut.lacks it.cut.lacks (sym cut.joined ∙ it.cut.joined) in
     none report (rw same.1 it.heard))

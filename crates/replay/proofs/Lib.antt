@@ -2,7 +2,6 @@ mod Reach
 mod Texts
 mod Settings
 mod Forms
-mod Heard
 mod Digits
 mod Telling
 mod Requests

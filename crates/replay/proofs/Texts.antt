@@ -1,31 +1,17 @@
 -- The lines of bytes that are cut at a line feed.
-use Rattle.std.specs.Prelude.{ℕ, ◌≡◌, ◌≢◌, ◌==◌, ◌+◌, ◌<◌, Bool, true, false, List, [], ◌∷◌, ◌++◌, length, take, drop, Option, Some, None, position, slice_index_or}
+use Rattle.std.specs.Prelude.{ℕ, ◌≡◌, ◌≢◌, ◌==◌, ◌+◌, Bool, true, false, List, [], ◌∷◌, ◌++◌, length, take, drop, Option, Some, None, position}
 use Rattle.std.specs.List.{onto_first}
-use Rattle.std.proofs.Common.{rules, arith, add-one, refl, sym, ap, ◌∙◌, inl, inr}
-use Rattle.std.proofs.lemmas.List.{get_or-take, length-take-le, append_assoc, append-nil}
-use Rattle.std.proofs.lemmas.List.Splits.{slice_split_none, slice_split_at, slice_split-cons_yes, slice_split-cons_no, length-slice_split}
-use Rattle.std.proofs.lemmas.List.Quantifiers.{position-Some}
-use Rattle.std.proofs.lemmas.Grind.{get_or_default_zero}
-use Rattle.std.proofs.Math.Seq.{split_at}
-use Rattle.base_types.proofs.Positions.{each_fails}
-use Rattle.replay.specs.Lines.{texts_of, without_end, lines_of, Lacks, IsEnded}
+use Rattle.std.proofs.Common.{arith, refl, sym, ap, ◌∙◌, inl, inr}
+use Rattle.std.proofs.lemmas.List.{append_assoc, append-nil}
+use Rattle.std.proofs.lemmas.List.Splits.{slice_split_none, slice_split_at, slice_split-cons_yes, slice_split-cons_no}
+use Rattle.text.specs.Parts.{texts_of, Lacks}
+use Rattle.text.proofs.Cuts.{cut_found, found_nowhere}
+use Rattle.text.proofs.Splits.{parts}
+use Rattle.replay.specs.Lines.{without_end, lines_of, IsEnded}
 
 pub nothing_in : (bytes : List ℕ) → length bytes ≡ 0 → bytes ≡ []
 nothing_in [] none = refl
 nothing_in (byte ∷ bytes) none = absurd (omega (arith, none))
-
--- a text is cut into one part at least
-pub record Parts (xs : List ℕ) : Type 0 where
-  pub first : List ℕ
-  pub later : List (List ℕ)
-  pub cut : texts_of xs ≡ first ∷ later
-
-parts_of : (xs : List ℕ) (parts : List (List ℕ)) (count : ℕ) → texts_of xs ≡ parts → length parts ≡ count + 1 → Parts xs
-parts_of xs [] count cut many = absurd (omega (arith, many))
-parts_of xs (part ∷ parts) count cut many = record { first = part; later = parts; cut = cut }
-
-pub parts : (xs : List ℕ) → Parts xs
-parts xs = parts_of xs (texts_of xs) _ refl (length-slice_split (λ byte. byte == 10) xs)
 
 -- what stands before the last text keeps its texts, also the empty ones
 end_after : (front : List (List ℕ)) (text : List ℕ) (more : List (List ℕ)) → without_end (front ++ (text ∷ more)) ≡ front ++ without_end (text ∷ more)
@@ -39,7 +25,7 @@ end_after ((x ∷ xs) ∷ next ∷ front) text more = ap (λ l. (x ∷ xs) ∷ l
 -- a line and its line feed
 pub first_line : (line rest : List ℕ) → Lacks 10 line → lines_of (line ++ (10 ∷ rest)) ≡ line ∷ lines_of rest
 first_line line rest lacks =
-    let it = parts rest in
+    let it = parts (λ byte. byte == 10) rest in
     rw (slice_split_at (λ byte. byte == 10) line 10 rest lacks refl, it.cut) (end_after (line ∷ []) it.first it.later)
 
 alone : (line : List ℕ) → line ≢ [] → without_end (line ∷ []) ≡ line ∷ []
@@ -55,27 +41,6 @@ pub no_line : lines_of [] ≡ []
 unfolding without_end
 no_line = refl
 
--- where a byte is found, and what stands before and after it
-pub record FoundAt (wanted : ℕ) (bytes : List ℕ) (place : ℕ) : Type 0 where
-  pub lacks : Lacks wanted (take place bytes)
-  pub cut : bytes ≡ take place bytes ++ (wanted ∷ drop (place + 1) bytes)
-
--- the bytes before this place are none of these
-before : (wanted : ℕ) (bytes : List ℕ) (place : ℕ) → place < length bytes → ((k : ℕ) → k < place → (slice_index_or bytes k 0 == wanted) ≡ false) → Lacks wanted (take place bytes)
-before wanted bytes place within fails k d low =
-    let short : k < place = omega (arith, low, length-take-le place bytes (omega (arith, within))) in
-    rw (get_or-take place bytes k d short, get_or_default_zero bytes k d (omega (arith, short, within))) (fails k short)
-
-pub found_at : (wanted : ℕ) (bytes : List ℕ) (place : ℕ) → position (λ byte. byte == wanted) bytes ≡ Some place → FoundAt wanted bytes place
-found_at wanted bytes place found =
-    let at : (place < length bytes) × ((slice_index_or bytes place 0 == wanted) ≡ true) × ((k : ℕ) → k < place → (slice_index_or bytes k 0 == wanted) ≡ false) = position-Some (λ byte. byte == wanted) bytes place 0 found in
-    let is : slice_index_or bytes place 0 ≡ wanted = search (rules, at.1) in
-    record { lacks = before wanted bytes place at.0 at.2; cut = rw (← is, add-one place) (split_at bytes place 0 at.0) }
-
--- a byte that isn't found stands nowhere
-pub found_nowhere : (wanted : ℕ) (bytes : List ℕ) → position (λ byte. byte == wanted) bytes ≡ None → Lacks wanted bytes
-found_nowhere wanted bytes absent = each_fails (λ byte. byte == wanted) bytes absent
-
 -- cut after a line feed, the lines are those of both parts
 texts_joined : (xs ys : List ℕ) → texts_of (xs ++ (10 ∷ ys)) ≡ texts_of xs ++ texts_of ys
 texts_joined [] ys = slice_split-cons_yes (λ byte. byte == 10) 10 ys refl
@@ -88,12 +53,12 @@ texts_joined (x ∷ xs) ys = by_byte (texts_joined xs ys) (x == 10) refl
     by_byte more true is =
         rw (slice_split-cons_yes (λ byte. byte == 10) x (xs ++ (10 ∷ ys)) is, slice_split-cons_yes (λ byte. byte == 10) x xs is) (ap (λ l. [] ∷ l) more)
     by_byte more false is =
-        let it = parts xs in
+        let it = parts (λ byte. byte == 10) xs in
         rw (slice_split-cons_no (λ byte. byte == 10) x (xs ++ (10 ∷ ys)) is, slice_split-cons_no (λ byte. byte == 10) x xs is, more) (onto (texts_of xs) (texts_of ys) it.first it.later it.cut)
 
 lines_after : (front rest : List ℕ) → lines_of (front ++ (10 ∷ rest)) ≡ texts_of front ++ lines_of rest
 lines_after front rest =
-    let it = parts rest in
+    let it = parts (λ byte. byte == 10) rest in
     rw (texts_joined front rest, it.cut) (end_after (texts_of front) it.first it.later)
 
 pub lines_joined : (bytes rest : List ℕ) → IsEnded bytes → lines_of (bytes ++ rest) ≡ lines_of bytes ++ lines_of rest
@@ -112,6 +77,6 @@ no_lines (byte ∷ bytes) none = by_place (position (λ byte. byte == 10) (byte 
         let one = last_line (byte ∷ bytes) (found_nowhere 10 (byte ∷ bytes) absent) (λ empty. absurd (omega (arith, ap length empty))) in
         cc (sym one ∙ none)
     by_place (Some place) found =
-        let it = found_at 10 (byte ∷ bytes) place found in
-        let first = ap lines_of it.cut ∙ first_line (take place (byte ∷ bytes)) (drop (place + 1) (byte ∷ bytes)) it.lacks in
+        let it = cut_found 10 (byte ∷ bytes) place found in
+        let first = ap lines_of it.joined ∙ first_line (take place (byte ∷ bytes)) (drop (place + 1) (byte ∷ bytes)) it.lacks in
         cc (sym first ∙ none)

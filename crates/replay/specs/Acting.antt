@@ -1,9 +1,6 @@
 -- How a program runs a trace, step by step.
-use Rattle.std.specs.Prelude.{ℕ, ◌≡◌, ◌⊎◌, Bool, true, false, List, [], ◌++◌, Some, Err}
-use Rattle.std.specs.Str.{IsUtf8}
+use Rattle.std.specs.Prelude.{ℕ, ◌≡◌, Bool, true, false, List, [], ◌++◌, Some}
 use Rattle.settings_file.specs.Settings.{ServerSettings}
-use Rattle.settings_file.specs.Fault.{Fault, not_toml}
-use Rattle.settings_file.specs.Reading.{settings_of}
 use Rattle.dispatcher.specs.declared.event.Event.{Event}
 use Rattle.dispatcher.specs.declared.event.Event.TheVariants as Is
 use Rattle.dispatcher.specs.declared.event.PrintJob.{PrintJob}
@@ -29,7 +26,3 @@ pub record IsStart (texts : Bool) (settings : ServerSettings) (log : LogRecord) 
   pub silent : log ≡ record { texts = texts; names = names_of settings; heard = Some [] }
   pub early : moment ≡ 0
   pub opens : state ≡ opening settings 1
-
--- the fault of the settings that these bytes are
-abbrev pub IsFaultOf : List ℕ → Fault → Type 0
-IsFaultOf settings fault = (¬ (IsUtf8 settings) × (fault ≡ not_toml)) ⊎ (IsUtf8 settings × (settings_of settings ≡ Err fault))

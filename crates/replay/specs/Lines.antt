@@ -1,10 +1,8 @@
 -- The lines of some bytes. A line ends in a line feed, which the last may lack.
-use Rattle.std.specs.Prelude.{ℕ, ◌≡◌, ◌==◌, ◌⊎◌, not, Bool, true, false, All, List, [], ◌∷◌, ◌++◌, length, codes, suc}
-use Rattle.std.specs.List.{slice_split, list_all}
+use Rattle.std.specs.Prelude.{ℕ, ◌≡◌, ◌⊎◌, not, Bool, true, List, [], ◌∷◌, ◌++◌, length, codes, suc}
+use Rattle.std.specs.List.{list_all}
 use Rattle.std.specs.Str.{bytes_eq}
-
-abbrev pub texts_of : List ℕ → List (List ℕ)
-texts_of bytes = slice_split (λ byte. byte == 10) bytes
+use Rattle.text.specs.Parts.{texts_of, Lacks}
 
 -- without an empty text at the end
 unfoldable pub without_end : List (List ℕ) → List (List ℕ)
@@ -15,10 +13,6 @@ without_end (text ∷ more) = text ∷ without_end more
 -- what stands between line feeds, but for nothing after the last of them
 abbrev pub lines_of : List ℕ → List (List ℕ)
 lines_of bytes = without_end (texts_of bytes)
-
--- this byte stands nowhere among the bytes
-abbrev pub Lacks : ℕ → List ℕ → Type 0
-Lacks absent bytes = All (λ byte. (byte == absent) ≡ false) bytes
 
 -- there is no line feed in it
 abbrev pub IsOneLine : List ℕ → Type 0

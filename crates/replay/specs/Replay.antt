@@ -6,7 +6,7 @@ use Rattle.std.specs.Str.{IsUtf8}
 use Rattle.std.specs.Io.KnownBytes.{Appends}
 use Rattle.base_types.specs.declared.limits.TheConstants.Limits.{INPUT_BYTES}
 use Rattle.settings_file.specs.Settings.{ServerSettings}
-use Rattle.settings_file.specs.Fault.{Fault, not_toml, fault_line}
+use Rattle.settings_file.specs.Fault.{Fault, not_toml, fault_words}
 use Rattle.settings_file.specs.Reading.{settings_of}
 use Rattle.dispatcher.specs.declared.event.Event.{Event}
 use Rattle.dispatcher.specs.declared.event.Event.TheVariants as Is
@@ -111,7 +111,7 @@ abbrev pub start_of : ServerSettings → Standing
 start_of settings = record { moment = 0; state = opening settings 1 }
 
 abbrev pub settings_refused : Fault → Said
-settings_refused fault = record { text = fault_line fault; status = Ends.Refused }
+settings_refused fault = refused_as (fault_words fault)
 
 -- the settings, and the lines that come after so many
 abbrev pub SettingsGive : Bool → List ℕ → List ℕ → ℕ → Said → Type 0

@@ -1,22 +1,19 @@
 -- What a line of a trace says, after the settings.
-use Rattle.std.specs.Prelude.{ℕ, ◌≡◌, ◌≢◌, ◌≤◌, ◌<◌, true, IsTrue, List, [], ◌++◌, length, codes, position, Option, Some, None}
-use Rattle.std.specs.Str.{bytes_eq, all_ascii_digits}
-use Rattle.std.specs.Str.Parse.{digits_value}
+use Rattle.std.specs.Prelude.{ℕ, ◌≡◌, ◌≢◌, List, [], ◌++◌, codes, position, Option, Some, None}
+use Rattle.std.specs.Str.{bytes_eq}
 use Rattle.hex.specs.Hex.{encode_lower, IsBytes}
-use Rattle.base_types.specs.declared.limits.TheConstants.Limits.{LAST_MOMENT, DEVICE_LINE_BYTES}
+use Rattle.base_types.specs.declared.limits.TheConstants.Limits.{LAST_MOMENT}
 use Rattle.base_types.specs.declared.report.Report.{Report}
 use Rattle.base_types.specs.Report.{report_of}
-use Rattle.device_link.specs.Line.{report_in}
-use Rattle.replay.specs.Lines.{Lacks}
+use Rattle.text.specs.Digits.{number_up_to}
+use Rattle.text.specs.Parts.{IsCut}
+use Rattle.device_link.specs.Line.{reported_by}
 use Rattle.replay.specs.declared.trace.Line.{Line}
 use Rattle.replay.specs.declared.trace.Line.TheVariants.{At, Ipp, Device, Tick}
 
--- decimal digits, one at least, of a moment up to the last
-pub record IsMomentIn (digits : List ℕ) (moment : ℕ) : Type 0 where
-  pub some : digits ≢ []
-  pub decimal : IsTrue (all_ascii_digits digits)
-  pub value : moment ≡ digits_value 10 digits
-  pub within : moment ≤ LAST_MOMENT
+-- decimal digits of a moment up to the last
+abbrev pub IsMomentIn : List ℕ → ℕ → Type 0
+IsMomentIn digits moment = number_up_to LAST_MOMENT digits ≡ Some moment
 
 -- the lower-case hexadecimal digits of a body, which isn't empty
 pub record IsBodyIn (digits body : List ℕ) : Type 0 where
@@ -24,21 +21,15 @@ pub record IsBodyIn (digits body : List ℕ) : Type 0 where
   pub bytes : IsBytes body
   pub written : digits ≡ encode_lower body
 
--- there is no space in it
-abbrev pub IsOneWord : List ℕ → Type 0
-IsOneWord word = Lacks 32 word
-
 -- a line that a device may write once it has said its name, and what it reports
-pub record IsReportIn (line : List ℕ) (report : Report) : Type 0 where
-  pub short : length line < DEVICE_LINE_BYTES
-  pub says : report_in true line ≡ Some (report_of report)
+abbrev pub IsReportIn : List ℕ → Report → Type 0
+IsReportIn line report = reported_by line ≡ Some (report_of report)
 
 -- the name of the device at this place, and of none before it, and such a line
 pub record IsDeviceIn (names : List (List ℕ)) (text : List ℕ) (place : ℕ) (report : Report) : Type 0 where
   pub name : List ℕ
   pub line : List ℕ
-  pub joined : text ≡ name ++ (codes " " ++ line)
-  pub word : IsOneWord name
+  pub cut : IsCut 32 text name line
   pub known : position (λ device. bytes_eq device name) names ≡ Some place
   pub heard : IsReportIn line report
 

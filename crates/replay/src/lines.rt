@@ -2,7 +2,7 @@ ghost use Rattle.std.specs.Prelude.{◌≡◌, ◌<◌, ◌≤◌, ◌+◌, ◌�
 ghost use Rattle.std.specs.Option.{option_map_or};
 ghost use Rattle.replay.specs.Lines.{lines_of, IsOneLine, IsFirst, HasNoStop, IsSplit};
 
-use base_types::find_byte;
+use text::cut_at;
 
 /// The first line of the bytes, without its line feed, and what follows; the last line may lack its
 /// line feed. Nothing where there are no bytes.
@@ -15,8 +15,8 @@ pub fn next_line(bytes: &[u8]) -> Option<(&[u8], &[u8])>
     if bytes.is_empty() {
         return None;
     }
-    match find_byte(bytes, b'\n') {
-        Some(end) => Some((&bytes[..end], &bytes[end + 1..])),
+    match cut_at(bytes, b'\n') {
+        Some(cut) => Some(cut),
         None => Some((bytes, &[])),
     }
 }

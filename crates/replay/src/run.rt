@@ -5,16 +5,16 @@ ghost use Rattle.std.specs.Str.{IsUtf8};
 ghost use Rattle.std.specs.Fmt.{decimal};
 ghost use Rattle.base_types.specs.declared.limits.TheConstants.Limits.{INPUT_BYTES};
 ghost use Rattle.settings_file.specs.Settings.{ServerSettings, MeetsLimits};
-ghost use Rattle.settings_file.specs.Fault.{Fault, fault_of, fault_line};
-ghost use Rattle.settings_file.specs.Reading.{settings_of};
+ghost use Rattle.settings_file.specs.Fault.{Fault, fault_of};
+ghost use Rattle.settings_file.specs.Reading.{settings_of, IsFaultOf};
 ghost use Rattle.replies.specs.Asked.{Asks};
-ghost use Rattle.replay.specs.Lines.{lines_of, IsOneLine};
+ghost use Rattle.replay.specs.Lines.{lines_of};
 ghost use Rattle.streams.specs.declared.exit_status.ExitStatus.TheVariants as Ends;
 ghost use Rattle.streams.specs.Said.{Said, refused_as};
 ghost use Rattle.replay.specs.Printed.{reply_line};
 ghost use Rattle.replay.specs.Log.{Hears};
-ghost use Rattle.replay.specs.Acting.{Acts, IsRequest, IsStart, IsFaultOf};
-ghost use Rattle.replay.specs.Replay.{Answers, Happens, Serves, ComesTo, IsReplyOf, Gives, LinesGive, LinesLeave, names_of, SettingsGive, SettingsLeave, TraceGives, TraceLeaves, InputGives, InputLeaves, Replays};
+ghost use Rattle.replay.specs.Acting.{Acts, IsRequest, IsStart};
+ghost use Rattle.replay.specs.Replay.{Answers, Happens, Serves, ComesTo, IsReplyOf, Gives, LinesGive, LinesLeave, names_of, settings_refused, SettingsGive, SettingsLeave, TraceGives, TraceLeaves, InputGives, InputLeaves, Replays};
 
 use crate::lines::{next_line, split_settings};
 use crate::log::Log;
@@ -24,10 +24,10 @@ use assignment::Lazy;
 use base_types::{Limits, Moment, Text};
 use dispatcher::{Answer, Core, Event, Outcome, Reply, Timed};
 use replies::{Asked, ipp_event, ipp_refusal, ipp_reply};
-use settings_file::{Settings, SettingsFault, read_settings, write_fault};
+use settings_file::{Settings, SettingsFault, read_settings_bytes, write_fault};
 use std::alloc::{AllocError, Global};
 use std::io::{Read, Write};
-use streams::{ExitStatus, InputFault, read_whole, write_front};
+use streams::{ExitStatus, InputFault, read_whole, refused_line, write_front};
 
 /// A server whose events come from a trace.
 #[derive(Drop)]
@@ -103,7 +103,7 @@ fn replay(
     ensures err { OnErr result (TraceLeaves texts trace.now output.new.items) }
 {
     let Some(parts) = split_settings(trace) else {
-        return refuse_settings(&SettingsFault::NotToml, output);
+        return refuse_settings(alloc, &SettingsFault::NotToml, output);
     };
     run_lines(alloc, parts.0, parts.1, parts.2, texts, output)
 }
@@ -124,23 +124,31 @@ fn run_lines(
 {
     match read_run(alloc, settings, texts) {
         Ok(mut run) => run.act_on(lines, before, output),
-        Err(fault) => refuse_settings(&fault, output),
+        Err(fault) => refuse_settings(alloc, &fault, output),
     }
 }
 
 /// Appends the line of refused settings, and gives its status. The error is want of memory, which the
 /// fault may be already.
-fn refuse_settings(fault: &SettingsFault, output: &mut Vec<u8>) -> Result<ExitStatus, AllocError>
-    ensures ok { IfOk result (λ status. (status ≡ Ends.Refused) × (named : Fault) × (fault_of fault.now ≡ Some named) × (output.new.items ≡ output.old.items ++ fault_line named)) }
+fn refuse_settings(
+    alloc: Global,
+    fault: &SettingsFault,
+    output: &mut Vec<u8>,
+) -> Result<ExitStatus, AllocError>
+    ensures ok { IfOk result (λ status. (status ≡ Ends.Refused) × (named : Fault) × (fault_of fault.now ≡ Some named) × (output.new.items ≡ output.old.items ++ (settings_refused named).text)) }
     ensures err { OnErr result (output.new.items ≡ output.old.items) }
 {
-    match fault {
-        SettingsFault::OutOfMemory => Err(AllocError),
-        _ => {
-            write_fault(fault, output)?;
-            Ok(ExitStatus::Refused)
-        }
-    }
+    let line = settings_line(alloc, fault)?;
+    refuse(output, &line)
+}
+
+/// The line of refused settings.
+fn settings_line(alloc: Global, fault: &SettingsFault) -> Result<Vec<u8>, AllocError>
+    ensures { IfOk result (λ line. (named : Fault) × (fault_of fault.now ≡ Some named) × (line.items ≡ (settings_refused named).text)) }
+{
+    let mut words = Vec::new(alloc);
+    write_fault(fault, &mut words)?;
+    refused_line(alloc, &words)
 }
 
 /// A server that starts, of the bytes of its settings.
@@ -148,10 +156,7 @@ fn read_run(alloc: Global, settings: &[u8], texts: bool) -> Result<Run, Settings
     ensures ok { IfOk result (λ run. IsUtf8 settings.now × (read : ServerSettings) × (settings_of settings.now ≡ Ok read) × IsStart texts read run.log run.moment run.core) }
     ensures err { IfErr result (λ e. ForSome (fault_of e) (IsFaultOf settings.now)) }
 {
-    let Ok(text) = std::str::from_utf8(settings) else {
-        return Err(SettingsFault::NotToml);
-    };
-    let settings = read_settings(alloc, text)?;
+    let settings = read_settings_bytes(alloc, settings)?;
     start_run(alloc, settings, texts).map_err(|_| SettingsFault::OutOfMemory)
 }
 
@@ -238,7 +243,6 @@ impl Run {
     /// Acts on one line, if it is one of a trace, and appends what it gives: whether it is one.
     fn act(&mut self, bytes: &[u8], output: &mut Vec<u8>) -> Result<bool, AllocError>
         requires silent { self.old.log.heard ≡ Some [] }
-        requires one_line { IsOneLine bytes.now }
         ensures ok { IfOk result (λ is_line. Acts self.old.log bytes.now (record { moment = self.old.moment; state = self.old.core }) output.old.items is_line self.new.log (record { moment = self.new.moment; state = self.new.core }) output.new.items) }
         ensures err { OnErr result (output.new.items ≡ output.old.items) }
     {

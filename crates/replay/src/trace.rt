@@ -1,16 +1,15 @@
 //! What a line of a trace says.
-ghost use Rattle.std.specs.Prelude.{◌≡◌, ◌++◌, [], IfOk, codes, position};
+ghost use Rattle.std.specs.Prelude.{◌≡◌, ◌++◌, IfOk, codes, position};
 ghost use Rattle.std.specs.Char.{is_ascii_uppercase};
 ghost use Rattle.std.specs.List.{list_any};
 ghost use Rattle.std.specs.Str.{bytes_eq};
-ghost use Rattle.device_link.specs.Stream.{Stands};
-ghost use Rattle.replay.specs.Lines.{IsOneLine};
-ghost use Rattle.replay.specs.TraceLine.{Finds, IsMomentIn, IsBodyIn, IsReportIn, IsDeviceIn, IsLine};
+ghost use Rattle.replay.specs.TraceLine.{Finds, IsMomentIn, IsBodyIn, IsDeviceIn, IsLine};
 
-use base_types::{DeviceId, Moment, Report, Text, all_digits, capped_value, find_byte};
-use device_link::{LinkError, LinkReader};
+use base_types::{DeviceId, Limits, Moment, Report, Text};
+use device_link::read_report;
 use hex::FromHexError;
 use std::alloc::{AllocError, Global};
+use text::{cut_at, number_up_to};
 
 /// A line of a trace, after the settings.
 #[derive(Drop)]
@@ -30,7 +29,6 @@ pub enum Line {
 ///
 /// The error is want of memory.
 pub fn read_line(alloc: Global, text: &[u8], devices: &[Text]) -> Result<Option<Line>, AllocError>
-    requires { IsOneLine text.now }
     ensures { IfOk result (λ line. Finds (IsLine devices.now text.now) line) }
 {
     if text == b"tick".as_slice() {
@@ -52,10 +50,8 @@ pub fn read_line(alloc: Global, text: &[u8], devices: &[Text]) -> Result<Option<
 fn read_moment(digits: &[u8]) -> Option<Moment>
     ensures { Finds (IsMomentIn digits.now) result }
 {
-    if digits.is_empty() || !all_digits(digits) {
-        return None;
-    }
-    Moment::new(capped_value(digits, u64::MAX))
+    let number = number_up_to(digits, Limits::LAST_MOMENT)?;
+    Moment::new(number)
 }
 
 /// Bytes in lower-case hexadecimal digits, at least one byte.
@@ -87,17 +83,16 @@ fn read_device_line(
     said: &[u8],
     devices: &[Text],
 ) -> Result<Option<Line>, AllocError>
-    requires { IsOneLine said.now }
     ensures { IfOk result (λ line. Finds (IsLine devices.now (codes "dev " ++ said.now)) line) }
 {
-    let Some(end) = find_byte(said, b' ') else {
+    let Some(cut) = cut_at(said, b' ') else {
         return Ok(None);
     };
-    let Some(place) = place_of(devices, &said[..end]) else {
+    let Some(place) = place_of(devices, cut.0) else {
         return Ok(None);
     };
     let device = DeviceId::new(place);
-    let report = read_report(alloc, &said[end + 1..])?;
+    let report = read_report(alloc, cut.1)?;
     Ok(report.map(|report| Line::Device(device, report)))
 }
 
@@ -106,33 +101,4 @@ fn place_of(devices: &[Text], name: &[u8]) -> Option<usize>
     ensures { result ≡ position (λ device. bytes_eq device name.now) devices.now }
 {
     devices.iter().position(|device| device.as_bytes() == name)
-}
-
-/// The report that a line is which a device writes once it has said its name.
-fn read_report(alloc: Global, line: &[u8]) -> Result<Option<Report>, AllocError>
-    requires { IsOneLine line.now }
-    ensures { IfOk result (λ report. Finds (IsReportIn line.now) report) }
-{
-    let mut reader = hear(alloc, line)?;
-    match reader.next_report() {
-        Ok(_) => {}
-        Err(LinkError::Fault(_)) => return Ok(None),
-        Err(LinkError::OutOfMemory) => return Err(AllocError),
-    }
-    match reader.next_report() {
-        Ok(report) => Ok(report),
-        Err(LinkError::Fault(_)) => Ok(None),
-        Err(LinkError::OutOfMemory) => Err(AllocError),
-    }
-}
-
-/// A reader that was fed a device's name and then a line.
-fn hear(alloc: Global, line: &[u8]) -> Result<LinkReader, AllocError>
-    ensures { IfOk result (λ reader. Stands (codes "HELLO device\n" ++ (line.now ++ codes "\n")) [] reader) }
-{
-    let mut reader = LinkReader::new(alloc);
-    reader.feed(b"HELLO device\n")?;
-    reader.feed(line)?;
-    reader.feed(b"\n")?;
-    Ok(reader)
 }

@@ -3,9 +3,10 @@ ghost use Rattle.std.specs.Prelude.{◌≡◌, IfOk};
 ghost use Rattle.std.specs.Option.{option_copied};
 ghost use Rattle.replies.specs.Target.{after_scheme, after_known_scheme, path_of, names_first, named_by, printer_at, target_of};
 
-use base_types::{Text, find_byte};
+use base_types::Text;
 use dispatcher::Target;
 use std::alloc::{AllocError, Global};
+use text::find_byte;
 
 /// The printer of a URI of the scheme ipp or http. The authority isn't looked at, and nothing is
 /// percent-decoded.

@@ -1,15 +1,15 @@
 -- Settings that are refused: what is written, and the exit status.
-use Rattle.std.specs.Prelude.{ℕ, ◌≡◌, ◌⊎◌, List, take, Option, Some, Err}
-use Rattle.std.specs.Str.{IsUtf8}
+use Rattle.std.specs.Prelude.{ℕ, ◌≡◌, ◌⊎◌, List, take, Option, Some}
 use Rattle.std.specs.Io.KnownBytes.{Appends}
-use Rattle.settings_file.specs.Fault.{Fault, not_toml, fault_line}
-use Rattle.settings_file.specs.Reading.{settings_of}
+use Rattle.settings_file.specs.Fault.{Fault, fault_words}
+use Rattle.settings_file.specs.Reading.{IsFaultOf}
+use Rattle.streams.specs.Said.{refused_as}
 use Rattle.streams.specs.declared.exit_status.ExitStatus.{ExitStatus}
 use Rattle.streams.specs.declared.exit_status.ExitStatus.TheVariants as Ends
 
--- the first fault of a file's bytes: where they aren't UTF-8 they are no TOML
-abbrev pub IsFaultOf : List ℕ → Fault → Type 0
-IsFaultOf bytes fault = (¬ (IsUtf8 bytes) × (fault ≡ not_toml)) ⊎ (IsUtf8 bytes × (settings_of bytes ≡ Err fault))
+-- the line of a fault
+abbrev pub fault_line : Fault → List ℕ
+fault_line fault = (refused_as (fault_words fault)).text
 
 -- a line is written whole, with that status; or the writer failed, and a front of it was written
 abbrev pub Says : List ℕ → Option (List ℕ) → Option (List ℕ) → ExitStatus → Type 0

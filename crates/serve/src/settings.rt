@@ -1,16 +1,14 @@
 //! The settings of a server that starts.
 ghost use Rattle.std.specs.Prelude.{◌≡◌, IfOk, IfErr, OnOk, Ok, Some};
-ghost use Rattle.std.specs.Option.{ForSome};
-ghost use Rattle.std.specs.Str.{IsUtf8};
 ghost use Rattle.settings_file.specs.Settings.{MeetsLimits};
-ghost use Rattle.settings_file.specs.Fault.{Fault, fault_of, fault_line};
+ghost use Rattle.settings_file.specs.Fault.{Fault, fault_of};
 ghost use Rattle.settings_file.specs.Reading.{settings_of};
-ghost use Rattle.serve.specs.Refusal.{IsFaultOf, Refuses, RefusesAs, Says};
+ghost use Rattle.serve.specs.Refusal.{fault_line, Refuses, RefusesAs, Says};
 
-use settings_file::{Settings, SettingsFault, read_settings, write_fault};
+use settings_file::{Settings, SettingsFault, read_settings_bytes, write_fault};
 use std::alloc::{AllocError, Global};
 use std::io::Write;
-use streams::{ExitStatus, write_front};
+use streams::{ExitStatus, refused_line, write_front};
 
 /// The settings that a file's bytes are.
 ///
@@ -28,35 +26,19 @@ pub fn read_serve<W: Write>(
     ensures silent { OnOk result (err.new ≡ err.old) }
     ensures refused { IfErr result (Refuses bytes.now (W.contents err.old) (W.contents err.new)) }
 {
-    match read_bytes(alloc, bytes) {
+    match read_settings_bytes(alloc, bytes) {
         Ok(settings) => Ok(settings),
         Err(fault) => Err(refuse(alloc, &fault, err)),
     }
-}
-
-fn read_bytes(alloc: Global, bytes: &[u8]) -> Result<Settings, SettingsFault>
-    ensures ok { IfOk result (λ settings. settings_of bytes.now ≡ Ok settings) }
-    ensures within_limits { IfOk result MeetsLimits }
-    ensures err { IfErr result (λ e. ForSome (fault_of e) (IsFaultOf bytes.now)) }
-{
-    let Ok(text) = std::str::from_utf8(bytes) else {
-        return Err(SettingsFault::NotToml);
-    };
-    read_settings(alloc, text)
 }
 
 /// The line of a fault. The error is want of memory, which the fault may be already.
 fn line_of(alloc: Global, fault: &SettingsFault) -> Result<Vec<u8>, AllocError>
     ensures { IfOk result (λ line. (named : Fault) × (fault_of fault.now ≡ Some named) × (line.items ≡ fault_line named)) }
 {
-    match fault {
-        SettingsFault::OutOfMemory => Err(AllocError),
-        _ => {
-            let mut line = Vec::new(alloc);
-            write_fault(fault, &mut line)?;
-            Ok(line)
-        }
-    }
+    let mut words = Vec::new(alloc);
+    write_fault(fault, &mut words)?;
+    refused_line(alloc, &words)
 }
 
 /// Writes a line, and gives the exit status.

@@ -4,10 +4,10 @@ ghost use Rattle.std.specs.Prelude.{◌≡◌, ◌<◌, ◌≤◌, ℕ, length, 
 ghost use Rattle.server.specs.Memory.{Sends, Gets, SamePeers, IsNext, is_open};
 
 use crate::wire::{Answer, Door, Wire, WireId};
-use base_types::drop_front;
 use std::alloc::{AllocError, Global};
 use std::cmp::min;
 use std::marker::Model;
+use text::drop_front;
 
 /// What a peer sends, and has got.
 #[derive(Drop)]

@@ -1,7 +1,7 @@
 -- What the items of an array are, found one after another.
 use Rattle.std.proofs.Common.{ℕ, List, ◌++◌, Option, option_map, Result, Ok}
 use Rattle.settings_file.specs.Fault.{Fault}
-use Rattle.settings_file.specs.Entry.{◌>>=◌}
+use Rattle.text.specs.Steps.{◌>>=◌}
 
 -- those found, and then those of the rest
 abbrev pub followed : {A : Type 0} → List A → Option (List A) → Option (List A)

@@ -20,15 +20,11 @@ use Rattle.settings_file.specs.declared.key.Key.TheVariants.{Version, UriBase, O
 use Rattle.settings_file.specs.declared.fault.SettingsFault.{SettingsFault}
 use Rattle.settings_file.specs.Fault.{Fault, Gives}
 use Rattle.settings_file.specs.Settings.{DeviceEntry, PrinterEntry, ServerSettings, IsShort, IsDeviceEntry, IsPrinterEntry, MeetsLimits}
-use Rattle.settings_file.specs.Entry.{◌>>=◌, required, number_in, number_of, number, takes, text_in, text_of, text, new_texts, list_in, list_of, optional_list, list, tables_in, tables_of, tables, item_texts, item_tables, value_at, other_key, unless_unknown, unless_twice}
+use Rattle.text.proofs.Chains.{went_on}
+use Rattle.settings_file.specs.Entry.{required, number_in, number_of, number, takes, text_in, text_of, text, new_texts, list_in, list_of, optional_list, list, tables_in, tables_of, tables, item_texts, item_tables, value_at, other_key, unless_unknown, unless_twice}
 use Rattle.settings_file.specs.Device.{has_device, place_of, device_of, devices_of}
 use Rattle.settings_file.specs.Printer.{has_printer, known_place, places_of, printer_of, printers_of}
 use Rattle.settings_file.specs.Reading.{root_keys, settings_in, settings_read, settings_of}
-
--- a chain that gives a value went through each of its steps
-chain_ok : {A B : Type 0} (r : Result A Fault) (next : A → Result B Fault) (b : B) → (r >>= next) ≡ Ok b → (a : A) × (r ≡ Ok a) × (next a ≡ Ok b)
-chain_ok (Ok a) next b h = (a, refl, h)
-chain_ok (Err f) next b h = cc
 
 form_ok : (passes : ℕ → Bool) (most : ℕ) (t : List ℕ) → cond (has_length most t) (list_all passes t) false ≡ true → HasForm passes most t
 form_ok passes most t h = by (has_length most t) refl h
@@ -105,14 +101,14 @@ number_in_ok key low high (Some (negsuc m)) n h = cc
 number_of_ok : (key : Key) (low high : ℕ) (d : Option Data) (o : Option ℕ) → number_of key low high d ≡ Ok o → ForSome o (λ n. (low ≤ n) × (n ≤ high))
 number_of_ok key low high None o h = λ n e. cc
 number_of_ok key low high (Some d) o h = λ n e.
-    let (m, read, same) = chain_ok _ _ o h in
+    let (m, read, same) = went_on _ _ o h in
     let is : m ≡ n = cc in
     let (a, b) = number_in_ok key low high (as_integer d) m read in
     (omega arith, omega arith)
 
 number_ok : (key : Key) (low high : ℕ) (table : Members) (n : ℕ) → number key low high table ≡ Ok n → (low ≤ n) × (n ≤ high)
 number_ok key low high table n h =
-    let (o, read, given) = chain_ok _ _ n h in
+    let (o, read, given) = went_on _ _ n h in
     number_of_ok key low high (value_at key table) o read n (required_ok key o n given)
 
 text_in_ok : (key : Key) (o : Option (List ℕ)) (t : List ℕ) → text_in key o ≡ Ok t → takes key t ≡ true
@@ -136,13 +132,13 @@ list_in_ok key (Some all) ts h =
 list_of_ok : (key : Key) (d : Option Data) (o : Option (List (List ℕ))) → list_of key d ≡ Ok o → ForSome o (λ ts. IsShort ts × All (λ t. IsTrue (takes key t)) ts)
 list_of_ok key None o h = λ ts e. cc
 list_of_ok key (Some d) o h = λ ts e.
-    let (read, found, same) = chain_ok _ _ o h in
+    let (read, found, same) = went_on _ _ o h in
     let is : read ≡ ts = cc in
     rw (← is) (list_in_ok key (option_and_then item_texts (as_array d)) read found)
 
 list_ok : (key : Key) (table : Members) (ts : List (List ℕ)) → list key table ≡ Ok ts → IsShort ts × All (λ t. IsTrue (takes key t)) ts
 list_ok key table ts h =
-    let (o, read, given) = chain_ok _ _ ts h in
+    let (o, read, given) = went_on _ _ ts h in
     list_of_ok key (value_at key table) o read ts (required_ok key o ts given)
 
 tables_in_ok : (key : Key) (most : ℕ) (o : Option (List Members)) (ts : List Members) → tables_in key most o ≡ Ok ts → (1 ≤ length ts) × (length ts ≤ most)
@@ -162,12 +158,12 @@ setup_ok (Some n) h = (h n refl).1
 
 device_of_ok : (earlier : List DeviceEntry) (table : Members) (device : DeviceEntry) → device_of earlier table ≡ Ok device → IsDeviceEntry device × (has_device earlier device.name ≡ false)
 device_of_ok earlier table device h =
-    let (name, name_read, h1) = chain_ok _ _ device h in
-    let (rate_one, rate_one_read, h2) = chain_ok _ _ device h1 in
-    let (rate_two, rate_two_read, h3) = chain_ok _ _ device h2 in
-    let (setup, setup_read, h4) = chain_ok _ _ device h3 in
-    let (media, media_read, h5) = chain_ok _ _ device h4 in
-    let (formats, formats_read, h6) = chain_ok _ _ device h5 in
+    let (name, name_read, h1) = went_on _ _ device h in
+    let (rate_one, rate_one_read, h2) = went_on _ _ device h1 in
+    let (rate_two, rate_two_read, h3) = went_on _ _ device h2 in
+    let (setup, setup_read, h4) = went_on _ _ device h3 in
+    let (media, media_read, h5) = went_on _ _ device h4 in
+    let (formats, formats_read, h6) = went_on _ _ device h5 in
     let h7 = known_ok _ _ device h6 in
     let (new, h8) = new_ok (has_device earlier name) name _ device h7 in
     let made : DeviceEntry = record { name = name; rate_one = rate_one; rate_two = rate_two; setup = unwrap_or setup 0; media = media; formats = formats } in
@@ -195,7 +191,7 @@ devices_of_ok earlier [] devices before differ h =
     let same : earlier ≡ devices = cc in
     rw (← same) (before, differ, omega arith)
 devices_of_ok earlier (t ∷ ts) devices before differ h =
-    let (device, read, h1) = chain_ok (device_of earlier t) _ devices h in
+    let (device, read, h1) = went_on (device_of earlier t) _ devices h in
     let (here, new) = device_of_ok earlier t device read in
     let all_before = All-push IsDeviceEntry earlier device before here in
     let all_differ = all_pairs_push (λ (a : DeviceEntry) (b : DeviceEntry). a.name ≢ b.name) earlier device differ (device_differs earlier device.name new) in
@@ -225,8 +221,8 @@ places_of_ok devices [] places h =
     let same : [] ≡ places = cc in
     rw (← same) (All-nil (λ (p : ℕ). p < length devices), refl)
 places_of_ok devices (n ∷ ns) places h =
-    let (place, found, h1) = chain_ok _ _ places h in
-    let (rest, read, h2) = chain_ok _ _ places h1 in
+    let (place, found, h1) = went_on _ _ places h in
+    let (rest, read, h2) = went_on _ _ places h1 in
     let same : place ∷ rest ≡ places = cc in
     let here = place_below devices n place (place_known n (place_of devices n) place found) in
     let (each, count) = places_of_ok devices ns rest read in
@@ -235,13 +231,13 @@ places_of_ok devices (n ∷ ns) places h =
 printer_of_ok : (devices : List DeviceEntry) (earlier : List PrinterEntry) (table : Members) (printer : PrinterEntry) → printer_of devices earlier table ≡ Ok printer
     → IsPrinterEntry (length devices) printer × (has_printer earlier printer.name ≡ false)
 printer_of_ok devices earlier table printer h =
-    let (name, name_read, h1) = chain_ok _ _ printer h in
-    let (names, names_read, h2) = chain_ok _ _ printer h1 in
-    let (media, media_read, h3) = chain_ok _ _ printer h2 in
-    let (format, format_read, h4) = chain_ok _ _ printer h3 in
+    let (name, name_read, h1) = went_on _ _ printer h in
+    let (names, names_read, h2) = went_on _ _ printer h1 in
+    let (media, media_read, h3) = went_on _ _ printer h2 in
+    let (format, format_read, h4) = went_on _ _ printer h3 in
     let h5 = known_ok _ _ printer h4 in
     let (new, h6) = new_ok (has_printer earlier name) name _ printer h5 in
-    let (places, places_read, h7) = chain_ok (places_of devices names) _ printer h6 in
+    let (places, places_read, h7) = went_on (places_of devices names) _ printer h6 in
     let made : PrinterEntry = record { name = name; devices = places; media_default = media; format_default = format } in
     let same : made ≡ printer = same_value made printer h7 in
     let (few_names, each) = list_ok Devices table names names_read in
@@ -267,7 +263,7 @@ printers_of_ok devices earlier [] printers before differ h =
     let same : earlier ≡ printers = cc in
     rw (← same) (before, differ, omega arith)
 printers_of_ok devices earlier (t ∷ ts) printers before differ h =
-    let (printer, read, h1) = chain_ok (printer_of devices earlier t) _ printers h in
+    let (printer, read, h1) = went_on (printer_of devices earlier t) _ printers h in
     let (here, new) = printer_of_ok devices earlier t printer read in
     let all_before = All-push (IsPrinterEntry (length devices)) earlier printer before here in
     let all_differ = all_pairs_push (λ (a : PrinterEntry) (b : PrinterEntry). a.name ≢ b.name) earlier printer differ (printer_differs earlier printer.name new) in
@@ -286,14 +282,14 @@ none_differ R i j d before within = absurd (omega arith)
 
 settings_in_ok : (root : Members) (settings : ServerSettings) → settings_in root ≡ Ok settings → MeetsLimits settings
 settings_in_ok root settings h =
-    let (version, version_read, h1) = chain_ok (number Version 1 1 root) _ settings h in
-    let (base, base_read, h2) = chain_ok (text UriBase root) _ settings h1 in
-    let (operators, operators_read, h3) = chain_ok (optional_list Operators root) _ settings h2 in
-    let (device_tables, device_tables_read, h4) = chain_ok (tables Device DEVICES root) _ settings h3 in
-    let (printer_tables, printer_tables_read, h5) = chain_ok (tables Printer PRINTERS root) _ settings h4 in
+    let (version, version_read, h1) = went_on (number Version 1 1 root) _ settings h in
+    let (base, base_read, h2) = went_on (text UriBase root) _ settings h1 in
+    let (operators, operators_read, h3) = went_on (optional_list Operators root) _ settings h2 in
+    let (device_tables, device_tables_read, h4) = went_on (tables Device DEVICES root) _ settings h3 in
+    let (printer_tables, printer_tables_read, h5) = went_on (tables Printer PRINTERS root) _ settings h4 in
     let h6 = known_ok (other_key root_keys root) _ settings h5 in
-    let (devices, devices_read, h7) = chain_ok (devices_of [] device_tables) _ settings h6 in
-    let (printers, printers_read, h8) = chain_ok (printers_of devices [] printer_tables) _ settings h7 in
+    let (devices, devices_read, h7) = went_on (devices_of [] device_tables) _ settings h6 in
+    let (printers, printers_read, h8) = went_on (printers_of devices [] printer_tables) _ settings h7 in
     let made : ServerSettings = record { uri_base = base; operators = unwrap_or operators []; devices = devices; printers = printers } in
     let same : made ≡ settings = same_value made settings h8 in
     let (each_device, devices_differ, count_devices) = devices_of_ok [] device_tables devices (All-nil IsDeviceEntry) (none_differ (λ (a : DeviceEntry) (b : DeviceEntry). a.name ≢ b.name)) devices_read in

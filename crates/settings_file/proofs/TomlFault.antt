@@ -10,7 +10,8 @@ use Rattle.settings_file.specs.declared.fault.SettingsFault.{SettingsFault}
 use Rattle.settings_file.specs.declared.fault.SettingsFault.TheVariants.{NotToml}
 use Rattle.settings_file.specs.Fault.{Fault, Gives, not_toml, missing, wrong_kind, out_of_range, unknown, twice}
 use Rattle.settings_file.specs.Settings.{DeviceEntry, PrinterEntry, ServerSettings}
-use Rattle.settings_file.specs.Entry.{◌>>=◌, required, number_in, number_of, number, optional_number, takes, text_in, text_of, text, new_texts, list_in, list_of, optional_list, list, tables_in, tables_of, tables, item_texts, item_tables, value_at, other_key, unless_unknown, unless_twice}
+use Rattle.text.specs.Steps.{◌>>=◌}
+use Rattle.settings_file.specs.Entry.{required, number_in, number_of, number, optional_number, takes, text_in, text_of, text, new_texts, list_in, list_of, optional_list, list, tables_in, tables_of, tables, item_texts, item_tables, value_at, other_key, unless_unknown, unless_twice}
 use Rattle.settings_file.specs.Device.{device_keys, has_device, place_of, device_of, devices_of}
 use Rattle.settings_file.specs.Printer.{printer_keys, has_printer, known_place, places_of, printer_of, printers_of}
 use Rattle.settings_file.specs.Reading.{root_keys, settings_in, settings_read, settings_of}

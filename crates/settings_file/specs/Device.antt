@@ -8,7 +8,8 @@ use Rattle.settings_file.specs.declared.key.Key.{Key}
 use Rattle.settings_file.specs.declared.key.Key.TheVariants.{Name, RateOne, RateTwo, Setup, Media, Formats}
 use Rattle.settings_file.specs.Fault.{Fault}
 use Rattle.settings_file.specs.Settings.{DeviceEntry}
-use Rattle.settings_file.specs.Entry.{◌>>=◌, optional_number, number, text, list, other_key, unless_unknown, unless_twice}
+use Rattle.text.specs.Steps.{◌>>=◌}
+use Rattle.settings_file.specs.Entry.{optional_number, number, text, list, other_key, unless_unknown, unless_twice}
 
 abbrev pub device_keys : List Key
 device_keys = Name ∷ RateOne ∷ RateTwo ∷ Setup ∷ Media ∷ Formats ∷ []

@@ -6,14 +6,9 @@ use Rattle.toml.specs.Data.{Data, Members, no_members, member, Items, no_items, 
 use Rattle.base_types.specs.declared.limits.TheConstants.Limits.{LIST_ENTRIES}
 use Rattle.settings_file.specs.declared.key.Key.{Key}
 use Rattle.settings_file.specs.declared.key.Key.TheVariants.{UriBase, Name, Media, Formats, MediaDefault, FormatDefault}
+use Rattle.text.specs.Steps.{◌>>=◌}
 use Rattle.base_types.specs.Forms.{is_name, is_media, is_format, is_uri_base}
 use Rattle.settings_file.specs.Fault.{Fault, missing, wrong_kind, out_of_range, unknown, twice, key_name}
-
--- a step, and with its value the next one; the first fault ends the chain
-infixl 10 ◌>>=◌
-abbrev pub ◌>>=◌ : {A B : Type 0} → Result A Fault → (A → Result B Fault) → Result B Fault
-Ok a >>= next = next a
-Err fault >>= next = Err fault
 
 -- the value at a key
 abbrev pub value_at : Key → Members → Option Data

@@ -1,4 +1,4 @@
--- Why settings are refused, and the line that says so.
+-- Why settings are refused, and the words that say so.
 use Rattle.std.specs.Prelude.{◌≡◌, ℕ, List, ◌++◌, Option, Some, None, IfSome, Result, Ok, Err, codes}
 use Rattle.settings_file.specs.declared.key.Key.{Key}
 use Rattle.settings_file.specs.declared.key.Key.TheVariants.{Version, UriBase, Operators, Device, Printer, Name, RateOne, RateTwo, Setup, Media, Formats, Devices, MediaDefault, FormatDefault}
@@ -41,18 +41,18 @@ fault_of (code.Unknown name) = Some (unknown name)
 fault_of (code.Twice name) = Some (twice name)
 fault_of code.OutOfMemory = None
 
--- the line of a fault that is about a key or a name
-abbrev pub line_about : List ℕ → List ℕ → List ℕ
-line_about kind name = (((codes "refused settings " ++ kind) ++ codes " ") ++ name) ++ codes "\n"
+-- a fault that is about a key or a name
+abbrev pub words_about : List ℕ → List ℕ → List ℕ
+words_about kind name = ((codes "settings " ++ kind) ++ codes " ") ++ name
 
--- the line that tells of a fault
-abbrev pub fault_line : Fault → List ℕ
-fault_line not_toml = codes "refused settings NotToml\n"
-fault_line (missing key) = line_about (codes "Missing") (key_name key)
-fault_line (wrong_kind key) = line_about (codes "WrongKind") (key_name key)
-fault_line (out_of_range key) = line_about (codes "OutOfRange") (key_name key)
-fault_line (unknown name) = line_about (codes "Unknown") name
-fault_line (twice name) = line_about (codes "Twice") name
+-- a fault in words
+abbrev pub fault_words : Fault → List ℕ
+fault_words not_toml = codes "settings NotToml"
+fault_words (missing key) = words_about (codes "Missing") (key_name key)
+fault_words (wrong_kind key) = words_about (codes "WrongKind") (key_name key)
+fault_words (out_of_range key) = words_about (codes "OutOfRange") (key_name key)
+fault_words (unknown name) = words_about (codes "Unknown") name
+fault_words (twice name) = words_about (codes "Twice") name
 
 -- what the code gives is what the definition says: its value or its fault, where it names one
 abbrev pub Gives : {A B : Type 0} → (A → B) → Result A SettingsFault → Result B Fault → Type 0

@@ -7,7 +7,8 @@ use Rattle.settings_file.specs.declared.key.Key.{Key}
 use Rattle.settings_file.specs.declared.key.Key.TheVariants.{Name, Devices, MediaDefault, FormatDefault}
 use Rattle.settings_file.specs.Fault.{Fault, unknown}
 use Rattle.settings_file.specs.Settings.{DeviceEntry, PrinterEntry}
-use Rattle.settings_file.specs.Entry.{◌>>=◌, text, list, other_key, unless_unknown, unless_twice}
+use Rattle.text.specs.Steps.{◌>>=◌}
+use Rattle.settings_file.specs.Entry.{text, list, other_key, unless_unknown, unless_twice}
 use Rattle.settings_file.specs.Device.{place_of}
 
 abbrev pub printer_keys : List Key

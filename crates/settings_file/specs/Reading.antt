@@ -1,7 +1,8 @@
 -- The settings of a text, or its first fault: the root's keys, then each device's table, then each
 -- printer's. In a table come the keys in their order, then a key that it doesn't have, then a name
 -- that an earlier table of its kind has, then the devices that a printer names.
-use Rattle.std.specs.Prelude.{ℕ, List, [], ◌∷◌, Option, Some, None, unwrap_or, Result, Ok, Err}
+use Rattle.std.specs.Prelude.{ℕ, ◌≡◌, ◌⊎◌, List, [], ◌∷◌, Option, Some, None, unwrap_or, Result, Ok, Err}
+use Rattle.std.specs.Str.{IsUtf8}
 use Rattle.toml.specs.Data.{Members}
 use Rattle.toml.specs.Parse.{parse_document}
 use Rattle.base_types.specs.declared.limits.TheConstants.Limits.{DEVICES, PRINTERS}
@@ -9,7 +10,8 @@ use Rattle.settings_file.specs.declared.key.Key.{Key}
 use Rattle.settings_file.specs.declared.key.Key.TheVariants.{Version, UriBase, Operators, Device, Printer}
 use Rattle.settings_file.specs.Fault.{Fault, not_toml}
 use Rattle.settings_file.specs.Settings.{ServerSettings}
-use Rattle.settings_file.specs.Entry.{◌>>=◌, number, text, optional_list, tables, other_key, unless_unknown}
+use Rattle.text.specs.Steps.{◌>>=◌}
+use Rattle.settings_file.specs.Entry.{number, text, optional_list, tables, other_key, unless_unknown}
 use Rattle.settings_file.specs.Device.{devices_of}
 use Rattle.settings_file.specs.Printer.{printers_of}
 
@@ -36,3 +38,7 @@ settings_read (Some root) = settings_in root
 -- the settings of a text, or its first fault
 unfoldable pub settings_of : List ℕ → Result ServerSettings Fault
 settings_of text = settings_read (parse_document text)
+
+-- the first fault of a file's bytes: where they aren't UTF-8 they are no TOML
+abbrev pub IsFaultOf : List ℕ → Fault → Type 0
+IsFaultOf bytes fault = (¬ (IsUtf8 bytes) × (fault ≡ not_toml)) ⊎ (IsUtf8 bytes × (settings_of bytes ≡ Err fault))

@@ -1,6 +1,5 @@
-ghost use Rattle.std.specs.Prelude.{◌≡◌, ◌≢◌, ◌++◌, IfOk, OnOk, OnErr};
-ghost use Rattle.std.specs.Option.{ForSome};
-ghost use Rattle.settings_file.specs.Fault.{fault_of, fault_line, line_about};
+ghost use Rattle.std.specs.Prelude.{◌≡◌, ◌++◌, IfOk, OnOk, OnErr, Some};
+ghost use Rattle.settings_file.specs.Fault.{Fault, fault_of, fault_words, words_about};
 
 use crate::key::Key;
 use base_types::Text;
@@ -52,45 +51,42 @@ impl<T: Drop> From<AllocFailed<T>> for SettingsFault {
     }
 }
 
-/// Writes the line of a fault at the end of `output`, as `refused settings Missing name` and a line
-/// feed. Want of memory isn't a fault of the settings, and has no line.
+/// Writes a fault in words at the end of `output`, as `settings Missing name`. Want of memory isn't a
+/// fault of the settings: it has no words, and is the error.
 ///
 /// # Errors
 ///
 /// Where memory is wanting nothing is written.
 pub fn write_fault(fault: &SettingsFault, output: &mut Vec<u8>) -> Result<(), AllocError>
-    requires { fault.now ≢ SettingsFault.OutOfMemory }
-    ensures ok { OnOk result (ForSome (fault_of fault.now) (λ f. output.new.items ≡ output.old.items ++ fault_line f)) }
+    ensures ok { OnOk result ((named : Fault) × (fault_of fault.now ≡ Some named) × (output.new.items ≡ output.old.items ++ fault_words named)) }
     ensures err { OnErr result (output.new.items ≡ output.old.items) }
 {
-    let line = fault_line(*output.allocator(), fault)?;
-    output.extend_from_slice(&line)
+    let words = fault_words(*output.allocator(), fault)?;
+    output.extend_from_slice(&words)
 }
 
-// The line of a fault.
-fn fault_line(alloc: Global, fault: &SettingsFault) -> Result<Vec<u8>, AllocError>
-    requires { fault.now ≢ SettingsFault.OutOfMemory }
-    ensures { IfOk result (λ line. ForSome (fault_of fault.now) (λ f. line.items ≡ fault_line f)) }
+// A fault in words.
+fn fault_words(alloc: Global, fault: &SettingsFault) -> Result<Vec<u8>, AllocError>
+    ensures { IfOk result (λ words. (named : Fault) × (fault_of fault.now ≡ Some named) × (words.items ≡ fault_words named)) }
 {
     match fault {
-        SettingsFault::NotToml => Vec::from_slice(alloc, b"refused settings NotToml\n"),
-        SettingsFault::Missing(key) => line_about(alloc, "Missing", key.name().as_bytes()),
-        SettingsFault::WrongKind(key) => line_about(alloc, "WrongKind", key.name().as_bytes()),
-        SettingsFault::OutOfRange(key) => line_about(alloc, "OutOfRange", key.name().as_bytes()),
-        SettingsFault::Unknown(name) => line_about(alloc, "Unknown", name.as_bytes()),
-        SettingsFault::Twice(name) => line_about(alloc, "Twice", name.as_bytes()),
-        SettingsFault::OutOfMemory => unreachable!(),
+        SettingsFault::NotToml => Vec::from_slice(alloc, b"settings NotToml"),
+        SettingsFault::Missing(key) => words_about(alloc, "Missing", key.name().as_bytes()),
+        SettingsFault::WrongKind(key) => words_about(alloc, "WrongKind", key.name().as_bytes()),
+        SettingsFault::OutOfRange(key) => words_about(alloc, "OutOfRange", key.name().as_bytes()),
+        SettingsFault::Unknown(name) => words_about(alloc, "Unknown", name.as_bytes()),
+        SettingsFault::Twice(name) => words_about(alloc, "Twice", name.as_bytes()),
+        SettingsFault::OutOfMemory => Err(AllocError),
     }
 }
 
-// The line of a fault that is about a key or a name.
-fn line_about(alloc: Global, kind: &str, name: &[u8]) -> Result<Vec<u8>, AllocError>
-    ensures { IfOk result (λ line. line.items ≡ line_about kind.now name.now) }
+// A fault that is about a key or a name.
+fn words_about(alloc: Global, kind: &str, name: &[u8]) -> Result<Vec<u8>, AllocError>
+    ensures { IfOk result (λ words. words.items ≡ words_about kind.now name.now) }
 {
-    let mut line = Vec::from_slice(alloc, b"refused settings ")?;
-    line.extend_from_slice(kind.as_bytes())?;
-    line.extend_from_slice(b" ")?;
-    line.extend_from_slice(name)?;
-    line.extend_from_slice(b"\n")?;
-    Ok(line)
+    let mut words = Vec::from_slice(alloc, b"settings ")?;
+    words.extend_from_slice(kind.as_bytes())?;
+    words.extend_from_slice(b" ")?;
+    words.extend_from_slice(name)?;
+    Ok(words)
 }

@@ -1,10 +1,11 @@
 ghost use Rattle.std.specs.Prelude.{◌≡◌, IfOk, IfErr, IsErrOf, None};
 ghost use Rattle.std.specs.Option.{ForSome};
+ghost use Rattle.std.specs.Str.{IsUtf8};
 ghost use Rattle.toml.specs.Parse.{parse_document};
 ghost use Rattle.toml.specs.View.{table_view};
 ghost use Rattle.settings_file.specs.Fault.{Gives, fault_of};
 ghost use Rattle.settings_file.specs.Settings.{MeetsLimits};
-ghost use Rattle.settings_file.specs.Reading.{settings_in, settings_of};
+ghost use Rattle.settings_file.specs.Reading.{settings_in, settings_of, IsFaultOf};
 
 use crate::device::read_devices;
 use crate::entry::{know_keys, number, optional_list, tables, text};
@@ -37,6 +38,22 @@ pub fn read_settings(alloc: Global, text: &str) -> Result<Settings, SettingsFaul
     ensures no_toml { IsErrOf result SettingsFault.NotToml → parse_document text.now ≡ None }
 {
     read_text(alloc, text)
+}
+
+/// The settings of a file's bytes: bytes that aren't UTF-8 are no TOML.
+///
+/// # Errors
+///
+/// As those of [`read_settings`].
+pub fn read_settings_bytes(alloc: Global, bytes: &[u8]) -> Result<Settings, SettingsFault>
+    ensures ok { IfOk result (λ settings. IsUtf8 bytes.now × (settings_of bytes.now ≡ Ok settings)) }
+    ensures within_limits { IfOk result MeetsLimits }
+    ensures refused { IfErr result (λ e. ForSome (fault_of e) (IsFaultOf bytes.now)) }
+{
+    let Ok(text) = std::str::from_utf8(bytes) else {
+        return Err(SettingsFault::NotToml);
+    };
+    read_settings(alloc, text)
 }
 
 // The settings of a text.

@@ -2,7 +2,8 @@ use Rattle.std.proofs.Common.{rules, ◌==◌}
 use Rattle.std.proofs.lemmas.Iterator.Search.{any_from_yields_List}
 use Rattle.std.proofs.lemmas.Iterator.Splits.{YieldsList-from_slice_split}
 use borrow.Author.Tests.{tests}
-use Rattle.http_front.specs.Words.{is_word, trimmed, lists_word}
+use Rattle.text.specs.Trimmed.{trimmed}
+use Rattle.http_front.specs.Words.{is_word, lists_word}
 use Rattle.http_front.proofs.words.lists_word.Goals as goal
 
 pub returns : goal.returns

@@ -1,6 +1,6 @@
 use Rattle.std.proofs.Common.{◌≡◌, map, drop}
 use Rattle.std.specs.List.{list_all}
-use Rattle.plan_text.specs.Word.{is_number}
+use Rattle.text.specs.Digits.{is_number}
 use Rattle.plan_text.proofs.values.are_numbers.Given as goal
 
 abbrev pub invariant-loop-word : goal.invariant-loop-word

@@ -1,7 +1,6 @@
-use Rattle.std.proofs.Common.{rules, arith, ◌≢◌, ◌+◌, ◌<◌, [], length, take, drop, ap, ◌∙◌, inl}
-use Rattle.std.proofs.lemmas.List.{take_rest}
+use Rattle.std.proofs.Common.{rules, arith, ◌≢◌, ◌<◌, [], ◌∷◌, length, length-append, ap, ◌∙◌, inl, refl}
 use Rattle.replay.specs.Lines.{lines_of}
-use Rattle.replay.proofs.Texts.{nothing_in, found_at, found_nowhere, first_line, last_line, no_line}
+use Rattle.replay.proofs.Texts.{nothing_in, first_line, last_line, no_line}
 use Rattle.replay.proofs.lines.next_line.Goals as goal
 
 pub returns-then-is_empty-clause-lines : goal.returns-then-is_empty-clause-lines
@@ -11,25 +10,25 @@ returns-then-is_empty-clause-lines c =
 
 pub returns-in-Some-clause-lines : goal.returns-in-Some-clause-lines
 returns-in-Some-clause-lines c =
-    let bytes = c.args.bytes.now in
-    let end = c.in-Some.end in
-    let it = found_at 10 bytes end (search rules) in
-    rw (take_rest bytes (end + 1)) (ap lines_of it.cut ∙ first_line (take end bytes) (drop (end + 1) bytes) it.lacks)
+    let it = c.in-Some.ensures.some in
+    ap lines_of it.joined ∙ first_line c.in-Some.cut.0.now c.in-Some.cut.1.now it.lacks
 
 pub returns-in-Some-clause-one_line : goal.returns-in-Some-clause-one_line
-returns-in-Some-clause-one_line c = (found_at 10 c.args.bytes.now c.in-Some.end (search rules)).lacks
+returns-in-Some-clause-one_line c = c.in-Some.ensures.some.lacks
 
 pub returns-in-Some-clause-cut : goal.returns-in-Some-clause-cut
-returns-in-Some-clause-cut c =
-    let bytes = c.args.bytes.now in
-    rw (take_rest bytes (c.in-Some.end + 1)) (inl (found_at 10 bytes c.in-Some.end (search rules)).cut)
+returns-in-Some-clause-cut c = inl c.in-Some.ensures.some.joined
+
+pub returns-in-Some-clause-shorter : goal.returns-in-Some-clause-shorter
+returns-in-Some-clause-shorter c =
+    omega (arith, ap length c.in-Some.ensures.some.joined, length-append c.in-Some.cut.0.now (10 ∷ c.in-Some.cut.1.now))
 
 pub returns-in-None-clause-lines : goal.returns-in-None-clause-lines
 returns-in-None-clause-lines c =
     let bytes = c.args.bytes.now in
     let filled : 0 < length bytes = search rules in
     let some : bytes ≢ [] = λ empty. omega (arith, ap length empty, filled) in
-    rw no_line (last_line bytes (found_nowhere 10 bytes (search rules)) some)
+    rw no_line (last_line bytes (c.in-None.ensures.none refl) some)
 
 pub returns-in-None-clause-one_line : goal.returns-in-None-clause-one_line
-returns-in-None-clause-one_line c = found_nowhere 10 c.args.bytes.now (search rules)
+returns-in-None-clause-one_line c = c.in-None.ensures.none refl

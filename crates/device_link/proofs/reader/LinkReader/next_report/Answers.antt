@@ -1,6 +1,6 @@
 use Rattle.std.proofs.Common.{rules, ◌≡◌, sym, ◌∙◌}
-use Rattle.base_types.specs.FirstLine.{first_line_of}
-use Rattle.base_types.specs.declared.line.FirstLine.TheVariants.{TooLong, Unfinished}
+use Rattle.text.specs.FirstLine.{first_line_of}
+use Rattle.text.specs.declared.line.FirstLine.TheVariants.{TooLong, Unfinished}
 use Rattle.base_types.specs.declared.limits.TheConstants.Limits.{DEVICE_LINE_BYTES}
 use Rattle.device_link.proofs.Streams.{answers_again, answers_nothing, answers_too_long}
 use Rattle.device_link.proofs.reader.LinkReader.next_report.Goals as goal

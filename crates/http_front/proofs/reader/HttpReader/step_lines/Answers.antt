@@ -1,5 +1,5 @@
 use Rattle.std.proofs.Common.{sym, ◌≡◌, ◌∙◌}
-use Rattle.base_types.specs.declared.line.FirstLine.TheVariants.{Whole, TooLong, Unfinished}
+use Rattle.text.specs.declared.line.FirstLine.TheVariants.{Whole, TooLong, Unfinished}
 use Rattle.base_types.specs.declared.limits.TheConstants.Limits.{HTTP_HEAD_BYTES}
 use Rattle.http_front.specs.Section.{section_in}
 use Rattle.http_front.proofs.Sections.{section_within}

@@ -1,6 +1,6 @@
 use Rattle.std.proofs.Common.{sym, ◌≡◌, ◌∙◌}
-use Rattle.base_types.specs.FirstLine.{first_line_of}
-use Rattle.base_types.specs.declared.line.FirstLine.TheVariants.{TooLong}
+use Rattle.text.specs.FirstLine.{first_line_of}
+use Rattle.text.specs.declared.line.FirstLine.TheVariants.{TooLong}
 use Rattle.base_types.specs.declared.limits.TheConstants.Limits.{HTTP_CHUNK_LINE_BYTES}
 use Rattle.http_front.proofs.Fronts.{refuses_long_size}
 use Rattle.http_front.proofs.reader.HttpReader.step_size.Goals as goal

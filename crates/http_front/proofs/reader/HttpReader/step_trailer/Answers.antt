@@ -1,5 +1,5 @@
 use Rattle.std.proofs.Common.{rules, subst, sym, ◌≡◌, ◌∙◌}
-use Rattle.base_types.specs.declared.line.FirstLine.TheVariants.{Whole, TooLong}
+use Rattle.text.specs.declared.line.FirstLine.TheVariants.{Whole, TooLong}
 use Rattle.base_types.specs.declared.limits.TheConstants.Limits.{HTTP_TRAILER_BYTES}
 use Rattle.http_front.specs.declared.item.HttpItem.TheVariants as item
 use Rattle.http_front.specs.declared.reader.Step.TheVariants as step

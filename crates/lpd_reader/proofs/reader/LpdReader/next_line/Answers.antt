@@ -1,6 +1,6 @@
 use Rattle.std.proofs.Common.{◌≡◌, sym, ◌∙◌}
-use Rattle.base_types.specs.FirstLine.{first_line_of}
-use Rattle.base_types.specs.declared.line.FirstLine.TheVariants.{TooLong, Unfinished}
+use Rattle.text.specs.FirstLine.{first_line_of}
+use Rattle.text.specs.declared.line.FirstLine.TheVariants.{TooLong, Unfinished}
 use Rattle.base_types.specs.declared.limits.TheConstants.Limits.{LPD_LINE_BYTES}
 use Rattle.lpd_reader.proofs.Streams.{answers_no_line, answers_too_long}
 use Rattle.lpd_reader.proofs.reader.LpdReader.next_line.Goals as goal

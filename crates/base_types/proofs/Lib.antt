@@ -1,3 +1,0 @@
-mod DigitValues
-pub mod Positions
-pub mod FirstLines

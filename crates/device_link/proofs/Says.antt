@@ -1,0 +1,12 @@
+-- Words that say nothing.
+use Rattle.std.specs.Prelude.{ℕ, ◌≡◌, Bool, List, ◌∷◌, None}
+use Rattle.std.specs.List.{slice_split}
+use Rattle.std.proofs.Common.{refl}
+use Rattle.text.proofs.Splits.{parts}
+use Rattle.device_link.specs.Line.{said}
+
+-- a word and three operands or more say nothing
+pub nothing_said : (p : ℕ → Bool) (xs word first second : List ℕ) → said (word ∷ first ∷ second ∷ slice_split p xs) ≡ None
+nothing_said p xs word first second =
+    let it = parts p xs in
+    rw it.cut refl

@@ -1,0 +1,7 @@
+mod DigitValues
+pub mod Positions
+pub mod FirstLines
+pub mod Splits
+mod Rests
+pub mod Chains
+pub mod Cuts

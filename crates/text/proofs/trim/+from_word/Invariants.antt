@@ -1,0 +1,5 @@
+use Rattle.std.proofs.Common.{length}
+use Rattle.text.proofs.trim.+from_word.Given as goal
+
+abbrev pub decreases-from_word : goal.decreases-from_word
+decreases-from_word l = length l.bytes.now

@@ -1,0 +1,5 @@
+pub mod Digits
+pub mod FirstLine
+pub mod Parts
+pub mod Steps
+pub mod Trimmed

@@ -1,0 +1,103 @@
+//! What a reader was given and hasn't read.
+ghost use Rattle.std.specs.Prelude.{◌≡◌, ◌<◌, ◌≤◌, ◌+◌, ◌++◌, [], IfOk, OnOk, OnErr, take, drop, length};
+
+use crate::bytes::drop_front;
+use std::alloc::{AllocError, Global};
+use std::marker::Model;
+use std::mem;
+
+/// The bytes that a reader was given, in pieces of any length, and hasn't read yet. In clauses it is
+/// the list of them.
+#[derive(Debug, Drop)]
+pub struct Unread {
+    buffer: Vec<u8>,
+    /// How many bytes of the buffer are read.
+    start: usize,
+}
+
+impl Model for Unread {
+    ghost use Rattle.std.specs.Prelude.{ℕ, List, ◌≤◌, drop, length};
+
+    ghost Value = { List ℕ };
+
+    ghost view = { λ u. drop u.start u.buffer.items };
+
+    ghost invariant = { λ u. u.start ≤ length u.buffer.items };
+}
+
+impl Unread {
+    /// No bytes yet.
+    pub fn new(alloc: Global) -> Unread
+        ensures { result ≡ [] }
+    {
+        Unread {
+            buffer: Vec::new(alloc),
+            start: 0,
+        }
+    }
+
+    /// The bytes, in order.
+    pub fn bytes(&self) -> &[u8]
+        ensures { result.now ≡ self.now }
+    {
+        &self.buffer[self.start..]
+    }
+
+    /// Adds bytes behind those that are there. Where there is no memory, nothing is added.
+    #[tactic(auto, using(crate::proofs::Rests::rest_with))]
+    pub fn append(&mut self, piece: &[u8]) -> Result<(), AllocError>
+        ensures ok { OnOk result (self.new ≡ self.old ++ piece.now) }
+        ensures err { OnErr result (self.new ≡ self.old) }
+    {
+        self.forget_read();
+        self.buffer.extend_from_slice(piece)
+    }
+
+    /// Goes past so many bytes.
+    pub fn pass(&mut self, count: usize)
+        requires { count ≤ length self.old }
+        ensures { self.new ≡ drop count self.old }
+    {
+        self.start = self.start + count;
+    }
+
+    /// Goes past a line of so many bytes, and its line feed.
+    pub fn pass_line(&mut self, count: usize)
+        requires { count < length self.old }
+        ensures { self.new ≡ drop (count + 1) self.old }
+    {
+        self.start = self.start + count + 1;
+    }
+
+    /// Takes the first bytes away, without a copy of them. Where there is no memory for the rest,
+    /// nothing is taken.
+    pub fn take_front(&mut self, count: usize) -> Result<Vec<u8>, AllocError>
+        requires { count ≤ length self.old }
+        ensures taken { IfOk result (λ front. front.items ≡ take count self.old) }
+        ensures ok { OnOk result (self.new ≡ drop count self.old) }
+        ensures err { OnErr result (self.new ≡ self.old) }
+    {
+        drop_front(&mut self.buffer, self.start);
+        self.start = 0;
+        split_front(&mut self.buffer, count)
+    }
+
+    /// Gives the room of what is read to what comes.
+    fn forget_read(&mut self)
+        ensures { self.new ≡ self.old }
+    {
+        drop_front(&mut self.buffer, self.start);
+        self.start = 0;
+    }
+}
+
+/// Splits off the first bytes.
+fn split_front(buffer: &mut Vec<u8>, count: usize) -> Result<Vec<u8>, AllocError>
+    requires { count ≤ length buffer.old.items }
+    ensures front { IfOk result (λ front. front.items ≡ take count buffer.old.items) }
+    ensures ok { OnOk result (buffer.new.items ≡ drop count buffer.old.items) }
+    ensures err { OnErr result (buffer.new.items ≡ buffer.old.items) }
+{
+    let rest = buffer.split_off(count)?;
+    Ok(mem::replace(buffer, rest))
+}
