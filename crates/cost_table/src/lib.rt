@@ -12,5 +12,5 @@ mod row;
 
 pub use class_job::{ClassJob, build};
 pub use class_problem::{ClassProblem, is_class};
-pub use job_time::time;
+pub use job_time::{rate, time};
 pub use row::Row;

@@ -7,7 +7,7 @@ use crate::started::Started;
 use base_types::{DeviceNow, Moment, PrinterId};
 use prices::Plan;
 use settings_file::Settings;
-use spool::Spool;
+use spool::{Spool, is_paused};
 
 /// What is in a print room. None of it takes memory.
 impl PrintRoom {
@@ -57,9 +57,6 @@ impl PrintRoom {
     pub fn is_paused(&self, printer: PrinterId) -> bool
         ensures { result ≡ paused_at self.now.paused printer }
     {
-        match self.paused.get(printer.place()) {
-            Some(paused) => *paused,
-            None => false,
-        }
+        is_paused(&self.printers, printer)
     }
 }

@@ -65,7 +65,7 @@ impl PrintRoom {
         ensures { self.new ≡ marked_state now plan self.old }
     {
         self.advance(now);
-        self.spool.mark(&self.paused, plan.stranded());
+        self.spool.mark(&self.printers, plan.stranded());
         self.plan = Some(plan);
     }
 }

@@ -121,7 +121,7 @@ impl PrintRoom {
         ensures { IfOk result (λ next. (below : ℕ) → suc below ≡ priority → PlannedAbove self.now now below next.classes.items next.waits.items) }
     {
         let Planned { mut classes, waits } = planned;
-        let problem = build(self.alloc, jobs, &self.devices, &self.printers, waits)?;
+        let problem = build(self.alloc, jobs, &self.devices, &self.sets, waits)?;
         let priced = planner.plan_class(&problem)?;
         best_at_most_timetables(&problem, &priced.way);
         let waits = waits_after(self.alloc, &problem, &priced.way)?;

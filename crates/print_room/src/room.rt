@@ -6,6 +6,7 @@ ghost use Rattle.print_room.specs.State.{with_device, doing, holding, loaded_if}
 
 use crate::started::Started;
 use base_types::{Activity, DeviceNow, Medium, Moment, PrinterSet, Text};
+use job_objects::Printer;
 use prices::Plan;
 use settings_file::Settings;
 use spool::Spool;
@@ -18,8 +19,8 @@ use std::marker::Model;
 pub struct PrintRoom {
     pub(crate) settings: Settings,
     /// The devices of each printer.
-    pub(crate) printers: Vec<PrinterSet>,
-    pub(crate) paused: Vec<bool>,
+    pub(crate) sets: Vec<PrinterSet>,
+    pub(crate) printers: Vec<Printer>,
     pub(crate) devices: Vec<DeviceNow>,
     pub(crate) spool: Spool,
     pub(crate) last: Moment,
@@ -38,7 +39,7 @@ impl Model for PrintRoom {
 
     ghost view = { λ c. record {
       settings = c.settings;
-      paused = c.paused.items;
+      paused = c.printers.items;
       devices = c.devices.items;
       spool = c.spool;
       last = c.last;
@@ -46,7 +47,7 @@ impl Model for PrintRoom {
       begun = c.begun.items;
     } };
 
-    ghost invariant = { λ c. AllKeepTime c.last c.devices.items × (length c.devices.items ≤ DEVICES) × (c.printers.items ≡ sets_of c.settings) };
+    ghost invariant = { λ c. AllKeepTime c.last c.devices.items × (length c.devices.items ≤ DEVICES) × (c.sets.items ≡ sets_of c.settings) };
 }
 
 impl PrintRoom {

@@ -119,6 +119,6 @@ impl PrintRoom {
                 end,
             })),
         );
-        self.spool.start(start.job, now);
+        self.spool.begin(start.job, now);
     }
 }

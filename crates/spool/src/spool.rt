@@ -1,20 +1,19 @@
 ghost use Rattle.std.specs.Prelude.{◌≡◌, ◌≤◌, ◌<◌, ◌+◌, ◌∷◌, ◌++◌, [], OnOk, OnErr, IfErr, IfSome, IfNone, length, map, remove, slice_get, is_ok};
 ghost use Rattle.std.specs.Option.{option_copied};
-ghost use Rattle.spool.specs.Spooled.{changed, begun, relieved, handed_out, attached, expired};
+ghost use Rattle.spool.specs.Spooled.{changed, told, attached, expired};
 ghost use Rattle.base_types.specs.declared.limits.TheConstants.Limits.{LAST_JOB_ID, UNFINISHED_JOBS, JOB_DOCUMENTS, JOB_OCTETS};
 ghost use Rattle.spool.specs.Document.{octets_of};
 ghost use Rattle.spool.specs.Submission.{spooled_of};
 ghost use Rattle.spool.specs.Calls.{allows, marked_by, unfinished_jobs};
-ghost use Rattle.spool.specs.Jobs.{spooled_at, with_job, map_at, handed_out_at};
+ghost use Rattle.spool.specs.Jobs.{spooled_at, with_job, map_at, documents_told};
 ghost use Rattle.spool.specs.Spool.{IsSpool};
 
 use crate::document::Document;
-use crate::new_job::NewJob;
+use crate::new_job::{NewJob, taken};
 use crate::spooled::SpooledJob;
-use crate::taking::taken;
 use base_types::{JobId, Moment, Stranded, Text};
 use indexmap::IndexMap;
-use job_objects::{JobChange, StateRefusal};
+use job_objects::{DeviceSays, JobChange, Printer, StateRefusal};
 use std::alloc::Global;
 use std::marker::Model;
 
@@ -105,26 +104,16 @@ impl Spool {
         spooled.change(change, now)
     }
 
-    /// A device begins the job of this id, where there is one and it is pending.
-    pub(crate) fn begin(&mut self, id: JobId, now: Moment)
-        ensures { self.new ≡ record self.old { jobs = with_job id (begun now) self.old.jobs } }
-    {
-        let Some(spooled) = self.entries.get_mut(&id.number()) else {
-            return;
-        };
-        spooled.begin(now);
-    }
-
-    /// The device that has the job of this id, if there is one, lets go of it with a change.
-    pub(crate) fn relieve(&mut self, id: JobId, change: JobChange, now: Moment) -> Vec<Document>
-        ensures documents { result.items ≡ handed_out_at id self.old.jobs }
-        ensures rest { self.new ≡ record self.old { jobs = with_job id (relieved change now) self.old.jobs } }
+    /// A device says this of the job of this id, where there is one: the documents that it hands out.
+    pub(crate) fn tell_job(&mut self, id: JobId, says: DeviceSays, now: Moment) -> Vec<Document>
+        ensures documents { result.items ≡ documents_told id says self.old.jobs }
+        ensures jobs { self.new ≡ record self.old { jobs = with_job id (told says now) self.old.jobs } }
     {
         let alloc = self.alloc;
         let Some(spooled) = self.entries.get_mut(&id.number()) else {
             return Vec::new(alloc);
         };
-        spooled.relieve(alloc, change, now)
+        spooled.tell(alloc, says, now)
     }
 
     /// The job of this id takes a further document. Where memory is wanting, it hands it back.
@@ -158,14 +147,14 @@ impl Spool {
     }
 
     /// Marks the job at a place as stranded or not, as these entries say, if it is ready.
-    pub(crate) fn mark_by(&mut self, place: usize, paused: &[bool], stranded: &[Stranded])
+    pub(crate) fn mark_by(&mut self, place: usize, printers: &[Printer], stranded: &[Stranded])
         requires { place < length self.old.jobs }
-        ensures { self.new ≡ record self.old { jobs = map_at place (marked_by paused.now stranded.now) self.old.jobs } }
+        ensures { self.new ≡ record self.old { jobs = map_at place (marked_by printers.now stranded.now) self.old.jobs } }
     {
         let Some(spooled) = self.entries.get_index_mut(place) else {
             return;
         };
-        spooled.mark_by(paused, stranded);
+        spooled.mark_by(printers, stranded);
     }
 
     /// Removes the job at a place.

@@ -2,10 +2,9 @@ ghost use Rattle.std.specs.Prelude.{◌≡◌, [], IfOk, OnErr, IfErr, None, Som
 ghost use Rattle.spool.specs.Calls.{is_full, new_refusal, IsRefusal, Takes};
 
 use crate::document::Document;
-use crate::new_job::NewJob;
+use crate::new_job::{NewJob, formats_of, octets_within};
 use crate::refusal::{Refused, SpoolRefusal};
 use crate::spool::Spool;
-use crate::taking::{formats_of, octets_within};
 use base_types::{JobId, Limits};
 
 impl Spool {

@@ -10,9 +10,9 @@ invariant_of-self-2 c = (
   keyed_at c.args.place 0 c.self.inside.next c.self.inside.entries.entries c.in-Some.spooled.now c.mark_by.new.self c.self.invariant.0 (sym (c.in-Some.ensures {u = tt}).value) c.mark_by.ensures.same_job,
   c.self.invariant.1,
   c.self.invariant.2,
-  few_at (marked_by c.args.paused.now c.args.stranded.now) (marked_keeps c.args.paused.now c.args.stranded.now) c.args.place c.self.inside.entries.entries c.in-Some.spooled.now c.mark_by.new.self (sym (c.in-Some.ensures {u = tt}).value) c.mark_by.ensures.after c.self.invariant.3,
+  few_at (marked_by c.args.printers.now c.args.stranded.now) (marked_keeps c.args.printers.now c.args.stranded.now) c.args.place c.self.inside.entries.entries c.in-Some.spooled.now c.mark_by.new.self (sym (c.in-Some.ensures {u = tt}).value) c.mark_by.ensures.after c.self.invariant.3,
 )
 
 pub returns : goal.returns
 returns c =
-    changed_place c.args.place c.self.inside.next c.self.inside.entries.entries c.args.self.now c.in-Some.spooled.now c.mark_by.new.self (marked_by c.args.paused.now c.args.stranded.now) c.self.view_is (sym (c.in-Some.ensures {u = tt}).value) c.mark_by.ensures.after
+    changed_place c.args.place c.self.inside.next c.self.inside.entries.entries c.args.self.now c.in-Some.spooled.now c.mark_by.new.self (marked_by c.args.printers.now c.args.stranded.now) c.self.view_is (sym (c.in-Some.ensures {u = tt}).value) c.mark_by.ensures.after
