@@ -1,6 +1,7 @@
 ghost use Rattle.std.specs.Prelude.{◌≡◌};
 ghost use Rattle.std.specs.Option.{option_copied};
 ghost use Rattle.spool.specs.Calls.{paused_at};
+ghost use Rattle.print_room.specs.DeviceJobs.{IsRoom};
 
 use crate::room::PrintRoom;
 use crate::started::Started;
@@ -18,9 +19,11 @@ impl PrintRoom {
         &self.settings
     }
 
-    /// The devices as they are now, in the settings' order.
+    /// The devices as they are now, in the settings' order. The job that one has is in the spool, as one
+    /// that a device has, and no other device has it.
     pub fn devices(&self) -> &[DeviceNow]
-        ensures { result.now ≡ self.now.devices }
+        ensures value { result.now ≡ self.now.devices }
+        ensures kept { IsRoom self.now }
     {
         &self.devices
     }

@@ -2,6 +2,7 @@ ghost use Rattle.std.specs.Prelude.{◌≡◌, ◌≤◌, ◌<◌, length, IfSom
 ghost use Rattle.print_room.specs.Activity.{KeepsTime};
 ghost use Rattle.print_room.specs.Report.{has_job, said_of_job, time_left, without_job, left_of, paged, activity_after, jobs_after, documents_out, refitted, Reports};
 ghost use Rattle.print_room.specs.State.{with_device};
+ghost use Rattle.print_room.specs.DeviceJobs.{Agree, KeepsOrEnds};
 
 use crate::activity::{idle, job_on, running_from, stopped_at, taking};
 use crate::room::PrintRoom;
@@ -108,7 +109,8 @@ impl PrintRoom {
     /// takes no memory.
     pub fn report(&mut self, place: usize, report: &Report, now: Moment) -> Vec<Document>
         requires { self.old.last ≤ now }
-        ensures { Reports now place report.now self.old result.items self.new }
+        ensures reports { Reports now place report.now self.old result.items self.new }
+        ensures keep { KeepsOrEnds place self.old result.items self.new }
     {
         self.advance(now);
         let core = &*self;
@@ -126,6 +128,7 @@ impl PrintRoom {
     fn refit(&mut self, place: usize, report: &Report, activity: Activity)
         requires inside { place < length self.old.devices }
         requires in_time { KeepsTime self.old.last activity }
+        requires agree { Agree (with_device place (refitted report.now activity) self.old.devices) self.old.spool.jobs }
         ensures { self.new ≡ record self.old { devices = with_device place (refitted report.now activity) self.old.devices } }
     {
         if let Report::Media(names) = report {
@@ -137,6 +140,7 @@ impl PrintRoom {
 
     /// Changes the job that a report is about, if any, and gives the documents that it hands out.
     fn settle(&mut self, job: Option<JobId>, said: Option<DeviceSays>, now: Moment) -> Vec<Document>
+        requires { Agree self.old.devices (jobs_after now job said self.old.spool.jobs) }
         ensures jobs { self.new ≡ record self.old { spool = record self.old.spool { jobs = jobs_after now job said self.old.spool.jobs } } }
         ensures documents { result.items ≡ documents_out job said self.old.spool.jobs }
     {

@@ -1,8 +1,10 @@
-ghost use Rattle.std.specs.Prelude.{◌≡◌};
+ghost use Rattle.std.specs.Prelude.{◌≡◌, false};
+ghost use Rattle.job_objects.specs.DeviceSays.{is_end};
 ghost use Rattle.job_objects.specs.declared.job_change.JobChange.TheVariants as Change;
 ghost use Rattle.spool.specs.Spooled.{changed};
 ghost use Rattle.spool.specs.Kept.{jobs_told};
 ghost use Rattle.spool.specs.Jobs.{with_job, documents_told};
+ghost use Rattle.spool.specs.OnDevice.{AllStay, OthersStay};
 
 use crate::document::Document;
 use crate::spool::Spool;
@@ -14,7 +16,8 @@ use job_objects::{DeviceSays, JobChange};
 impl Spool {
     /// A device begins a pending job.
     pub fn begin(&mut self, id: JobId, now: Moment)
-        ensures { self.new ≡ record self.old { jobs = with_job id (changed Change.Begin now) self.old.jobs } }
+        ensures jobs { self.new ≡ record self.old { jobs = with_job id (changed Change.Begin now) self.old.jobs } }
+        ensures stay { AllStay self.old.jobs self.new.jobs }
     {
         let _refused = self.change(id, JobChange::Begin, now);
     }
@@ -24,6 +27,8 @@ impl Spool {
     pub fn tell(&mut self, id: JobId, says: DeviceSays, now: Moment) -> Vec<Document>
         ensures documents { result.items ≡ documents_told id says self.old.jobs }
         ensures jobs { self.new ≡ record self.old { jobs = jobs_told id says now self.old.jobs } }
+        ensures others { OthersStay id self.old.jobs self.new.jobs }
+        ensures stay { is_end says ≡ false → AllStay self.old.jobs self.new.jobs }
     {
         let documents = self.tell_job(id, says, now);
         if says.is_end() {

@@ -1,6 +1,7 @@
 ghost use Rattle.std.specs.Prelude.{◌≡◌, map};
 ghost use Rattle.spool.specs.Spooled.{expired};
 ghost use Rattle.spool.specs.Kept.{retained};
+ghost use Rattle.spool.specs.OnDevice.{AllStay};
 
 use crate::spool::Spool;
 use base_types::Moment;
@@ -9,7 +10,8 @@ impl Spool {
     /// Aborts each job whose documents stopped coming in: the last one, or the job's making where
     /// there is none, is [`base_types::Limits::INCOMING_JOB_TIME`] old or older.
     pub fn expire(&mut self, now: Moment)
-        ensures { self.new ≡ record self.old { jobs = retained (map (expired now) self.old.jobs) } }
+        ensures jobs { self.new ≡ record self.old { jobs = retained (map (expired now) self.old.jobs) } }
+        ensures stay { AllStay self.old.jobs self.new.jobs }
     {
         self.expire_all(now);
         self.forget();

@@ -1,4 +1,5 @@
-ghost use Rattle.std.specs.Prelude.{◌≡◌};
+ghost use Rattle.std.specs.Prelude.{◌≡◌, map};
+ghost use Rattle.std.specs.List.Sorted.{IsStrictlyIncreasing};
 ghost use Rattle.spool.specs.Calls.{is_ready, paused_at};
 ghost use Rattle.spool.specs.Ready.{ready_rest, ready_jobs};
 
@@ -58,7 +59,8 @@ impl<'a> Iterator for Ready<'a> {
 impl Spool {
     /// The ready jobs: those that are pending and whose printer isn't paused, by rising id.
     pub fn ready<'a>(&'a self, printers: &'a [Printer]) -> Ready<'a>
-        ensures { ready_rest result ≡ ready_jobs printers.now self.now.jobs }
+        ensures jobs { ready_rest result ≡ ready_jobs printers.now self.now.jobs }
+        ensures rising { IsStrictlyIncreasing (map (λ job. job.id) (ready_rest result)) }
     {
         Ready {
             jobs: self.jobs(),

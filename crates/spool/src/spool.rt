@@ -1,4 +1,4 @@
-ghost use Rattle.std.specs.Prelude.{◌≡◌, ◌≤◌, ◌<◌, ◌+◌, ◌∷◌, ◌++◌, [], OnOk, OnErr, IfErr, IfSome, IfNone, length, map, remove, slice_get, is_ok};
+ghost use Rattle.std.specs.Prelude.{◌≡◌, ◌≤◌, ◌<◌, ◌+◌, ◌∷◌, ◌++◌, [], false, OnOk, OnErr, IfErr, IfSome, IfNone, length, map, remove, slice_get, is_ok};
 ghost use Rattle.std.specs.Option.{option_copied};
 ghost use Rattle.spool.specs.Spooled.{changed, told, attached, expired};
 ghost use Rattle.base_types.specs.declared.limits.TheConstants.Limits.{LAST_JOB_ID, UNFINISHED_JOBS, JOB_DOCUMENTS, JOB_OCTETS};
@@ -7,6 +7,9 @@ ghost use Rattle.spool.specs.Submission.{spooled_of};
 ghost use Rattle.spool.specs.Calls.{allows, marked_by, unfinished_jobs};
 ghost use Rattle.spool.specs.Jobs.{spooled_at, with_job, map_at, documents_told};
 ghost use Rattle.spool.specs.Spool.{IsSpool};
+ghost use Rattle.spool.specs.Sound.{IsSound};
+ghost use Rattle.spool.specs.OnDevice.{AllStay, OthersStay};
+ghost use Rattle.job_objects.specs.DeviceSays.{is_end};
 
 use crate::document::Document;
 use crate::new_job::{NewJob, taken};
@@ -28,14 +31,16 @@ pub struct Spool {
 impl Model for Spool {
     ghost use Rattle.std.specs.Prelude.{◌+◌, ◌≤◌};
     ghost use Rattle.base_types.specs.declared.limits.TheConstants.Limits.{LAST_JOB_ID, UNFINISHED_JOBS};
+    ghost use Rattle.std.specs.Prelude.{All};
     ghost use Rattle.spool.specs.Jobs.{SpoolRecord, jobs_of, Keyed};
     ghost use Rattle.spool.specs.Calls.{unfinished_jobs};
+    ghost use Rattle.spool.specs.Sound.{IsSound};
 
     ghost Value = { SpoolRecord };
 
     ghost view = { λ s. record { jobs = jobs_of s.entries.entries; next = s.next } };
 
-    ghost invariant = { λ s. Keyed s.entries.entries 0 s.next × (1 ≤ s.next) × (s.next ≤ LAST_JOB_ID + 1) × (unfinished_jobs (jobs_of s.entries.entries) ≤ UNFINISHED_JOBS) };
+    ghost invariant = { λ s. Keyed s.entries.entries 0 s.next × (1 ≤ s.next) × (s.next ≤ LAST_JOB_ID + 1) × (unfinished_jobs (jobs_of s.entries.entries) ≤ UNFINISHED_JOBS) × All IsSound (jobs_of s.entries.entries) };
 }
 
 impl Spool {
@@ -73,7 +78,8 @@ impl Spool {
 
     /// The job of this id, with its documents.
     pub fn spooled(&self, id: JobId) -> Option<&SpooledJob>
-        ensures { option_copied result ≡ spooled_at id self.now.jobs }
+        ensures value { option_copied result ≡ spooled_at id self.now.jobs }
+        ensures sound { IfSome (spooled_at id self.now.jobs) IsSound }
     {
         self.entries.get(&id.number())
     }
@@ -97,6 +103,7 @@ impl Spool {
         ensures possible { is_ok result ≡ allows change now (spooled_at id self.old.jobs) }
         ensures after { self.new ≡ record self.old { jobs = with_job id (changed change now) self.old.jobs } }
         ensures kept { OnErr result (self.new ≡ self.old) }
+        ensures stay { AllStay self.old.jobs self.new.jobs }
     {
         let Some(spooled) = self.entries.get_mut(&id.number()) else {
             return Err(StateRefusal::NotPossible);
@@ -108,6 +115,8 @@ impl Spool {
     pub(crate) fn tell_job(&mut self, id: JobId, says: DeviceSays, now: Moment) -> Vec<Document>
         ensures documents { result.items ≡ documents_told id says self.old.jobs }
         ensures jobs { self.new ≡ record self.old { jobs = with_job id (told says now) self.old.jobs } }
+        ensures others { OthersStay id self.old.jobs self.new.jobs }
+        ensures stay { is_end says ≡ false → AllStay self.old.jobs self.new.jobs }
     {
         let alloc = self.alloc;
         let Some(spooled) = self.entries.get_mut(&id.number()) else {
@@ -125,6 +134,7 @@ impl Spool {
     ) -> Result<(), Document>
         requires { IfSome (spooled_at id self.old.jobs) (λ s. (s.job.documents < JOB_DOCUMENTS) × (s.job.octets + length document.contents ≤ JOB_OCTETS)) }
         ensures ok { OnOk result (self.new ≡ record self.old { jobs = with_job id (attached document now) self.old.jobs }) }
+        ensures others { OnOk result (OthersStay id self.old.jobs self.new.jobs) }
         ensures kept { OnErr result (self.new ≡ self.old) }
         ensures back { IfErr result (λ back. back ≡ document) }
     {
@@ -179,6 +189,7 @@ impl Spool {
         requires documents { length new.documents ≤ JOB_DOCUMENTS }
         requires octets { octets_of new.documents ≤ JOB_OCTETS }
         ensures ok { OnOk result (self.new ≡ record { jobs = self.old.jobs ++ spooled_of new id incoming ∷ []; next = id + 1 }) }
+        ensures stay { OnOk result (AllStay self.old.jobs self.new.jobs) }
         ensures kept { OnErr result (self.new ≡ self.old) }
         ensures back { IfErr result (λ back. back ≡ new) }
     {

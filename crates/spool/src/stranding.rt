@@ -1,6 +1,7 @@
 ghost use Rattle.std.specs.Prelude.{◌≡◌, ◌==◌, map};
 ghost use Rattle.std.specs.List.{list_any};
 ghost use Rattle.spool.specs.Calls.{marked_by};
+ghost use Rattle.spool.specs.OnDevice.{AllStay};
 
 use crate::spool::Spool;
 use crate::spooled::SpooledJob;
@@ -31,7 +32,8 @@ impl SpooledJob {
 impl Spool {
     /// Marks each ready job as stranded or not, as these entries say.
     pub fn mark(&mut self, printers: &[Printer], stranded: &[Stranded])
-        ensures { self.new ≡ record self.old { jobs = map (marked_by printers.now stranded.now) self.old.jobs } }
+        ensures jobs { self.new ≡ record self.old { jobs = map (marked_by printers.now stranded.now) self.old.jobs } }
+        ensures stay { AllStay self.old.jobs self.new.jobs }
     {
         for place in 0..self.len() {
             self.mark_by(place, printers, stranded);

@@ -1,8 +1,13 @@
 -- Lists of jobs by rising id.
-use Rattle.std.proofs.Common.{◌≡◌, ◌⊎◌, ℕ, zero, suc, ◌<◌, ◌≤◌, Bool, true, false, cond, List, [], ◌∷◌, length, map, filter, refl, sym, arith, add-one, Contains, inl, inr}
+use Rattle.std.proofs.Common.{◌≡◌, ◌⊎◌, ℕ, zero, suc, ◌<◌, ◌≤◌, Bool, true, false, cond, List, [], ◌∷◌, length, map, filter, refl, sym, arith, add-one, Contains, inl, inr, ap, subst}
 use Rattle.std.specs.Prelude.{slice_index}
 use Rattle.std.specs.List.Sorted.{IsStrictlyIncreasing}
 use Rattle.job_objects.specs.Job.{JobRecord}
+use Rattle.spool.specs.Spooled.{SpooledRecord}
+use Rattle.spool.specs.Jobs.{SpoolRecord}
+use Rattle.spool.specs.Calls.{is_ready}
+use Rattle.spool.specs.Ready.{ready_jobs}
+use Rattle.spool.specs.Spool.{IsSpool}
 
 -- the numbers rise, and none is below one
 abbrev pub RisesFrom : ℕ → List ℕ → Type 0
@@ -37,13 +42,13 @@ filter_rises test low [] h = tt
 filter_rises test low (job ∷ jobs) h = filter_step (test job) low job (filter test jobs) h.0 (filter_rises test (suc job.id) jobs h.1)
 
 -- all numbers of a rising list are at least its bound
-above_low : (low : ℕ) (xs : List ℕ) (x : ℕ) → RisesFrom low xs → Contains xs x → low ≤ x
+pub above_low : (low : ℕ) (xs : List ℕ) (x : ℕ) → RisesFrom low xs → Contains xs x → low ≤ x
 above_low low [] x h (k, below, is) = absurd (omega (arith, below))
 above_low low (y ∷ ys) x h (zero, below, is) = omega (arith, is, h.0)
 above_low low (y ∷ ys) x h (suc k, below, is) = omega (arith, h.0, above_low (suc y) ys x h.1 (k, omega (arith, below), is))
 
 -- an id is that of the first job, if it passes, or of a later one that does
-head_or : (b : Bool) (job : JobRecord) (jobs : List JobRecord) (id : ℕ) → Contains (map (λ j. j.id) (cond b (job ∷ jobs) jobs)) id → ((b ≡ true) × (id ≡ job.id)) ⊎ Contains (map (λ j. j.id) jobs) id
+pub head_or : (b : Bool) (job : JobRecord) (jobs : List JobRecord) (id : ℕ) → Contains (map (λ j. j.id) (cond b (job ∷ jobs) jobs)) id → ((b ≡ true) × (id ≡ job.id)) ⊎ Contains (map (λ j. j.id) jobs) id
 head_or true job jobs id (zero, below, is) = inl (refl, sym is)
 head_or true job jobs id (suc k, below, is) = inr (k, omega (arith, below), is)
 head_or false job jobs id found = inr found
@@ -61,3 +66,18 @@ different_ids p q apart low (job ∷ jobs) h id one other = elim (head_or (p job
     | inr later ↦ different_ids p q apart (suc job.id) jobs h.1 id earlier later
   ]
 ]
+
+jobs_ids : (jobs : List SpooledRecord) → map (λ j. j.id) (map (λ s. s.job) jobs) ≡ map (λ s. s.job.id) jobs
+jobs_ids [] = refl
+jobs_ids (s ∷ jobs) = ap (λ (xs : List ℕ). s.job.id ∷ xs) (jobs_ids jobs)
+
+-- the jobs of a spool stand by rising id, and so do those of them that are ready
+module _ (spool : SpoolRecord) (is : IsSpool spool) where
+  pub job_ids_rise : RisesFrom 0 (map (λ j. j.id) (map (λ s. s.job) spool.jobs))
+  job_ids_rise = subst (λ (xs : List ℕ). RisesFrom 0 xs) (sym (jobs_ids spool.jobs)) (rises_from_increasing 0 (map (λ s. s.job.id) spool.jobs) (λ some. omega arith) is.rising)
+
+  pub ready_ids_rise : (paused : List Bool) → RisesFrom 0 (map (λ j. j.id) (ready_jobs paused spool.jobs))
+  ready_ids_rise paused = filter_rises (is_ready paused) 0 (map (λ s. s.job) spool.jobs) job_ids_rise
+
+  pub ready_increase : (paused : List Bool) → IsStrictlyIncreasing (map (λ j. j.id) (ready_jobs paused spool.jobs))
+  ready_increase paused = increasing_from_rises 0 (map (λ j. j.id) (ready_jobs paused spool.jobs)) (ready_ids_rise paused)
