@@ -19,7 +19,7 @@ struct Step {
 }
 
 /// The least total of all ways of a class, found by trying each of them; none where there is no way.
-pub(crate) fn least_total(alloc: Global, class: &ClassProblem) -> Result<Option<u64>, AllocError> {
+pub fn least_total(alloc: Global, class: &ClassProblem) -> Result<Option<u64>, AllocError> {
     let ids = Vec::from_slice(alloc, class.ids())?;
     let free = Vec::from_slice(alloc, class.waits())?;
     let mut placed = Vec::with_capacity(alloc, ids.len())?;
@@ -49,7 +49,7 @@ fn least_from(class: &ClassProblem, partial: &mut Partial, left: usize) -> Optio
 }
 
 /// The smaller of two numbers, where there are two.
-fn smaller(one: Option<u64>, other: Option<u64>) -> Option<u64> {
+pub fn smaller(one: Option<u64>, other: Option<u64>) -> Option<u64> {
     match (one, other) {
         (Some(one), Some(other)) => Some(one.min(other)),
         (one, None) => one,
