@@ -64,7 +64,7 @@ impl ClassProblem {
         ensures { MatchOption result (place_of self.now.ids job ≡ length self.now.ids)
             (λ place. (place_of self.now.ids job ≡ place) × (place < length self.now.ids)) }
     {
-        find(self.ids(), job)
+        place_in(self.ids(), job)
     }
 
     /// The time of a job on a device, in ms; none where the device is not able, or one of the two
@@ -88,8 +88,8 @@ impl ClassProblem {
     }
 }
 
-/// The first place at which a job stands.
-fn find(ids: &[JobId], job: JobId) -> Option<usize>
+/// The first place of a list at which a job stands.
+pub fn place_in(ids: &[JobId], job: JobId) -> Option<usize>
     ensures { result ≡ position (λ id. id == job) ids.now }
 {
     ids.iter().position(|id| *id == job)

@@ -11,6 +11,6 @@ mod job_time;
 mod row;
 
 pub use class_job::{ClassJob, build};
-pub use class_problem::{ClassProblem, is_class};
-pub use job_time::time;
+pub use class_problem::{ClassProblem, is_class, place_in};
+pub use job_time::{rate, time};
 pub use row::Row;

@@ -3,7 +3,7 @@ use Rattle.std.specs.Prelude.{ℕ, true, false, ◌||◌, if◌then◌else◌, O
 use Rattle.job_objects.specs.declared.job_state.JobState.{JobState}
 use Rattle.job_objects.specs.declared.job_state.JobState.TheVariants.{Pending, Held, Processing, Stopped, Canceled, Aborted, Completed}
 use Rattle.job_objects.specs.declared.job_change.JobChange.{JobChange}
-use Rattle.job_objects.specs.declared.job_change.JobChange.TheVariants.{Close, Hold, Release, Start, Stop, Continue, Cancel, Done, Fail}
+use Rattle.job_objects.specs.declared.job_change.JobChange.TheVariants.{Close, Hold, Release, Begin, Stop, Continue, Cancel, Done, Fail}
 use Rattle.job_objects.specs.Job.{JobRecord}
 
 -- the job takes a state other than pending; it is stranded no more
@@ -27,7 +27,7 @@ changed_from Release Pending now job = Some (waiting (record job { held = false 
 changed_from Release Held now job = Some (waiting (record job { held = false }))
 changed_from Release Processing now job = Some job
 changed_from Release Stopped now job = Some job
-changed_from Start Pending now job = Some (record (moved Processing job) { started = Some now })
+changed_from Begin Pending now job = Some (record (moved Processing job) { started = Some now })
 changed_from Stop Processing now job = Some (moved Stopped job)
 changed_from Continue Stopped now job = Some (moved Processing job)
 changed_from (Cancel by) Pending now job = Some (record (ended Canceled now job) { canceled_by = Some by })

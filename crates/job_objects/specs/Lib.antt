@@ -2,4 +2,5 @@ pub mod JobState
 pub mod Job
 pub mod Impressions
 pub mod JobStep
+pub mod DeviceSays
 pub mod Reasons

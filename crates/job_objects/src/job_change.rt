@@ -15,7 +15,7 @@ pub enum JobChange {
     /// It is held no more.
     Release,
     /// A device begins it.
-    Start,
+    Begin,
     /// Its device stops.
     Stop,
     /// Its device runs again.
@@ -46,7 +46,7 @@ pub fn job_step(job: &mut Job, change: JobChange, now: Moment) -> Result<(), Sta
         (JobChange::Hold, JobState::Pending | JobState::Held) => job.hold(true),
         (JobChange::Release, JobState::Pending | JobState::Held) => job.hold(false),
         (JobChange::Release, JobState::Processing | JobState::Stopped) => {}
-        (JobChange::Start, JobState::Pending) => job.start(now),
+        (JobChange::Begin, JobState::Pending) => job.begin(now),
         (JobChange::Stop, JobState::Processing) => job.take_state(JobState::Stopped),
         (JobChange::Continue, JobState::Stopped) => job.take_state(JobState::Processing),
         (JobChange::Cancel(by), JobState::Pending | JobState::Held) => job.cancel(by, now),
@@ -103,7 +103,7 @@ impl Job {
     }
 
     /// A device begins the job.
-    fn start(&mut self, now: Moment)
+    fn begin(&mut self, now: Moment)
         ensures { self.new ≡ record (moved JobState.Processing self.old) { started = Some now } }
     {
         self.take_state(JobState::Processing);

@@ -9,8 +9,8 @@ use Rattle.prices.specs.declared.plan.PlannedClass.{PlannedClass}
 use Rattle.prices.specs.Timetable.{Slot, end_of, own_slots}
 use Rattle.plan_text.specs.declared.fault.TextFault.{TextFault}
 use Rattle.plan_text.specs.declared.fault.TextFault.TheVariants.{BadLine, OutOfRange, NoEnd}
-use Rattle.plan_checker.specs.declared.verdict.Verdict.{Verdict}
-use Rattle.plan_checker.specs.declared.verdict.Verdict.TheVariants as verdicts
+use Rattle.plan_checker.specs.declared.verdict.Fault.{Fault}
+use Rattle.plan_checker.specs.declared.verdict.Fault.TheVariants as faults
 use Rattle.plan_checker.specs.declared.verdict.PlanVerdict.{PlanVerdict}
 use Rattle.plan_checker.specs.declared.verdict.PlanVerdict.TheVariants.{Yes, No}
 use Rattle.plan_text.specs.NamedPlan.{NamedPlan}
@@ -21,21 +21,20 @@ use Rattle.streams.specs.declared.exit_status.ExitStatus.TheVariants as Ends
 use Rattle.streams.specs.Input.{IsWhole, GaveMore}
 use Rattle.streams.specs.Said.{Said, refused_as}
 
-abbrev pub fault_name : TextFault → List ℕ
-fault_name BadLine = codes "BadLine"
-fault_name OutOfRange = codes "OutOfRange"
-fault_name NoEnd = codes "NoEnd"
+abbrev pub text_fault_name : TextFault → List ℕ
+text_fault_name BadLine = codes "BadLine"
+text_fault_name OutOfRange = codes "OutOfRange"
+text_fault_name NoEnd = codes "NoEnd"
 
-abbrev pub verdict_name : Verdict → List ℕ
-verdict_name verdicts.Yes = codes "Yes"
-verdict_name verdicts.UnknownName = codes "UnknownName"
-verdict_name verdicts.Twice = codes "Twice"
-verdict_name verdicts.Missing = codes "Missing"
-verdict_name verdicts.NotAble = codes "NotAble"
-verdict_name verdicts.WrongWait = codes "WrongWait"
-verdict_name verdicts.PositivePlacePrice = codes "PositivePlacePrice"
-verdict_name verdicts.PriceTooHigh = codes "PriceTooHigh"
-verdict_name verdicts.TotalsDiffer = codes "TotalsDiffer"
+abbrev pub fault_name : Fault → List ℕ
+fault_name faults.UnknownName = codes "UnknownName"
+fault_name faults.Twice = codes "Twice"
+fault_name faults.Missing = codes "Missing"
+fault_name faults.NotAble = codes "NotAble"
+fault_name faults.WrongWait = codes "WrongWait"
+fault_name faults.PositivePlacePrice = codes "PositivePlacePrice"
+fault_name faults.PriceTooHigh = codes "PriceTooHigh"
+fault_name faults.TotalsDiffer = codes "TotalsDiffer"
 
 -- the line of a start: the job's id, the name of its device, when it starts there and when it ends
 unfoldable pub start_line : List (List ℕ) → Class → Slot → List ℕ
@@ -62,13 +61,13 @@ priority_at classes place = slice_index (map (λ class. class.priority) classes)
 -- what is said of a plan with this verdict, where the starts are asked for or not
 abbrev pub said_of : Bool → NamedPlan → PlanVerdict → Said
 said_of starts named Yes = record { text = codes "yes\n" ++ (if starts then plan_starts named.devices named.plan.classes else []); status = Ends.Done }
-said_of starts named (No place fault) = record { text = codes "no " ++ (verdict_name fault ++ (codes " class " ++ (decimal (priority_at named.plan.classes place) ++ codes "\n"))); status = Ends.No }
+said_of starts named (No place fault) = record { text = codes "no " ++ (fault_name fault ++ (codes " class " ++ (decimal (priority_at named.plan.classes place) ++ codes "\n"))); status = Ends.No }
 
 -- what is said of a text: the verdict on the plan that it is, or its first fault
 abbrev pub IsSaidOf : Bool → List ℕ → Said → Type 0
 IsSaidOf starts text said = MatchResult (plan_at text)
     (λ named. (verdict : PlanVerdict) × IsPlanVerdict named.plan verdict × (said ≡ said_of starts named verdict))
-    (λ fault. said ≡ refused_as (fault_name fault))
+    (λ fault. said ≡ refused_as (text_fault_name fault))
 
 -- what is said of an input: of the text that it is as a whole, or that it has too many bytes
 abbrev pub IsAnswer : Bool → Option (List ℕ) → Option (List ℕ) → Said → Type 0

@@ -5,12 +5,12 @@ ghost use Rattle.prices.specs.Plan.{HasOneListEach};
 ghost use Rattle.prices.specs.Prices.{IsProved};
 ghost use Rattle.plan_checker.specs.Plan.{IsPlanVerdict};
 ghost use Rattle.streams.specs.Said.{refused_as};
-ghost use Rattle.plan_audit.specs.Check.{verdict_name, plan_starts, priority_at, said_of, IsSaidOf, IsAnswer, Checks};
+ghost use Rattle.plan_audit.specs.Check.{fault_name, plan_starts, priority_at, said_of, IsSaidOf, IsAnswer, Checks};
 
-use crate::names::{fault_name, verdict_name};
+use crate::names::{fault_name, text_fault_name};
 use crate::starts::put_starts;
 use base_types::{Limits, Text};
-use plan_checker::{PlanVerdict, Verdict, check_plan};
+use plan_checker::{Fault, PlanVerdict, check_plan};
 use plan_text::{PlanText, ReadError, read_plan_text};
 use prices::PlannedClass;
 use std::alloc::{AllocError, Global};
@@ -75,7 +75,7 @@ fn answer_text(alloc: Global, text: &[u8], starts: bool) -> Result<Answer, Alloc
 {
     match read_plan_text(alloc, text) {
         Ok(named) => judge(alloc, &named, starts),
-        Err(ReadError::Fault(fault)) => refused(alloc, fault_name(fault)),
+        Err(ReadError::Fault(fault)) => refused(alloc, text_fault_name(fault)),
         Err(ReadError::OutOfMemory) => Err(AllocError),
     }
 }
@@ -109,14 +109,14 @@ fn judge(alloc: Global, named: &PlanText, starts: bool) -> Result<Answer, AllocE
 
 fn no_text(
     alloc: Global,
-    fault: Verdict,
+    fault: Fault,
     classes: &[PlannedClass],
     place: usize,
 ) -> Result<Vec<u8>, AllocError>
     requires { place < length classes.now }
-    ensures { IfOk result (λ text. text.items ≡ codes "no " ++ (verdict_name fault ++ (codes " class " ++ (decimal (priority_at classes.now place) ++ codes "\n")))) }
+    ensures { IfOk result (λ text. text.items ≡ codes "no " ++ (fault_name fault ++ (codes " class " ++ (decimal (priority_at classes.now place) ++ codes "\n")))) }
 {
-    let name = verdict_name(fault);
+    let name = fault_name(fault);
     let priority = priority_at(classes, place);
     let line = format!(in alloc; "no {name} class {priority}\n")?;
     Vec::from_slice(alloc, line.as_bytes())

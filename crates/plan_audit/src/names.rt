@@ -1,13 +1,13 @@
 //! How the answer names what is wrong.
 ghost use Rattle.std.specs.Prelude.{◌≡◌};
-ghost use Rattle.plan_audit.specs.Check.{fault_name, verdict_name};
+ghost use Rattle.plan_audit.specs.Check.{text_fault_name, fault_name};
 
-use plan_checker::Verdict;
+use plan_checker::Fault;
 use plan_text::TextFault;
 
 /// How the answer names a fault of a text.
-pub fn fault_name(fault: TextFault) -> &'static str
-    ensures { result.now ≡ fault_name fault }
+pub fn text_fault_name(fault: TextFault) -> &'static str
+    ensures { result.now ≡ text_fault_name fault }
 {
     match fault {
         TextFault::BadLine => "BadLine",
@@ -16,19 +16,18 @@ pub fn fault_name(fault: TextFault) -> &'static str
     }
 }
 
-/// How the answer names a verdict.
-pub fn verdict_name(verdict: Verdict) -> &'static str
-    ensures { result.now ≡ verdict_name verdict }
+/// How the answer names a fault of a plan.
+pub fn fault_name(fault: Fault) -> &'static str
+    ensures { result.now ≡ fault_name fault }
 {
-    match verdict {
-        Verdict::Yes => "Yes",
-        Verdict::UnknownName => "UnknownName",
-        Verdict::Twice => "Twice",
-        Verdict::Missing => "Missing",
-        Verdict::NotAble => "NotAble",
-        Verdict::WrongWait => "WrongWait",
-        Verdict::PositivePlacePrice => "PositivePlacePrice",
-        Verdict::PriceTooHigh => "PriceTooHigh",
-        Verdict::TotalsDiffer => "TotalsDiffer",
+    match fault {
+        Fault::UnknownName => "UnknownName",
+        Fault::Twice => "Twice",
+        Fault::Missing => "Missing",
+        Fault::NotAble => "NotAble",
+        Fault::WrongWait => "WrongWait",
+        Fault::PositivePlacePrice => "PositivePlacePrice",
+        Fault::PriceTooHigh => "PriceTooHigh",
+        Fault::TotalsDiffer => "TotalsDiffer",
     }
 }

@@ -8,14 +8,13 @@
 
 mod made_class;
 mod random;
-mod search;
 
 use crate::made_class::made_class;
 use crate::random::Random;
-use crate::search::least_total;
 use anyhow::{Context, Error, bail};
 use assignment::{Dense, Lazy, Planner, each_able};
 use cost_table::ClassProblem;
+use exhaustive_search::least_total;
 use std::alloc::Global;
 use std::env;
 

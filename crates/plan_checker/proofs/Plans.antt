@@ -17,8 +17,9 @@ use Rattle.prices.proofs.Each.{each_more, last_or_before}
 use Rattle.plan_checker.specs.Beside.{AboveHaveWays}
 use Rattle.plan_checker.specs.Verdict.{IsVerdict}
 use Rattle.plan_checker.specs.Plan.{beside_at, IsVerdictAt, YesAbove, IsProvedPlan}
+use Rattle.plan_checker.specs.declared.verdict.Fault.{Fault}
 use Rattle.plan_checker.specs.declared.verdict.Verdict.{Verdict}
-use Rattle.plan_checker.specs.declared.verdict.Verdict.TheVariants.{Yes}
+use Rattle.plan_checker.specs.declared.verdict.Verdict.TheVariants.{Yes, No as Faulty}
 use Rattle.plan_checker.specs.declared.verdict.PlanVerdict.TheVariants.{No, Yes as AllYes}
 use Rattle.plan_checker.proofs.Proved.{proved_from_yes, yes_from_proved, only_yes, best_from_proved}
 
@@ -54,7 +55,7 @@ module _ (plan : PlanRecord) (lists : All HasOneListEach plan.classes) where
   way_at k d l verdict =
       let class = get_or plan.classes k d in
       let y = verdict class (class_at k d l) in
-      way_from_parts class.problem class.priced.way (lists k d l).queues y.0 y.1.in_way y.2.jobs y.3
+      way_from_parts class.problem class.priced.way (lists k d l).queues y.0 y.1.0.in_way y.1.1.0.jobs y.1.1.1.0
 
   -- and so have those above one
   pub above_ways : (place : ℕ) → place ≤ length plan.classes → YesAbove plan place → AboveHaveWays (take place plan.classes)
@@ -71,8 +72,8 @@ module _ (plan : PlanRecord) (lists : All HasOneListEach plan.classes) where
         let class = get_or plan.classes k d in
         proved_from_yes (beside_at plan k) class.problem (so_far.classes k d (omega arith)) class.priced.way class.priced.prices class.priced.total (lists k d l).queues (lists k d l).places
         (so_far.yes k (omega arith) class (class_at k d l));
-    waits = λ at class found. let within : at < length plan.classes = slice_get_within plan.classes at class found in (so_far.yes at (omega arith) class found).4;
-    once = λ at class found. let within : at < length plan.classes = slice_get_within plan.classes at class found in (so_far.yes at (omega arith) class found).1.elsewhere;
+    waits = λ at class found. let within : at < length plan.classes = slice_get_within plan.classes at class found in (so_far.yes at (omega arith) class found).1.1.1.1.0;
+    once = λ at class found. let within : at < length plan.classes = slice_get_within plan.classes at class found in (so_far.yes at (omega arith) class found).1.0.elsewhere;
   }
 
   -- and each class is best
@@ -102,5 +103,8 @@ yes_above_in_proved plan proved place below class found =
     yes_from_proved class.problem class.priced.way class.priced.prices class.priced.total proof (beside_at plan place) (proved.once place class found) (proved.waits place class found)
 
 -- a fault isn't yes
-pub fault_is_no : (place : ℕ) (fault : Verdict) → No place fault ≡ AllYes → ⊥
+pub fault_is_no : (place : ℕ) (fault : Fault) → No place fault ≡ AllYes → ⊥
 fault_is_no place fault e = cc
+
+pub faulty_is_not_yes : (fault : Fault) → Faulty fault ≡ Yes → ⊥
+faulty_is_not_yes fault e = cc

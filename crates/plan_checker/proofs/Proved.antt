@@ -1,5 +1,5 @@
 -- what the parts of a verdict make
-use Rattle.std.proofs.Common.{◌≡◌, ℕ, suc, ◌+◌, ◌*◌, ◌<◌, ◌≤◌, List, [], length, get_or, refl, sym, ap, ◌∙◌, subst, arith, inl, inr, All, ℤ, pos, ◌≤ℤ◌, Some}
+use Rattle.std.proofs.Common.{◌≡◌, ℕ, suc, ◌+◌, ◌*◌, ◌<◌, ◌≤◌, List, [], ◌∷◌, length, get_or, refl, sym, ap, ◌∙◌, subst, arith, inl, inr, All, ℤ, pos, ◌≤ℤ◌, Some}
 use Rattle.std.specs.List.{concat}
 use Rattle.std.proofs.lemmas.Bool.{cases_lt}
 use Rattle.std.proofs.lemmas.List.{get_or_past, get_or_default}
@@ -15,9 +15,10 @@ use Rattle.prices.proofs.Bounds.{length_names, part_short}
 use Rattle.prices.proofs.Duality.{best_from_fair}
 use Rattle.plan_checker.specs.Fair.{NoneMissing, NonePositive, NoneTooHigh, IsFairOn}
 use Rattle.plan_checker.specs.Beside.{Beside, alone, NoneElsewhere, WaitsFollow}
-use Rattle.plan_checker.specs.Verdict.{IsVerdict}
+use Rattle.plan_checker.specs.Verdict.{MustHold, faults, IsFirst, IsVerdict}
 use Rattle.plan_checker.specs.declared.verdict.Verdict.{Verdict}
-use Rattle.plan_checker.specs.declared.verdict.Verdict.TheVariants.{Yes, UnknownName, Twice, Missing, NotAble, WrongWait, PositivePlacePrice, PriceTooHigh, TotalsDiffer}
+use Rattle.plan_checker.specs.declared.verdict.Verdict.TheVariants.{Yes, No}
+use Rattle.plan_checker.specs.declared.verdict.Fault.{Fault}
 
 pub short_lists : (c : Class) → IsClass c → (w : List (List ℕ)) (p : PriceLists) → IsWay c w → NoneMissing c w p → All (λ prices. length prices ≤ UNFINISHED_JOBS) p.places
 short_lists c ok w p h m k d l =
@@ -55,12 +56,12 @@ fair_on c ok w p n h job device t e = h device (let l : device < length c.waits 
 pub proved_from_yes : (beside : Beside) (c : Class) → IsClass c → (w : List (List ℕ)) (p : PriceLists) (total : ℕ) → length w ≡ length c.waits → length p.places ≡ length c.waits → IsVerdict beside c w p total Yes → IsProved c w p total
 proved_from_yes beside c ok w p total n m y =
     let known = y.0 in
-    let once = y.1 in
-    let missing = y.2 in
-    let able = y.3 in
-    let low = y.5 in
-    let fair = y.6 in
-    let agree = y.7 in
+    let once = y.1.0 in
+    let missing = y.1.1.0 in
+    let able = y.1.1.1.0 in
+    let low = y.1.1.1.1.1.0 in
+    let fair = y.1.1.1.1.1.1.0 in
+    let agree = y.1.1.1.1.1.1.1.0 in
     record {
       is_way = way_from_parts c w n known once.in_way missing.jobs able;
       fair = record {
@@ -93,26 +94,39 @@ module _ (c : Class) (w : List (List ℕ)) (p : PriceLists) (total : ℕ) (prove
   pub yes_from_proved : (beside : Beside) → NoneElsewhere beside c → WaitsFollow beside.above c → IsVerdict beside c w p total Yes
   yes_from_proved beside elsewhere follow = (
     proved.is_way.known,
-    record { in_way = none_twice_in c w proved.is_way; elsewhere = elsewhere },
-    none_missing_in,
-    proved.is_way.able,
-    follow,
-    all_not_positive p.places proved.fair.not_positive,
-    none_too_high_in,
-    record { way_total = proved.stated; price_sum = proved.fair.sums ∙ ap pos (sym proved.stated) },
+    (
+      record { in_way = none_twice_in c w proved.is_way; elsewhere = elsewhere },
+      (
+        none_missing_in,
+        (
+          proved.is_way.able,
+          (
+            follow,
+            (
+              all_not_positive p.places proved.fair.not_positive,
+              (
+                none_too_high_in,
+                (
+                  record { way_total = proved.stated; price_sum = proved.fair.sums ∙ ap pos (sym proved.stated) },
+                  tt,
+                ),
+              ),
+            ),
+          ),
+        ),
+      ),
+    ),
   )
 
 -- a class has no other verdict beside yes
+no_fault : (Holds : Fault → Type 0) (checks : List Fault) (fault : Fault) → IsFirst Holds checks Yes → IsFirst Holds checks (No fault) → ⊥
+no_fault Holds [] fault all first = first
+no_fault Holds (next ∷ later) fault all (inl here) = here.1 all.0
+no_fault Holds (next ∷ later) fault all (inr rest) = no_fault Holds later fault all.1 rest.1
+
 pub only_yes : (beside : Beside) (c : Class) (w : List (List ℕ)) (p : PriceLists) (total : ℕ) → IsVerdict beside c w p total Yes → (v : Verdict) → IsVerdict beside c w p total v → v ≡ Yes
-only_yes beside c w p total y Yes h = refl
-only_yes beside c w p total y UnknownName h = absurd (h y.0)
-only_yes beside c w p total y Twice h = absurd (h.1 y.1)
-only_yes beside c w p total y Missing h = absurd (h.2 y.2)
-only_yes beside c w p total y NotAble h = absurd (h.3 y.3)
-only_yes beside c w p total y WrongWait h = absurd (h.4 y.4)
-only_yes beside c w p total y PositivePlacePrice h = absurd (h.5 y.5)
-only_yes beside c w p total y PriceTooHigh h = absurd (h.6 y.6)
-only_yes beside c w p total y TotalsDiffer h = absurd (h.7 y.7)
+only_yes beside c w p total all Yes first = refl
+only_yes beside c w p total all (No fault) first = absurd (no_fault (MustHold beside c w p total) faults fault all first)
 
 pub best_from_proved : (c : Class) → IsClass c → (w : List (List ℕ)) (p : PriceLists) (total : ℕ) → IsProved c w p total → IsBest c w
 best_from_proved c ok w p total h = best_from_fair c w p ok h.is_way h.fair

@@ -7,7 +7,7 @@ use Rattle.plan_checker.specs.Beside.{Beside, NoneElsewhere, WaitsFollow}
 use Rattle.plan_checker.specs.Verdict.{IsVerdict}
 use Rattle.plan_checker.specs.declared.verdict.Verdict.{Verdict}
 use Rattle.plan_checker.specs.declared.verdict.PlanVerdict.{PlanVerdict}
-use Rattle.plan_checker.specs.declared.verdict.Verdict.TheVariants.{Yes as Proved}
+use Rattle.plan_checker.specs.declared.verdict.Verdict.TheVariants.{Yes as Proved, No as Faulty}
 use Rattle.plan_checker.specs.declared.verdict.PlanVerdict.TheVariants.{Yes, No}
 
 -- what stands beside the class at a place, the highest counted as 0
@@ -22,10 +22,10 @@ IsVerdictAt plan place verdict = (class : PlannedClass) → slice_get plan.class
 abbrev pub YesAbove : PlanRecord → ℕ → Type 0
 YesAbove plan place = (above : ℕ) → above < place → IsVerdictAt plan above Proved
 
--- all classes have the verdict yes, or the one at the place is the first that hasn't
+-- all classes have the verdict yes, or the one at the place is the first that hasn't, for this fault
 abbrev pub IsPlanVerdict : PlanRecord → PlanVerdict → Type 0
 IsPlanVerdict plan Yes = YesAbove plan (length plan.classes)
-IsPlanVerdict plan (No place fault) = (place < length plan.classes) × YesAbove plan place × IsVerdictAt plan place fault × ¬ (fault ≡ Proved)
+IsPlanVerdict plan (No place fault) = (place < length plan.classes) × YesAbove plan place × IsVerdictAt plan place (Faulty fault)
 
 -- each class is proved best, the waits of each are those left by the one above, and no job stands
 -- in two classes, or in a class and among the stranded

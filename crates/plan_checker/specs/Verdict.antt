@@ -1,25 +1,41 @@
--- What each verdict on a priced way says: the first fault, in this order, or that there is none.
-use Rattle.std.specs.Prelude.{ℕ, List}
+-- What each verdict on a priced way says: that all checks hold, or the first that doesn't.
+use Rattle.std.specs.Prelude.{◌≡◌, ◌⊎◌, ℕ, List, [], ◌∷◌}
 use Rattle.cost_table.specs.Class.{Class}
 use Rattle.prices.specs.Way.{NamesKnown, NoneTwice, AllAble}
 use Rattle.prices.specs.Prices.{PriceLists}
 use Rattle.plan_checker.specs.Beside.{Beside, NoneElsewhere, WaitsFollow}
 use Rattle.plan_checker.specs.Fair.{NoneMissing, NonePositive, NoneTooHigh, TotalsAgree}
+use Rattle.plan_checker.specs.declared.verdict.Fault.{Fault}
+use Rattle.plan_checker.specs.declared.verdict.Fault.TheVariants.{UnknownName, Twice, Missing, NotAble, WrongWait, PositivePlacePrice, PriceTooHigh, TotalsDiffer}
 use Rattle.plan_checker.specs.declared.verdict.Verdict.{Verdict}
-use Rattle.plan_checker.specs.declared.verdict.Verdict.TheVariants.{Yes, UnknownName, Twice, Missing, NotAble, WrongWait, PositivePlacePrice, PriceTooHigh, TotalsDiffer}
+use Rattle.plan_checker.specs.declared.verdict.Verdict.TheVariants.{Yes, No}
 
--- no job stands twice, in the ways or elsewhere in the plan
+-- no job stands twice, in the way or elsewhere in the plan
 pub record EachOnce (beside : Beside) (c : Class) (way : List (List ℕ)) : Type 0 where
   pub in_way : NoneTwice c way
   pub elsewhere : NoneElsewhere beside c
 
+-- what must hold, by the fault where it doesn't
+abbrev pub MustHold : Beside → Class → List (List ℕ) → PriceLists → ℕ → Fault → Type 0
+MustHold beside c way prices total UnknownName = NamesKnown c way
+MustHold beside c way prices total Twice = EachOnce beside c way
+MustHold beside c way prices total Missing = NoneMissing c way prices
+MustHold beside c way prices total NotAble = AllAble c way
+MustHold beside c way prices total WrongWait = WaitsFollow beside.above c
+MustHold beside c way prices total PositivePlacePrice = NonePositive prices.places
+MustHold beside c way prices total PriceTooHigh = NoneTooHigh c prices
+MustHold beside c way prices total TotalsDiffer = TotalsAgree c way prices total
+
+-- the faults, in the order in which they are looked for
+abbrev pub faults : List Fault
+faults = UnknownName ∷ Twice ∷ Missing ∷ NotAble ∷ WrongWait ∷ PositivePlacePrice ∷ PriceTooHigh ∷ TotalsDiffer ∷ []
+
+-- yes where all hold, else no for the first that doesn't
+abbrev pub IsFirst : (Fault → Type 0) → List Fault → Verdict → Type 0
+IsFirst Holds [] Yes = Unit {0}
+IsFirst Holds [] (No fault) = ⊥
+IsFirst Holds (next ∷ later) Yes = Holds next × IsFirst Holds later Yes
+IsFirst Holds (next ∷ later) (No fault) = ((fault ≡ next) × ¬ Holds next) ⊎ (Holds next × IsFirst Holds later (No fault))
+
 abbrev pub IsVerdict : Beside → Class → List (List ℕ) → PriceLists → ℕ → Verdict → Type 0
-IsVerdict beside c way prices total UnknownName = ¬ NamesKnown c way
-IsVerdict beside c way prices total Twice = NamesKnown c way × ¬ EachOnce beside c way
-IsVerdict beside c way prices total Missing = NamesKnown c way × EachOnce beside c way × ¬ NoneMissing c way prices
-IsVerdict beside c way prices total NotAble = NamesKnown c way × EachOnce beside c way × NoneMissing c way prices × ¬ AllAble c way
-IsVerdict beside c way prices total WrongWait = NamesKnown c way × EachOnce beside c way × NoneMissing c way prices × AllAble c way × ¬ WaitsFollow beside.above c
-IsVerdict beside c way prices total PositivePlacePrice = NamesKnown c way × EachOnce beside c way × NoneMissing c way prices × AllAble c way × WaitsFollow beside.above c × ¬ NonePositive prices.places
-IsVerdict beside c way prices total PriceTooHigh = NamesKnown c way × EachOnce beside c way × NoneMissing c way prices × AllAble c way × WaitsFollow beside.above c × NonePositive prices.places × ¬ NoneTooHigh c prices
-IsVerdict beside c way prices total TotalsDiffer = NamesKnown c way × EachOnce beside c way × NoneMissing c way prices × AllAble c way × WaitsFollow beside.above c × NonePositive prices.places × NoneTooHigh c prices × ¬ TotalsAgree c way prices total
-IsVerdict beside c way prices total Yes = NamesKnown c way × EachOnce beside c way × NoneMissing c way prices × AllAble c way × WaitsFollow beside.above c × NonePositive prices.places × NoneTooHigh c prices × TotalsAgree c way prices total
+IsVerdict beside c way prices total verdict = IsFirst (MustHold beside c way prices total) faults verdict

@@ -9,7 +9,7 @@ ghost use Rattle.plan_checker.specs.Verdict.{IsVerdict};
 use crate::beside::{none_elsewhere, waits_follow};
 use crate::fairness::{all_fair, no_place_positive, none_missing};
 use crate::totals::totals_agree;
-use crate::verdict::Verdict;
+use crate::verdict::{Fault, Verdict};
 use cost_table::ClassProblem;
 use prices::{PlannedClass, PricedWay, Stranded, all_able, names_known, none_twice};
 
@@ -28,11 +28,11 @@ pub fn check_class(class: &ClassProblem, priced: &PricedWay) -> Verdict
 {
     // Reading the class makes its invariant known.
     let _class = class.ids();
-    first_fault(class, priced, &[], &[])
+    judge(class, priced, &[], &[])
 }
 
-/// The first fault of a priced way, beside the classes above it in its plan and the stranded jobs.
-pub(crate) fn first_fault(
+/// Judges a priced way, beside the classes above it in its plan and the stranded jobs.
+pub(crate) fn judge(
     class: &ClassProblem,
     priced: &PricedWay,
     above: &[PlannedClass],
@@ -45,31 +45,31 @@ pub(crate) fn first_fault(
     ensures { IsVerdict (record { above = above.now; stranded = stranded.now }) class.now priced.now.way priced.now.prices priced.now.total result }
 {
     if !names_known(class, &priced.way) {
-        return Verdict::UnknownName;
+        return Verdict::No(Fault::UnknownName);
     }
     if !none_twice(class, &priced.way) {
-        return Verdict::Twice;
+        return Verdict::No(Fault::Twice);
     }
     if !none_elsewhere(class, above, stranded) {
-        return Verdict::Twice;
+        return Verdict::No(Fault::Twice);
     }
     if !none_missing(class, &priced.way, &priced.prices) {
-        return Verdict::Missing;
+        return Verdict::No(Fault::Missing);
     }
     if !all_able(class, &priced.way) {
-        return Verdict::NotAble;
+        return Verdict::No(Fault::NotAble);
     }
     if !waits_follow(class, above) {
-        return Verdict::WrongWait;
+        return Verdict::No(Fault::WrongWait);
     }
     if !no_place_positive(priced.prices.places()) {
-        return Verdict::PositivePlacePrice;
+        return Verdict::No(Fault::PositivePlacePrice);
     }
     if !all_fair(class, &priced.prices) {
-        return Verdict::PriceTooHigh;
+        return Verdict::No(Fault::PriceTooHigh);
     }
     if !totals_agree(class, priced) {
-        return Verdict::TotalsDiffer;
+        return Verdict::No(Fault::TotalsDiffer);
     }
     Verdict::Yes
 }

@@ -17,4 +17,4 @@ mod verdict;
 pub use class_verdict::check_class;
 pub use laws::proved_plan_is_yes;
 pub use plan_verdict::{check_plan, has_one_list_each};
-pub use verdict::{PlanVerdict, Verdict};
+pub use verdict::{Fault, PlanVerdict, Verdict};

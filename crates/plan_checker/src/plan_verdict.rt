@@ -4,7 +4,7 @@ ghost use Rattle.prices.specs.Timetable.{Slot, IsTimetable, slots_total};
 ghost use Rattle.prices.specs.Plan.{HasOneListEach};
 ghost use Rattle.plan_checker.specs.Plan.{IsPlanVerdict, IsProvedPlan};
 
-use crate::class_verdict::first_fault;
+use crate::class_verdict::judge;
 use crate::verdict::{PlanVerdict, Verdict};
 use prices::{Plan, PlannedClass};
 
@@ -27,9 +27,9 @@ pub fn check_plan(plan: &Plan) -> PlanVerdict
         let above = &classes[..place];
         // Reading the class makes its invariant known.
         let _class = class.problem.ids();
-        match first_fault(&class.problem, &class.priced, above, plan.stranded()) {
+        match judge(&class.problem, &class.priced, above, plan.stranded()) {
             Verdict::Yes => {}
-            fault => return PlanVerdict::No { place, fault },
+            Verdict::No(fault) => return PlanVerdict::No { place, fault },
         }
     }
     PlanVerdict::Yes

@@ -1,8 +1,6 @@
-/// What the checker says of a priced way: that it is proved best, or the first fault in this order.
+/// What is wrong with a priced way, in the order in which it is looked for.
 #[derive(Clone, Copy, Debug, PartialEq, Eq)]
-pub enum Verdict {
-    /// The prices prove the way best.
-    Yes,
+pub enum Fault {
     /// A queue names a job that isn't of the class.
     UnknownName,
     /// A job stands twice in the queues, or also in a class above or among the stranded.
@@ -21,6 +19,15 @@ pub enum Verdict {
     TotalsDiffer,
 }
 
+/// What the checker says of a priced way.
+#[derive(Clone, Copy, Debug, PartialEq, Eq)]
+pub enum Verdict {
+    /// The prices prove the way best.
+    Yes,
+    /// The first fault.
+    No(Fault),
+}
+
 /// What the checker says of a plan.
 ///
 /// A fault comes with the place of its class, so that a reader of the answer finds the class's
@@ -30,5 +37,5 @@ pub enum PlanVerdict {
     /// Each class is proved best.
     Yes,
     /// The first class with a fault, by its place from the top, counted from 0, and its first fault.
-    No { place: usize, fault: Verdict },
+    No { place: usize, fault: Fault },
 }

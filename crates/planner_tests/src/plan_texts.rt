@@ -1,5 +1,5 @@
 //! Texts of plans, and verdicts on them.
-use plan_checker::{PlanVerdict, Verdict, check_class, check_plan, has_one_list_each};
+use plan_checker::{Fault, PlanVerdict, Verdict, check_class, check_plan, has_one_list_each};
 use plan_text::{PlanText, ReadError, TextFault, read_plan_text};
 use prices::Plan;
 use std::alloc::Global;
@@ -50,7 +50,7 @@ fn verdict_of(alloc: Global, text: &str) -> Result<Option<PlanVerdict>, Fail> {
 fn twice(place: usize) -> PlanVerdict {
     PlanVerdict::No {
         place,
-        fault: Verdict::Twice,
+        fault: Fault::Twice,
     }
 }
 

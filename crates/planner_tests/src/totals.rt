@@ -2,6 +2,7 @@
 use crate::problems::{ALONE, THREE, TWO, class_of, way_of};
 use base_types::{DeviceId, JobId};
 use cost_table::{ClassProblem, Row, is_class};
+use exhaustive_search::{least_total, smaller};
 use prices::{Queue, Way, is_way, leaves_waits, start_of, total, waits_after};
 use std::alloc::Global;
 use std::test::Fail;
@@ -129,8 +130,6 @@ fn job_left_out(rt: HostRuntime) -> Result<(), Fail> {
     Ok(())
 }
 
-const JOBS: usize = 4;
-
 const DEVICES: usize = 3;
 /// Ways to insert each job in turn, at any place of any device.
 const INSERTIONS: usize = 3 * 6 * 9 * 12;
@@ -189,17 +188,8 @@ fn inserted(alloc: Global, ids: &[JobId], code: usize) -> Result<Way, Fail> {
     Ok(Way::new(queues))
 }
 
-/// The smaller of two sums, where there are any.
-fn smaller(one: Option<u64>, other: Option<u64>) -> Option<u64> {
-    match (one, other) {
-        (Some(one), Some(other)) => Some(one.min(other)),
-        (None, other) => other,
-        (one, None) => one,
-    }
-}
-
-/// The least total of all ways of a class.
-fn least_total(alloc: Global, class: &ClassProblem) -> Result<Option<u64>, Fail> {
+/// The least total of all ways of a class, made by insertion.
+fn least_of_ways(alloc: Global, class: &ClassProblem) -> Result<Option<u64>, Fail> {
     let mut least = None;
     for code in 0..INSERTIONS {
         let way = inserted(alloc, class.ids(), code)?;
@@ -208,52 +198,10 @@ fn least_total(alloc: Global, class: &ClassProblem) -> Result<Option<u64>, Fail>
     Ok(least)
 }
 
-/// The least sum of ends of the jobs that aren't done, over all orders in which they may start, each
-/// as soon as its device is free.
-fn least_ends(
-    class: &ClassProblem,
-    done: [bool; JOBS],
-    free: [u64; DEVICES],
-    left: usize,
-) -> Option<u64> {
-    if left == 0 {
-        return Some(0);
-    }
-    let mut least = None;
-    for pair in 0..JOBS * DEVICES {
-        let (job, device) = (pair / DEVICES, pair % DEVICES);
-        let Some(time) = time_left(class, done, job, device) else {
-            continue;
-        };
-        let end = free[device].wrapping_add(time);
-        let mut busy = free;
-        busy[device] = end;
-        let mut after = done;
-        after[job] = true;
-        let rest = least_ends(class, after, busy, left - 1);
-        least = smaller(least, rest.map(|rest| rest.wrapping_add(end)));
-    }
-    least
-}
-
-/// The time of a job that isn't done.
-fn time_left(class: &ClassProblem, done: [bool; JOBS], job: usize, device: usize) -> Option<u64> {
-    if done.get(job).copied().unwrap_or(true) {
-        return None;
-    }
-    let id = class.ids().get(job).copied()?;
-    class.time(id, DeviceId::new(device))
-}
-
 /// The least total of all ways, and the least sum of ends of all orders of starts.
 fn leasts(alloc: Global, seed: &mut u64) -> Result<(Option<u64>, Option<u64>), Fail> {
     let class = small_class(alloc, seed)?;
-    let [one, other, third] = class.waits() else {
-        return Err(Fail::from("not three devices"));
-    };
-    let free = [*one, *other, *third];
-    let ends = least_ends(&class, [false; JOBS], free, JOBS);
-    Ok((least_total(alloc, &class)?, ends))
+    Ok((least_of_ways(alloc, &class)?, least_total(alloc, &class)?))
 }
 
 /// The least total of all ways is the least sum of ends of all orders of starts.

@@ -1,4 +1,4 @@
-ghost use Rattle.std.specs.Prelude.{◌≡◌, ◌==◌, Contains, MatchOption, position};
+ghost use Rattle.std.specs.Prelude.{◌≡◌, Contains, MatchOption};
 ghost use Rattle.std.specs.List.{concat};
 ghost use Rattle.prices.specs.Way.{IsWay};
 ghost use Rattle.prices.specs.Total.{total_of};
@@ -7,7 +7,7 @@ ghost use Rattle.prices.specs.Timetable.{IsTimetable, own_slots, slots_total};
 use crate::way::Way;
 use crate::way_waits::free_after;
 use base_types::{DeviceId, JobId};
-use cost_table::ClassProblem;
+use cost_table::{ClassProblem, place_in};
 
 /// The device of a job and when it starts there, in ms from the moment that the waits are counted
 /// from: once the device is free and the jobs before it are done. None where the way hasn't the job.
@@ -24,17 +24,10 @@ pub fn start_of(class: &ClassProblem, way: &Way, job: JobId) -> Option<(DeviceId
     let _class = class.ids();
     for (place, queue) in way.queues().iter().enumerate() {
         let jobs = queue.jobs();
-        if let Some(before) = find(jobs, job) {
+        if let Some(before) = place_in(jobs, job) {
             let device = DeviceId::new(place);
             return Some((device, free_after(class, device, &jobs[..before])));
         }
     }
     None
-}
-
-/// The first place of a queue at which a job stands, counted from the front.
-fn find(jobs: &[JobId], job: JobId) -> Option<usize>
-    ensures { result ≡ position (λ id. id == job) jobs.now }
-{
-    jobs.iter().position(|id| *id == job)
 }

@@ -16,14 +16,12 @@ use Rattle.capabilities.proofs.Causes.{cause_none}
 use Rattle.cost_table.specs.Class.{Class, time_in}
 use Rattle.cost_table.specs.ClassJob.{JobOfClass, CanBuild, IsClassOf, printer_of}
 use Rattle.assignment.specs.Entries.{EachAble}
-use Rattle.spool.specs.Spooled.{SpooledRecord}
-use Rattle.spool.specs.Calls.{is_ready}
 use Rattle.spool.specs.Spool.{IsSpool}
 use Rattle.print_room.specs.State.{State, sets_of}
 use Rattle.print_room.specs.Ready.{ready_of, belongs, class_of, cause_in}
 use Rattle.print_room.specs.GoodPlan.{is_some_job, job_of_class}
 use Rattle.print_room.specs.Planned.{jobs_above, is_some_class_job}
-use Rattle.print_room.proofs.Rising.{RisesFrom, rises_from_increasing, increasing_from_rises, filter_rises}
+use Rattle.spool.proofs.RisingIds.{RisesFrom, increasing_from_rises, filter_rises, ready_ids_rise}
 use Rattle.print_room.proofs.Readying.{ready_unfinished, count_short}
 
 -- a printer without devices has none that is able
@@ -40,10 +38,6 @@ known_printer needs sets devices h = elim (cases_lt needs.printer (length sets))
   | inl lt ↦ lt
   | inr past ↦ absurd (none_able needs devices (subst (λ (set : List ℕ). HasAbleDevice needs set devices) (get_or_past sets needs.printer [] past) h))
 ]
-
-jobs_ids : (jobs : List SpooledRecord) → map (λ j. j.id) (map (λ s. s.job) jobs) ≡ map (λ s. s.job.id) jobs
-jobs_ids [] = refl
-jobs_ids (s ∷ jobs) = ap (λ (xs : List ℕ). s.job.id ∷ xs) (jobs_ids jobs)
 
 class_ids : (jobs : List JobRecord) → map (λ j. j.id) (map job_of_class jobs) ≡ map (λ j. j.id) jobs
 class_ids [] = refl
@@ -83,8 +77,7 @@ jobs_able s p jobs is = subst (λ (js : List JobOfClass). All (λ job. HasAbleDe
 module _ (s : State) (spool : IsSpool s.spool) where
   -- the ready jobs stand by rising id
   pub ready_rises : RisesFrom 0 (map (λ j. j.id) (ready_of s))
-  ready_rises = filter_rises (is_ready s.paused) 0 (map (λ x. x.job) s.spool.jobs)
-      (subst (λ (xs : List ℕ). RisesFrom 0 xs) (sym (jobs_ids s.spool.jobs)) (rises_from_increasing 0 (map (λ x. x.job.id) s.spool.jobs) (λ some. omega arith) spool.rising))
+  ready_rises = ready_ids_rise s.spool spool s.paused
 
   ready_few : length (ready_of s) ≤ UNFINISHED_JOBS
   ready_few = omega (arith, ready_unfinished s.paused s.spool.jobs, spool.few_unfinished)

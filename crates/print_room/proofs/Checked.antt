@@ -17,11 +17,11 @@ use Rattle.plan_checker.specs.Plan.{beside_at, IsProvedPlan}
 use Rattle.print_room.specs.State.{State}
 use Rattle.print_room.specs.Ready.{ready_of, belongs, class_of, cause_in, stranding, stranded_of}
 use Rattle.print_room.specs.GoodPlan.{is_some_job, job_of_class, falling, priorities_of, IsPlannedBest, AllPlannedBest}
-use Rattle.print_room.proofs.Rising.{RisesFrom, different_ids}
+use Rattle.spool.proofs.RisingIds.{RisesFrom, different_ids}
 
 -- ---- each class has the ids of its jobs, and is proved
 
-all_ids : (s : State) (waits : List ℕ) (classes : List PlannedClass) → AllPlannedBest s waits classes → (k : ℕ) (d : PlannedClass) → k < length classes → (ws : List ℕ) × IsPlannedBest s ws (get_or classes k d)
+pub all_ids : (s : State) (waits : List ℕ) (classes : List PlannedClass) → AllPlannedBest s waits classes → (k : ℕ) (d : PlannedClass) → k < length classes → (ws : List ℕ) × IsPlannedBest s ws (get_or classes k d)
 all_ids s waits [] h k d below = absurd (omega (arith, below))
 all_ids s waits (c ∷ cs) h zero d below = (waits, h.0)
 all_ids s waits (c ∷ cs) h (suc k) d below = all_ids s (waits_after c.problem c.priced.way) cs h.1 k d (omega (arith, below))
@@ -117,7 +117,7 @@ module _ (s : State) (plan : PlanRecord) (waits : List ℕ)
     (best : AllPlannedBest s waits plan.classes)
     (stranded : plan.stranded ≡ stranded_of s)
     (rises : RisesFrom 0 (map (λ j. j.id) (ready_of s))) where
-  class_ids : (k : ℕ) (d : PlannedClass) → k < length plan.classes → (get_or plan.classes k d).problem.ids ≡ map (λ j. j.id) (class_of s (get_or plan.classes k d).priority)
+  pub class_ids : (k : ℕ) (d : PlannedClass) → k < length plan.classes → (get_or plan.classes k d).problem.ids ≡ map (λ j. j.id) (class_of s (get_or plan.classes k d).priority)
   class_ids k d below = let h = all_ids s waits plan.classes best k d below in ids_of_class s h.0 (get_or plan.classes k d) h.1
 
   falls : FallsTo (suc HIGHEST_PRIORITY) (map (λ class. class.priority) plan.classes)
@@ -128,7 +128,7 @@ module _ (s : State) (plan : PlanRecord) (waits : List ℕ)
       let between = falls_between (suc HIGHEST_PRIORITY) (map (λ class. class.priority) plan.classes) falls i k before (omega (arith, length_priorities plan.classes, below)) in
       omega (arith, between, priority_at plan.classes k d below, priority_at plan.classes i d (omega arith))
 
-  apart_classes : (i k : ℕ) (d : PlannedClass) → i < k → k < length plan.classes → (job : ℕ) → Contains (get_or plan.classes k d).problem.ids job → Contains (get_or plan.classes i d).problem.ids job → ⊥
+  pub apart_classes : (i k : ℕ) (d : PlannedClass) → i < k → k < length plan.classes → (job : ℕ) → Contains (get_or plan.classes k d).problem.ids job → Contains (get_or plan.classes i d).problem.ids job → ⊥
   apart_classes i k d before below job one other =
       let p = (get_or plan.classes k d).priority in
       let q = (get_or plan.classes i d).priority in

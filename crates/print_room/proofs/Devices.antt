@@ -1,9 +1,14 @@
 -- A write of one device.
-use Rattle.std.proofs.Common.{◌≡◌, ℕ, zero, suc, ◌<◌, List, [], ◌∷◌, length, map, refl, ap, arith, get_or, set}
+use Rattle.std.proofs.Common.{◌≡◌, ℕ, zero, suc, ◌<◌, List, [], ◌∷◌, length, map, refl, ap, arith, get_or, set, All}
+use Rattle.std.proofs.lemmas.List.Elements.{All-cons, All-head, All-tail}
+use Rattle.base_types.specs.declared.device.Activity.{Activity}
+use Rattle.base_types.specs.declared.report.Report.{Report}
+use Rattle.base_types.specs.declared.report.Report.TheVariants as Says
 use Rattle.base_types.specs.Device.{Device}
 use Rattle.settings_file.specs.Settings.{DeviceEntry}
 use Rattle.print_room.specs.Opening.{opening_device}
-use Rattle.print_room.specs.State.{with_device}
+use Rattle.print_room.specs.State.{with_device, doing}
+use Rattle.print_room.specs.Report.{refitted}
 
 pub set_one : (change : Device → Device) (devices : List Device) (place : ℕ) (d : Device) → place < length devices → set devices place (change (get_or devices place d)) ≡ with_device place change devices
 set_one change [] place d inside = absurd (omega arith)
@@ -13,3 +18,25 @@ set_one change (device ∷ devices) (suc place) d inside = ap (λ (ds : List Dev
 pub length_opening : (entries : List DeviceEntry) → length (map opening_device entries) ≡ length entries
 length_opening [] = refl
 length_opening (entry ∷ entries) = ap suc (length_opening entries)
+
+-- what holds of each device holds once one of them is changed
+pub all_with : (P : Device → Type 0) (place : ℕ) (change : Device → Device) → ((d : Device) → P d → P (change d)) → (devices : List Device) → All P devices → All P (with_device place change devices)
+all_with P place change keeps [] all = all
+all_with P zero change keeps (d ∷ ds) all = All-cons P (change d) ds (keeps d (All-head P d ds all)) (All-tail P d ds all)
+all_with P (suc place) change keeps (d ∷ ds) all = All-cons P d (with_device place change ds) (All-head P d ds all) (all_with P place change keeps ds (All-tail P d ds all))
+
+pub length_with : (place : ℕ) (change : Device → Device) (devices : List Device) → length (with_device place change devices) ≡ length devices
+length_with place change [] = refl
+length_with zero change (device ∷ devices) = refl
+length_with (suc place) change (device ∷ devices) = ap suc (length_with place change devices)
+
+-- a report other than of media is of what the device does
+pub other_report : (place : ℕ) (report : Report) (activity : Activity) (devices : List Device) → ((names : _) → report ≡ Says.Media names → ⊥) → with_device place (refitted report activity) devices ≡ with_device place (doing activity) devices
+other_report place (Says.Hello name) activity devices other = refl
+other_report place (Says.Media names) activity devices other = absurd (other names refl)
+other_report place Says.Ready activity devices other = refl
+other_report place Says.Stop activity devices other = refl
+other_report place (Says.Pages number printed) activity devices other = refl
+other_report place (Says.Done number) activity devices other = refl
+other_report place (Says.Fail number) activity devices other = refl
+other_report place Says.Gone activity devices other = refl

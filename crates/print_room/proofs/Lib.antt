@@ -1,7 +1,9 @@
 pub mod Devices
-pub mod Rising
 pub mod Readying
 pub mod Building
 pub mod Priorities
 pub mod Checked
 pub mod Starts
+pub mod DeviceJobs
+pub mod Keeping
+pub mod Beginning

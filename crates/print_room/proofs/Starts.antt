@@ -9,9 +9,10 @@ use Rattle.print_room.specs.declared.started.Started.{Started}
 use Rattle.job_objects.specs.Job.{JobRecord}
 use Rattle.print_room.specs.GoodPlan.{is_some_job}
 use Rattle.print_room.specs.State.{State, with_device}
+use Rattle.print_room.proofs.Devices.{length_with}
 use Rattle.print_room.specs.Dispatch.{is_free, first_of, first_of_queue, or_next, starts_from, beginning, beginning_all}
 
-split_at : {X : Type 0} (xs : List X) (i : ℕ) (x : X) → i < length xs → x ≡ get_or xs i x → drop i xs ≡ x ∷ drop (i + 1) xs
+pub split_at : {X : Type 0} (xs : List X) (i : ℕ) (x : X) → i < length xs → x ≡ get_or xs i x → drop i xs ≡ x ∷ drop (i + 1) xs
 split_at xs i x inside is = rw (add-one, drop-cons xs i x, ← is) refl
 
 -- ---- the first job of a device's list
@@ -47,11 +48,6 @@ starts_next classes devices place device starts all start inside is begins so_fa
 
 -- ---- beginning
 
-length_with : (place : ℕ) (change : Device → Device) (devices : List Device) → length (with_device place change devices) ≡ length devices
-length_with place change [] = refl
-length_with zero change (device ∷ devices) = refl
-length_with (suc place) change (device ∷ devices) = ap suc (length_with place change devices)
-
 -- one job more begins
 pub begins_next : (now i : ℕ) (starts : List Started) (start : Started) (s t : State) → i < length starts → start ≡ get_or starts i start → beginning_all now (drop i starts) s ≡ t → beginning_all now (drop (i + 1) starts) (beginning now start s) ≡ t
 begins_next now i starts start s t inside is so_far =
@@ -75,7 +71,7 @@ or_both : (P : Started → Type 0) (first next : Option Started) → IfSome firs
 or_both P None next one other = other
 or_both P (Some first) next one other = one
 
-first_place : (classes : List PlannedClass) (place : ℕ) → IfSome (first_of classes place) (λ s. s.device ≡ place)
+pub first_place : (classes : List PlannedClass) (place : ℕ) → IfSome (first_of classes place) (λ s. s.device ≡ place)
 first_place [] place = tt
 first_place (class ∷ classes) place = or_both (λ s. s.device ≡ place) (first_of_queue class place (queue_of class.priced.way place)) (first_of classes place) (queue_place class place (queue_of class.priced.way place)) (first_place classes place)
   where

@@ -8,7 +8,8 @@ use Rattle.prices.specs.Plan.{PlanRecord}
 use Rattle.prices.specs.Way.{queue_of}
 use Rattle.prices.specs.Total.{time_on}
 use Rattle.spool.specs.Jobs.{with_job}
-use Rattle.spool.specs.Spooled.{begun}
+use Rattle.job_objects.specs.declared.job_change.JobChange.TheVariants.{Begin}
+use Rattle.spool.specs.Spooled.{changed}
 use Rattle.spool.specs.Calls.{marked_by}
 use Rattle.print_room.specs.declared.started.Started.{Started}
 use Rattle.print_room.specs.State.{State, with_device, doing}
@@ -49,7 +50,7 @@ starts_of state plan = starts_from plan.classes 0 state.devices
 abbrev pub beginning : ℕ → Started → State → State
 beginning now start state = record state {
   devices = with_device start.device (doing (Running (Some (record { job = start.job; end = now + start.time })))) state.devices;
-  spool = record state.spool { jobs = with_job start.job (begun now) state.spool.jobs };
+  spool = record state.spool { jobs = with_job start.job (changed Begin now) state.spool.jobs };
 }
 
 -- one after the other

@@ -2,8 +2,10 @@ pub mod Activity
 pub mod State
 pub mod Opening
 pub mod Report
+pub mod DeviceJobs
 pub mod Jobs
 pub mod Ready
 pub mod GoodPlan
 pub mod Planned
 pub mod Dispatch
+pub mod Beginning

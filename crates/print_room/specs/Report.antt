@@ -8,13 +8,12 @@ use Rattle.base_types.specs.declared.device.Activity.TheVariants.{Running, Stopp
 use Rattle.base_types.specs.declared.report.Report.{Report}
 use Rattle.base_types.specs.declared.report.Report.TheVariants as Says
 use Rattle.cost_table.specs.Time.{rate_of}
-use Rattle.job_objects.specs.declared.job_change.JobChange.TheVariants as Change
+use Rattle.job_objects.specs.declared.device_says.DeviceSays.{DeviceSays}
+use Rattle.job_objects.specs.declared.device_says.DeviceSays.TheVariants.{Stop, Continue, Done, Fail}
 use Rattle.spool.specs.Document.{DocumentRecord}
-use Rattle.spool.specs.Spooled.{SpooledRecord, changed, relieved}
-use Rattle.spool.specs.Kept.{retained}
-use Rattle.spool.specs.Jobs.{job_at, with_job, handed_out_at}
-use Rattle.print_room.specs.declared.report.JobReport.{JobReport}
-use Rattle.print_room.specs.declared.report.JobReport.TheVariants.{Stops, Proceeds, IsDone, Fails}
+use Rattle.spool.specs.Spooled.{SpooledRecord}
+use Rattle.spool.specs.Kept.{jobs_told}
+use Rattle.spool.specs.Jobs.{job_at, documents_told}
 use Rattle.print_room.specs.Activity.{job_on, running_from, stopped_at, taking, idle}
 use Rattle.print_room.specs.State.{State, with_device, doing, holding}
 
@@ -23,12 +22,12 @@ abbrev pub has_job : ℕ → Activity → Bool
 has_job number activity = option_map_or (λ id. id == number) (job_on activity) false
 
 -- what the report says of the job that the device has
-abbrev pub said_of_job : Report → Activity → Option JobReport
-said_of_job Says.Ready (Stopped interrupted) = Some Proceeds
-said_of_job Says.Stop (Running printing) = Some Stops
-said_of_job (Says.Done number) activity = if has_job number activity then Some IsDone else None
-said_of_job (Says.Fail number) activity = if has_job number activity then Some Fails else None
-said_of_job Says.Gone activity = Some Fails
+abbrev pub said_of_job : Report → Activity → Option DeviceSays
+said_of_job Says.Ready (Stopped interrupted) = Some Continue
+said_of_job Says.Stop (Running printing) = Some Stop
+said_of_job (Says.Done number) activity = if has_job number activity then Some Done else None
+said_of_job (Says.Fail number) activity = if has_job number activity then Some Fail else None
+said_of_job Says.Gone activity = Some Fail
 said_of_job _ _ = None
 
 -- the time left of a job of which so many impressions are printed, all copies together
@@ -64,25 +63,13 @@ abbrev pub refitted : Report → Activity → Device → Device
 refitted (Says.Media names) activity device = holding names.items device
 refitted report activity device = doing activity device
 
--- the jobs, once the device that has the job of this id said this of it; a finished job may be forgotten
-abbrev pub jobs_told : ℕ → JobReport → ℕ → List SpooledRecord → List SpooledRecord
-jobs_told id Stops now jobs = with_job id (changed Change.Stop now) jobs
-jobs_told id Proceeds now jobs = with_job id (changed Change.Continue now) jobs
-jobs_told id IsDone now jobs = retained (with_job id (relieved Change.Done now) jobs)
-jobs_told id Fails now jobs = retained (with_job id (relieved Change.Fail now) jobs)
-
-abbrev pub jobs_after : ℕ → Option ℕ → Option JobReport → List SpooledRecord → List SpooledRecord
+-- the jobs, once the device that has a job said something of it
+abbrev pub jobs_after : ℕ → Option ℕ → Option DeviceSays → List SpooledRecord → List SpooledRecord
 jobs_after now (Some id) (Some said) jobs = jobs_told id said now jobs
 jobs_after now _ _ jobs = jobs
 
--- a job that is printed, or can't be, hands its documents out
-abbrev pub documents_told : ℕ → JobReport → List SpooledRecord → List DocumentRecord
-documents_told id Stops jobs = []
-documents_told id Proceeds jobs = []
-documents_told id IsDone jobs = handed_out_at id jobs
-documents_told id Fails jobs = handed_out_at id jobs
-
-abbrev pub documents_out : Option ℕ → Option JobReport → List SpooledRecord → List DocumentRecord
+-- the documents that the job hands out then
+abbrev pub documents_out : Option ℕ → Option DeviceSays → List SpooledRecord → List DocumentRecord
 documents_out (Some id) (Some said) jobs = documents_told id said jobs
 documents_out _ _ jobs = []
 

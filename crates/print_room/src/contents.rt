@@ -1,13 +1,14 @@
 ghost use Rattle.std.specs.Prelude.{◌≡◌};
 ghost use Rattle.std.specs.Option.{option_copied};
 ghost use Rattle.spool.specs.Calls.{paused_at};
+ghost use Rattle.print_room.specs.DeviceJobs.{IsRoom};
 
 use crate::room::PrintRoom;
 use crate::started::Started;
 use base_types::{DeviceNow, Moment, PrinterId};
 use prices::Plan;
 use settings_file::Settings;
-use spool::Spool;
+use spool::{Spool, is_paused};
 
 /// What is in a print room. None of it takes memory.
 impl PrintRoom {
@@ -18,9 +19,11 @@ impl PrintRoom {
         &self.settings
     }
 
-    /// The devices as they are now, in the settings' order.
+    /// The devices as they are now, in the settings' order. The job that one has is in the spool, as one
+    /// that a device has, and no other device has it.
     pub fn devices(&self) -> &[DeviceNow]
-        ensures { result.now ≡ self.now.devices }
+        ensures value { result.now ≡ self.now.devices }
+        ensures kept { IsRoom self.now }
     {
         &self.devices
     }
@@ -57,9 +60,6 @@ impl PrintRoom {
     pub fn is_paused(&self, printer: PrinterId) -> bool
         ensures { result ≡ paused_at self.now.paused printer }
     {
-        match self.paused.get(printer.place()) {
-            Some(paused) => *paused,
-            None => false,
-        }
+        is_paused(&self.printers, printer)
     }
 }

@@ -2,6 +2,7 @@ ghost use Rattle.std.specs.Prelude.{◌≡◌, ◌≤◌, IfOk, OnOk, OnErr, tru
 ghost use Rattle.print_room.specs.GoodPlan.{is_some_job};
 ghost use Rattle.print_room.specs.Ready.{ready_of};
 ghost use Rattle.print_room.specs.Dispatch.{DispatchedAs, marked_state};
+ghost use Rattle.print_room.specs.DeviceJobs.{AllKeep};
 
 use crate::room::PrintRoom;
 use crate::started::Started;
@@ -27,6 +28,7 @@ impl PrintRoom {
         requires { self.old.last ≤ now }
         ensures idle { is_some_job (ready_of self.old) ≡ false → IsOk result }
         ensures ok { IfOk result (λ planned. DispatchedAs now self.old planned self.new) }
+        ensures keep { OnOk result (AllKeep self.old self.new) }
         ensures err { OnErr result (self.new ≡ self.old) }
     {
         if self.has_ready_job() {
@@ -42,6 +44,7 @@ impl PrintRoom {
         requires later { self.old.last ≤ now }
         requires ready { is_some_job (ready_of self.old) ≡ true }
         ensures ok { OnOk result (DispatchedAs now self.old true self.new) }
+        ensures keep { OnOk result (AllKeep self.old self.new) }
         ensures err { OnErr result (self.new ≡ self.old) }
     {
         let plan = self.good_plan(planner, now)?;
@@ -65,7 +68,7 @@ impl PrintRoom {
         ensures { self.new ≡ marked_state now plan self.old }
     {
         self.advance(now);
-        self.spool.mark(&self.paused, plan.stranded());
+        self.spool.mark(&self.printers, plan.stranded());
         self.plan = Some(plan);
     }
 }

@@ -1,6 +1,7 @@
-ghost use Rattle.std.specs.Prelude.{◌≡◌, ◌≤◌, IfOk, IfErr, OnErr};
+ghost use Rattle.std.specs.Prelude.{◌≡◌, ◌≤◌, IfOk, IfErr, OnOk, OnErr};
 ghost use Rattle.spool.specs.Calls.{new_refusal, IsRefusal};
 ghost use Rattle.print_room.specs.Jobs.{Submits, expiring};
+ghost use Rattle.print_room.specs.DeviceJobs.{AllKeep};
 
 use crate::room::PrintRoom;
 use base_types::{JobId, Moment};
@@ -15,6 +16,7 @@ impl PrintRoom {
         requires { self.old.last ≤ now }
         ensures ok { IfOk result (λ id. Submits now self.old job id self.new) }
         ensures kept { OnErr result (self.new ≡ self.old) }
+        ensures keep { OnOk result (AllKeep self.old self.new) }
         ensures returned { IfErr result (λ refused. refused.job ≡ job) }
         ensures refused { IfErr result (λ refused. IsRefusal (new_refusal self.old.spool job.documents) refused.refusal) }
     {
@@ -27,7 +29,8 @@ impl PrintRoom {
     /// oldest may be forgotten. It takes no memory.
     pub fn expire(&mut self, now: Moment)
         requires { self.old.last ≤ now }
-        ensures { self.new ≡ expiring now self.old }
+        ensures state { self.new ≡ expiring now self.old }
+        ensures keep { AllKeep self.old self.new }
     {
         self.advance(now);
         self.spool.expire(now);

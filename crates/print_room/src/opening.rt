@@ -7,6 +7,7 @@ ghost use Rattle.print_room.specs.Opening.{opening, opening_device, loaded_mediu
 
 use crate::room::PrintRoom;
 use base_types::{Activity, DeviceId, DeviceNow, JobId, Medium, Moment, PrinterSet, Text};
+use job_objects::Printer;
 use settings_file::{DeviceSettings, PrinterSettings, Settings};
 use spool::Spool;
 use std::alloc::{AllocError, Global};
@@ -22,12 +23,12 @@ impl PrintRoom {
         ensures { IfOk result (λ room. room ≡ opening settings first) }
     {
         let devices = opening_devices(alloc, &settings.devices)?;
-        let printers = printer_sets(alloc, &settings.printers)?;
-        let paused = none_paused(alloc, settings.printers.len())?;
+        let sets = printer_sets(alloc, &settings.printers)?;
+        let printers = opening_printers(alloc, settings.printers.len())?;
         Ok(PrintRoom {
             settings,
+            sets,
             printers,
-            paused,
             devices,
             spool: Spool::new(alloc, first),
             last: Moment::start(),
@@ -38,13 +39,13 @@ impl PrintRoom {
     }
 }
 
-/// No printer of so many is paused.
-fn none_paused(alloc: Global, printers: usize) -> Result<Vec<bool>, AllocError>
-    ensures { IfOk result (λ paused. paused.items ≡ replicate printers false) }
+/// So many printers, none of them paused.
+fn opening_printers(alloc: Global, count: usize) -> Result<Vec<Printer>, AllocError>
+    ensures { IfOk result (λ printers. printers.items ≡ replicate count false) }
 {
-    let mut paused = Vec::new(alloc);
-    paused.resize(printers, false)?;
-    Ok(paused)
+    let mut printers = Vec::new(alloc);
+    printers.resize(count, Printer::new())?;
+    Ok(printers)
 }
 
 /// The devices of each of these printers.

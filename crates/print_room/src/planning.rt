@@ -1,4 +1,4 @@
-ghost use Rattle.std.specs.Prelude.{◌≡◌, ◌≤◌, ◌+◌, ℕ, List, suc, true, map, All, IfOk, unwrap_or};
+ghost use Rattle.std.specs.Prelude.{◌≡◌, ◌≤◌, ◌+◌, ℕ, List, suc, true, map, All, IfOk, OnOk, unwrap_or};
 ghost use Rattle.base_types.specs.declared.limits.TheConstants.Limits.{JOB_TIME};
 ghost use Rattle.spool.specs.Spool.{IsSpool};
 ghost use Rattle.print_room.specs.Ready.{class_of};
@@ -43,7 +43,8 @@ impl PrintRoom {
     /// want of memory.
     pub(crate) fn good_plan<P: Planner>(&self, planner: &P, now: Moment) -> Result<Plan, AllocError>
         requires { self.now.last ≤ now }
-        ensures { IfOk result (λ plan. IsGoodPlan now self.now plan) }
+        ensures plan { IfOk result (λ plan. IsGoodPlan now self.now plan) }
+        ensures spool { OnOk result (IsSpool self.now.spool) }
     {
         let classes = self.planned_classes(planner, now)?;
         let stranded = self.stranded()?;
@@ -121,7 +122,7 @@ impl PrintRoom {
         ensures { IfOk result (λ next. (below : ℕ) → suc below ≡ priority → PlannedAbove self.now now below next.classes.items next.waits.items) }
     {
         let Planned { mut classes, waits } = planned;
-        let problem = build(self.alloc, jobs, &self.devices, &self.printers, waits)?;
+        let problem = build(self.alloc, jobs, &self.devices, &self.sets, waits)?;
         let priced = planner.plan_class(&problem)?;
         best_at_most_timetables(&problem, &priced.way);
         let waits = waits_after(self.alloc, &problem, &priced.way)?;

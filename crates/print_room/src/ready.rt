@@ -17,7 +17,7 @@ impl PrintRoom {
     pub(crate) fn has_ready_job(&self) -> bool
         ensures { result ≡ is_some_job (ready_of self.now) }
     {
-        let mut ready = self.spool.ready(&self.paused);
+        let mut ready = self.spool.ready(&self.printers);
         ready.next().is_some()
     }
 
@@ -26,7 +26,7 @@ impl PrintRoom {
         ensures { result ≡ cause_in self.now job.now }
     {
         let needs = &job.needs;
-        match self.printers.get(needs.printer.place()) {
+        match self.sets.get(needs.printer.place()) {
             Some(printer) => stranded_cause(needs, printer, &self.devices),
             None => Some(Cause::NoDevice),
         }
@@ -44,7 +44,7 @@ impl PrintRoom {
     fn ready_stranding(&self, spooled: &SpooledJob) -> Option<Stranded>
         ensures { result ≡ (if is_ready self.now.paused spooled.now.job then stranding self.now spooled.now.job else None) }
     {
-        if spooled.is_ready(&self.paused) {
+        if spooled.is_ready(&self.printers) {
             self.stranding(spooled.job())
         } else {
             None
@@ -69,7 +69,7 @@ impl PrintRoom {
     fn is_in_class(&self, priority: Priority, spooled: &SpooledJob) -> bool
         ensures { result ≡ is_ready self.now.paused spooled.now.job && belongs self.now priority spooled.now.job }
     {
-        spooled.is_ready(&self.paused) && self.belongs(priority, spooled.job())
+        spooled.is_ready(&self.printers) && self.belongs(priority, spooled.job())
     }
 
     /// Whether a job has the priority and some device can print it.

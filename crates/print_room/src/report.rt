@@ -1,22 +1,15 @@
 ghost use Rattle.std.specs.Prelude.{◌≡◌, ◌≤◌, ◌<◌, length, IfSome};
 ghost use Rattle.print_room.specs.Activity.{KeepsTime};
-ghost use Rattle.print_room.specs.Report.{has_job, said_of_job, time_left, without_job, left_of, paged, activity_after, jobs_after, jobs_told, documents_out, documents_told, refitted, Reports};
+ghost use Rattle.print_room.specs.Report.{has_job, said_of_job, time_left, without_job, left_of, paged, activity_after, jobs_after, documents_out, refitted, Reports};
 ghost use Rattle.print_room.specs.State.{with_device};
-ghost use Rattle.cost_table.specs.Time.{rate_of};
+ghost use Rattle.print_room.specs.DeviceJobs.{Agree, KeepsOrEnds};
 
 use crate::activity::{idle, job_on, running_from, stopped_at, taking};
 use crate::room::PrintRoom;
-use base_types::{Activity, DeviceNow, JobId, Limits, Moment, Needs, Report, Sides};
+use base_types::{Activity, DeviceNow, JobId, Limits, Moment, Needs, Report};
+use cost_table::rate;
+use job_objects::DeviceSays;
 use spool::Document;
-
-/// What a device says of the job that it has.
-#[derive(Clone, Copy, Debug, PartialEq, Eq)]
-enum JobReport {
-    Stops,
-    Proceeds,
-    IsDone,
-    Fails,
-}
 
 /// Whether the device has the job of this number.
 fn has_job(activity: Activity, number: u32) -> bool
@@ -29,29 +22,16 @@ fn has_job(activity: Activity, number: u32) -> bool
 }
 
 /// What a report says of the job that the device has.
-fn said_of_job(report: &Report, activity: Activity) -> Option<JobReport>
+fn said_of_job(report: &Report, activity: Activity) -> Option<DeviceSays>
     ensures { result ≡ said_of_job report.now activity }
 {
     match (report, activity) {
-        (Report::Ready, Activity::Stopped(_)) => Some(JobReport::Proceeds),
-        (Report::Stop, Activity::Running(_)) => Some(JobReport::Stops),
-        (Report::Done { job }, _) if has_job(activity, *job) => Some(JobReport::IsDone),
-        (Report::Fail { job }, _) if has_job(activity, *job) => Some(JobReport::Fails),
-        (Report::Gone, _) => Some(JobReport::Fails),
+        (Report::Ready, Activity::Stopped(_)) => Some(DeviceSays::Continue),
+        (Report::Stop, Activity::Running(_)) => Some(DeviceSays::Stop),
+        (Report::Done { job }, _) if has_job(activity, *job) => Some(DeviceSays::Done),
+        (Report::Fail { job }, _) if has_job(activity, *job) => Some(DeviceSays::Fail),
+        (Report::Gone, _) => Some(DeviceSays::Fail),
         _ => None,
-    }
-}
-
-/// The time of an impression on the sides of the job, in ms: none where the device doesn't print
-/// them.
-fn rate_of(needs: &Needs, device: &DeviceNow) -> u32
-    ensures value { result ≡ rate_of needs.now device.now }
-    ensures bound { result ≤ Limits.RATE }
-{
-    match (needs.sides, device.rate_two) {
-        (Sides::One, _) => device.rate_one,
-        (Sides::LongEdge | Sides::ShortEdge, Some(rate)) => rate,
-        (Sides::LongEdge | Sides::ShortEdge, None) => 0,
     }
 }
 
@@ -61,7 +41,7 @@ fn time_left(needs: &Needs, device: &DeviceNow, printed: u32) -> u64
     ensures bound { result ≤ Limits.JOB_TIME }
 {
     let impressions = u64::from(needs.impressions) * u64::from(needs.copies);
-    impressions.saturating_sub(u64::from(printed)) * u64::from(rate_of(needs, device))
+    impressions.saturating_sub(u64::from(printed)) * u64::from(rate(needs, device))
 }
 
 /// What a device does without the job of this number, if it has that.
@@ -129,7 +109,8 @@ impl PrintRoom {
     /// takes no memory.
     pub fn report(&mut self, place: usize, report: &Report, now: Moment) -> Vec<Document>
         requires { self.old.last ≤ now }
-        ensures { Reports now place report.now self.old result.items self.new }
+        ensures reports { Reports now place report.now self.old result.items self.new }
+        ensures keep { KeepsOrEnds place self.old result.items self.new }
     {
         self.advance(now);
         let core = &*self;
@@ -147,6 +128,7 @@ impl PrintRoom {
     fn refit(&mut self, place: usize, report: &Report, activity: Activity)
         requires inside { place < length self.old.devices }
         requires in_time { KeepsTime self.old.last activity }
+        requires agree { Agree (with_device place (refitted report.now activity) self.old.devices) self.old.spool.jobs }
         ensures { self.new ≡ record self.old { devices = with_device place (refitted report.now activity) self.old.devices } }
     {
         if let Report::Media(names) = report {
@@ -157,27 +139,14 @@ impl PrintRoom {
     }
 
     /// Changes the job that a report is about, if any, and gives the documents that it hands out.
-    fn settle(&mut self, job: Option<JobId>, said: Option<JobReport>, now: Moment) -> Vec<Document>
+    fn settle(&mut self, job: Option<JobId>, said: Option<DeviceSays>, now: Moment) -> Vec<Document>
+        requires { Agree self.old.devices (jobs_after now job said self.old.spool.jobs) }
         ensures jobs { self.new ≡ record self.old { spool = record self.old.spool { jobs = jobs_after now job said self.old.spool.jobs } } }
         ensures documents { result.items ≡ documents_out job said self.old.spool.jobs }
     {
         match (job, said) {
-            (Some(id), Some(said)) => self.tell(id, said, now),
+            (Some(id), Some(said)) => self.spool.tell(id, said, now),
             _ => Vec::new(self.alloc),
         }
-    }
-
-    /// The device that has a job said this of it: the documents that the job hands out.
-    fn tell(&mut self, id: JobId, said: JobReport, now: Moment) -> Vec<Document>
-        ensures jobs { self.new ≡ record self.old { spool = record self.old.spool { jobs = jobs_told id said now self.old.spool.jobs } } }
-        ensures documents { result.items ≡ documents_told id said self.old.spool.jobs }
-    {
-        match said {
-            JobReport::Stops => self.spool.stop(id, now),
-            JobReport::Proceeds => self.spool.proceed(id, now),
-            JobReport::IsDone => return self.spool.done(id, now),
-            JobReport::Fails => return self.spool.fail(id, now),
-        }
-        Vec::new(self.alloc)
     }
 }

@@ -3,9 +3,11 @@ ghost use Rattle.std.specs.List.{list_any};
 ghost use Rattle.std.specs.Str.{bytes_eq};
 ghost use Rattle.print_room.specs.Activity.{KeepsTime};
 ghost use Rattle.print_room.specs.State.{with_device, doing, holding, loaded_if};
+ghost use Rattle.print_room.specs.DeviceJobs.{Agree, AllKeep};
 
 use crate::started::Started;
 use base_types::{Activity, DeviceNow, Medium, Moment, PrinterSet, Text};
+use job_objects::Printer;
 use prices::Plan;
 use settings_file::Settings;
 use spool::Spool;
@@ -18,8 +20,8 @@ use std::marker::Model;
 pub struct PrintRoom {
     pub(crate) settings: Settings,
     /// The devices of each printer.
-    pub(crate) printers: Vec<PrinterSet>,
-    pub(crate) paused: Vec<bool>,
+    pub(crate) sets: Vec<PrinterSet>,
+    pub(crate) printers: Vec<Printer>,
     pub(crate) devices: Vec<DeviceNow>,
     pub(crate) spool: Spool,
     pub(crate) last: Moment,
@@ -33,12 +35,13 @@ impl Model for PrintRoom {
     ghost use Rattle.std.specs.Prelude.{◌≡◌, ◌≤◌, length};
     ghost use Rattle.base_types.specs.declared.limits.TheConstants.Limits.{DEVICES};
     ghost use Rattle.print_room.specs.State.{State, AllKeepTime, sets_of};
+    ghost use Rattle.print_room.specs.DeviceJobs.{Agree};
 
     ghost Value = { State };
 
     ghost view = { λ c. record {
       settings = c.settings;
-      paused = c.paused.items;
+      paused = c.printers.items;
       devices = c.devices.items;
       spool = c.spool;
       last = c.last;
@@ -46,14 +49,15 @@ impl Model for PrintRoom {
       begun = c.begun.items;
     } };
 
-    ghost invariant = { λ c. AllKeepTime c.last c.devices.items × (length c.devices.items ≤ DEVICES) × (c.printers.items ≡ sets_of c.settings) };
+    ghost invariant = { λ c. AllKeepTime c.last c.devices.items × (length c.devices.items ≤ DEVICES) × (c.sets.items ≡ sets_of c.settings) × Agree c.devices.items c.spool.jobs × (length c.printers.items ≡ length c.settings.printers) };
 }
 
 impl PrintRoom {
     /// The time goes on, up to a moment that is not before the last one.
     pub fn advance(&mut self, now: Moment)
         requires { self.old.last ≤ now }
-        ensures { self.new ≡ record self.old { last = now } }
+        ensures state { self.new ≡ record self.old { last = now } }
+        ensures keep { AllKeep self.old self.new }
     {
         self.last = now;
     }
@@ -62,6 +66,7 @@ impl PrintRoom {
     pub(crate) fn set_activity(&mut self, place: usize, activity: Activity)
         requires inside { place < length self.old.devices }
         requires in_time { KeepsTime self.old.last activity }
+        requires agree { Agree (with_device place (doing activity) self.old.devices) self.old.spool.jobs }
         ensures { self.new ≡ record self.old { devices = with_device place (doing activity) self.old.devices } }
     {
         let device = &mut self.devices[place];

@@ -1,5 +1,6 @@
 ghost use Rattle.std.specs.Prelude.{◌≡◌, ◌<◌, ◌≤◌, IfOk, IfSome, None, length, All, if◌then◌else◌};
 ghost use Rattle.prices.specs.Way.{queue_of};
+ghost use Rattle.print_room.specs.Beginning.{CanBegin, AllCanBegin};
 ghost use Rattle.print_room.specs.Dispatch.{is_free, beginning, beginning_all, first_of, first_of_queue, starts_from};
 
 use crate::room::PrintRoom;
@@ -97,6 +98,7 @@ impl PrintRoom {
     pub(crate) fn begin_all(&mut self, starts: &[Started])
         requires inside { All (λ start. start.device < length self.old.devices) starts.now }
         requires short { All (λ start. start.time ≤ Limits.JOB_TIME) starts.now }
+        requires can { AllCanBegin self.old.last starts.now self.old }
         ensures { self.new ≡ beginning_all self.old.last starts.now self.old }
     {
         for start in starts {
@@ -108,10 +110,12 @@ impl PrintRoom {
     fn begin(&mut self, start: Started)
         requires inside { start.device < length self.old.devices }
         requires short { start.time ≤ Limits.JOB_TIME }
+        requires can { CanBegin start self.old }
         ensures { self.new ≡ beginning self.old.last start self.old }
     {
         let now = self.last;
         let end = now.millis() + start.time;
+        self.spool.begin(start.job, now);
         self.set_activity(
             start.device.place(),
             Activity::Running(Some(Printing {
@@ -119,6 +123,5 @@ impl PrintRoom {
                 end,
             })),
         );
-        self.spool.start(start.job, now);
     }
 }

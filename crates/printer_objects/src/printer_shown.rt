@@ -8,12 +8,12 @@ use crate::attribute::{
 };
 use crate::job_shown::printer_uri;
 use crate::offered::{copies, hold_untils, operations, prints_two_sided, sides};
-use crate::printer::Printer;
 use crate::printer_attribute::PrinterAttribute;
 use crate::state::{printer_reason, printer_state};
 use crate::together::{Listed, add_once, union};
 use base_types::{DeviceNow, Limits, Moment, Text};
 use ipp_codec::{Attribute, Group, GroupTag, ValueTag};
+use job_objects::Printer;
 use settings_file::PrinterSettings;
 use std::alloc::{AllocError, Global};
 

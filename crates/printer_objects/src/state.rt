@@ -1,9 +1,8 @@
 ghost use Rattle.std.specs.Prelude.{◌≡◌};
 ghost use Rattle.printer_objects.specs.PrinterState.{is_on_device, printer_keyword, printer_reason_of, printer_state_code, printer_state_of, is_busy_with};
 
-use crate::printer::Printer;
 use base_types::PrinterId;
-use job_objects::{Job, JobState};
+use job_objects::{Job, JobState, Printer};
 
 /// Whether a printer prints (RFC 8011, section 5.4.11).
 #[derive(Clone, Copy, Debug, PartialEq, Eq)]

@@ -57,7 +57,7 @@ const TABLE: [(JobChange, [u32; 9]); 10] = [
     (JobChange::Close, [0, 3, 0, 4, 0, 0, 0, 0, 0]),
     (JobChange::Hold, [4, 4, 4, 4, 0, 0, 0, 0, 0]),
     (JobChange::Release, [3, 4, 3, 4, 5, 6, 0, 0, 0]),
-    (JobChange::Start, [5, 0, 0, 0, 0, 0, 0, 0, 0]),
+    (JobChange::Begin, [5, 0, 0, 0, 0, 0, 0, 0, 0]),
     (JobChange::Stop, [0, 0, 0, 0, 6, 0, 0, 0, 0]),
     (JobChange::Continue, [0, 0, 0, 0, 0, 5, 0, 0, 0]),
     (
@@ -115,7 +115,7 @@ fn state_table(rt: HostRuntime) -> Result<(), Fail> {
 fn canceled_while_held(rt: HostRuntime) -> Result<(), Fail> {
     let mut job = job(rt.alloc(), JobState::Held, true, true)?;
     assert_eq!(rt;
-        job_step(&mut job, JobChange::Start, Moment::start()),
+        job_step(&mut job, JobChange::Begin, Moment::start()),
         Err(StateRefusal::NotPossible)
     );
     assert_eq!(rt;

@@ -2,7 +2,7 @@
 ghost use Rattle.std.specs.Prelude.{◌≡◌, [], IfOk};
 
 use base_types::{JobId, Limits, Moment, PrinterId, Priority, Sides, Text};
-use job_objects::JobState;
+use job_objects::{DeviceSays, JobState};
 use spool::{Asker, Document, NewJob, Octets, Spool, SpoolRefusal};
 use std::alloc::{AllocError, Global};
 use std::test::Fail;
@@ -99,12 +99,12 @@ fn canceled_and_done(
     id: JobId,
 ) -> Result<[Option<(JobState, bool, usize)>; 2], Fail> {
     let mut spool = spool_with_letter(alloc, id)?;
-    spool.start(id, at(10));
+    spool.begin(id, at(10));
     if !cancel(alloc, &mut spool, false, id, at(20))? {
         return Err(Fail::from("cancel"));
     }
     let canceled = standing(&spool, id);
-    if spool.done(id, at(30)).len() != 1 {
+    if spool.tell(id, DeviceSays::Done, at(30)).len() != 1 {
         return Err(Fail::from("documents"));
     }
     Ok([canceled, standing(&spool, id)])

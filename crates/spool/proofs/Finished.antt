@@ -7,12 +7,14 @@ use Rattle.base_types.specs.declared.needs.Stranded.{Stranded}
 use Rattle.job_objects.specs.declared.job_state.JobState.{JobState}
 use Rattle.job_objects.specs.declared.job_state.JobState.TheVariants.{Pending, Held, Processing, Stopped, Canceled, Aborted, Completed}
 use Rattle.job_objects.specs.declared.job_change.JobChange.{JobChange}
-use Rattle.job_objects.specs.declared.job_change.JobChange.TheVariants.{Close, Start, Fail}
+use Rattle.job_objects.specs.declared.job_change.JobChange.TheVariants.{Close, Fail}
+use Rattle.job_objects.specs.declared.device_says.DeviceSays.{DeviceSays}
+use Rattle.job_objects.specs.DeviceSays.{change_of, is_end}
 use Rattle.job_objects.specs.JobState.{is_finished}
 use Rattle.job_objects.specs.Job.{JobRecord}
 use Rattle.job_objects.specs.JobStep.{changed_from, job_after}
 use Rattle.spool.specs.Document.{DocumentRecord}
-use Rattle.spool.specs.Spooled.{SpooledRecord, settled, changed, begun, relieved, attached, is_overdue, expired, marked}
+use Rattle.spool.specs.Spooled.{SpooledRecord, settled, on_device_after, changed, let_go, told, attached, is_overdue, expired, marked}
 use Rattle.spool.specs.Calls.{is_ready, marked_by}
 
 abbrev IsFinished : SpooledRecord → Type 0
@@ -59,17 +61,17 @@ same_keeps s is = is
 
 pub changed_keeps : (change : JobChange) (now : ℕ) → KeepsFinished (changed change now)
 changed_keeps change now s is =
-    ap (λ (o : Option JobRecord). is_finished (option_map_or (λ job. settled (record s { job = job })) o s).job.state) (no_step change now s is) ∙ is
+    ap (λ (o : Option JobRecord). is_finished (option_map_or (λ job. settled (record s { job = job; on_device = on_device_after change s.on_device })) o s).job.state) (no_step change now s is) ∙ is
 
-pub begun_keeps : (now : ℕ) → KeepsFinished (begun now)
-begun_keeps now s is =
-    ap (λ (o : Option JobRecord). is_finished (option_map_or (λ job. record s { job = job; on_device = true }) o s).job.state) (no_step Start now s is) ∙ is
-
-pub relieved_keeps : (change : JobChange) (now : ℕ) → KeepsFinished (relieved change now)
-relieved_keeps change now s is =
+let_go_keeps : (change : JobChange) (now : ℕ) → KeepsFinished (let_go change now)
+let_go_keeps change now s is =
     let after = record s { job = unwrap_or (job_after change now s.job) s.job; documents = []; on_device = false } in
     let still : IsFinished after = ap (λ (o : Option JobRecord). is_finished (unwrap_or o s.job).state) (no_step change now s is) ∙ is in
     if_either s.on_device after s still is
+
+pub told_keeps : (says : DeviceSays) (now : ℕ) → KeepsFinished (told says now)
+told_keeps says now s is =
+    if_either (is_end says) (let_go (change_of says) now s) (changed (change_of says) now s) (let_go_keeps (change_of says) now s is) (changed_keeps (change_of says) now s is)
 
 pub attached_keeps : (document : DocumentRecord) (now : ℕ) → KeepsFinished (attached document now)
 attached_keeps document now s is = is

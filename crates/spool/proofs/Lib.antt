@@ -1,6 +1,10 @@
 pub mod Entries
 pub mod Finished
 pub mod Unfinished
+pub mod Sound
+pub mod Ids
+pub mod OnDevice
 pub mod Rising
+pub mod RisingIds
 pub mod Removing
 pub mod Mapping

@@ -4,6 +4,7 @@ use Rattle.spool.specs.Spooled.{SpooledRecord}
 use Rattle.spool.specs.Jobs.{SpoolRecord, Keyed, jobs_of}
 use Rattle.spool.specs.Spool.{IsSpool}
 use Rattle.spool.proofs.Unfinished.{AreFew}
+use Rattle.spool.proofs.Sound.{AreSound}
 
 abbrev ids_of : List (ℕ × SpooledRecord) → List ℕ
 ids_of es = map (λ s. s.job.id) (jobs_of es)
@@ -16,6 +17,6 @@ ids_rise low next (e ∷ f ∷ es) keyed (suc k) within =
     let later : slice_index (ids_of (f ∷ es)) k < slice_index (ids_of (f ∷ es)) (k + 1) = ids_rise e.0 next (f ∷ es) keyed.3 k (omega (arith, within)) in
     simp add-one (simp add-one at later)
 
-pub is_spool : (next : ℕ) (es : List (ℕ × SpooledRecord)) (spool : SpoolRecord) → Keyed es 0 next → AreFew es → record { jobs = jobs_of es; next = next } ≡ spool → IsSpool spool
-is_spool next es spool keyed few view =
-    subst (λ (s : SpoolRecord). IsSpool s) view (record { rising = ids_rise 0 next es keyed; few_unfinished = few })
+pub is_spool : (next : ℕ) (es : List (ℕ × SpooledRecord)) (spool : SpoolRecord) → Keyed es 0 next → AreFew es → AreSound es → record { jobs = jobs_of es; next = next } ≡ spool → IsSpool spool
+is_spool next es spool keyed few sound view =
+    subst (λ (s : SpoolRecord). IsSpool s) view (record { rising = ids_rise 0 next es keyed; few_unfinished = few; sound = sound })

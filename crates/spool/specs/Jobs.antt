@@ -2,6 +2,7 @@
 use Rattle.std.specs.Prelude.{ℕ, zero, suc, ◌≡◌, ◌<◌, ◌==◌, if◌then◌else◌, List, [], ◌∷◌, map, find, Option, option_map}
 use Rattle.std.specs.Option.{option_map_or}
 use Rattle.job_objects.specs.Job.{JobRecord}
+use Rattle.job_objects.specs.declared.device_says.DeviceSays.{DeviceSays}
 use Rattle.spool.specs.Document.{DocumentRecord}
 use Rattle.spool.specs.Spooled.{SpooledRecord, handed_out}
 
@@ -27,9 +28,9 @@ map_at place change [] = []
 map_at zero change (spooled ∷ jobs) = change spooled ∷ jobs
 map_at (suc place) change (spooled ∷ jobs) = spooled ∷ map_at place change jobs
 
--- the documents that the job of this id hands out
-abbrev pub handed_out_at : ℕ → List SpooledRecord → List DocumentRecord
-handed_out_at id jobs = option_map_or handed_out (spooled_at id jobs) []
+-- the documents that the job of this id hands out once a device said this of it
+abbrev pub documents_told : ℕ → DeviceSays → List SpooledRecord → List DocumentRecord
+documents_told id says jobs = option_map_or (handed_out says) (spooled_at id jobs) []
 
 -- ---- the jobs as the entries of a map
 

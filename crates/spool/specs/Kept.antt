@@ -1,7 +1,10 @@
 -- Which finished jobs are kept to be asked about.
-use Rattle.std.specs.Prelude.{ℕ, Bool, not, ◌||◌, ◌&&◌, ◌==◌, nat_lt, List, filter, count_by, unwrap_or}
+use Rattle.std.specs.Prelude.{ℕ, Bool, not, ◌||◌, ◌&&◌, ◌==◌, nat_lt, if◌then◌else◌, List, filter, count_by, unwrap_or}
 use Rattle.base_types.specs.declared.limits.TheConstants.Limits.{FINISHED_JOBS_KEPT}
-use Rattle.spool.specs.Spooled.{SpooledRecord, is_settled}
+use Rattle.job_objects.specs.declared.device_says.DeviceSays.{DeviceSays}
+use Rattle.job_objects.specs.DeviceSays.{is_end}
+use Rattle.spool.specs.Spooled.{SpooledRecord, is_settled, told}
+use Rattle.spool.specs.Jobs.{with_job}
 
 -- the moment at which a job was finished
 abbrev pub end_of : SpooledRecord → ℕ
@@ -22,3 +25,7 @@ is_kept jobs spooled = not (is_settled spooled) || nat_lt (later_jobs jobs spool
 -- the jobs that are kept
 abbrev pub retained : List SpooledRecord → List SpooledRecord
 retained jobs = filter (is_kept jobs) jobs
+
+-- the jobs, once a device said this of the job of this id; where that ends, finished ones may be forgotten
+abbrev pub jobs_told : ℕ → DeviceSays → ℕ → List SpooledRecord → List SpooledRecord
+jobs_told id says now jobs = if is_end says then retained (with_job id (told says now) jobs) else with_job id (told says now) jobs

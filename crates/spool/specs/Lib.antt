@@ -2,7 +2,9 @@ pub mod Document
 pub mod Asker
 pub mod Spooled
 pub mod Submission
+pub mod Sound
 pub mod Jobs
+pub mod OnDevice
 pub mod Kept
 pub mod Calls
 pub mod Ready

@@ -11,4 +11,4 @@ ready_jobs paused jobs = filter (is_ready paused) (map (λ s. s.job) jobs)
 
 -- the jobs that are still to come
 abbrev pub ready_rest : Ready → List JobRecord
-ready_rest ready = ready_jobs ready.paused.now ready.jobs.now
+ready_rest ready = ready_jobs ready.printers.now ready.jobs.now

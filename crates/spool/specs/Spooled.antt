@@ -3,7 +3,9 @@ use Rattle.std.specs.Prelude.{ℕ, ◌+◌, ◌-◌, Bool, true, false, not, ◌
 use Rattle.std.specs.Option.{option_map_or}
 use Rattle.base_types.specs.declared.limits.TheConstants.Limits.{INCOMING_JOB_TIME}
 use Rattle.job_objects.specs.declared.job_change.JobChange.{JobChange}
-use Rattle.job_objects.specs.declared.job_change.JobChange.TheVariants.{Start, Fail}
+use Rattle.job_objects.specs.declared.job_change.JobChange.TheVariants.{Begin, Fail}
+use Rattle.job_objects.specs.declared.device_says.DeviceSays.{DeviceSays}
+use Rattle.job_objects.specs.DeviceSays.{change_of, is_end}
 use Rattle.job_objects.specs.JobState.{is_finished}
 use Rattle.job_objects.specs.Job.{JobRecord}
 use Rattle.job_objects.specs.JobStep.{job_after, stepped}
@@ -27,21 +29,27 @@ is_settled spooled = is_finished spooled.job.state && not spooled.on_device
 abbrev pub settled : SpooledRecord → SpooledRecord
 settled spooled = if is_settled spooled then record spooled { documents = [] } else spooled
 
+-- a device has a job from its beginning on, and no other change but its end changes that
+abbrev pub on_device_after : JobChange → Bool → Bool
+on_device_after Begin on_device = true
+on_device_after _ on_device = on_device
+
 -- a change of the job, where its state allows it
 abbrev pub changed : JobChange → ℕ → SpooledRecord → SpooledRecord
-changed change now spooled = option_map_or (λ job. settled (record spooled { job = job })) (job_after change now spooled.job) spooled
+changed change now spooled = option_map_or (λ job. settled (record spooled { job = job; on_device = on_device_after change spooled.on_device })) (job_after change now spooled.job) spooled
 
--- a device begins it, where it is pending
-abbrev pub begun : ℕ → SpooledRecord → SpooledRecord
-begun now spooled = option_map_or (λ job. record spooled { job = job; on_device = true }) (job_after Start now spooled.job) spooled
-
--- the device that has it lets go of it: it is changed, unless it is finished, and its documents are handed out
-abbrev pub relieved : JobChange → ℕ → SpooledRecord → SpooledRecord
-relieved change now spooled =
+-- the device that has it lets go of it: it is changed, unless it is finished, and its documents are gone
+abbrev pub let_go : JobChange → ℕ → SpooledRecord → SpooledRecord
+let_go change now spooled =
     if spooled.on_device then record spooled { job = stepped change now spooled.job; documents = []; on_device = false } else spooled
 
-abbrev pub handed_out : SpooledRecord → List DocumentRecord
-handed_out spooled = if spooled.on_device then spooled.documents else []
+-- a device says this of it
+abbrev pub told : DeviceSays → ℕ → SpooledRecord → SpooledRecord
+told says now spooled = if is_end says then let_go (change_of says) now spooled else changed (change_of says) now spooled
+
+-- the documents that it hands out then: all, where its device lets go of it
+abbrev pub handed_out : DeviceSays → SpooledRecord → List DocumentRecord
+handed_out says spooled = if is_end says then (if spooled.on_device then spooled.documents else []) else []
 
 -- the job with a further document of this format and so many octets
 abbrev pub counted : List ℕ → ℕ → JobRecord → JobRecord

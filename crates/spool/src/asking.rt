@@ -6,6 +6,7 @@ ghost use Rattle.spool.specs.Spooled.{changed};
 ghost use Rattle.spool.specs.Kept.{retained};
 ghost use Rattle.spool.specs.Jobs.{spooled_at, job_at, with_job};
 ghost use Rattle.spool.specs.Calls.{asking_refusal, change_refusal, cancel_of};
+ghost use Rattle.spool.specs.OnDevice.{AllStay};
 
 use crate::asker::Asker;
 use crate::document::Document;
@@ -52,6 +53,7 @@ impl Spool {
     pub fn hold(&mut self, id: JobId, asker: Asker<'_>, now: Moment) -> Result<(), SpoolRefusal>
         ensures ok { OnOk result ((change_refusal asker.entry.name.now asker.entry.is_operator Change.Hold now (spooled_at id self.old.jobs) ≡ None) × (self.new ≡ record self.old { jobs = with_job id (changed Change.Hold now) self.old.jobs })) }
         ensures kept { OnErr result (self.new ≡ self.old) }
+        ensures stay { OnOk result (AllStay self.old.jobs self.new.jobs) }
         ensures refused { IfErr result (λ refusal. change_refusal asker.entry.name.now asker.entry.is_operator Change.Hold now (spooled_at id self.old.jobs) ≡ Some refusal) }
     {
         self.ask(id, asker, JobChange::Hold, now)
@@ -61,6 +63,7 @@ impl Spool {
     pub fn release(&mut self, id: JobId, asker: Asker<'_>, now: Moment) -> Result<(), SpoolRefusal>
         ensures ok { OnOk result ((change_refusal asker.entry.name.now asker.entry.is_operator Change.Release now (spooled_at id self.old.jobs) ≡ None) × (self.new ≡ record self.old { jobs = with_job id (changed Change.Release now) self.old.jobs })) }
         ensures kept { OnErr result (self.new ≡ self.old) }
+        ensures stay { OnOk result (AllStay self.old.jobs self.new.jobs) }
         ensures refused { IfErr result (λ refusal. change_refusal asker.entry.name.now asker.entry.is_operator Change.Release now (spooled_at id self.old.jobs) ≡ Some refusal) }
     {
         self.ask(id, asker, JobChange::Release, now)
@@ -71,6 +74,7 @@ impl Spool {
     pub fn cancel(&mut self, id: JobId, asker: Asker<'_>, now: Moment) -> Result<(), SpoolRefusal>
         ensures ok { OnOk result (let found = spooled_at id self.old.jobs in let change = cancel_of asker.entry.name.now found in (change_refusal asker.entry.name.now asker.entry.is_operator change now found ≡ None) × (self.new ≡ record self.old { jobs = retained (with_job id (changed change now) self.old.jobs) })) }
         ensures kept { OnErr result (self.new ≡ self.old) }
+        ensures stay { OnOk result (AllStay self.old.jobs self.new.jobs) }
         ensures refused { IfErr result (λ refusal. let found = spooled_at id self.old.jobs in change_refusal asker.entry.name.now asker.entry.is_operator (cancel_of asker.entry.name.now found) now found ≡ Some refusal) }
     {
         let change = self.cancel_by(id, asker);
@@ -99,6 +103,7 @@ impl Spool {
     ) -> Result<(), SpoolRefusal>
         ensures ok { OnOk result ((change_refusal asker.entry.name.now asker.entry.is_operator change now (spooled_at id self.old.jobs) ≡ None) × (self.new ≡ record self.old { jobs = with_job id (changed change now) self.old.jobs })) }
         ensures kept { OnErr result (self.new ≡ self.old) }
+        ensures stay { OnOk result (AllStay self.old.jobs self.new.jobs) }
         ensures refused { IfErr result (λ refusal. change_refusal asker.entry.name.now asker.entry.is_operator change now (spooled_at id self.old.jobs) ≡ Some refusal) }
     {
         self.may_change(id, asker)?;

@@ -1,57 +1,39 @@
-ghost use Rattle.std.specs.Prelude.{◌≡◌};
+ghost use Rattle.std.specs.Prelude.{◌≡◌, false};
+ghost use Rattle.job_objects.specs.DeviceSays.{is_end};
 ghost use Rattle.job_objects.specs.declared.job_change.JobChange.TheVariants as Change;
-ghost use Rattle.spool.specs.Spooled.{changed, begun, relieved};
-ghost use Rattle.spool.specs.Kept.{retained};
-ghost use Rattle.spool.specs.Jobs.{with_job, handed_out_at};
+ghost use Rattle.spool.specs.Spooled.{changed};
+ghost use Rattle.spool.specs.Kept.{jobs_told};
+ghost use Rattle.spool.specs.Jobs.{with_job, documents_told};
+ghost use Rattle.spool.specs.OnDevice.{AllStay, OthersStay};
 
 use crate::document::Document;
 use crate::spool::Spool;
 use base_types::{JobId, Moment};
-use job_objects::JobChange;
+use job_objects::{DeviceSays, JobChange};
 
 /// What devices do to jobs. An id that no job has, and a change that a job's state doesn't allow,
 /// change nothing.
 impl Spool {
     /// A device begins a pending job.
-    pub fn start(&mut self, id: JobId, now: Moment)
-        ensures { self.new ≡ record self.old { jobs = with_job id (begun now) self.old.jobs } }
+    pub fn begin(&mut self, id: JobId, now: Moment)
+        ensures jobs { self.new ≡ record self.old { jobs = with_job id (changed Change.Begin now) self.old.jobs } }
+        ensures stay { AllStay self.old.jobs self.new.jobs }
     {
-        self.begin(id, now);
+        let _refused = self.change(id, JobChange::Begin, now);
     }
 
-    /// The device that has a job stops.
-    pub fn stop(&mut self, id: JobId, now: Moment)
-        ensures { self.new ≡ record self.old { jobs = with_job id (changed Change.Stop now) self.old.jobs } }
+    /// The device that has a job says this of it. Where the job ends, the device lets go of it, and its
+    /// documents are handed out.
+    pub fn tell(&mut self, id: JobId, says: DeviceSays, now: Moment) -> Vec<Document>
+        ensures documents { result.items ≡ documents_told id says self.old.jobs }
+        ensures jobs { self.new ≡ record self.old { jobs = jobs_told id says now self.old.jobs } }
+        ensures others { OthersStay id self.old.jobs self.new.jobs }
+        ensures stay { is_end says ≡ false → AllStay self.old.jobs self.new.jobs }
     {
-        let _refused = self.change(id, JobChange::Stop, now);
-    }
-
-    /// The device that has a job runs again.
-    pub fn proceed(&mut self, id: JobId, now: Moment)
-        ensures { self.new ≡ record self.old { jobs = with_job id (changed Change.Continue now) self.old.jobs } }
-    {
-        let _refused = self.change(id, JobChange::Continue, now);
-    }
-
-    /// A device says that the job that it has is printed. It lets go of it, and the job's documents
-    /// are handed out.
-    pub fn done(&mut self, id: JobId, now: Moment) -> Vec<Document>
-        ensures documents { result.items ≡ handed_out_at id self.old.jobs }
-        ensures rest { self.new ≡ record self.old { jobs = retained (with_job id (relieved Change.Done now) self.old.jobs) } }
-    {
-        let documents = self.relieve(id, JobChange::Done, now);
-        self.forget();
-        documents
-    }
-
-    /// A device says that the job that it has can't be printed, or is gone. It lets go of it, and the
-    /// job's documents are handed out.
-    pub fn fail(&mut self, id: JobId, now: Moment) -> Vec<Document>
-        ensures documents { result.items ≡ handed_out_at id self.old.jobs }
-        ensures rest { self.new ≡ record self.old { jobs = retained (with_job id (relieved Change.Fail now) self.old.jobs) } }
-    {
-        let documents = self.relieve(id, JobChange::Fail, now);
-        self.forget();
+        let documents = self.tell_job(id, says, now);
+        if says.is_end() {
+            self.forget();
+        }
         documents
     }
 }

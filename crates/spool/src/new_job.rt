@@ -1,5 +1,12 @@
+ghost use Rattle.std.specs.Prelude.{◌≡◌, ◌≤◌, ◌<◌, IfOk, IfSome, IfNone, length, map, if◌then◌else◌};
+ghost use Rattle.spool.specs.Document.{octets_of};
+ghost use Rattle.spool.specs.Submission.{spooled_of};
+
 use crate::document::Document;
-use base_types::{Moment, PrinterId, Priority, Sides, Text};
+use crate::spooled::SpooledJob;
+use base_types::{JobId, Limits, Moment, Needs, PrinterId, Priority, Sides, Text};
+use job_objects::{Job, JobState, estimated_impressions};
+use std::alloc::{AllocError, Global};
 use std::marker::Model;
 
 /// A job as it is submitted. In clauses it is a record of the same fields.
@@ -42,4 +49,84 @@ impl Model for NewJob {
     } };
 
     ghost invariant = { λ n. IsCopies n.copies };
+}
+
+/// The octets of the documents together, if a job may have so many.
+pub(crate) fn octets_within(documents: &[Document]) -> Option<usize>
+    ensures within { IfSome result (λ octets. (octets ≡ octets_of documents.now) × (octets ≤ Limits.JOB_OCTETS)) }
+    ensures beyond { IfNone result (Limits.JOB_OCTETS < octets_of documents.now) }
+{
+    let mut octets = 0;
+    for document in documents {
+        let more = document.contents.len();
+        if more > Limits::JOB_OCTETS - octets {
+            return None;
+        }
+        octets += more;
+    }
+    Some(octets)
+}
+
+/// The format of each document.
+pub(crate) fn formats_of(alloc: Global, documents: &[Document]) -> Result<Vec<Text>, AllocError>
+    ensures { IfOk result (λ formats. formats.items ≡ map (λ d. d.format) documents.now) }
+{
+    let mut formats = Vec::with_capacity(alloc, documents.len())?;
+    for document in documents {
+        formats.push(document.format.copied(alloc)?)?;
+    }
+    Ok(formats)
+}
+
+/// The job that a submission becomes, told whether documents are still to come.
+pub(crate) fn taken(new: NewJob, id: JobId, formats: Vec<Text>, incoming: bool) -> SpooledJob
+    requires formats { formats.items ≡ map (λ d. d.format) new.documents }
+    requires documents { length new.documents ≤ Limits.JOB_DOCUMENTS }
+    requires octets { octets_of new.documents ≤ Limits.JOB_OCTETS }
+    ensures { result ≡ spooled_of new id incoming }
+{
+    let octets = octets_within(&new.documents).unwrap_or(0);
+    let needs = Needs {
+        printer: new.printer,
+        formats,
+        sides: new.sides,
+        media: new.media,
+        impressions: estimated_impressions(new.impressions, octets),
+        copies: new.copies,
+    };
+    let job = Job {
+        id,
+        owner: new.owner,
+        name: new.name,
+        priority: new.priority,
+        needs,
+        impressions: new.impressions,
+        state: first_state(incoming || new.held),
+        incoming,
+        held: new.held,
+        stranded: false,
+        documents: new.documents.len(),
+        octets,
+        canceled_by: None,
+        created: new.created,
+        started: None,
+        finished: None,
+    };
+    SpooledJob {
+        job,
+        documents: new.documents,
+        arrived: new.created,
+        on_device: false,
+    }
+}
+
+/// The state of a job that is taken, told whether it is held back.
+fn first_state(held_back: bool) -> JobState
+    ensures { result ≡ (if held_back then JobState.Held else JobState.Pending) }
+{
+    if held_back {
+        JobState::Held
+    } else {
+        JobState::Pending
+    }
 }

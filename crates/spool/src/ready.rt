@@ -1,15 +1,38 @@
-ghost use Rattle.std.specs.Prelude.{◌≡◌};
+ghost use Rattle.std.specs.Prelude.{◌≡◌, map};
+ghost use Rattle.std.specs.List.Sorted.{IsStrictlyIncreasing};
+ghost use Rattle.spool.specs.Calls.{is_ready, paused_at};
 ghost use Rattle.spool.specs.Ready.{ready_rest, ready_jobs};
 
 use crate::spool::Spool;
 use crate::spooled::SpooledJob;
-use job_objects::Job;
+use base_types::PrinterId;
+use job_objects::{Job, Printer};
+
+/// Whether a printer is paused.
+pub fn is_paused(printers: &[Printer], printer: PrinterId) -> bool
+    ensures { result ≡ paused_at printers.now printer }
+{
+    match printers.get(printer.place()) {
+        Some(printer) => printer.is_paused(),
+        None => false,
+    }
+}
+
+impl SpooledJob {
+    /// Whether the job is ready: it is pending, and its printer isn't paused.
+    pub fn is_ready(&self, printers: &[Printer]) -> bool
+        ensures { result ≡ is_ready printers.now self.now.job }
+    {
+        let job = self.job();
+        job.state.is_pending() && !is_paused(printers, job.needs.printer)
+    }
+}
 
 /// The ready jobs of a spool, by rising id.
 #[derive(Drop)]
 pub struct Ready<'a> {
     jobs: &'a [SpooledJob],
-    paused: &'a [bool],
+    printers: &'a [Printer],
 }
 
 impl<'a> Iterator for Ready<'a> {
@@ -25,7 +48,7 @@ impl<'a> Iterator for Ready<'a> {
     fn next(&mut self) -> Option<&'a Job> {
         while let Some((spooled, others)) = self.jobs.split_first() {
             self.jobs = others;
-            if spooled.is_ready(self.paused) {
+            if spooled.is_ready(self.printers) {
                 return Some(spooled.job());
             }
         }
@@ -34,14 +57,14 @@ impl<'a> Iterator for Ready<'a> {
 }
 
 impl Spool {
-    /// The ready jobs, told which printers are paused: those that are pending and whose printer isn't
-    /// paused, by rising id.
-    pub fn ready<'a>(&'a self, paused: &'a [bool]) -> Ready<'a>
-        ensures { ready_rest result ≡ ready_jobs paused.now self.now.jobs }
+    /// The ready jobs: those that are pending and whose printer isn't paused, by rising id.
+    pub fn ready<'a>(&'a self, printers: &'a [Printer]) -> Ready<'a>
+        ensures jobs { ready_rest result ≡ ready_jobs printers.now self.now.jobs }
+        ensures rising { IsStrictlyIncreasing (map (λ job. job.id) (ready_rest result)) }
     {
         Ready {
             jobs: self.jobs(),
-            paused,
+            printers,
         }
     }
 }

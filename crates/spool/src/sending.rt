@@ -3,6 +3,7 @@ ghost use Rattle.job_objects.specs.declared.job_change.JobChange.TheVariants as 
 ghost use Rattle.spool.specs.Spooled.{attached, changed};
 ghost use Rattle.spool.specs.Jobs.{spooled_at, with_job};
 ghost use Rattle.spool.specs.Calls.{IsRefusal, adds, is_too_large, taking_refusal, document_refusal, with_document, closed_if};
+ghost use Rattle.spool.specs.OnDevice.{is_on_device, AllStay};
 
 use crate::asker::Asker;
 use crate::document::Document;
@@ -41,6 +42,7 @@ impl Spool {
     ) -> Result<(), RefusedDocument>
         ensures ok { OnOk result ((document_refusal asker.entry.name.now asker.entry.is_operator document last (spooled_at id self.old.jobs) ≡ None) × (self.new ≡ record self.old { jobs = closed_if last id now (with_document (adds document last) id document now self.old.jobs) })) }
         ensures kept { OnErr result (self.new ≡ self.old) }
+        ensures stay { OnOk result (AllStay self.old.jobs self.new.jobs) }
         ensures returned { IfErr result (λ refused. refused.document ≡ document) }
         ensures refused { IfErr result (λ refused. IsRefusal (document_refusal asker.entry.name.now asker.entry.is_operator document last (spooled_at id self.old.jobs)) refused.refusal) }
     {
@@ -66,6 +68,7 @@ impl Spool {
         last: bool,
     ) -> Result<(), SpoolRefusal>
         ensures ok { OnOk result (document_refusal asker.entry.name.now asker.entry.is_operator document.now last (spooled_at id self.now.jobs) ≡ None) }
+        ensures off { OnOk result (is_on_device id self.now.jobs ≡ false) }
         ensures refused { IfErr result (λ refusal. document_refusal asker.entry.name.now asker.entry.is_operator document.now last (spooled_at id self.now.jobs) ≡ Some refusal) }
     {
         self.may_change(id, asker)?;
@@ -75,6 +78,7 @@ impl Spool {
     /// Whether a job takes a document, told whether it is added.
     fn may_take(&self, id: JobId, document: &Document, added: bool) -> Result<(), SpoolRefusal>
         ensures ok { OnOk result (taking_refusal document.now added (spooled_at id self.now.jobs) ≡ None) }
+        ensures off { OnOk result (is_on_device id self.now.jobs ≡ false) }
         ensures refused { IfErr result (λ refusal. taking_refusal document.now added (spooled_at id self.now.jobs) ≡ Some refusal) }
     {
         let Some(spooled) = self.spooled(id) else {
@@ -98,8 +102,10 @@ impl Spool {
         document: Document,
         now: Moment,
     ) -> Result<(), Document>
-        requires { taking_refusal document added (spooled_at id self.old.jobs) ≡ None }
+        requires taking { taking_refusal document added (spooled_at id self.old.jobs) ≡ None }
+        requires off { is_on_device id self.old.jobs ≡ false }
         ensures ok { OnOk result (self.new ≡ record self.old { jobs = with_document added id document now self.old.jobs }) }
+        ensures stay { OnOk result (AllStay self.old.jobs self.new.jobs) }
         ensures kept { OnErr result (self.new ≡ self.old) }
         ensures back { IfErr result (λ back. back ≡ document) }
     {
@@ -111,7 +117,8 @@ impl Spool {
 
     /// The job is all in, if the document was the last.
     fn close_if(&mut self, last: bool, id: JobId, now: Moment)
-        ensures { self.new ≡ record self.old { jobs = closed_if last id now self.old.jobs } }
+        ensures jobs { self.new ≡ record self.old { jobs = closed_if last id now self.old.jobs } }
+        ensures stay { AllStay self.old.jobs self.new.jobs }
     {
         if last {
             let _refused = self.change(id, JobChange::Close, now);

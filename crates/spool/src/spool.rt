@@ -1,20 +1,22 @@
-ghost use Rattle.std.specs.Prelude.{◌≡◌, ◌≤◌, ◌<◌, ◌+◌, ◌∷◌, ◌++◌, [], OnOk, OnErr, IfErr, IfSome, IfNone, length, map, remove, slice_get, is_ok};
+ghost use Rattle.std.specs.Prelude.{◌≡◌, ◌≤◌, ◌<◌, ◌+◌, ◌∷◌, ◌++◌, [], false, OnOk, OnErr, IfErr, IfSome, IfNone, length, map, remove, slice_get, is_ok};
 ghost use Rattle.std.specs.Option.{option_copied};
-ghost use Rattle.spool.specs.Spooled.{changed, begun, relieved, handed_out, attached, expired};
+ghost use Rattle.spool.specs.Spooled.{changed, told, attached, expired};
 ghost use Rattle.base_types.specs.declared.limits.TheConstants.Limits.{LAST_JOB_ID, UNFINISHED_JOBS, JOB_DOCUMENTS, JOB_OCTETS};
 ghost use Rattle.spool.specs.Document.{octets_of};
 ghost use Rattle.spool.specs.Submission.{spooled_of};
 ghost use Rattle.spool.specs.Calls.{allows, marked_by, unfinished_jobs};
-ghost use Rattle.spool.specs.Jobs.{spooled_at, with_job, map_at, handed_out_at};
+ghost use Rattle.spool.specs.Jobs.{spooled_at, with_job, map_at, documents_told};
 ghost use Rattle.spool.specs.Spool.{IsSpool};
+ghost use Rattle.spool.specs.Sound.{IsSound};
+ghost use Rattle.spool.specs.OnDevice.{AllStay, OthersStay};
+ghost use Rattle.job_objects.specs.DeviceSays.{is_end};
 
 use crate::document::Document;
-use crate::new_job::NewJob;
+use crate::new_job::{NewJob, taken};
 use crate::spooled::SpooledJob;
-use crate::taking::taken;
 use base_types::{JobId, Moment, Stranded, Text};
 use indexmap::IndexMap;
-use job_objects::{JobChange, StateRefusal};
+use job_objects::{DeviceSays, JobChange, Printer, StateRefusal};
 use std::alloc::Global;
 use std::marker::Model;
 
@@ -29,14 +31,16 @@ pub struct Spool {
 impl Model for Spool {
     ghost use Rattle.std.specs.Prelude.{◌+◌, ◌≤◌};
     ghost use Rattle.base_types.specs.declared.limits.TheConstants.Limits.{LAST_JOB_ID, UNFINISHED_JOBS};
+    ghost use Rattle.std.specs.Prelude.{All};
     ghost use Rattle.spool.specs.Jobs.{SpoolRecord, jobs_of, Keyed};
     ghost use Rattle.spool.specs.Calls.{unfinished_jobs};
+    ghost use Rattle.spool.specs.Sound.{IsSound};
 
     ghost Value = { SpoolRecord };
 
     ghost view = { λ s. record { jobs = jobs_of s.entries.entries; next = s.next } };
 
-    ghost invariant = { λ s. Keyed s.entries.entries 0 s.next × (1 ≤ s.next) × (s.next ≤ LAST_JOB_ID + 1) × (unfinished_jobs (jobs_of s.entries.entries) ≤ UNFINISHED_JOBS) };
+    ghost invariant = { λ s. Keyed s.entries.entries 0 s.next × (1 ≤ s.next) × (s.next ≤ LAST_JOB_ID + 1) × (unfinished_jobs (jobs_of s.entries.entries) ≤ UNFINISHED_JOBS) × All IsSound (jobs_of s.entries.entries) };
 }
 
 impl Spool {
@@ -74,7 +78,8 @@ impl Spool {
 
     /// The job of this id, with its documents.
     pub fn spooled(&self, id: JobId) -> Option<&SpooledJob>
-        ensures { option_copied result ≡ spooled_at id self.now.jobs }
+        ensures value { option_copied result ≡ spooled_at id self.now.jobs }
+        ensures sound { IfSome (spooled_at id self.now.jobs) IsSound }
     {
         self.entries.get(&id.number())
     }
@@ -98,6 +103,7 @@ impl Spool {
         ensures possible { is_ok result ≡ allows change now (spooled_at id self.old.jobs) }
         ensures after { self.new ≡ record self.old { jobs = with_job id (changed change now) self.old.jobs } }
         ensures kept { OnErr result (self.new ≡ self.old) }
+        ensures stay { AllStay self.old.jobs self.new.jobs }
     {
         let Some(spooled) = self.entries.get_mut(&id.number()) else {
             return Err(StateRefusal::NotPossible);
@@ -105,26 +111,18 @@ impl Spool {
         spooled.change(change, now)
     }
 
-    /// A device begins the job of this id, where there is one and it is pending.
-    pub(crate) fn begin(&mut self, id: JobId, now: Moment)
-        ensures { self.new ≡ record self.old { jobs = with_job id (begun now) self.old.jobs } }
-    {
-        let Some(spooled) = self.entries.get_mut(&id.number()) else {
-            return;
-        };
-        spooled.begin(now);
-    }
-
-    /// The device that has the job of this id, if there is one, lets go of it with a change.
-    pub(crate) fn relieve(&mut self, id: JobId, change: JobChange, now: Moment) -> Vec<Document>
-        ensures documents { result.items ≡ handed_out_at id self.old.jobs }
-        ensures rest { self.new ≡ record self.old { jobs = with_job id (relieved change now) self.old.jobs } }
+    /// A device says this of the job of this id, where there is one: the documents that it hands out.
+    pub(crate) fn tell_job(&mut self, id: JobId, says: DeviceSays, now: Moment) -> Vec<Document>
+        ensures documents { result.items ≡ documents_told id says self.old.jobs }
+        ensures jobs { self.new ≡ record self.old { jobs = with_job id (told says now) self.old.jobs } }
+        ensures others { OthersStay id self.old.jobs self.new.jobs }
+        ensures stay { is_end says ≡ false → AllStay self.old.jobs self.new.jobs }
     {
         let alloc = self.alloc;
         let Some(spooled) = self.entries.get_mut(&id.number()) else {
             return Vec::new(alloc);
         };
-        spooled.relieve(alloc, change, now)
+        spooled.tell(alloc, says, now)
     }
 
     /// The job of this id takes a further document. Where memory is wanting, it hands it back.
@@ -136,6 +134,7 @@ impl Spool {
     ) -> Result<(), Document>
         requires { IfSome (spooled_at id self.old.jobs) (λ s. (s.job.documents < JOB_DOCUMENTS) × (s.job.octets + length document.contents ≤ JOB_OCTETS)) }
         ensures ok { OnOk result (self.new ≡ record self.old { jobs = with_job id (attached document now) self.old.jobs }) }
+        ensures others { OnOk result (OthersStay id self.old.jobs self.new.jobs) }
         ensures kept { OnErr result (self.new ≡ self.old) }
         ensures back { IfErr result (λ back. back ≡ document) }
     {
@@ -158,14 +157,14 @@ impl Spool {
     }
 
     /// Marks the job at a place as stranded or not, as these entries say, if it is ready.
-    pub(crate) fn mark_by(&mut self, place: usize, paused: &[bool], stranded: &[Stranded])
+    pub(crate) fn mark_by(&mut self, place: usize, printers: &[Printer], stranded: &[Stranded])
         requires { place < length self.old.jobs }
-        ensures { self.new ≡ record self.old { jobs = map_at place (marked_by paused.now stranded.now) self.old.jobs } }
+        ensures { self.new ≡ record self.old { jobs = map_at place (marked_by printers.now stranded.now) self.old.jobs } }
     {
         let Some(spooled) = self.entries.get_index_mut(place) else {
             return;
         };
-        spooled.mark_by(paused, stranded);
+        spooled.mark_by(printers, stranded);
     }
 
     /// Removes the job at a place.
@@ -190,6 +189,7 @@ impl Spool {
         requires documents { length new.documents ≤ JOB_DOCUMENTS }
         requires octets { octets_of new.documents ≤ JOB_OCTETS }
         ensures ok { OnOk result (self.new ≡ record { jobs = self.old.jobs ++ spooled_of new id incoming ∷ []; next = id + 1 }) }
+        ensures stay { OnOk result (AllStay self.old.jobs self.new.jobs) }
         ensures kept { OnErr result (self.new ≡ self.old) }
         ensures back { IfErr result (λ back. back ≡ new) }
     {

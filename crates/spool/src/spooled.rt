@@ -1,10 +1,10 @@
-ghost use Rattle.std.specs.Prelude.{◌≡◌, ◌≤◌, ◌<◌, ◌+◌, OnOk, OnErr, IfErr, length, is_ok, is_some};
+ghost use Rattle.std.specs.Prelude.{◌≡◌, ◌≤◌, ◌<◌, ◌+◌, [], OnOk, OnErr, IfErr, length, is_ok, is_some, if◌then◌else◌};
 ghost use Rattle.job_objects.specs.JobStep.{job_after};
-ghost use Rattle.spool.specs.Spooled.{changed, begun, relieved, handed_out, settled, is_settled, counted, attached, expired, is_overdue, marked};
+ghost use Rattle.spool.specs.Spooled.{changed, on_device_after, let_go, told, handed_out, settled, is_settled, counted, attached, expired, is_overdue, marked};
 
 use crate::document::Document;
 use base_types::{Limits, Moment, Text};
-use job_objects::{Job, JobChange, StateRefusal, estimated_impressions, job_step};
+use job_objects::{DeviceSays, Job, JobChange, StateRefusal, estimated_impressions, job_step};
 use std::alloc::{AllocError, Global};
 use std::marker::Model;
 use std::mem;
@@ -74,7 +74,7 @@ impl SpooledJob {
         }
     }
 
-    /// A change that no device brings to an end; a refused one leaves it as it was.
+    /// A change with which no device lets go of it; a refused one leaves it as it was.
     pub(crate) fn change(&mut self, change: JobChange, now: Moment) -> Result<(), StateRefusal>
         ensures possible { is_ok result ≡ is_some (job_after change now self.old.job) }
         ensures after { self.new ≡ changed change now self.old }
@@ -82,25 +82,30 @@ impl SpooledJob {
         ensures same_job { self.new.job.id ≡ self.old.job.id }
     {
         job_step(&mut self.job, change, now)?;
+        self.on_device = on_device_after(change, self.on_device);
         self.settle();
         Ok(())
     }
 
-    /// A device begins it, where it is pending.
-    pub(crate) fn begin(&mut self, now: Moment)
-        ensures after { self.new ≡ begun now self.old }
+    /// A device says this of it: where it ends, the device that has it lets go of it, and its documents
+    /// are handed out.
+    pub(crate) fn tell(&mut self, alloc: Global, says: DeviceSays, now: Moment) -> Vec<Document>
+        ensures documents { result.items ≡ handed_out says self.old }
+        ensures after { self.new ≡ told says now self.old }
         ensures same_job { self.new.job.id ≡ self.old.job.id }
     {
-        if job_step(&mut self.job, JobChange::Start, now).is_ok() {
-            self.on_device = true;
+        let change = says.change();
+        if says.is_end() {
+            return self.let_go(alloc, change, now);
         }
+        let _refused = self.change(change, now);
+        Vec::new(alloc)
     }
 
     /// The device that has it lets go of it, with a change of the job, unless that is finished.
-    /// Its documents are handed out.
-    pub(crate) fn relieve(&mut self, alloc: Global, change: JobChange, now: Moment) -> Vec<Document>
-        ensures documents { result.items ≡ handed_out self.old }
-        ensures rest { self.new ≡ relieved change now self.old }
+    fn let_go(&mut self, alloc: Global, change: JobChange, now: Moment) -> Vec<Document>
+        ensures documents { result.items ≡ (if self.old.on_device then self.old.documents else []) }
+        ensures after { self.new ≡ let_go change now self.old }
         ensures same_job { self.new.job.id ≡ self.old.job.id }
     {
         let none = Vec::new(alloc);
@@ -165,6 +170,17 @@ impl SpooledJob {
         self.documents.push(document).unwrap();
         self.arrived = now;
         Ok(())
+    }
+}
+
+/// Whether a device has a job after a change, told whether one had it before.
+fn on_device_after(change: JobChange, on_device: bool) -> bool
+    ensures { result ≡ on_device_after change on_device }
+{
+    match change {
+        JobChange::Begin => true,
+        JobChange::Close | JobChange::Hold | JobChange::Release | JobChange::Cancel(_) => on_device,
+        JobChange::Stop | JobChange::Continue | JobChange::Done | JobChange::Fail => on_device,
     }
 }
 

@@ -1,11 +1,11 @@
-ghost use Rattle.std.specs.Prelude.{◌≡◌, [], IfOk, OnErr, IfErr, None, Some, true, false};
+ghost use Rattle.std.specs.Prelude.{◌≡◌, [], IfOk, OnOk, OnErr, IfErr, None, Some, true, false};
 ghost use Rattle.spool.specs.Calls.{is_full, new_refusal, IsRefusal, Takes};
+ghost use Rattle.spool.specs.OnDevice.{AllStay};
 
 use crate::document::Document;
-use crate::new_job::NewJob;
+use crate::new_job::{NewJob, formats_of, octets_within};
 use crate::refusal::{Refused, SpoolRefusal};
 use crate::spool::Spool;
-use crate::taking::{formats_of, octets_within};
 use base_types::{JobId, Limits};
 
 impl Spool {
@@ -36,6 +36,7 @@ impl Spool {
     pub fn submit(&mut self, new: NewJob) -> Result<JobId, Refused>
         ensures ok { IfOk result (λ id. Takes self.old new false id self.new) }
         ensures kept { OnErr result (self.new ≡ self.old) }
+        ensures stay { OnOk result (AllStay self.old.jobs self.new.jobs) }
         ensures returned { IfErr result (λ refused. refused.job ≡ new) }
         ensures refused { IfErr result (λ refused. IsRefusal (new_refusal self.old new.documents) refused.refusal) }
     {
@@ -49,6 +50,7 @@ impl Spool {
         requires { new.documents ≡ [] }
         ensures ok { IfOk result (λ id. Takes self.old new true id self.new) }
         ensures kept { OnErr result (self.new ≡ self.old) }
+        ensures stay { OnOk result (AllStay self.old.jobs self.new.jobs) }
         ensures refused { IfErr result (λ refusal. IsRefusal (new_refusal self.old []) refusal) }
     {
         match self.take(new, true) {
@@ -61,6 +63,7 @@ impl Spool {
     fn take(&mut self, new: NewJob, incoming: bool) -> Result<JobId, Refused>
         ensures ok { IfOk result (λ id. Takes self.old new incoming id self.new) }
         ensures kept { OnErr result (self.new ≡ self.old) }
+        ensures stay { OnOk result (AllStay self.old.jobs self.new.jobs) }
         ensures returned { IfErr result (λ refused. refused.job ≡ new) }
         ensures refused { IfErr result (λ refused. IsRefusal (new_refusal self.old new.documents) refused.refusal) }
     {

@@ -1,10 +1,8 @@
 //! A job that is new, one that is held and one that is printed, and what they make of their printer.
 use super::{reply, reply_of, rows, texts};
 use base_types::{JobId, Limits, Moment, Needs, PrinterId, Priority, Sides, Text};
-use job_objects::{Job, JobState};
-use printer_objects::{
-    JobShown, Printer, job_attributes, keeps_busy, printer_reason, printer_state,
-};
+use job_objects::{Job, JobState, Printer};
+use printer_objects::{JobShown, job_attributes, keeps_busy, printer_reason, printer_state};
 use std::alloc::{AllocError, Global};
 use std::test::Fail;
 

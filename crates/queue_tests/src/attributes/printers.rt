@@ -1,7 +1,8 @@
 //! Printers of the small settings, and one with two devices.
 use super::{reply, reply_of, rows, texts};
 use base_types::{Activity, DeviceId, DeviceNow, Medium, Moment, PrinterSet, Text};
-use printer_objects::{Printer, PrinterShown, printer_attributes};
+use job_objects::Printer;
+use printer_objects::{PrinterShown, printer_attributes};
 use settings_file::PrinterSettings;
 use std::alloc::{AllocError, Global};
 use std::test::Fail;

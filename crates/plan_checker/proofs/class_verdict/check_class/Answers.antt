@@ -9,8 +9,8 @@ pub returns-clause-yes : goal.returns-clause-yes
 returns-clause-yes c =
     let k = c.args.class.now in
     let p = c.args.priced.now in (
-      (λ e. proved_from_yes alone k c.ids-class.ensures.class p.way p.prices p.total c.requires.queues c.requires.places (subst (IsVerdict alone k p.way p.prices p.total) e c.first_fault.ensures)),
-      λ h. only_yes alone k p.way p.prices p.total (yes_from_proved k p.way p.prices p.total h alone (nothing_elsewhere k) (nothing_above k)) c.first_fault.result c.first_fault.ensures,
+      (λ e. proved_from_yes alone k c.ids-class.ensures.class p.way p.prices p.total c.requires.queues c.requires.places (subst (IsVerdict alone k p.way p.prices p.total) e c.judge.ensures)),
+      λ h. only_yes alone k p.way p.prices p.total (yes_from_proved k p.way p.prices p.total h alone (nothing_elsewhere k) (nothing_above k)) c.judge.result c.judge.ensures,
     )
 
 pub returns-clause-best : goal.returns-clause-best
@@ -18,7 +18,7 @@ returns-clause-best c =
     let k = c.args.class.now in
     let p = c.args.priced.now in
     λ e. best_from_proved k c.ids-class.ensures.class p.way p.prices p.total
-    (proved_from_yes alone k c.ids-class.ensures.class p.way p.prices p.total c.requires.queues c.requires.places (subst (IsVerdict alone k p.way p.prices p.total) e c.first_fault.ensures))
+    (proved_from_yes alone k c.ids-class.ensures.class p.way p.prices p.total c.requires.queues c.requires.places (subst (IsVerdict alone k p.way p.prices p.total) e c.judge.ensures))
 
 pub returns-clause-timetables : goal.returns-clause-timetables
 returns-clause-timetables c =
@@ -26,5 +26,5 @@ returns-clause-timetables c =
     let p = c.args.priced.now in
     λ e slots timetable. best_of_timetables k p.way c.ids-class.ensures.class
     (best_from_proved k c.ids-class.ensures.class p.way p.prices p.total
-    (proved_from_yes alone k c.ids-class.ensures.class p.way p.prices p.total c.requires.queues c.requires.places (subst (IsVerdict alone k p.way p.prices p.total) e c.first_fault.ensures)))
+    (proved_from_yes alone k c.ids-class.ensures.class p.way p.prices p.total c.requires.queues c.requires.places (subst (IsVerdict alone k p.way p.prices p.total) e c.judge.ensures)))
     slots timetable

@@ -2,12 +2,12 @@ use Rattle.std.proofs.Common.{◌≡◌, ◌<◌, ◌≤◌, List, length, take,
 use Rattle.prices.specs.declared.plan.PlannedClass.{PlannedClass}
 use Rattle.plan_checker.specs.Beside.{AboveHaveWays}
 use Rattle.plan_checker.specs.Plan.{IsVerdictAt}
-use Rattle.plan_checker.specs.declared.verdict.Verdict.TheVariants.{Yes}
-use Rattle.plan_checker.proofs.Plans.{verdict_at, yes_more, above_ways, proved_plan, best_classes, beaten_timetables, yes_in_proved, fault_is_no}
+use Rattle.plan_checker.specs.declared.verdict.Verdict.TheVariants.{Yes, No}
+use Rattle.plan_checker.proofs.Plans.{verdict_at, yes_more, above_ways, proved_plan, best_classes, beaten_timetables, yes_in_proved, fault_is_no, faulty_is_not_yes}
 use Rattle.plan_checker.proofs.plan_verdict.check_plan.Goals as goal
 
-pub first_fault-requires-clause-above : goal.first_fault-requires-clause-above
-first_fault-requires-clause-above c =
+pub judge-requires-clause-above : goal.judge-requires-clause-above
+judge-requires-clause-above c =
     let plan = c.args.plan.now in
     let count : length c.classes-classes.result.now ≡ length plan.classes = ap length c.classes-classes.ensures in
     subst (λ (xs : List PlannedClass). AboveHaveWays (take c.loop-place.place xs)) (sym c.classes-classes.ensures)
@@ -23,21 +23,22 @@ loop-place-preserved c =
     verdict_at plan c.classes-classes.result.now c.stranded.result.now c.loop-place.place c.index-classes-place.result Yes c.classes-classes.ensures c.stranded.ensures c.loop-place-test.true c.index-classes-place.is (c.in-Yes.ensures {u = tt}) in
     yes_more plan c.loop-place.place c.index-classes-place.result c.loop-place.invariant below item c.ids-class.ensures.class verdict
 
-pub returns-in_default : goal.returns-in_default
-returns-in_default c =
+pub returns-in-No : goal.returns-in-No
+returns-in-No c =
     let plan = c.args.plan.now in
+    let fault = c.in-No.fault in
     let count : length c.classes-classes.result.now ≡ length plan.classes = ap length c.classes-classes.ensures in
     let below : c.loop-place.place < length plan.classes = omega (arith, c.loop-place-test.true, count) in
-    let verdict : IsVerdictAt plan c.loop-place.place c.first_fault.result =
-    verdict_at plan c.classes-classes.result.now c.stranded.result.now c.loop-place.place c.index-classes-place.result c.first_fault.result c.classes-classes.ensures c.stranded.ensures c.loop-place-test.true c.index-classes-place.is c.first_fault.ensures in
+    let verdict : IsVerdictAt plan c.loop-place.place (No fault) =
+    verdict_at plan c.classes-classes.result.now c.stranded.result.now c.loop-place.place c.index-classes-place.result (No fault) c.classes-classes.ensures c.stranded.ensures c.loop-place-test.true c.index-classes-place.is (c.in-No.ensures {u = tt}) in
     record {
-      verdict = (below, c.loop-place.invariant.yes, verdict, c.in_default.not-Yes);
+      verdict = (below, c.loop-place.invariant.yes, verdict);
       yes = (
-        (λ e. absurd (fault_is_no c.loop-place.place c.first_fault.result e)),
-        λ proved. absurd (c.in_default.not-Yes (yes_in_proved plan proved c.loop-place.place below c.index-classes-place.result c.first_fault.result verdict)),
+        (λ e. absurd (fault_is_no c.loop-place.place fault e)),
+        λ proved. absurd (faulty_is_not_yes fault (yes_in_proved plan proved c.loop-place.place below c.index-classes-place.result (No fault) verdict)),
       );
-      best = λ e. absurd (fault_is_no c.loop-place.place c.first_fault.result e);
-      timetables = λ e. absurd (fault_is_no c.loop-place.place c.first_fault.result e);
+      best = λ e. absurd (fault_is_no c.loop-place.place fault e);
+      timetables = λ e. absurd (fault_is_no c.loop-place.place fault e);
     }
 
 pub returns-clause-verdict : goal.returns-clause-verdict

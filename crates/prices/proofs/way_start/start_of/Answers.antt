@@ -18,7 +18,7 @@ pub returns-in-Some-clause-start : goal.returns-in-Some-clause-start
 returns-in-Some-clause-start c =
     let queue : c.jobs-jobs.result.now ≡ get_or c.args.way.now c.loop-place.place [] = queue_at c.args.way.now c.queues-queue-items.result.now c.loop-place.place c.queue-item.result c.jobs-jobs.result.now c.queues-queue-items.ensures c.loop-place-test.true c.queue-item.is c.jobs-jobs.ensures in
     let below : c.loop-place.place < length c.args.way.now = omega (arith, c.loop-place-test.true, ap length c.queues-queue-items.ensures) in
-    found_slot c.args.class.now c.args.way.now c.loop-place.place c.new-device.result c.args.job c.in-Some.before c.jobs-jobs.result.now c.free_after.result below c.new-device.ensures queue (sym c.in-Some.is ∙ c.find.ensures) c.free_after.ensures
+    found_slot c.args.class.now c.args.way.now c.loop-place.place c.new-device.result c.args.job c.in-Some.before c.jobs-jobs.result.now c.free_after.result below c.new-device.ensures queue (sym c.in-Some.is ∙ c.place_in.ensures) c.free_after.ensures
 
 pub returns-in-Some-clause-timetable : goal.returns-in-Some-clause-timetable
 returns-in-Some-clause-timetable c = own_timetable c.args.class.now c.args.way.now c.requires
@@ -30,7 +30,7 @@ pub loop-place-preserved : goal.loop-place-preserved
 loop-place-preserved c =
     let queue : c.jobs-jobs.result.now ≡ get_or c.args.way.now c.loop-place.place [] = queue_at c.args.way.now c.queues-queue-items.result.now c.loop-place.place c.queue-item.result c.jobs-jobs.result.now c.queues-queue-items.ensures c.loop-place-test.true c.queue-item.is c.jobs-jobs.ensures in
     let below : c.loop-place.place < length c.args.way.now = omega (arith, c.loop-place-test.true, ap length c.queues-queue-items.ensures) in
-    let none : All (λ id. ¬ (id ≡ c.args.job)) c.jobs-jobs.result.now = none_found c.jobs-jobs.result.now c.args.job (sym c.in_default.is ∙ c.find.ensures) in
+    let none : All (λ id. ¬ (id ≡ c.args.job)) c.jobs-jobs.result.now = none_found c.jobs-jobs.result.now c.args.job (sym c.in_default.is ∙ c.place_in.ensures) in
     each_list_more (λ id. ¬ (id ≡ c.args.job)) c.args.way.now c.loop-place.place below (rw queue at none) c.loop-place.invariant
 
 pub returns-clause-start : goal.returns-clause-start

@@ -13,8 +13,8 @@ proved_plan_is_yes-requires g c =
     let plan : PlanRecord = record { classes = c.in_ok-classes.classes.items; stranded = c.in_ok-stranded.stranded.items } in
     good_is_proved s plan (waits_of c.args.now s) (all_planned s c.args.now c.in_ok-classes.classes.items done.0 done.1) done.1.best c.in_ok-stranded.ensures.stranded (ready_rises s c.stranded.ensures.spool)
 
-pub returns : goal.returns
-returns g c =
+pub returns-clause-plan : goal.returns-clause-plan
+returns-clause-plan g c =
     let s : State = c.args.self.now in
     let done = c.in_ok-classes.ensures {u = tt} in
     record {

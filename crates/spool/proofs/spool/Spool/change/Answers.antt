@@ -1,10 +1,13 @@
-use Rattle.std.proofs.Common.{◌∙◌, ap, sym, Option}
+use Rattle.std.proofs.Common.{◌∙◌, ap, sym, subst, Option}
 use Rattle.spool.specs.Spooled.{SpooledRecord, changed}
 use Rattle.spool.specs.Calls.{allows}
-use Rattle.spool.specs.Jobs.{jobs_of}
+use Rattle.spool.specs.Jobs.{SpoolRecord, jobs_of}
 use Rattle.spool.proofs.Entries.{changed_at, unchanged_at, found_at, same_at, keyed_set, err_map}
 use Rattle.spool.proofs.Finished.{changed_keeps}
 use Rattle.spool.proofs.Unfinished.{few_set}
+use Rattle.spool.proofs.Sound.{changed_sound, sound_set}
+use Rattle.spool.proofs.OnDevice.{changed_on, stay_with}
+use Rattle.spool.specs.OnDevice.{AllStay}
 use Rattle.spool.proofs.spool.Spool.change.Goals as goal
 
 pub returns-in_default-clause-after : goal.returns-in_default-clause-after
@@ -21,6 +24,7 @@ invariant_of-self-2 c = (
   c.self.invariant.1,
   c.self.invariant.2,
   rw (c.get_mut.follows.holds c.change.new.self).0 (few_set (changed c.args.change c.args.now) (changed_keeps c.args.change c.args.now) c.number.result c.self.inside.next c.self.inside.entries.entries c.in-Some.spooled.now c.change.new.self c.self.invariant.0 (sym (c.in-Some.ensures {u = tt}).value) c.change.ensures.after c.self.invariant.3),
+  rw (c.get_mut.follows.holds c.change.new.self).0 (sound_set (changed c.args.change c.args.now) (changed_sound c.args.change c.args.now) c.number.result c.self.inside.next c.self.inside.entries.entries c.in-Some.spooled.now c.change.new.self c.self.invariant.0 (sym (c.in-Some.ensures {u = tt}).value) c.change.ensures.after c.self.invariant.4),
 )
 
 pub returns-clause-after : goal.returns-clause-after
@@ -49,3 +53,11 @@ returns-clause-kept c =
     (λ same. rw (c.get_mut.follows.holds c.change.new.self).0
     (same_at c.number.result c.self.inside.next c.self.inside.entries.entries c.args.self.now c.in-Some.spooled.now c.change.new.self c.self.invariant.0 c.self.view_is (sym (c.in-Some.ensures {u = tt}).value) same))
     c.change.ensures.kept
+
+pub returns-in_default-clause-stay : goal.returns-in_default-clause-stay
+returns-in_default-clause-stay c =
+    subst (λ (s : SpoolRecord). AllStay c.args.self.now.jobs s.jobs) (sym (returns-in_default-clause-after c)) (stay_with c.args.id (changed c.args.change c.args.now) (changed_on c.args.change c.args.now) c.args.self.now.jobs)
+
+pub returns-clause-stay : goal.returns-clause-stay
+returns-clause-stay c =
+    subst (λ (s : SpoolRecord). AllStay c.args.self.now.jobs s.jobs) (sym (returns-clause-after c)) (stay_with c.args.id (changed c.args.change c.args.now) (changed_on c.args.change c.args.now) c.args.self.now.jobs)

@@ -3,4 +3,4 @@ use Rattle.spool.specs.Calls.{marked_by}
 use Rattle.spool.proofs.spool.Spool.mark.Given as goal
 
 abbrev pub invariant-loop-place : goal.invariant-loop-place
-invariant-loop-place l = l.self ≡ record l.initial.self { jobs = map (marked_by l.paused l.stranded) (take l.place l.initial.self.jobs) ++ drop l.place l.initial.self.jobs }
+invariant-loop-place l = l.self ≡ record l.initial.self { jobs = map (marked_by l.printers l.stranded) (take l.place l.initial.self.jobs) ++ drop l.place l.initial.self.jobs }

@@ -1,0 +1,221 @@
+-- The jobs that devices have, as devices and the spool change.
+use Rattle.std.proofs.Common.{◌≡◌, ◌⊎◌, ◌∙◌, ℕ, zero, suc, ◌<◌, length, Bool, true, false, cond, List, [], ◌∷◌, map, Option, Some, None, refl, sym, ap, subst, arith, inl, inr, true≢false}
+use Rattle.std.specs.Prelude.{slice_get}
+use Rattle.std.specs.Option.{option_map_or, option_and_then}
+use Rattle.std.proofs.lemmas.Bool.{cases_eq}
+use Rattle.base_types.specs.Device.{Device}
+use Rattle.base_types.specs.declared.device.Activity.{Activity}
+use Rattle.base_types.specs.declared.device.Activity.TheVariants.{Running, Stopped}
+use Rattle.base_types.specs.declared.report.Report.{Report}
+use Rattle.base_types.specs.declared.report.Report.TheVariants as Says
+use Rattle.job_objects.specs.declared.device_says.DeviceSays.{DeviceSays}
+use Rattle.job_objects.specs.declared.device_says.DeviceSays.TheVariants.{Stop, Continue, Done, Fail}
+use Rattle.spool.specs.Document.{DocumentRecord}
+use Rattle.spool.specs.Spooled.{SpooledRecord, handed_out}
+use Rattle.spool.specs.Jobs.{spooled_at, documents_told}
+use Rattle.spool.specs.Kept.{jobs_told}
+use Rattle.spool.specs.OnDevice.{is_on_device, documents_at, AllStay, OthersStay}
+use Rattle.spool.proofs.OnDevice.{there, others_told, stay_told}
+use Rattle.settings_file.specs.Settings.{DeviceEntry}
+use Rattle.print_room.specs.Opening.{opening_device}
+use Rattle.print_room.specs.Activity.{job_on, running_from, stopped_at, taking, idle}
+use Rattle.print_room.specs.State.{State, with_device, doing, holding}
+use Rattle.print_room.specs.Report.{has_job, said_of_job, left_of, activity_after, refitted, jobs_after, documents_out, state_after, Reports}
+use Rattle.print_room.specs.DeviceJobs.{job_of, Agree, KeepsAt, AllKeep, HandsOut, KeepsOrEnds}
+
+-- ---- one device changes
+
+pub job_elsewhere : (place k : ℕ) (change : Device → Device) (devices : List Device) → ¬ (k ≡ place) → job_of (with_device place change devices) k ≡ job_of devices k
+job_elsewhere place k change [] differ = refl
+job_elsewhere zero zero change (d ∷ ds) differ = absurd (differ refl)
+job_elsewhere zero (suc k) change (d ∷ ds) differ = refl
+job_elsewhere (suc place) zero change (d ∷ ds) differ = refl
+job_elsewhere (suc place) (suc k) change (d ∷ ds) differ = job_elsewhere place k change ds (λ same. differ (ap suc same))
+
+there_is : {x d : Device} → Some x ≡ Some d → x ≡ d
+there_is {x} {d} is = ap (λ (o : Option Device). option_map_or (λ y. y) o d) is
+
+pub job_here : (place : ℕ) (change : Device → Device) (devices : List Device) (d : Device) → slice_get devices place ≡ Some d → job_of (with_device place change devices) place ≡ job_on (change d).activity
+job_here place change [] d found = absurd (cc)
+job_here zero change (x ∷ ds) d found = ap (λ (y : Device). job_on (change y).activity) (there_is found)
+job_here (suc place) change (x ∷ ds) d found = job_here place change ds d found
+
+pub job_found : (place : ℕ) (devices : List Device) (d : Device) → slice_get devices place ≡ Some d → job_of devices place ≡ job_on d.activity
+job_found place devices d found = ap (λ (o : Option Device). option_and_then (λ x. job_on x.activity) o) found
+
+-- a place among the devices
+pub found_device : (place : ℕ) (devices : List Device) → place < length devices → (d : Device) × (slice_get devices place ≡ Some d)
+found_device place [] inside = absurd (omega (arith, inside))
+found_device zero (d ∷ ds) inside = (d, refl)
+found_device (suc place) (d ∷ ds) inside = found_device place ds (omega (arith, inside))
+
+pub not_some : {x : ℕ} → None ≡ Some x → ⊥
+not_some is = cc
+
+-- devices that have no more jobs than before
+agree_fewer : (devices new : List Device) (jobs : List SpooledRecord) → ((k id : ℕ) → job_of new k ≡ Some id → job_of devices k ≡ Some id) → Agree devices jobs → Agree new jobs
+agree_fewer devices new jobs were agree = record {
+  in_spool = λ k id has. agree.in_spool k id (were k id has);
+  apart = λ k l id one other. agree.apart k l id (were k id one) (were l id other);
+}
+
+-- one device has its job still, or none
+pub agree_device : (place : ℕ) (change : Device → Device) (devices : List Device) (jobs : List SpooledRecord) (d : Device) → slice_get devices place ≡ Some d → (job_on (change d).activity ≡ job_on d.activity) ⊎ (job_on (change d).activity ≡ None) → Agree devices jobs → Agree (with_device place change devices) jobs
+agree_device place change devices jobs d found job agree = agree_fewer devices (with_device place change devices) jobs was agree
+  where
+    was_here : (id : ℕ) → job_on (change d).activity ≡ Some id → (job_on (change d).activity ≡ job_on d.activity) ⊎ (job_on (change d).activity ≡ None) → job_of devices place ≡ Some id
+    was_here id has (inl same) = job_found place devices d found ∙ (sym same ∙ has)
+    was_here id has (inr none) = absurd (not_some (sym none ∙ has))
+
+    was : (k id : ℕ) → job_of (with_device place change devices) k ≡ Some id → job_of devices k ≡ Some id
+    was k id has = elim (cases_eq k place) [
+      | inl same ↦ subst (λ (p : ℕ). job_of devices p ≡ Some id) (sym same) (was_here id (sym (job_here place change devices d found) ∙ subst (λ (p : ℕ). job_of (with_device place change devices) p ≡ Some id) same has) job)
+      | inr differ ↦ sym (job_elsewhere place k change devices differ) ∙ has
+    ]
+
+-- the jobs change, and those of devices stay
+pub agree_stay : (devices : List Device) (jobs new : List SpooledRecord) → AllStay jobs new → Agree devices jobs → Agree devices new
+agree_stay devices jobs new stay agree = record {
+  in_spool = λ k id has. (stay id (agree.in_spool k id has)).on_device;
+  apart = agree.apart;
+}
+
+-- a device begins a job that no device has
+pub agree_begins : (place id : ℕ) (change : Device → Device) (devices : List Device) (jobs : List SpooledRecord) (d : Device) → slice_get devices place ≡ Some d → job_on (change d).activity ≡ Some id → is_on_device id jobs ≡ true → ((k : ℕ) → job_of devices k ≡ Some id → ⊥) → Agree devices jobs → Agree (with_device place change devices) jobs
+agree_begins place id change devices jobs d found begins on free agree = record { in_spool = in_spool; apart = apart }
+  where
+    new : List Device
+    new = with_device place change devices
+
+    some_is : {x y : ℕ} → Some x ≡ Some y → x ≡ y
+    some_is {x} {y} is = ap (λ (o : Option ℕ). option_map_or (λ z. z) o y) is
+
+    here : (one : ℕ) → job_of (with_device place change devices) place ≡ Some one → id ≡ one
+    here one has = some_is (sym begins ∙ (sym (job_here place change devices d found) ∙ has))
+
+    in_spool : (k one : ℕ) → job_of (with_device place change devices) k ≡ Some one → is_on_device one jobs ≡ true
+    in_spool k one has = elim (cases_eq k place) [
+      | inl same ↦ subst (λ (n : ℕ). is_on_device n jobs ≡ true) (here one (subst (λ (p : ℕ). job_of (with_device place change devices) p ≡ Some one) same has)) on
+      | inr differ ↦ agree.in_spool k one (sym (job_elsewhere place k change devices differ) ∙ has)
+    ]
+
+    apart : (k l one : ℕ) → job_of (with_device place change devices) k ≡ Some one → job_of (with_device place change devices) l ≡ Some one → k ≡ l
+    apart k l one has other = elim (cases_eq k place) [
+      | inl same ↦ elim (cases_eq l place) [
+        | inl too ↦ same ∙ sym too
+        | inr differ ↦
+            let is = here one (subst (λ (p : ℕ). job_of (with_device place change devices) p ≡ Some one) same has) in
+            absurd (free l (sym (job_elsewhere place l change devices differ) ∙ (other ∙ ap (λ (n : ℕ). Some n) (sym is))))
+      ]
+      | inr differ ↦ elim (cases_eq l place) [
+        | inl too ↦
+            let is = here one (subst (λ (p : ℕ). job_of (with_device place change devices) p ≡ Some one) too other) in
+            absurd (free k (sym (job_elsewhere place k change devices differ) ∙ (has ∙ ap (λ (n : ℕ). Some n) (sym is))))
+        | inr unlike ↦ agree.apart k l one (sym (job_elsewhere place k change devices differ) ∙ has) (sym (job_elsewhere place l change devices unlike) ∙ other)
+      ]
+    ]
+
+-- ---- a report
+
+-- what a device says of its job, and the job that it has after it
+abbrev pub Leaves : Option DeviceSays → Option ℕ → Option ℕ → Type 0
+Leaves None old new = new ≡ old
+Leaves (Some Stop) old new = new ≡ old
+Leaves (Some Continue) old new = new ≡ old
+Leaves (Some Done) old new = new ≡ None
+Leaves (Some Fail) old new = new ≡ None
+
+running_job : (now : ℕ) (activity : Activity) → Leaves (said_of_job Says.Ready activity) (job_on activity) (job_on (running_from now activity))
+running_job now (Running None) = refl
+running_job now (Running (Some printing)) = refl
+running_job now (Stopped None) = refl
+running_job now (Stopped (Some interrupted)) = refl
+
+stopping_job : (now : ℕ) (activity : Activity) → Leaves (said_of_job Says.Stop activity) (job_on activity) (job_on (stopped_at now activity))
+stopping_job now (Running None) = refl
+stopping_job now (Running (Some printing)) = refl
+stopping_job now (Stopped None) = refl
+stopping_job now (Stopped (Some interrupted)) = refl
+
+taking_job : (left now : ℕ) (activity : Activity) → job_on (taking left now activity) ≡ job_on activity
+taking_job left now (Running None) = refl
+taking_job left now (Running (Some printing)) = refl
+taking_job left now (Stopped None) = refl
+taking_job left now (Stopped (Some interrupted)) = refl
+
+paged_job : (now : ℕ) (activity : Activity) (o : Option ℕ) → job_on (option_map_or (λ left. taking left now activity) o activity) ≡ job_on activity
+paged_job now activity None = refl
+paged_job now activity (Some left) = taking_job left now activity
+
+idle_job : (activity : Activity) → job_on (idle activity) ≡ None
+idle_job (Running printing) = refl
+idle_job (Stopped interrupted) = refl
+
+gone_job : (now : ℕ) (activity : Activity) → job_on (stopped_at now (idle activity)) ≡ None
+gone_job now (Running printing) = refl
+gone_job now (Stopped interrupted) = refl
+
+done_job : (b : Bool) (activity : Activity) → Leaves (cond b (Some Done) None) (job_on activity) (job_on (cond b (idle activity) activity))
+done_job true activity = idle_job activity
+done_job false activity = refl
+
+failed_job : (b : Bool) (activity : Activity) → Leaves (cond b (Some Fail) None) (job_on activity) (job_on (cond b (idle activity) activity))
+failed_job true activity = idle_job activity
+failed_job false activity = refl
+
+pub report_leaves : (now : ℕ) (report : Report) (jobs : List SpooledRecord) (d : Device) → Leaves (said_of_job report d.activity) (job_on d.activity) (job_on (refitted report (activity_after now report jobs d) d).activity)
+report_leaves now (Says.Hello name) jobs d = refl
+report_leaves now (Says.Media names) jobs d = refl
+report_leaves now Says.Ready jobs d = running_job now d.activity
+report_leaves now Says.Stop jobs d = stopping_job now d.activity
+report_leaves now (Says.Pages number printed) jobs d = paged_job now d.activity (left_of number printed jobs d)
+report_leaves now (Says.Done number) jobs d = done_job (has_job number d.activity) d.activity
+report_leaves now (Says.Fail number) jobs d = failed_job (has_job number d.activity) d.activity
+report_leaves now Says.Gone jobs d = gone_job now d.activity
+
+pub same_or_none : (said : Option DeviceSays) (old new : Option ℕ) → Leaves said old new → (new ≡ old) ⊎ (new ≡ None)
+same_or_none None old new is = inl is
+same_or_none (Some Stop) old new is = inl is
+same_or_none (Some Continue) old new is = inl is
+same_or_none (Some Done) old new is = inr is
+same_or_none (Some Fail) old new is = inr is
+
+-- the jobs of devices are on them, once the device at a place said this of its job and has what that leaves
+pub agree_told : (now place : ℕ) (change : Device → Device) (devices : List Device) (jobs : List SpooledRecord) (d : Device) (said : Option DeviceSays) → slice_get devices place ≡ Some d → Leaves said (job_on d.activity) (job_on (change d).activity) → Agree devices jobs → Agree (with_device place change devices) (jobs_after now (job_on d.activity) said jobs)
+agree_told now place change devices jobs d said found leaves agree = told (job_on d.activity) refl said leaves
+  where
+    fewer : (said : Option DeviceSays) → Leaves said (job_on d.activity) (job_on (change d).activity) → Agree (with_device place change devices) jobs
+    fewer said leaves = agree_device place change devices jobs d found (same_or_none said (job_on d.activity) (job_on (change d).activity) leaves) agree
+
+    -- a job that ended is no device's
+    ended : (id : ℕ) (says : DeviceSays) → job_on d.activity ≡ Some id → job_on (change d).activity ≡ None → Agree (with_device place change devices) (jobs_told id says now jobs)
+    ended id says had none =
+        let mid : Agree (with_device place change devices) jobs = agree_device place change devices jobs d found (inr none) agree in
+        record {
+          in_spool = λ k one has. (others_told id says now jobs one (λ same. elim (cases_eq k place) [
+            | inl here ↦ not_some (sym none ∙ (sym (job_here place change devices d found) ∙ subst (λ (p : ℕ). job_of (with_device place change devices) p ≡ Some one) here has))
+            | inr differ ↦ differ (agree.apart k place one (sym (job_elsewhere place k change devices differ) ∙ has) (job_found place devices d found ∙ (had ∙ ap (λ (n : ℕ). Some n) (sym same))))
+          ]) (mid.in_spool k one has)).on_device;
+          apart = mid.apart;
+        }
+
+    told : (o : Option ℕ) → job_on d.activity ≡ o → (said : Option DeviceSays) → Leaves said (job_on d.activity) (job_on (change d).activity) → Agree (with_device place change devices) (jobs_after now o said jobs)
+    told None is said leaves = fewer said leaves
+    told (Some id) is None leaves = fewer None leaves
+    told (Some id) is (Some Stop) leaves = agree_stay (with_device place change devices) jobs (jobs_told id Stop now jobs) (stay_told id Stop now jobs refl) (fewer (Some Stop) leaves)
+    told (Some id) is (Some Continue) leaves = agree_stay (with_device place change devices) jobs (jobs_told id Continue now jobs) (stay_told id Continue now jobs refl) (fewer (Some Continue) leaves)
+    told (Some id) is (Some Done) leaves = ended id Done is leaves
+    told (Some id) is (Some Fail) leaves = ended id Fail is leaves
+
+-- ---- a room that opens
+
+opening_job : (entries : List DeviceEntry) (place : ℕ) → job_of (map opening_device entries) place ≡ None
+opening_job [] place = refl
+opening_job (entry ∷ entries) zero = refl
+opening_job (entry ∷ entries) (suc place) = opening_job entries place
+
+pub no_jobs_agree : (entries : List DeviceEntry) → Agree (map opening_device entries) []
+no_jobs_agree entries = record {
+  in_spool = λ place id has. absurd (not_some (sym (opening_job entries place) ∙ has));
+  apart = λ place other id has too. absurd (not_some (sym (opening_job entries place) ∙ has));
+}

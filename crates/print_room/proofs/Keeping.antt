@@ -1,0 +1,98 @@
+-- What becomes of the documents of the jobs that devices have.
+use Rattle.std.proofs.Common.{◌≡◌, ◌⊎◌, ◌∙◌, ℕ, Bool, true, false, cond, List, [], Option, Some, None, refl, sym, ap, subst, inl, inr}
+use Rattle.std.specs.Prelude.{slice_get, MatchOption}
+use Rattle.std.specs.Option.{option_map_or}
+use Rattle.base_types.specs.Device.{Device}
+use Rattle.base_types.specs.declared.report.Report.{Report}
+use Rattle.job_objects.specs.declared.device_says.DeviceSays.{DeviceSays}
+use Rattle.job_objects.specs.declared.device_says.DeviceSays.TheVariants.{Stop, Continue, Done, Fail}
+use Rattle.job_objects.specs.DeviceSays.{is_end}
+use Rattle.spool.specs.Document.{DocumentRecord}
+use Rattle.spool.specs.Spooled.{SpooledRecord, handed_out}
+use Rattle.spool.specs.Jobs.{spooled_at, documents_told}
+use Rattle.spool.specs.OnDevice.{is_on_device, documents_at, AllStay}
+use Rattle.spool.proofs.OnDevice.{there, others_told, stay_told, stay_same}
+use Rattle.print_room.specs.Activity.{job_on}
+use Rattle.print_room.specs.State.{State, with_device}
+use Rattle.print_room.specs.Report.{said_of_job, activity_after, refitted, jobs_after, documents_out, state_after, Reports}
+use Rattle.print_room.specs.DeviceJobs.{job_of, Agree, KeepsAt, AllKeep, HandsOut, KeepsOrEnds}
+use Rattle.print_room.proofs.DeviceJobs.{Leaves, report_leaves, job_elsewhere, job_here, job_found, not_some}
+
+-- the devices' jobs are the same, and those in the spool stay
+pub keep_from : (old new : State) → ((place id : ℕ) → job_of old.devices place ≡ Some id → job_of new.devices place ≡ Some id) → AllStay old.spool.jobs new.spool.jobs → Agree old.devices old.spool.jobs → AllKeep old new
+keep_from old new same stay agree place id has = (same place id has, (stay id (agree.in_spool place id has)).documents)
+
+pub keep_then : (old mid new : State) → AllKeep old mid → AllKeep mid new → AllKeep old new
+keep_then old mid new one two place id has =
+    let first = one place id has in
+    let second = two place id first.0 in
+    (second.0, second.1 ∙ first.1)
+
+-- a job that goes on hands nothing out, one that ends all of its documents
+told_nothing : (says : DeviceSays) → is_end says ≡ false → (id : ℕ) (jobs : List SpooledRecord) → documents_told id says jobs ≡ []
+told_nothing says goes_on id jobs = at (spooled_at id jobs)
+  where
+    at : (o : Option SpooledRecord) → option_map_or (handed_out says) o [] ≡ []
+    at None = refl
+    at (Some s) = ap (λ (b : Bool). cond b (cond s.on_device s.documents []) []) goes_on
+
+told_all : (says : DeviceSays) → is_end says ≡ true → (id : ℕ) (jobs : List SpooledRecord) → is_on_device id jobs ≡ true → documents_told id says jobs ≡ documents_at id jobs
+told_all says ends id jobs on =
+    let s = there id jobs on in
+    let out : Option SpooledRecord → List DocumentRecord = λ o. option_map_or (handed_out says) o [] in
+    let of : Option SpooledRecord → List DocumentRecord = λ o. option_map_or (λ x. x.documents) o [] in
+    ap out s.1
+    ∙ (ap (λ (b : Bool). cond b (cond s.0.on_device s.0.documents []) []) ends
+    ∙ (ap (λ (b : Bool). cond b s.0.documents []) s.2 ∙ sym (ap of s.1)))
+
+-- the state after a report of the device at the place
+module _ (now place : ℕ) (report : Report) (d : Device) (old : State) (found : slice_get old.devices place ≡ Some d) (agree : Agree old.devices old.spool.jobs) where
+  new_here : job_of (with_device place (refitted report (activity_after now report old.spool.jobs d)) old.devices) place ≡ job_on (refitted report (activity_after now report old.spool.jobs d) d).activity
+  new_here = job_here place (refitted report (activity_after now report old.spool.jobs d)) old.devices d found
+
+  old_here : job_of old.devices place ≡ job_on d.activity
+  old_here = job_found place old.devices d found
+
+  others : (other : ℕ) → ¬ (other ≡ place) → KeepsAt other old (state_after now place report d old)
+  others other differ id has = (job_elsewhere place other (refitted report (activity_after now report old.spool.jobs d)) old.devices differ ∙ has, same (job_on d.activity) refl (said_of_job report d.activity))
+    where
+      same : (o : Option ℕ) → job_on d.activity ≡ o → (said : Option DeviceSays) → documents_at id (jobs_after now o said old.spool.jobs) ≡ documents_at id old.spool.jobs
+      same None is said = refl
+      same (Some one) is None = refl
+      same (Some one) is (Some says) = (others_told one says now old.spool.jobs id (λ e. differ (agree.apart other place id has (old_here ∙ (is ∙ ap (λ (n : ℕ). Some n) (sym e))))) (agree.in_spool other id has)).documents
+
+  own : (said : Option DeviceSays) → Leaves said (job_on d.activity) (job_on (refitted report (activity_after now report old.spool.jobs d) d).activity) → (o : Option ℕ) → job_on d.activity ≡ o
+      → ((job_of (with_device place (refitted report (activity_after now report old.spool.jobs d)) old.devices) place ≡ o) × AllStay old.spool.jobs (jobs_after now o said old.spool.jobs) × (documents_out o said old.spool.jobs ≡ []))
+      ⊎ ((id : ℕ) × (o ≡ Some id) × (job_of (with_device place (refitted report (activity_after now report old.spool.jobs d)) old.devices) place ≡ None) × (documents_out o said old.spool.jobs ≡ documents_at id old.spool.jobs))
+  own None leaves None is = inl (new_here ∙ (leaves ∙ is), stay_same old.spool.jobs, refl)
+  own None leaves (Some id) is = inl (new_here ∙ (leaves ∙ is), stay_same old.spool.jobs, refl)
+  own (Some Stop) leaves None is = inl (new_here ∙ (leaves ∙ is), stay_same old.spool.jobs, refl)
+  own (Some Continue) leaves None is = inl (new_here ∙ (leaves ∙ is), stay_same old.spool.jobs, refl)
+  own (Some Done) leaves None is = inl (new_here ∙ leaves, stay_same old.spool.jobs, refl)
+  own (Some Fail) leaves None is = inl (new_here ∙ leaves, stay_same old.spool.jobs, refl)
+  own (Some Stop) leaves (Some id) is = inl (new_here ∙ (leaves ∙ is), stay_told id Stop now old.spool.jobs refl, told_nothing Stop refl id old.spool.jobs)
+  own (Some Continue) leaves (Some id) is = inl (new_here ∙ (leaves ∙ is), stay_told id Continue now old.spool.jobs refl, told_nothing Continue refl id old.spool.jobs)
+  own (Some Done) leaves (Some id) is = inr (id, refl, new_here ∙ leaves, told_all Done refl id old.spool.jobs (agree.in_spool place id (old_here ∙ is)))
+  own (Some Fail) leaves (Some id) is = inr (id, refl, new_here ∙ leaves, told_all Fail refl id old.spool.jobs (agree.in_spool place id (old_here ∙ is)))
+
+  pub report_keeps : KeepsOrEnds place old (documents_out (job_on d.activity) (said_of_job report d.activity) old.spool.jobs) (state_after now place report d old)
+  report_keeps = record {
+    others = others;
+    own = elim (own (said_of_job report d.activity) (report_leaves now report old.spool.jobs d) (job_on d.activity) refl) [
+      | inl kept ↦ inl ((λ id has. (kept.0 ∙ (sym old_here ∙ has), (kept.1 id (agree.in_spool place id has)).documents)), kept.2)
+      | inr ended ↦ inr (record { job = ended.0; had = old_here ∙ ended.1; has_none = ended.2; all = ended.3 })
+    ];
+  }
+
+-- a report of a place that no device has
+pub no_report_keeps : (now place : ℕ) (old : State) → KeepsOrEnds place old [] (record old { last = now })
+no_report_keeps now place old = record { others = λ other differ id has. (has, refl); own = inl ((λ id has. (has, refl)), refl) }
+
+pub reports_keep : (now place : ℕ) (report : Report) (old : State) (documents : List DocumentRecord) (new : State) → Agree old.devices old.spool.jobs → Reports now place report old documents new → KeepsOrEnds place old documents new
+reports_keep now place report old documents new agree = at (slice_get old.devices place) refl
+  where
+    at : (o : Option Device) → slice_get old.devices place ≡ o → MatchOption o ((new ≡ record old { last = now }) × (documents ≡ [])) (λ device. (new ≡ state_after now place report device old) × (documents ≡ documents_out (job_on device.activity) (said_of_job report device.activity) old.spool.jobs)) → KeepsOrEnds place old documents new
+    at None none reports =
+        subst (λ (s : State). KeepsOrEnds place old documents s) (sym reports.0) (subst (λ (ds : List DocumentRecord). KeepsOrEnds place old ds (record old { last = now })) (sym reports.1) (no_report_keeps now place old))
+    at (Some d) found reports =
+        subst (λ (s : State). KeepsOrEnds place old documents s) (sym reports.0) (subst (λ (ds : List DocumentRecord). KeepsOrEnds place old ds (state_after now place report d old)) (sym reports.1) (report_keeps now place report d old found agree))

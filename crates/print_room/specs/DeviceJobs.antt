@@ -1,0 +1,46 @@
+-- Which job each device has: the spool has it too, and no other device does. Until its device ends it, it
+-- stays there, with its documents, byte for byte.
+use Rattle.std.specs.Prelude.{ℕ, ◌≡◌, ◌⊎◌, true, List, [], length, Option, Some, None, slice_get}
+use Rattle.std.specs.Option.{option_and_then}
+use Rattle.base_types.specs.Device.{Device}
+use Rattle.spool.specs.Document.{DocumentRecord}
+use Rattle.spool.specs.Spooled.{SpooledRecord}
+use Rattle.spool.specs.OnDevice.{is_on_device, documents_at}
+use Rattle.print_room.specs.Activity.{job_on}
+use Rattle.print_room.specs.State.{State}
+
+-- the job that the device at a place has
+abbrev pub job_of : List Device → ℕ → Option ℕ
+job_of devices place = option_and_then (λ d. job_on d.activity) (slice_get devices place)
+
+-- the job that a device has is in the spool, as one that a device has, and no other device has it
+pub record Agree (devices : List Device) (jobs : List SpooledRecord) : Type 0 where
+  pub in_spool : (place id : ℕ) → job_of devices place ≡ Some id → is_on_device id jobs ≡ true
+  pub apart : (place other id : ℕ) → job_of devices place ≡ Some id → job_of devices other ≡ Some id → place ≡ other
+
+-- what holds of every room
+pub record IsRoom (state : State) : Type 0 where
+  pub agree : Agree state.devices state.spool.jobs
+  -- it is known of each printer whether it is paused
+  pub one_each : length state.paused ≡ length state.settings.printers
+
+-- the device at a place has its job still, and the spool the job's documents
+abbrev pub KeepsAt : ℕ → State → State → Type 0
+KeepsAt place old new = (id : ℕ) → job_of old.devices place ≡ Some id → (job_of new.devices place ≡ Some id) × (documents_at id new.spool.jobs ≡ documents_at id old.spool.jobs)
+
+-- so it is with each device
+abbrev pub AllKeep : State → State → Type 0
+AllKeep old new = (place : ℕ) → KeepsAt place old new
+
+-- the device at a place ends its job, and these are all of its documents
+pub record HandsOut (place : ℕ) (old : State) (documents : List DocumentRecord) (new : State) : Type 0 where
+  pub job : ℕ
+  pub had : job_of old.devices place ≡ Some job
+  pub has_none : job_of new.devices place ≡ None
+  pub all : documents ≡ documents_at job old.spool.jobs
+
+-- once the device at a place has said something: each other keeps its job, and so does it, or it ends that
+-- and hands its documents out
+pub record KeepsOrEnds (place : ℕ) (old : State) (documents : List DocumentRecord) (new : State) : Type 0 where
+  pub others : (other : ℕ) → ¬ (other ≡ place) → KeepsAt other old new
+  pub own : (KeepsAt place old new × (documents ≡ [])) ⊎ HandsOut place old documents new
