@@ -1,5 +1,6 @@
 //! Events that come to the core, and what a dispatch after each comes to.
 mod best;
+mod formats;
 mod reports;
 mod runs;
 

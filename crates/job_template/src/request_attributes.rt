@@ -5,8 +5,7 @@ ghost use Rattle.job_template.specs.Unsupported.{is_among, is_again, first_ones,
 
 use crate::request_attribute::RequestAttribute;
 use crate::template::is_unsupported;
-use base_types::DeviceNow;
-use settings_file::PrinterSettings;
+use printer_objects::Offer;
 use std::alloc::Global;
 use std::marker::Model;
 
@@ -71,16 +70,11 @@ impl RequestAttributes {
 
     /// What is returned of a job group, in its order. It takes no memory.
     #[tactic(auto, unfolding(crate::specs::Unsupported::unsupported_of))]
-    pub fn make_unsupported(
-        &mut self,
-        alloc: Global,
-        devices: &[DeviceNow],
-        printer: &PrinterSettings,
-    )
-        ensures { self.new ≡ unsupported_of devices.now printer.now self.old }
+    pub fn make_unsupported(&mut self, alloc: Global, offer: &Offer<'_>)
+        ensures { self.new ≡ unsupported_of offer.now self.old }
     {
         self.keep_first_ones();
-        self.keep_unsupported(devices, printer);
+        self.keep_unsupported(offer);
         self.make_returned(alloc);
     }
 
@@ -109,11 +103,11 @@ impl RequestAttributes {
     }
 
     /// Keeps what the printer doesn't support.
-    fn keep_unsupported(&mut self, devices: &[DeviceNow], printer: &PrinterSettings)
-        ensures { self.new ≡ filter (λ a. not (is_supported devices.now printer.now a)) self.old }
+    fn keep_unsupported(&mut self, offer: &Offer<'_>)
+        ensures { self.new ≡ filter (λ a. not (is_supported offer.now a)) self.old }
     {
         self.attributes
-            .retain(|attribute| is_unsupported(devices, printer, attribute));
+            .retain(|attribute| is_unsupported(offer, attribute));
     }
 
     /// Makes each what is returned of it.

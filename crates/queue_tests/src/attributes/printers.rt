@@ -1,7 +1,7 @@
 //! Printers of the small settings, and one with two devices.
 use super::{reply, reply_of, rows, texts};
 use base_types::{Activity, DeviceId, DeviceNow, Medium, Moment, PrinterSet, Text};
-use printer_objects::{Printer, PrinterShown, printer_attributes};
+use printer_objects::{Offer, Printer, PrinterShown, printer_attributes};
 use settings_file::PrinterSettings;
 use std::alloc::{AllocError, Global};
 use std::test::Fail;
@@ -183,9 +183,8 @@ fn shown(alloc: Global, row: Row) -> Result<Vec<u8>, Fail> {
     let requested = texts(alloc, row.asked)?;
     let shown = PrinterShown {
         printer: &Printer::new(),
-        settings: &settings,
+        offer: &Offer::new(&devices, &settings),
         uri_base: &uri_base,
-        devices: &devices,
         busy: false,
         queued: 0,
         moment: Moment::start(),
