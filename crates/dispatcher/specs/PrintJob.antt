@@ -6,7 +6,6 @@ use Rattle.std.specs.Str.{bytes_eq}
 use Rattle.base_types.specs.declared.limits.TheConstants.Limits.{JOB_OCTETS}
 use Rattle.settings_file.specs.Settings.{PrinterEntry}
 use Rattle.ipp_codec.specs.Message.{IppAttribute, IppGroup}
-use Rattle.ipp_codec.specs.Owned.{groups_owned}
 use Rattle.printer_objects.specs.Created.{created_group}
 use Rattle.printer_objects.specs.Offer.{OfferRecord, format_named}
 use Rattle.spool.specs.Submission.{Submission, spooled_of}
@@ -102,7 +101,7 @@ asked_of request now old = option_map_or (asked_at request now old) (place_of re
 
 -- an answer of just this status, what isn't supported, and these groups
 abbrev pub IsAnswer : Status → List IppAttribute → List IppGroup → Answer → Type 0
-IsAnswer status unsupported groups (Says.Ipp answer) = (answer.status ≡ status) × (answer.unsupported ≡ unsupported) × (groups_owned answer.groups.items ≡ groups)
+IsAnswer status unsupported groups (Says.Ipp answer) = (answer.status ≡ status) × (answer.unsupported ≡ unsupported) × (answer.groups.items ≡ groups)
 IsAnswer status unsupported groups Says.Nothing = ⊥
 
 -- a reply of just these: no cancels, no documents

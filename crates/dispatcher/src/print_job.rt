@@ -1,7 +1,6 @@
 ghost use Rattle.std.specs.Prelude.{◌≡◌, ◌≤◌, ◌∷◌, ◌&&◌, ◌==◌, [], IfOk, IsOk, IsErr, OnErr, None, if◌then◌else◌, length, not, position};
 ghost use Rattle.std.specs.Option.{option_copied};
 ghost use Rattle.std.specs.Str.{bytes_eq};
-ghost use Rattle.ipp_codec.specs.Owned.{groups_owned};
 ghost use Rattle.job_objects.specs.Reasons.{one};
 ghost use Rattle.spool.specs.Calls.{new_refusal};
 ghost use Rattle.dispatcher.specs.PrintJob.{PrintsJob, TakesJob, RefusesJob, place_of, is_compressed, format_of, refused, asked_of_format, asked_of, submission_of, taken_with, group_of};
@@ -89,7 +88,7 @@ fn take(
 /// The group that shows a job which is taken next.
 fn groups_of(alloc: Global, room: &PrintRoom, job: &NewJob) -> Result<Vec<Group>, AllocError>
     requires { new_refusal room.now.spool job.now.documents ≡ None }
-    ensures { IfOk result (λ groups. groups_owned groups.items ≡ group_of room.now job.now ∷ []) }
+    ensures { IfOk result (λ groups. groups.items ≡ group_of room.now job.now ∷ []) }
 {
     let id = room.spool().next_id().unwrap();
     let state = first_state(job.held);

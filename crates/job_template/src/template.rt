@@ -5,10 +5,11 @@ ghost use Rattle.std.specs.Option.{option_copied};
 ghost use Rattle.job_template.specs.Template.{up_to, copies_in, priority_in, hold_named, hold_in, sides_in, medium_in, supports, is_supported, asked_by, template_of, medium_of};
 ghost use Rattle.base_types.specs.Ranges.{IsCopies};
 
-use crate::request_attribute::RequestAttribute;
+use crate::request_attribute::{keyword, number, word};
 use crate::request_attributes::RequestAttributes;
 use crate::template_name::{TemplateName, template_name};
 use base_types::{Limits, Priority, Sides, Text};
+use ipp_codec::Attribute;
 use printer_objects::Offer;
 use std::marker::Model;
 
@@ -52,17 +53,17 @@ fn up_to(most: u32, count: u32) -> Option<u32>
 }
 
 /// The copies that an attribute asks for, if they are supported.
-fn copies_in(attribute: &RequestAttribute) -> Option<u32>
+fn copies_in(attribute: &Attribute) -> Option<u32>
     ensures { result ≡ copies_in attribute.now }
 {
-    up_to(Limits::COPIES, attribute.number()?)
+    up_to(Limits::COPIES, number(attribute)?)
 }
 
 /// The priority that an attribute asks for, if it is supported.
-fn priority_in(attribute: &RequestAttribute) -> Option<Priority>
+fn priority_in(attribute: &Attribute) -> Option<Priority>
     ensures { result ≡ priority_in attribute.now }
 {
-    priority_at(attribute.number()?)
+    priority_at(number(attribute)?)
 }
 
 /// The priority of this number, if it is in range.
@@ -89,28 +90,28 @@ fn hold_named(word: &[u8]) -> Option<bool>
 }
 
 /// Whether an attribute asks for the job to be held, if it is supported.
-fn hold_in(attribute: &RequestAttribute) -> Option<bool>
+fn hold_in(attribute: &Attribute) -> Option<bool>
     ensures { result ≡ hold_in attribute.now }
 {
-    hold_named(attribute.keyword()?)
+    hold_named(keyword(attribute)?)
 }
 
 /// The sides that an attribute asks for, if they are supported.
-fn sides_in(offer: &Offer<'_>, attribute: &RequestAttribute) -> Option<Sides>
+fn sides_in(offer: &Offer<'_>, attribute: &Attribute) -> Option<Sides>
     ensures { result ≡ sides_in offer.now attribute.now }
 {
-    offer.sides_named(attribute.keyword()?)
+    offer.sides_named(keyword(attribute)?)
 }
 
 /// The medium that an attribute asks for, as the settings write it, if it is supported.
-fn medium_in<'a>(offer: &Offer<'a>, attribute: &RequestAttribute) -> Option<&'a Text>
+fn medium_in<'a>(offer: &Offer<'a>, attribute: &Attribute) -> Option<&'a Text>
     ensures { option_copied result ≡ medium_in offer.now attribute.now }
 {
-    offer.medium_named(attribute.word()?)
+    offer.medium_named(word(attribute)?)
 }
 
 /// Whether a printer doesn't support an attribute.
-pub(crate) fn is_unsupported(offer: &Offer<'_>, attribute: &RequestAttribute) -> bool
+pub(crate) fn is_unsupported(offer: &Offer<'_>, attribute: &Attribute) -> bool
     ensures { result ≡ not (is_supported offer.now attribute.now) }
 {
     !is_supported(offer, attribute)
@@ -118,14 +119,14 @@ pub(crate) fn is_unsupported(offer: &Offer<'_>, attribute: &RequestAttribute) ->
 
 /// Whether a printer supports an attribute.
 #[tactic(auto, unfolding(crate::specs::Template::is_supported))]
-fn is_supported(offer: &Offer<'_>, attribute: &RequestAttribute) -> bool
+fn is_supported(offer: &Offer<'_>, attribute: &Attribute) -> bool
     ensures { result ≡ is_supported offer.now attribute.now }
 {
     supports(offer, attribute, template_name(attribute.name()))
 }
 
 /// Whether a printer supports the template attribute of this name.
-fn supports(offer: &Offer<'_>, attribute: &RequestAttribute, name: Option<TemplateName>) -> bool
+fn supports(offer: &Offer<'_>, attribute: &Attribute, name: Option<TemplateName>) -> bool
     ensures { result ≡ supports offer.now attribute.now name }
 {
     match name {

@@ -1,6 +1,5 @@
 //! Attributes of a printer that say what it offers.
 ghost use Rattle.std.specs.Prelude.{◌≡◌, IfOk};
-ghost use Rattle.ipp_codec.specs.Owned.{attribute_owned};
 ghost use Rattle.printer_objects.specs.Attribute.{alone};
 ghost use Rattle.printer_objects.specs.Offered.{operations_attribute, range, hold_untils_attribute, sides_attribute};
 
@@ -19,7 +18,7 @@ const OTHER_OPERATIONS: [i32; 11] = [
 
 /// The operations.
 pub(crate) fn operations(alloc: Global, name: &str) -> Result<Attribute, AllocError>
-    ensures { IfOk result (λ a. attribute_owned a ≡ operations_attribute name.now) }
+    ensures { IfOk result (λ a. a ≡ operations_attribute name.now) }
 {
     let mut attribute = enumerated(alloc, name, 0x0002)?;
     for code in OTHER_OPERATIONS {
@@ -31,7 +30,7 @@ pub(crate) fn operations(alloc: Global, name: &str) -> Result<Attribute, AllocEr
 
 /// How many copies a job may have.
 pub(crate) fn copies(alloc: Global, name: &str) -> Result<Attribute, AllocError>
-    ensures { IfOk result (λ a. attribute_owned a ≡ alone name.now (range 1 Limits.COPIES)) }
+    ensures { IfOk result (λ a. a ≡ alone name.now (range 1 Limits.COPIES)) }
 {
     let least: u32 = 1;
     let mut range = Vec::from_slice(alloc, &least.to_be_bytes())?;
@@ -41,7 +40,7 @@ pub(crate) fn copies(alloc: Global, name: &str) -> Result<Attribute, AllocError>
 
 /// Until when a job can be held.
 pub(crate) fn hold_untils(alloc: Global, name: &str) -> Result<Attribute, AllocError>
-    ensures { IfOk result (λ a. attribute_owned a ≡ hold_untils_attribute name.now) }
+    ensures { IfOk result (λ a. a ≡ hold_untils_attribute name.now) }
 {
     let mut attribute = keyword(alloc, name, b"no-hold")?;
     let value = Value::copy_of(alloc, ValueTag::KEYWORD, b"indefinite")?;
@@ -51,7 +50,7 @@ pub(crate) fn hold_untils(alloc: Global, name: &str) -> Result<Attribute, AllocE
 
 /// On which sides a job can be printed; no value where there are none.
 pub(crate) fn sides(alloc: Global, name: &str, sides: &[Sides]) -> Result<Attribute, AllocError>
-    ensures { IfOk result (λ a. attribute_owned a ≡ sides_attribute name.now sides.now) }
+    ensures { IfOk result (λ a. a ≡ sides_attribute name.now sides.now) }
 {
     let [first, others @ ..] = sides else {
         return no_value(alloc, name);

@@ -1,5 +1,4 @@
 ghost use Rattle.std.specs.Prelude.{◌≡◌, IfOk, map, filter, Some};
-ghost use Rattle.ipp_codec.specs.Owned.{attribute_owned, group_owned};
 ghost use Rattle.printer_objects.specs.PrinterAttribute.{is_wanted_of_printer, printer_table};
 ghost use Rattle.printer_objects.specs.PrinterShown.{printer_shown};
 
@@ -38,7 +37,7 @@ pub fn printer_attributes(
     shown: &PrinterShown<'_>,
     requested: &[Text],
 ) -> Result<Group, AllocError>
-    ensures { IfOk result (λ group. group_owned group ≡ record { tag = 0x04; attributes = map (printer_shown shown.now) (filter (is_wanted_of_printer requested.now) printer_table) }) }
+    ensures { IfOk result (λ group. group ≡ record { tag = 0x04; attributes = map (printer_shown shown.now) (filter (is_wanted_of_printer requested.now) printer_table) }) }
 {
     let mut group = Group::new(alloc, GroupTag::PRINTER);
     for which in PrinterAttribute::all() {
@@ -53,7 +52,7 @@ pub fn printer_attributes(
 impl PrinterAttribute {
     /// The attribute of this printer.
     fn shown(self, alloc: Global, shown: &PrinterShown<'_>) -> Result<Attribute, AllocError>
-        ensures { IfOk result (λ attribute. attribute_owned attribute ≡ printer_shown shown.now self) }
+        ensures { IfOk result (λ attribute. attribute ≡ printer_shown shown.now self) }
     {
         let name = self.name();
         let offer = shown.offer;
