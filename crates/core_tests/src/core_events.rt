@@ -1,5 +1,6 @@
 //! Events that come to the core, and what a dispatch after each comes to.
 mod best;
+mod formats;
 mod reports;
 mod runs;
 
@@ -8,7 +9,7 @@ use base_types::{Activity, Cause, DeviceId, JobId, Moment, Report, Sides, Text};
 use dispatcher::{Answer, Core, Dispatched, Event, PrintJob, Reply, Started, Status, Target};
 use ipp_codec::{Attribute, Value, ValueTag};
 use job_objects::JobState;
-use job_template::{RequestAttribute, RequestAttributes};
+use job_template::RequestAttributes;
 use prices::Plan;
 use settings_file::read_settings;
 use spool::Octets;
@@ -112,9 +113,9 @@ fn keyword_of(sides: Sides) -> &'static [u8] {
 }
 
 /// An attribute of one integer.
-fn number(alloc: Global, name: &[u8], number: u32) -> Result<RequestAttribute, AllocError> {
+fn number(alloc: Global, name: &[u8], number: u32) -> Result<Attribute, AllocError> {
     let value = Value::integer(alloc, i32::try_from(number).unwrap_or(0))?;
-    Ok(RequestAttribute::new(Attribute::new(alloc, name, value)?))
+    Attribute::new(alloc, name, value)
 }
 
 /// The job group of a job.
@@ -123,7 +124,7 @@ fn job_group(alloc: Global, asked: Asked) -> Result<RequestAttributes, AllocErro
     let sides = Attribute::new(alloc, b"sides", sides)?;
     let mut attributes = Vec::with_capacity(alloc, 3)?;
     attributes.push(number(alloc, b"job-priority", u32::from(asked.priority))?)?;
-    attributes.push(RequestAttribute::new(sides))?;
+    attributes.push(sides)?;
     attributes.push(number(alloc, b"copies", asked.copies)?)?;
     Ok(RequestAttributes::from_vec(attributes))
 }

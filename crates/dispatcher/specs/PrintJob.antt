@@ -1,15 +1,13 @@
 -- What a Print-Job request comes to (RFC 8011, section 4.2.1): why it is refused, else the job that it
 -- makes, and what it is answered.
-use Rattle.std.specs.Prelude.{ℕ, ◌≡◌, ◌==◌, ◌||◌, ◌&&◌, not, nat_lt, Bool, false, if◌then◌else◌, List, [], ◌∷◌, ◌++◌, find, position, reverse, length, Option, Some, None, slice_get, Result, Ok, Err, MatchResult, codes}
-use Rattle.std.specs.List.{before_first, flat_map}
+use Rattle.std.specs.Prelude.{ℕ, ◌≡◌, ◌==◌, ◌&&◌, not, nat_lt, Bool, false, if◌then◌else◌, List, [], ◌∷◌, position, length, Option, Some, None, slice_get, Result, Ok, Err, MatchResult, codes}
 use Rattle.std.specs.Option.{option_map_or}
-use Rattle.std.specs.Str.{bytes_eq, str_eq_ignore_ascii_case}
-use Rattle.base_types.specs.Device.{Device}
+use Rattle.std.specs.Str.{bytes_eq}
 use Rattle.base_types.specs.declared.limits.TheConstants.Limits.{JOB_OCTETS}
 use Rattle.settings_file.specs.Settings.{PrinterEntry}
 use Rattle.ipp_codec.specs.Message.{IppAttribute, IppGroup}
-use Rattle.ipp_codec.specs.Owned.{groups_owned}
 use Rattle.printer_objects.specs.Created.{created_group}
+use Rattle.printer_objects.specs.Offer.{OfferRecord, format_named}
 use Rattle.spool.specs.Submission.{Submission, spooled_of}
 use Rattle.spool.specs.Calls.{is_full, paused_at}
 use Rattle.dispatcher.specs.declared.event.PrintJob.{PrintJob}
@@ -39,41 +37,11 @@ place_of Unknown printers = None
 abbrev pub is_compressed : Option (List ℕ) → Bool
 is_compressed compression = option_map_or (λ c. not (bytes_eq c (codes "none"))) compression false
 
--- ---- the document format (section 5.1.10)
-
--- a space or a tab
-abbrev pub is_blank : ℕ → Bool
-is_blank byte = (byte == 32) || (byte == 9)
-
--- from the first byte that is no blank
-abbrev pub from_word : List ℕ → List ℕ
-from_word [] = []
-from_word (byte ∷ bytes) = if is_blank byte then from_word bytes else byte ∷ bytes
-
--- without the blanks around it
-unfoldable pub trimmed : List ℕ → List ℕ
-trimmed text = reverse (from_word (reverse (from_word text)))
-
--- a format without its parameters: up to a `;`
-unfoldable pub plain_format : List ℕ → List ℕ
-plain_format format = trimmed (before_first (λ byte. byte == 59) format)
-
--- in any case of ASCII letters
-unfoldable pub is_same_format : List ℕ → List ℕ → Bool
-is_same_format asked known = str_eq_ignore_ascii_case (plain_format asked) known
-
--- the formats of the device at a place, if there is one
-abbrev pub formats_at : List Device → ℕ → List (List ℕ)
-formats_at devices place = option_map_or (λ d. d.formats) (slice_get devices place) []
-
--- the formats of a printer: those of its devices in their order, then its default
-abbrev pub formats_of : List Device → PrinterEntry → List (List ℕ)
-formats_of devices printer = flat_map (formats_at devices) printer.devices ++ printer.format_default ∷ []
-
--- the settings' spelling of the format asked for, if the printer has it; without document-format the default
-abbrev pub format_of : List Device → PrinterEntry → Option (List ℕ) → Option (List ℕ)
-format_of devices printer None = Some printer.format_default
-format_of devices printer (Some asked) = find (is_same_format asked) (formats_of devices printer)
+-- the settings' spelling of the format asked for (section 5.1.10), if the printer has it; without
+-- document-format its default
+abbrev pub format_of : OfferRecord → Option (List ℕ) → Option (List ℕ)
+format_of offer None = Some offer.printer.format_default
+format_of offer (Some asked) = format_named offer asked
 
 -- ---- the job
 
@@ -108,19 +76,23 @@ admitted request old job unsupported =
     else Ok (record { job = job; unsupported = unsupported })
 
 -- by its job group, the format being known
-abbrev pub asked_of_format : PrintJob → ℕ → State → ℕ → PrinterEntry → List ℕ → Result Accepted Refusal
-asked_of_format request now old place printer format =
-    admitted request old (submission_of request now place format (medium_of old.devices printer request.template) (template_of old.devices printer request.template)) (unsupported_of old.devices printer request.template)
+abbrev pub asked_of_format : PrintJob → ℕ → State → ℕ → OfferRecord → List ℕ → Result Accepted Refusal
+asked_of_format request now old place offer format =
+    admitted request old (submission_of request now place format (medium_of offer request.template) (template_of offer request.template)) (unsupported_of offer request.template)
 
 -- the document is compressed, or its format isn't supported
-abbrev pub asked_of_printer : PrintJob → ℕ → State → ℕ → PrinterEntry → Result Accepted Refusal
-asked_of_printer request now old place printer =
+abbrev pub asked_of_printer : PrintJob → ℕ → State → ℕ → OfferRecord → Result Accepted Refusal
+asked_of_printer request now old place offer =
     if is_compressed request.compression then Err (refused Went.CompressionNotSupported)
-    else option_map_or (asked_of_format request now old place printer) (format_of old.devices printer request.format) (Err (refused Went.FormatNotSupported))
+    else option_map_or (asked_of_format request now old place offer) (format_of offer request.format) (Err (refused Went.FormatNotSupported))
+
+-- what a printer offers, by what the devices are now
+abbrev pub offer_of : State → PrinterEntry → OfferRecord
+offer_of old printer = record { devices = old.devices; printer = printer }
 
 -- the printer is unknown
 abbrev pub asked_at : PrintJob → ℕ → State → ℕ → Result Accepted Refusal
-asked_at request now old place = option_map_or (asked_of_printer request now old place) (slice_get old.settings.printers place) (Err (refused Went.NotFound))
+asked_at request now old place = option_map_or (λ printer. asked_of_printer request now old place (offer_of old printer)) (slice_get old.settings.printers place) (Err (refused Went.NotFound))
 
 abbrev pub asked_of : PrintJob → ℕ → State → Result Accepted Refusal
 asked_of request now old = option_map_or (asked_at request now old) (place_of request.target old.settings.printers) (Err (refused Went.NotFound))
@@ -129,7 +101,7 @@ asked_of request now old = option_map_or (asked_at request now old) (place_of re
 
 -- an answer of just this status, what isn't supported, and these groups
 abbrev pub IsAnswer : Status → List IppAttribute → List IppGroup → Answer → Type 0
-IsAnswer status unsupported groups (Says.Ipp answer) = (answer.status ≡ status) × (answer.unsupported ≡ unsupported) × (groups_owned answer.groups.items ≡ groups)
+IsAnswer status unsupported groups (Says.Ipp answer) = (answer.status ≡ status) × (answer.unsupported ≡ unsupported) × (answer.groups.items ≡ groups)
 IsAnswer status unsupported groups Says.Nothing = ⊥
 
 -- a reply of just these: no cancels, no documents

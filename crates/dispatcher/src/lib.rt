@@ -13,7 +13,6 @@
 mod apply;
 mod dispatch;
 mod event;
-mod formats;
 mod print_job;
 mod reply;
 mod run;

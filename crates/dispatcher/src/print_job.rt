@@ -1,12 +1,11 @@
 ghost use Rattle.std.specs.Prelude.{◌≡◌, ◌≤◌, ◌∷◌, ◌&&◌, ◌==◌, [], IfOk, IsOk, IsErr, OnErr, None, if◌then◌else◌, length, not, position};
+ghost use Rattle.std.specs.Option.{option_copied};
 ghost use Rattle.std.specs.Str.{bytes_eq};
-ghost use Rattle.ipp_codec.specs.Owned.{groups_owned};
 ghost use Rattle.job_objects.specs.Reasons.{one};
 ghost use Rattle.spool.specs.Calls.{new_refusal};
 ghost use Rattle.dispatcher.specs.PrintJob.{PrintsJob, TakesJob, RefusesJob, place_of, is_compressed, format_of, refused, asked_of_format, asked_of, submission_of, taken_with, group_of};
 
 use crate::event::{PrintJob, Target};
-use crate::formats::format_of;
 use crate::reply::Reply;
 use crate::status::Status;
 use base_types::{Limits, Moment, PrinterId, Text};
@@ -14,7 +13,7 @@ use ipp_codec::Group;
 use job_objects::{JobReasons, JobState, Reason};
 use job_template::{JobTemplate, RequestAttributes, medium_of, template_of};
 use print_room::PrintRoom;
-use printer_objects::created_job_attributes;
+use printer_objects::{Offer, created_job_attributes};
 use settings_file::PrinterSettings;
 use spool::{Document, NewJob, Octets};
 use std::alloc::{AllocError, Global};
@@ -89,7 +88,7 @@ fn take(
 /// The group that shows a job which is taken next.
 fn groups_of(alloc: Global, room: &PrintRoom, job: &NewJob) -> Result<Vec<Group>, AllocError>
     requires { new_refusal room.now.spool job.now.documents ≡ None }
-    ensures { IfOk result (λ groups. groups_owned groups.items ≡ group_of room.now job.now ∷ []) }
+    ensures { IfOk result (λ groups. groups.items ≡ group_of room.now job.now ∷ []) }
 {
     let id = room.spool().next_id().unwrap();
     let state = first_state(job.held);
@@ -122,10 +121,11 @@ fn asked_by(
     if is_compressed(&request.compression) {
         return Ok(Err(refused(alloc, Status::CompressionNotSupported)));
     }
-    let Some(format) = format_of(room.devices(), printer, &request.format) else {
+    let offer = Offer::new(room.devices(), printer);
+    let Some(format) = format_of(&offer, &request.format) else {
         return Ok(Err(refused(alloc, Status::FormatNotSupported)));
     };
-    asked_of_format(alloc, room, place, printer, format, request, now)
+    asked_of_format(alloc, room, place, &offer, format, request, now)
 }
 
 /// The job that a request asks of a printer that has its format, or the first reason against it.
@@ -133,21 +133,20 @@ fn asked_of_format(
     alloc: Global,
     room: &PrintRoom,
     place: usize,
-    printer: &PrinterSettings,
+    offer: &Offer<'_>,
     format: &Text,
     request: PrintJob,
     now: Moment,
 ) -> Result<Result<Accepted, Refusal>, AllocError>
-    ensures ok { IfOk result (λ asked. asked ≡ asked_of_format request now room.now place printer.now format.now) }
-    ensures err { OnErr result (IsOk (asked_of_format request now room.now place printer.now format.now)) }
+    ensures ok { IfOk result (λ asked. asked ≡ asked_of_format request now room.now place offer.now format.now) }
+    ensures err { OnErr result (IsOk (asked_of_format request now room.now place offer.now format.now)) }
     ensures free { IfOk result (λ asked. IfOk asked (λ accepted. new_refusal room.now.spool accepted.job.documents ≡ None)) }
 {
     let mut request = request;
-    let devices = room.devices();
-    let template = template_of(devices, printer, &request.template);
-    let medium = medium_of(devices, printer, &request.template);
+    let template = template_of(offer, &request.template);
+    let medium = medium_of(offer, &request.template);
     let mut unsupported = mem::replace(&mut request.template, RequestAttributes::new(alloc));
-    unsupported.make_unsupported(alloc, devices, printer);
+    unsupported.make_unsupported(alloc, offer);
     if breaks_fidelity(request.fidelity, &unsupported) {
         return Ok(Err(Refusal {
             status: Status::AttributesNotSupported,
@@ -228,6 +227,17 @@ fn place_named(printers: &[PrinterSettings], name: &[u8]) -> Option<usize>
     printers
         .iter()
         .position(|printer| name == printer.name.as_bytes())
+}
+
+/// The format of a document, as the settings write it: the one asked for, if the printer has it;
+/// without one asked for its default.
+fn format_of<'a>(offer: &Offer<'a>, asked: &Option<Text>) -> Option<&'a Text>
+    ensures { option_copied result ≡ format_of offer.now asked.now }
+{
+    match asked {
+        Some(asked) => offer.format_named(asked.as_bytes()),
+        None => Some(offer.default_format()),
+    }
 }
 
 /// Whether a document is compressed (RFC 8011, section 4.2.1.1).

@@ -1,5 +1,4 @@
 ghost use Rattle.std.specs.Prelude.{◌≡◌, []};
-ghost use Rattle.ipp_codec.specs.Owned.{groups_owned};
 ghost use Rattle.dispatcher.specs.PrintJob.{Replies};
 
 use crate::status::Status;
@@ -52,7 +51,7 @@ impl Reply {
         unsupported: RequestAttributes,
         groups: Vec<Group>,
     ) -> Reply
-        ensures { Replies status unsupported (groups_owned groups.items) result }
+        ensures { Replies status unsupported groups.items result }
     {
         Reply {
             answer: Answer::Ipp(IppAnswer {

@@ -1,8 +1,8 @@
--- Values and attributes as trees of numbers: the codes by which proofs tell them apart, where a type's model is made of them.
+-- The parts of messages as trees of numbers: the codes by which proofs tell them apart, where a type's model is made of them.
 use Rattle.std.specs.Prelude.{◌≡◌, ℕ, List, [], ◌∷◌, refl}
 use Rattle.std.specs.Coded.{Coded, code_by, coded×, coded_list, coded_ℕ}
 use base.Stored.{Gv, gnil, gnum, gcons}
-use Rattle.ipp_codec.specs.Message.{IppValue, plain, collection, IppValues, no_value, value_and, IppMembers, no_member, member_and, IppAttribute}
+use Rattle.ipp_codec.specs.Message.{IppValue, plain, collection, IppValues, no_value, value_and, IppMembers, no_member, member_and, IppAttribute, IppGroup, IppMessage}
 
 -- a tree stands for itself
 abbrev tree_code : Coded Gv
@@ -74,3 +74,14 @@ abbrev pub attribute_code : Coded IppAttribute
 attribute_code =
     code_by (List ℕ × (IppValue × List IppValue)) (coded× (coded_list coded_ℕ) (coded× value_code (coded_list value_code)))
     (λ a. (a.name, (a.first, a.others))) (λ p. record { name = p.0; first = p.1.0; others = p.1.1 }) (λ _. refl)
+
+abbrev pub group_code : Coded IppGroup
+group_code =
+    code_by (ℕ × List IppAttribute) (coded× coded_ℕ (coded_list attribute_code))
+    (λ g. (g.tag, g.attributes)) (λ p. record { tag = p.0; attributes = p.1 }) (λ _. refl)
+
+abbrev pub message_code : Coded IppMessage
+message_code =
+    code_by (ℕ × (ℕ × (ℕ × (ℕ × List IppGroup)))) (coded× coded_ℕ (coded× coded_ℕ (coded× coded_ℕ (coded× coded_ℕ (coded_list group_code)))))
+    (λ m. (m.major, (m.minor, (m.code, (m.request_id, m.groups)))))
+    (λ p. record { major = p.0; minor = p.1.0; code = p.1.1.0; request_id = p.1.1.1.0; groups = p.1.1.1.1 }) (λ _. refl)

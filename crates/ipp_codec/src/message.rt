@@ -1,11 +1,13 @@
-//! Messages that own their names and values.
+//! Messages that own their names and values. In clauses each is what it says, without where it lies in
+//! memory.
 ghost use Rattle.std.specs.Prelude.{◌≡◌, [], ◌∷◌, ◌++◌, IfOk, OnOk, OnErr};
-ghost use Rattle.ipp_codec.specs.Owned.{value_owned, attribute_owned, group_owned, message_owned};
+ghost use Rattle.ipp_codec.specs.Owned.{value_owned};
 
 use crate::tag::GroupTag;
 use crate::value::Value;
 use crate::view::Version;
 use std::alloc::{AllocError, Global};
+use std::marker::Model;
 
 /// An attribute: its name, and one or more values.
 #[derive(Drop)]
@@ -31,10 +33,55 @@ pub struct Message {
     pub groups: Vec<Group>,
 }
 
+impl Model for Attribute {
+    ghost use Rattle.std.specs.Prelude.{map};
+    ghost use Rattle.ipp_codec.specs.Code.{attribute_code};
+    ghost use Rattle.ipp_codec.specs.Message.{IppAttribute};
+    ghost use Rattle.ipp_codec.specs.Owned.{value_owned};
+
+    ghost Value = { IppAttribute };
+
+    ghost coded = { attribute_code };
+
+    ghost view = { λ a. record {
+      name = a.name.items;
+      first = value_owned a.first;
+      others = map value_owned a.others.items;
+    } };
+}
+
+impl Model for Group {
+    ghost use Rattle.ipp_codec.specs.Code.{group_code};
+    ghost use Rattle.ipp_codec.specs.Message.{IppGroup};
+
+    ghost Value = { IppGroup };
+
+    ghost coded = { group_code };
+
+    ghost view = { λ g. record { tag = g.tag; attributes = g.attributes.items } };
+}
+
+impl Model for Message {
+    ghost use Rattle.ipp_codec.specs.Code.{message_code};
+    ghost use Rattle.ipp_codec.specs.Message.{IppMessage};
+
+    ghost Value = { IppMessage };
+
+    ghost coded = { message_code };
+
+    ghost view = { λ m. record {
+      major = m.version.major;
+      minor = m.version.minor;
+      code = m.code;
+      request_id = m.request_id;
+      groups = m.groups.items;
+    } };
+}
+
 impl Attribute {
     /// An attribute of this name with one value.
     pub fn new(alloc: Global, name: &[u8], first: Value) -> Result<Attribute, AllocError>
-        ensures { IfOk result (λ attribute. attribute_owned attribute ≡ record { name = name.now; first = value_owned first; others = [] }) }
+        ensures { IfOk result (λ attribute. attribute ≡ record { name = name.now; first = value_owned first; others = [] }) }
     {
         let name = Vec::from_slice(alloc, name)?;
         Ok(Attribute {
@@ -44,10 +91,17 @@ impl Attribute {
         })
     }
 
+    /// Its name.
+    pub fn name(&self) -> &[u8]
+        ensures { result.now ≡ self.now.name }
+    {
+        &self.name
+    }
+
     /// Adds a further value.
     pub fn push(&mut self, value: Value) -> Result<(), AllocError>
-        ensures ok { OnOk result (attribute_owned self.new ≡ record { name = (attribute_owned self.old).name; first = (attribute_owned self.old).first; others = (attribute_owned self.old).others ++ value_owned value ∷ [] }) }
-        ensures err { OnErr result (attribute_owned self.new ≡ attribute_owned self.old) }
+        ensures ok { OnOk result (self.new ≡ record self.old { others = self.old.others ++ value_owned value ∷ [] }) }
+        ensures err { OnErr result (self.new ≡ self.old) }
     {
         self.others.push(value)?;
         Ok(())
@@ -57,7 +111,7 @@ impl Attribute {
 impl Group {
     /// A group of this tag without attributes.
     pub fn new(alloc: Global, tag: GroupTag) -> Group
-        ensures { group_owned result ≡ record { tag = tag; attributes = [] } }
+        ensures { result ≡ record { tag = tag; attributes = [] } }
     {
         Group {
             tag,
@@ -67,8 +121,8 @@ impl Group {
 
     /// Adds an attribute.
     pub fn push(&mut self, attribute: Attribute) -> Result<(), AllocError>
-        ensures ok { OnOk result (group_owned self.new ≡ record { tag = (group_owned self.old).tag; attributes = (group_owned self.old).attributes ++ attribute_owned attribute ∷ [] }) }
-        ensures err { OnErr result (group_owned self.new ≡ group_owned self.old) }
+        ensures ok { OnOk result (self.new ≡ record self.old { attributes = self.old.attributes ++ attribute ∷ [] }) }
+        ensures err { OnErr result (self.new ≡ self.old) }
     {
         self.attributes.push(attribute)?;
         Ok(())
@@ -78,7 +132,7 @@ impl Group {
 impl Message {
     /// A message without groups.
     pub fn new(alloc: Global, version: Version, code: u16, request_id: u32) -> Message
-        ensures { message_owned result ≡ record { major = version.major; minor = version.minor; code = code; request_id = request_id; groups = [] } }
+        ensures { result ≡ record { major = version.major; minor = version.minor; code = code; request_id = request_id; groups = [] } }
     {
         Message {
             version,
@@ -90,8 +144,8 @@ impl Message {
 
     /// Adds a group.
     pub fn push(&mut self, group: Group) -> Result<(), AllocError>
-        ensures ok { OnOk result (message_owned self.new ≡ record { major = (message_owned self.old).major; minor = (message_owned self.old).minor; code = (message_owned self.old).code; request_id = (message_owned self.old).request_id; groups = (message_owned self.old).groups ++ group_owned group ∷ [] }) }
-        ensures err { OnErr result (message_owned self.new ≡ message_owned self.old) }
+        ensures ok { OnOk result (self.new ≡ record self.old { groups = self.old.groups ++ group ∷ [] }) }
+        ensures err { OnErr result (self.new ≡ self.old) }
     {
         self.groups.push(group)?;
         Ok(())

@@ -1,7 +1,7 @@
 //! Views made owned.
 ghost use Rattle.std.specs.Prelude.{◌≡◌, ◌<◌, length, IfOk};
 ghost use Rattle.ipp_codec.specs.Message.{members_in};
-ghost use Rattle.ipp_codec.specs.Owned.{value_owned, values_owned, members_owned, attributes_owned, group_owned, groups_owned, message_owned};
+ghost use Rattle.ipp_codec.specs.Owned.{value_owned, values_owned, members_owned};
 ghost use Rattle.ipp_codec.specs.Views.{level, value_shown, group_shown, message_shown};
 
 use crate::element::BEGIN_COLLECTION;
@@ -59,7 +59,7 @@ fn own_members(alloc: Global, bytes: &[u8]) -> Result<Vec<Member>, AllocError>
 }
 
 fn own_attributes(alloc: Global, bytes: &[u8]) -> Result<Vec<Attribute>, AllocError>
-    ensures { IfOk result (λ xs. attributes_owned xs.items ≡ (level bytes.now).attributes) }
+    ensures { IfOk result (λ xs. xs.items ≡ (level bytes.now).attributes) }
 {
     let mut owned = Vec::new(alloc);
     let mut rest = bytes;
@@ -78,7 +78,7 @@ fn own_attributes(alloc: Global, bytes: &[u8]) -> Result<Vec<Attribute>, AllocEr
 }
 
 fn own_groups(alloc: Global, bytes: &[u8]) -> Result<Vec<Group>, AllocError>
-    ensures { IfOk result (λ gs. groups_owned gs.items ≡ (level bytes.now).groups) }
+    ensures { IfOk result (λ gs. gs.items ≡ (level bytes.now).groups) }
 {
     let mut owned = Vec::new(alloc);
     let mut rest = bytes;
@@ -94,7 +94,7 @@ fn own_groups(alloc: Global, bytes: &[u8]) -> Result<Vec<Group>, AllocError>
 impl<'a> GroupView<'a> {
     /// A group of its own that says the same. The error is want of memory.
     pub fn to_owned(&self, alloc: Global) -> Result<Group, AllocError>
-        ensures { IfOk result (λ group. group_owned group ≡ group_shown self.now) }
+        ensures { IfOk result (λ group. group ≡ group_shown self.now) }
     {
         let attributes = own_attributes(alloc, self.rest)?;
         Ok(Group {
@@ -107,7 +107,7 @@ impl<'a> GroupView<'a> {
 impl<'a> MessageView<'a> {
     /// A message of its own that says the same.
     pub fn to_owned(&self, alloc: Global) -> Result<Message, AllocError>
-        ensures { IfOk result (λ message. message_owned message ≡ message_shown self.now) }
+        ensures { IfOk result (λ message. message ≡ message_shown self.now) }
     {
         let groups = own_groups(alloc, self.body)?;
         Ok(Message {

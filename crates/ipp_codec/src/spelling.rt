@@ -6,7 +6,7 @@ ghost use Rattle.ipp_codec.specs.Message.{values_of, members_of};
 ghost use Rattle.ipp_codec.specs.Spelling.{value_bytes, spelling};
 ghost use Rattle.ipp_codec.specs.Written.{value_written, values_written, members_written, attributes_written, groups_written, header_bytes};
 ghost use Rattle.ipp_codec.specs.Grammar.{IsPlain, IsName, IsValue, AreValues, AreMembers, IsAttribute, IsGroup, IsMessage};
-ghost use Rattle.ipp_codec.specs.Owned.{value_owned, values_owned, member_owned, members_owned, attribute_owned, group_owned, attributes_owned, groups_owned, message_owned};
+ghost use Rattle.ipp_codec.specs.Owned.{value_owned, values_owned, member_owned, members_owned};
 
 use crate::element::{BEGIN_COLLECTION, END, END_COLLECTION, FIRST_VALUE_TAG, MEMBER_NAME};
 use crate::fault::EncodeFault;
@@ -19,8 +19,8 @@ use std::alloc::AllocError;
 
 /// Appends the one spelling of the message. After an error the vector is as before.
 pub fn encode(message: &Message, out: &mut Vec<u8>) -> Result<(), EncodeFault>
-    ensures ok { OnOk result (out.new.items ≡ out.old.items ++ spelling (message_owned message.now)) }
-    ensures unspellable { IsErrOf result EncodeFault.Unspellable ↔ ¬ (IsMessage (message_owned message.now)) }
+    ensures ok { OnOk result (out.new.items ≡ out.old.items ++ spelling message.now) }
+    ensures unspellable { IsErrOf result EncodeFault.Unspellable ↔ ¬ (IsMessage message.now) }
     ensures err { OnErr result (out.new.items ≡ out.old.items) }
 {
     let header = header_of(message.version, message.code, message.request_id);
@@ -56,8 +56,8 @@ fn header_of(version: Version, code: u16, request_id: u32) -> [u8; 8]
 }
 
 fn put_message(out: &mut Vec<u8>, header: &[u8], groups: &[Group]) -> Result<(), AllocError>
-    requires { AllByRecursion IsGroup (groups_owned groups.now) }
-    ensures { OnOk result (out.new.items ≡ out.old.items ++ (header.now ++ (groups_written (groups_owned groups.now) ++ 3 ∷ []))) }
+    requires { AllByRecursion IsGroup groups.now }
+    ensures { OnOk result (out.new.items ≡ out.old.items ++ (header.now ++ (groups_written groups.now ++ 3 ∷ []))) }
 {
     out.extend_from_slice(header)?;
     put_groups(out, groups)?;
@@ -66,30 +66,40 @@ fn put_message(out: &mut Vec<u8>, header: &[u8], groups: &[Group]) -> Result<(),
 }
 
 fn put_groups(out: &mut Vec<u8>, groups: &[Group]) -> Result<(), AllocError>
-    requires { AllByRecursion IsGroup (groups_owned groups.now) }
-    ensures { OnOk result (out.new.items ≡ out.old.items ++ groups_written (groups_owned groups.now)) }
+    requires { AllByRecursion IsGroup groups.now }
+    ensures { OnOk result (out.new.items ≡ out.old.items ++ groups_written groups.now) }
 {
     for group in groups {
-        out.push(group.tag.number())?;
-        put_attributes(out, &group.attributes)?;
+        put_group(out, group)?;
     }
     Ok(())
 }
 
+fn put_group(out: &mut Vec<u8>, group: &Group) -> Result<(), AllocError>
+    requires { IsGroup group.now }
+    ensures { OnOk result (out.new.items ≡ out.old.items ++ (group.now.tag ∷ attributes_written group.now.attributes)) }
+{
+    out.push(group.tag.number())?;
+    put_attributes(out, &group.attributes)
+}
+
 fn put_attributes(out: &mut Vec<u8>, attributes: &[Attribute]) -> Result<(), AllocError>
-    requires { AllByRecursion IsAttribute (attributes_owned attributes.now) }
-    ensures { OnOk result (out.new.items ≡ out.old.items ++ attributes_written (attributes_owned attributes.now)) }
+    requires { AllByRecursion IsAttribute attributes.now }
+    ensures { OnOk result (out.new.items ≡ out.old.items ++ attributes_written attributes.now) }
 {
     for attribute in attributes {
-        put_value(
-            out,
-            &attribute.name,
-            &attribute.first,
-            Limits::COLLECTION_DEPTH,
-        )?;
-        put_values(out, &attribute.others, Limits::COLLECTION_DEPTH)?;
+        put_attribute(out, attribute)?;
     }
     Ok(())
+}
+
+fn put_attribute(out: &mut Vec<u8>, attribute: &Attribute) -> Result<(), AllocError>
+    requires { IsAttribute attribute.now }
+    ensures { OnOk result (out.new.items ≡ out.old.items ++ (value_written attribute.now.name attribute.now.first ++ values_written (values_of attribute.now.others))) }
+{
+    let limit = Limits::COLLECTION_DEPTH;
+    put_value(out, &attribute.name, &attribute.first, limit)?;
+    put_values(out, &attribute.others, limit)
 }
 
 fn put_field(out: &mut Vec<u8>, tag: u8, name: &[u8], bytes: &[u8]) -> Result<(), AllocError>
@@ -146,7 +156,7 @@ fn put_members(out: &mut Vec<u8>, members: &[Member], limit: usize) -> Result<()
 }
 
 fn are_groups(groups: &[Group]) -> bool
-    ensures { IsTrue result ↔ AllByRecursion IsGroup (groups_owned groups.now) }
+    ensures { IsTrue result ↔ AllByRecursion IsGroup groups.now }
 {
     for group in groups {
         if !is_group(group) {
@@ -157,14 +167,14 @@ fn are_groups(groups: &[Group]) -> bool
 }
 
 fn is_group(group: &Group) -> bool
-    ensures { IsTrue result ↔ IsGroup (group_owned group.now) }
+    ensures { IsTrue result ↔ IsGroup group.now }
 {
     let tag = group.tag.number();
     tag != 0 && tag < FIRST_VALUE_TAG && tag != END && are_attributes(&group.attributes)
 }
 
 fn are_attributes(attributes: &[Attribute]) -> bool
-    ensures { IsTrue result ↔ AllByRecursion IsAttribute (attributes_owned attributes.now) }
+    ensures { IsTrue result ↔ AllByRecursion IsAttribute attributes.now }
 {
     for attribute in attributes {
         if !is_attribute(attribute) {
@@ -175,7 +185,7 @@ fn are_attributes(attributes: &[Attribute]) -> bool
 }
 
 fn is_attribute(attribute: &Attribute) -> bool
-    ensures { IsTrue result ↔ IsAttribute (attribute_owned attribute.now) }
+    ensures { IsTrue result ↔ IsAttribute attribute.now }
 {
     is_name(&attribute.name)
         && is_value(&attribute.first, Limits::COLLECTION_DEPTH)

@@ -1,17 +1,13 @@
 -- What of a request's job group a printer supports, and what the job becomes by it (RFC 8011, section 5.2).
-use Rattle.std.specs.Prelude.{ℕ, ◌==◌, ◌||◌, not, nat_lt, Bool, true, false, if◌then◌else◌, List, [], ◌∷◌, find, Option, Some, None, is_some, option_map, unwrap_or, slice_get, codes}
-use Rattle.std.specs.List.{flat_map}
-use Rattle.std.specs.Option.{option_map_or, option_and_then}
+use Rattle.std.specs.Prelude.{ℕ, ◌==◌, ◌||◌, nat_lt, Bool, true, false, if◌then◌else◌, List, [], ◌∷◌, find, Option, Some, None, is_some, unwrap_or, codes}
+use Rattle.std.specs.Option.{option_and_then}
 use Rattle.std.specs.Str.{bytes_eq}
-use Rattle.base_types.specs.Device.{Device}
-use Rattle.base_types.specs.declared.device.Medium.{Medium}
 use Rattle.base_types.specs.declared.limits.TheConstants.Limits.{COPIES, HIGHEST_PRIORITY, DEFAULT_PRIORITY}
 use Rattle.base_types.specs.declared.needs.Sides.{Sides}
-use Rattle.base_types.specs.declared.needs.Sides.TheVariants.{One, LongEdge, ShortEdge}
+use Rattle.base_types.specs.declared.needs.Sides.TheVariants.{One}
 use Rattle.ipp_codec.specs.Message.{IppValue, tag_of, bytes_in, IppAttribute}
 use Rattle.ipp_codec.specs.Typed.{integer_in, unsigned}
-use Rattle.printer_objects.specs.Offered.{prints_two_sided}
-use Rattle.settings_file.specs.Settings.{PrinterEntry}
+use Rattle.printer_objects.specs.Offer.{OfferRecord, sides_named, medium_named}
 use Rattle.job_template.specs.declared.template_name.TemplateName.{TemplateName}
 use Rattle.job_template.specs.declared.template_name.TemplateName.TheVariants as Is
 
@@ -69,36 +65,13 @@ hold_named word =
 abbrev pub hold_in : IppAttribute → Option Bool
 hold_in attribute = option_and_then hold_named (keyword attribute)
 
--- the sides of a keyword (section 5.2.8), where a printer prints on two sides or on one alone
-abbrev pub sides_named : Bool → List ℕ → Option Sides
-sides_named two_sided word =
-    if bytes_eq word (codes "one-sided") then Some One
-    else if not two_sided then None
-    else if bytes_eq word (codes "two-sided-long-edge") then Some LongEdge
-    else if bytes_eq word (codes "two-sided-short-edge") then Some ShortEdge
-    else None
-
--- sides: both sides where some device of the printer prints so
-abbrev pub sides_in : List Device → PrinterEntry → IppAttribute → Option Sides
-sides_in devices printer attribute = option_and_then (sides_named (prints_two_sided devices printer.devices)) (keyword attribute)
-
--- the media of the device at a place, loaded or not, if there is one
-abbrev pub media_at : List Device → ℕ → List Medium
-media_at devices place = option_map_or (λ d. d.media) (slice_get devices place) []
-
--- the first medium of the devices at these places that has this name
-abbrev pub medium_among : List Device → List ℕ → List ℕ → Option Medium
-medium_among devices places name = find (λ m. bytes_eq name m.name) (flat_map (media_at devices) places)
-
--- the medium of a name: the printer's default, or one of its devices'
-abbrev pub medium_named : List Device → PrinterEntry → List ℕ → Option (List ℕ)
-medium_named devices printer name =
-    if bytes_eq name printer.media_default then Some printer.media_default
-    else option_map (λ m. m.name) (medium_among devices printer.devices name)
+-- sides (section 5.2.8)
+abbrev pub sides_in : OfferRecord → IppAttribute → Option Sides
+sides_in offer attribute = option_and_then (sides_named offer) (keyword attribute)
 
 -- media (section 5.2.11)
-abbrev pub medium_in : List Device → PrinterEntry → IppAttribute → Option (List ℕ)
-medium_in devices printer attribute = option_and_then (medium_named devices printer) (word attribute)
+abbrev pub medium_in : OfferRecord → IppAttribute → Option (List ℕ)
+medium_in offer attribute = option_and_then (medium_named offer) (word attribute)
 
 -- ---- which attributes are supported
 
@@ -113,16 +86,16 @@ template_name name =
     else None
 
 -- by its name, whether its value is supported
-abbrev pub supports : List Device → PrinterEntry → IppAttribute → Option TemplateName → Bool
-supports devices printer attribute (Some Is.Copies) = is_some (copies_in attribute)
-supports devices printer attribute (Some Is.Media) = is_some (medium_in devices printer attribute)
-supports devices printer attribute (Some Is.Sides) = is_some (sides_in devices printer attribute)
-supports devices printer attribute (Some Is.JobPriority) = is_some (priority_in attribute)
-supports devices printer attribute (Some Is.JobHoldUntil) = is_some (hold_in attribute)
-supports devices printer attribute None = false
+abbrev pub supports : OfferRecord → IppAttribute → Option TemplateName → Bool
+supports offer attribute (Some Is.Copies) = is_some (copies_in attribute)
+supports offer attribute (Some Is.Media) = is_some (medium_in offer attribute)
+supports offer attribute (Some Is.Sides) = is_some (sides_in offer attribute)
+supports offer attribute (Some Is.JobPriority) = is_some (priority_in attribute)
+supports offer attribute (Some Is.JobHoldUntil) = is_some (hold_in attribute)
+supports offer attribute None = false
 
-unfoldable pub is_supported : List Device → PrinterEntry → IppAttribute → Bool
-is_supported devices printer attribute = supports devices printer attribute (template_name attribute.name)
+unfoldable pub is_supported : OfferRecord → IppAttribute → Bool
+is_supported offer attribute = supports offer attribute (template_name attribute.name)
 
 -- ---- what a job becomes by the group
 
@@ -142,14 +115,14 @@ pub record TemplateRecord : Type 0 where
   pub held : Bool
 
 -- what isn't there or isn't supported has its default
-unfoldable pub template_of : List Device → PrinterEntry → List IppAttribute → TemplateRecord
-template_of devices printer attributes = record {
+unfoldable pub template_of : OfferRecord → List IppAttribute → TemplateRecord
+template_of offer attributes = record {
   priority = unwrap_or (asked_by (codes "job-priority") priority_in attributes) DEFAULT_PRIORITY;
-  sides = unwrap_or (asked_by (codes "sides") (sides_in devices printer) attributes) One;
+  sides = unwrap_or (asked_by (codes "sides") (sides_in offer) attributes) One;
   copies = unwrap_or (asked_by (codes "copies") copies_in attributes) 1;
   held = unwrap_or (asked_by (codes "job-hold-until") hold_in attributes) false;
 }
 
 -- the medium; without one that is supported the printer's default
-unfoldable pub medium_of : List Device → PrinterEntry → List IppAttribute → List ℕ
-medium_of devices printer attributes = unwrap_or (asked_by (codes "media") (medium_in devices printer) attributes) printer.media_default
+unfoldable pub medium_of : OfferRecord → List IppAttribute → List ℕ
+medium_of offer attributes = unwrap_or (asked_by (codes "media") (medium_in offer) attributes) offer.printer.media_default

@@ -3,9 +3,8 @@ use Rattle.std.specs.Prelude.{ℕ, not, Bool, false, take, slice_get, if◌then�
 use Rattle.std.specs.List.{list_any}
 use Rattle.std.specs.Option.{option_map_or}
 use Rattle.std.specs.Str.{bytes_eq}
-use Rattle.base_types.specs.Device.{Device}
 use Rattle.ipp_codec.specs.Message.{plain, IppAttribute}
-use Rattle.settings_file.specs.Settings.{PrinterEntry}
+use Rattle.printer_objects.specs.Offer.{OfferRecord}
 use Rattle.job_template.specs.Template.{template_name, is_supported}
 
 -- whether one of these has a name
@@ -34,6 +33,6 @@ returned attribute =
     else record { name = attribute.name; first = plain 0x10 []; others = [] }
 
 -- those that count and aren't supported, in the request's order
-unfoldable pub unsupported_of : List Device → PrinterEntry → List IppAttribute → List IppAttribute
-unsupported_of devices printer attributes =
-    map returned (filter (λ a. not (is_supported devices printer a)) (first_ones attributes))
+unfoldable pub unsupported_of : OfferRecord → List IppAttribute → List IppAttribute
+unsupported_of offer attributes =
+    map returned (filter (λ a. not (is_supported offer a)) (first_ones attributes))

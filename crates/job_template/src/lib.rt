@@ -11,6 +11,5 @@ mod request_attributes;
 mod template;
 mod template_name;
 
-pub use request_attribute::RequestAttribute;
 pub use request_attributes::RequestAttributes;
 pub use template::{JobTemplate, medium_of, template_of};

@@ -3,17 +3,17 @@ ghost use Rattle.std.specs.Option.{option_copied};
 ghost use Rattle.job_template.specs.Template.{named, is_supported};
 ghost use Rattle.job_template.specs.Unsupported.{is_among, is_again, first_ones, returned, unsupported_of};
 
-use crate::request_attribute::RequestAttribute;
+use crate::request_attribute::make_returned;
 use crate::template::is_unsupported;
-use base_types::DeviceNow;
-use settings_file::PrinterSettings;
+use ipp_codec::Attribute;
+use printer_objects::Offer;
 use std::alloc::Global;
 use std::marker::Model;
 
 /// Attributes of a request, in their order. In clauses they are the list of what they say.
 #[derive(Drop)]
 pub struct RequestAttributes {
-    attributes: Vec<RequestAttribute>,
+    attributes: Vec<Attribute>,
 }
 
 impl Model for RequestAttributes {
@@ -40,14 +40,14 @@ impl RequestAttributes {
     }
 
     /// These.
-    pub fn from_vec(attributes: Vec<RequestAttribute>) -> RequestAttributes
+    pub fn from_vec(attributes: Vec<Attribute>) -> RequestAttributes
         ensures { result ≡ attributes.items }
     {
         RequestAttributes { attributes }
     }
 
     /// The attributes themselves.
-    pub fn into_vec(self) -> Vec<RequestAttribute>
+    pub fn into_vec(self) -> Vec<Attribute>
         ensures { result.items ≡ self }
     {
         self.attributes
@@ -61,7 +61,7 @@ impl RequestAttributes {
     }
 
     /// The first of a name.
-    pub(crate) fn named(&self, name: &[u8]) -> Option<&RequestAttribute>
+    pub(crate) fn named(&self, name: &[u8]) -> Option<&Attribute>
         ensures { option_copied result ≡ named name.now self.now }
     {
         self.attributes
@@ -71,16 +71,11 @@ impl RequestAttributes {
 
     /// What is returned of a job group, in its order. It takes no memory.
     #[tactic(auto, unfolding(crate::specs::Unsupported::unsupported_of))]
-    pub fn make_unsupported(
-        &mut self,
-        alloc: Global,
-        devices: &[DeviceNow],
-        printer: &PrinterSettings,
-    )
-        ensures { self.new ≡ unsupported_of devices.now printer.now self.old }
+    pub fn make_unsupported(&mut self, alloc: Global, offer: &Offer<'_>)
+        ensures { self.new ≡ unsupported_of offer.now self.old }
     {
         self.keep_first_ones();
-        self.keep_unsupported(devices, printer);
+        self.keep_unsupported(offer);
         self.make_returned(alloc);
     }
 
@@ -109,32 +104,32 @@ impl RequestAttributes {
     }
 
     /// Keeps what the printer doesn't support.
-    fn keep_unsupported(&mut self, devices: &[DeviceNow], printer: &PrinterSettings)
-        ensures { self.new ≡ filter (λ a. not (is_supported devices.now printer.now a)) self.old }
+    fn keep_unsupported(&mut self, offer: &Offer<'_>)
+        ensures { self.new ≡ filter (λ a. not (is_supported offer.now a)) self.old }
     {
         self.attributes
-            .retain(|attribute| is_unsupported(devices, printer, attribute));
+            .retain(|attribute| is_unsupported(offer, attribute));
     }
 
     /// Makes each what is returned of it.
     fn make_returned(&mut self, alloc: Global)
         ensures { self.new ≡ map returned self.old }
     {
-        make_returned(&mut self.attributes, alloc);
+        make_each_returned(&mut self.attributes, alloc);
     }
 }
 
 /// Makes each what is returned of it.
-fn make_returned(attributes: &mut [RequestAttribute], alloc: Global)
+fn make_each_returned(attributes: &mut [Attribute], alloc: Global)
     ensures { attributes.new ≡ map returned attributes.old }
 {
     for attribute in attributes.iter_mut() {
-        attribute.make_returned(alloc);
+        make_returned(attribute, alloc);
     }
 }
 
 /// Whether one of these attributes has a name.
-fn is_among(name: &[u8], attributes: &[RequestAttribute]) -> bool
+fn is_among(name: &[u8], attributes: &[Attribute]) -> bool
     ensures { result ≡ is_among name.now attributes.now }
 {
     attributes.iter().any(|attribute| name == attribute.name())

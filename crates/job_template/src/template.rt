@@ -1,17 +1,16 @@
 //! What a printer supports of a job's template, and what the job becomes by it (RFC 8011, section
 //! 5.2).
-ghost use Rattle.std.specs.Prelude.{◌≡◌, find, not, false, unwrap_or, slice_get, codes};
+ghost use Rattle.std.specs.Prelude.{◌≡◌, not, false, unwrap_or, codes};
 ghost use Rattle.std.specs.Option.{option_copied};
-ghost use Rattle.std.specs.Str.{bytes_eq};
-ghost use Rattle.printer_objects.specs.Offered.{prints_two_sided, is_two_sided};
-ghost use Rattle.job_template.specs.Template.{up_to, copies_in, priority_in, hold_named, hold_in, sides_named, sides_in, media_at, medium_among, medium_named, medium_in, supports, is_supported, asked_by, template_of, medium_of};
+ghost use Rattle.job_template.specs.Template.{up_to, copies_in, priority_in, hold_named, hold_in, sides_in, medium_in, supports, is_supported, asked_by, template_of, medium_of};
 ghost use Rattle.base_types.specs.Ranges.{IsCopies};
 
-use crate::request_attribute::RequestAttribute;
+use crate::request_attribute::{keyword, number, word};
 use crate::request_attributes::RequestAttributes;
 use crate::template_name::{TemplateName, template_name};
-use base_types::{DeviceId, DeviceNow, Limits, Medium, Priority, Sides, Text};
-use settings_file::PrinterSettings;
+use base_types::{Limits, Priority, Sides, Text};
+use ipp_codec::Attribute;
+use printer_objects::Offer;
 use std::marker::Model;
 
 /// What the job template asks for, but its medium; what isn't there or isn't supported has its
@@ -54,17 +53,17 @@ fn up_to(most: u32, count: u32) -> Option<u32>
 }
 
 /// The copies that an attribute asks for, if they are supported.
-fn copies_in(attribute: &RequestAttribute) -> Option<u32>
+fn copies_in(attribute: &Attribute) -> Option<u32>
     ensures { result ≡ copies_in attribute.now }
 {
-    up_to(Limits::COPIES, attribute.number()?)
+    up_to(Limits::COPIES, number(attribute)?)
 }
 
 /// The priority that an attribute asks for, if it is supported.
-fn priority_in(attribute: &RequestAttribute) -> Option<Priority>
+fn priority_in(attribute: &Attribute) -> Option<Priority>
     ensures { result ≡ priority_in attribute.now }
 {
-    priority_at(attribute.number()?)
+    priority_at(number(attribute)?)
 }
 
 /// The priority of this number, if it is in range.
@@ -91,154 +90,49 @@ fn hold_named(word: &[u8]) -> Option<bool>
 }
 
 /// Whether an attribute asks for the job to be held, if it is supported.
-fn hold_in(attribute: &RequestAttribute) -> Option<bool>
+fn hold_in(attribute: &Attribute) -> Option<bool>
     ensures { result ≡ hold_in attribute.now }
 {
-    hold_named(attribute.keyword()?)
-}
-
-/// The sides of this keyword, if they are supported.
-fn sides_named(two_sided: bool, word: &[u8]) -> Option<Sides>
-    ensures { result ≡ sides_named two_sided word.now }
-{
-    if word == b"one-sided".as_slice() {
-        Some(Sides::One)
-    } else if !two_sided {
-        None
-    } else if word == b"two-sided-long-edge".as_slice() {
-        Some(Sides::LongEdge)
-    } else if word == b"two-sided-short-edge".as_slice() {
-        Some(Sides::ShortEdge)
-    } else {
-        None
-    }
+    hold_named(keyword(attribute)?)
 }
 
 /// The sides that an attribute asks for, if they are supported.
-fn sides_in(
-    devices: &[DeviceNow],
-    printer: &PrinterSettings,
-    attribute: &RequestAttribute,
-) -> Option<Sides>
-    ensures { result ≡ sides_in devices.now printer.now attribute.now }
+fn sides_in(offer: &Offer<'_>, attribute: &Attribute) -> Option<Sides>
+    ensures { result ≡ sides_in offer.now attribute.now }
 {
-    let keyword = attribute.keyword()?;
-    sides_named(
-        prints_two_sided(devices, printer.devices.devices()),
-        keyword,
-    )
-}
-
-/// Whether one of the devices at these places prints on both sides.
-fn prints_two_sided(devices: &[DeviceNow], places: &[DeviceId]) -> bool
-    ensures { result ≡ prints_two_sided devices.now places.now }
-{
-    places.iter().any(|place| is_two_sided(devices, *place))
-}
-
-/// Whether the device at a place prints on both sides.
-fn is_two_sided(devices: &[DeviceNow], place: DeviceId) -> bool
-    ensures { result ≡ is_two_sided (slice_get devices.now place) }
-{
-    match devices.get(place.place()) {
-        Some(device) => device.rate_two.is_some(),
-        None => false,
-    }
+    offer.sides_named(keyword(attribute)?)
 }
 
 /// The medium that an attribute asks for, as the settings write it, if it is supported.
-fn medium_in<'a>(
-    devices: &'a [DeviceNow],
-    printer: &'a PrinterSettings,
-    attribute: &RequestAttribute,
-) -> Option<&'a Text>
-    ensures { option_copied result ≡ medium_in devices.now printer.now attribute.now }
+fn medium_in<'a>(offer: &Offer<'a>, attribute: &Attribute) -> Option<&'a Text>
+    ensures { option_copied result ≡ medium_in offer.now attribute.now }
 {
-    medium_named(devices, printer, attribute.word()?)
-}
-
-/// The medium of a name: the printer's default, or one of its devices'.
-fn medium_named<'a>(
-    devices: &'a [DeviceNow],
-    printer: &'a PrinterSettings,
-    name: &[u8],
-) -> Option<&'a Text>
-    ensures { option_copied result ≡ medium_named devices.now printer.now name.now }
-{
-    if name == printer.media_default.as_bytes() {
-        return Some(&printer.media_default);
-    }
-    let medium = medium_among(devices, printer.devices.devices(), name)?;
-    Some(&medium.name)
-}
-
-/// The first medium of a name in the devices at these places.
-fn medium_among<'a>(
-    devices: &'a [DeviceNow],
-    places: &[DeviceId],
-    name: &[u8],
-) -> Option<&'a Medium>
-    ensures { option_copied result ≡ medium_among devices.now places.now name.now }
-{
-    for place in places {
-        if let Some(medium) = medium_at(devices, *place, name) {
-            return Some(medium);
-        }
-    }
-    None
-}
-
-/// The first medium of a name in the device at a place.
-fn medium_at<'a>(devices: &'a [DeviceNow], place: DeviceId, name: &[u8]) -> Option<&'a Medium>
-    ensures { option_copied result ≡ find (λ m. bytes_eq name.now m.name) (media_at devices.now place) }
-{
-    let device = devices.get(place.place())?;
-    medium_of_name(&device.media, name)
-}
-
-/// The first medium of a name.
-fn medium_of_name<'a>(media: &'a [Medium], name: &[u8]) -> Option<&'a Medium>
-    ensures { option_copied result ≡ find (λ m. bytes_eq name.now m.name) media.now }
-{
-    media.iter().find(|medium| name == medium.name.as_bytes())
+    offer.medium_named(word(attribute)?)
 }
 
 /// Whether a printer doesn't support an attribute.
-pub(crate) fn is_unsupported(
-    devices: &[DeviceNow],
-    printer: &PrinterSettings,
-    attribute: &RequestAttribute,
-) -> bool
-    ensures { result ≡ not (is_supported devices.now printer.now attribute.now) }
+pub(crate) fn is_unsupported(offer: &Offer<'_>, attribute: &Attribute) -> bool
+    ensures { result ≡ not (is_supported offer.now attribute.now) }
 {
-    !is_supported(devices, printer, attribute)
+    !is_supported(offer, attribute)
 }
 
 /// Whether a printer supports an attribute.
 #[tactic(auto, unfolding(crate::specs::Template::is_supported))]
-fn is_supported(
-    devices: &[DeviceNow],
-    printer: &PrinterSettings,
-    attribute: &RequestAttribute,
-) -> bool
-    ensures { result ≡ is_supported devices.now printer.now attribute.now }
+fn is_supported(offer: &Offer<'_>, attribute: &Attribute) -> bool
+    ensures { result ≡ is_supported offer.now attribute.now }
 {
-    supports(devices, printer, attribute, template_name(attribute.name()))
+    supports(offer, attribute, template_name(attribute.name()))
 }
 
 /// Whether a printer supports the template attribute of this name.
-fn supports(
-    devices: &[DeviceNow],
-    printer: &PrinterSettings,
-    attribute: &RequestAttribute,
-    name: Option<TemplateName>,
-) -> bool
-    ensures { result ≡ supports devices.now printer.now attribute.now name }
+fn supports(offer: &Offer<'_>, attribute: &Attribute, name: Option<TemplateName>) -> bool
+    ensures { result ≡ supports offer.now attribute.now name }
 {
     match name {
         Some(TemplateName::Copies) => copies_in(attribute).is_some(),
-        Some(TemplateName::Media) => medium_in(devices, printer, attribute).is_some(),
-        Some(TemplateName::Sides) => sides_in(devices, printer, attribute).is_some(),
+        Some(TemplateName::Media) => medium_in(offer, attribute).is_some(),
+        Some(TemplateName::Sides) => sides_in(offer, attribute).is_some(),
         Some(TemplateName::JobPriority) => priority_in(attribute).is_some(),
         Some(TemplateName::JobHoldUntil) => hold_in(attribute).is_some(),
         None => false,
@@ -247,16 +141,12 @@ fn supports(
 
 /// What a job group asks of a printer.
 #[tactic(auto, unfolding(crate::specs::Template::template_of))]
-pub fn template_of(
-    devices: &[DeviceNow],
-    printer: &PrinterSettings,
-    attributes: &RequestAttributes,
-) -> JobTemplate
-    ensures { result ≡ template_of devices.now printer.now attributes.now }
+pub fn template_of(offer: &Offer<'_>, attributes: &RequestAttributes) -> JobTemplate
+    ensures { result ≡ template_of offer.now attributes.now }
 {
     JobTemplate {
         priority: priority_of(attributes),
-        sides: sides_of(devices, printer, attributes),
+        sides: sides_of(offer, attributes),
         copies: copies_of(attributes),
         held: is_held(attributes),
     }
@@ -273,15 +163,11 @@ fn priority_of(attributes: &RequestAttributes) -> Priority
 }
 
 /// The sides of a job.
-fn sides_of(
-    devices: &[DeviceNow],
-    printer: &PrinterSettings,
-    attributes: &RequestAttributes,
-) -> Sides
-    ensures { result ≡ unwrap_or (asked_by (codes "sides") (sides_in devices.now printer.now) attributes.now) Sides.One }
+fn sides_of(offer: &Offer<'_>, attributes: &RequestAttributes) -> Sides
+    ensures { result ≡ unwrap_or (asked_by (codes "sides") (sides_in offer.now) attributes.now) Sides.One }
 {
     match attributes.named(b"sides") {
-        Some(attribute) => sides_in(devices, printer, attribute).unwrap_or(Sides::One),
+        Some(attribute) => sides_in(offer, attribute).unwrap_or(Sides::One),
         None => Sides::One,
     }
 }
@@ -309,16 +195,12 @@ fn is_held(attributes: &RequestAttributes) -> bool
 
 /// The medium of a job, as the settings write it.
 #[tactic(auto, unfolding(crate::specs::Template::medium_of))]
-pub fn medium_of<'a>(
-    devices: &'a [DeviceNow],
-    printer: &'a PrinterSettings,
-    attributes: &RequestAttributes,
-) -> &'a Text
-    ensures { result.now ≡ medium_of devices.now printer.now attributes.now }
+pub fn medium_of<'a>(offer: &Offer<'a>, attributes: &RequestAttributes) -> &'a Text
+    ensures { result.now ≡ medium_of offer.now attributes.now }
 {
-    let default = &printer.media_default;
+    let default = offer.default_medium();
     match attributes.named(b"media") {
-        Some(attribute) => medium_in(devices, printer, attribute).unwrap_or(default),
+        Some(attribute) => medium_in(offer, attribute).unwrap_or(default),
         None => default,
     }
 }

@@ -3,7 +3,9 @@ pub mod Requested
 pub mod Attribute
 pub mod JobAttribute
 pub mod JobShown
+pub mod DocumentFormat
 pub mod Together
+pub mod Offer
 pub mod Offered
 pub mod PrinterAttribute
 pub mod PrinterShown

@@ -1,10 +1,10 @@
 -- Attributes of a printer that say what it offers.
-use Rattle.std.specs.Prelude.{ℕ, Bool, true, false, List, [], ◌∷◌, ◌++◌, map, Option, Some, None, is_some, codes}
+use Rattle.std.specs.Prelude.{ℕ, List, [], ◌∷◌, ◌++◌, map, codes}
 use Rattle.std.specs.Int.{w32, to_be_bytes}
-use Rattle.std.specs.List.{list_any, slice_get}
-use Rattle.base_types.specs.Device.{Device}
+use Rattle.base_types.specs.declared.needs.Sides.{Sides}
 use Rattle.ipp_codec.specs.Message.{IppValue, plain, IppAttribute}
-use Rattle.printer_objects.specs.Attribute.{enumerated, keyword}
+use Rattle.printer_objects.specs.Attribute.{enumerated, keyword, texts_attribute}
+use Rattle.printer_objects.specs.JobShown.{sides_keyword}
 
 -- the codes of the operations, rising (RFC 8011, section 5.4.15)
 abbrev pub operations_attribute : List ℕ → IppAttribute
@@ -17,17 +17,6 @@ range least most = plain 0x33 (to_be_bytes w32 least ++ to_be_bytes w32 most)
 abbrev pub hold_untils_attribute : List ℕ → IppAttribute
 hold_untils_attribute name = record { name = name; first = keyword (codes "no-hold"); others = keyword (codes "indefinite") ∷ [] }
 
-abbrev pub two_sided_values : Bool → List IppValue
-two_sided_values true = keyword (codes "two-sided-long-edge") ∷ keyword (codes "two-sided-short-edge") ∷ []
-two_sided_values false = []
-
--- one-sided, and both ways of two-sided where some device prints so
-abbrev pub sides_attribute : List ℕ → Bool → IppAttribute
-sides_attribute name two_sided = record { name = name; first = keyword (codes "one-sided"); others = two_sided_values two_sided }
-
-abbrev pub is_two_sided : Option Device → Bool
-is_two_sided (Some device) = is_some device.rate_two
-is_two_sided None = false
-
-abbrev pub prints_two_sided : List Device → List ℕ → Bool
-prints_two_sided devices places = list_any (λ place. is_two_sided (slice_get devices place)) places
+-- sides by their keywords, in order
+abbrev pub sides_attribute : List ℕ → List Sides → IppAttribute
+sides_attribute name sides = texts_attribute name 0x44 (map sides_keyword sides)

@@ -6,25 +6,19 @@ use Rattle.printer_objects.specs.declared.attribute.TheConstants.{MILLIS_PER_SEC
 use Rattle.printer_objects.specs.declared.printer_shown.PrinterShown.{PrinterShown}
 use Rattle.printer_objects.specs.declared.printer_attribute.PrinterAttribute.{PrinterAttribute}
 use Rattle.printer_objects.specs.declared.printer_attribute.PrinterAttribute.TheVariants.{UriSupported, UriSecuritySupported, UriAuthenticationSupported, Name, State, StateReasons, IppVersionsSupported, OperationsSupported, MultipleDocumentJobsSupported, MultipleOperationTimeOut, CharsetConfigured, CharsetSupported, NaturalLanguageConfigured, GeneratedNaturalLanguageSupported, DocumentFormatDefault, DocumentFormatSupported, IsAcceptingJobs, QueuedJobCount, PdlOverrideSupported, UpTime, CompressionSupported, CopiesDefault, CopiesSupported, HoldUntilDefault, HoldUntilSupported, PriorityDefault, PrioritySupported, MediaDefault, MediaSupported, MediaReady, SidesDefault, SidesSupported}
-use Rattle.printer_objects.specs.declared.together.Listed.{Listed}
-use Rattle.printer_objects.specs.declared.together.Listed.TheVariants.{Formats, Media, LoadedMedia}
 use Rattle.printer_objects.specs.PrinterState.{printer_state_code, printer_state_of, printer_reason_of, printer_keyword}
 use Rattle.printer_objects.specs.Attribute.{alone, number, enumerated, keyword, time, texts_attribute}
 use Rattle.printer_objects.specs.JobShown.{printer_uri}
 use Rattle.printer_objects.specs.PrinterAttribute.{printer_attribute_name}
-use Rattle.printer_objects.specs.Together.{union, with_entry}
-use Rattle.printer_objects.specs.Offered.{operations_attribute, range, hold_untils_attribute, sides_attribute, prints_two_sided}
-
--- what the devices of a printer list, and the default where none of them does
-abbrev pub supported_of : Listed → PrinterShown → List ℕ → List (List ℕ)
-supported_of listed shown default = with_entry (union listed shown.devices.now shown.settings.now.devices) default
+use Rattle.printer_objects.specs.Offer.{formats_of, media_of, ready_media_of, sides_of}
+use Rattle.printer_objects.specs.Offered.{operations_attribute, range, hold_untils_attribute, sides_attribute}
 
 -- the values of an attribute under its name
 abbrev pub valued_of_printer : List ℕ → PrinterShown → PrinterAttribute → IppAttribute
-valued_of_printer name shown UriSupported = alone name (plain 0x45 (printer_uri shown.uri_base.now shown.settings.now.name))
+valued_of_printer name shown UriSupported = alone name (plain 0x45 (printer_uri shown.uri_base.now shown.offer.now.printer.name))
 valued_of_printer name shown UriSecuritySupported = alone name (keyword (codes "none"))
 valued_of_printer name shown UriAuthenticationSupported = alone name (keyword (codes "requesting-user-name"))
-valued_of_printer name shown Name = alone name (plain 0x42 shown.settings.now.name)
+valued_of_printer name shown Name = alone name (plain 0x42 shown.offer.now.printer.name)
 valued_of_printer name shown State = alone name (enumerated (printer_state_code (printer_state_of shown.busy shown.printer.now)))
 valued_of_printer name shown StateReasons = alone name (keyword (printer_keyword (printer_reason_of shown.busy shown.printer.now)))
 valued_of_printer name shown IppVersionsSupported = alone name (keyword (codes "1.1"))
@@ -35,8 +29,8 @@ valued_of_printer name shown CharsetConfigured = alone name (plain 0x47 (codes "
 valued_of_printer name shown CharsetSupported = alone name (plain 0x47 (codes "utf-8"))
 valued_of_printer name shown NaturalLanguageConfigured = alone name (plain 0x48 (codes "en"))
 valued_of_printer name shown GeneratedNaturalLanguageSupported = alone name (plain 0x48 (codes "en"))
-valued_of_printer name shown DocumentFormatDefault = alone name (plain 0x49 shown.settings.now.format_default)
-valued_of_printer name shown DocumentFormatSupported = texts_attribute name 0x49 (supported_of Formats shown shown.settings.now.format_default)
+valued_of_printer name shown DocumentFormatDefault = alone name (plain 0x49 shown.offer.now.printer.format_default)
+valued_of_printer name shown DocumentFormatSupported = texts_attribute name 0x49 (formats_of shown.offer.now)
 valued_of_printer name shown IsAcceptingJobs = alone name (plain 0x22 (1 ∷ []))
 valued_of_printer name shown QueuedJobCount = alone name (number shown.queued)
 valued_of_printer name shown PdlOverrideSupported = alone name (keyword (codes "not-attempted"))
@@ -48,11 +42,11 @@ valued_of_printer name shown HoldUntilDefault = alone name (keyword (codes "no-h
 valued_of_printer name shown HoldUntilSupported = hold_untils_attribute name
 valued_of_printer name shown PriorityDefault = alone name (number DEFAULT_PRIORITY)
 valued_of_printer name shown PrioritySupported = alone name (number HIGHEST_PRIORITY)
-valued_of_printer name shown MediaDefault = alone name (keyword shown.settings.now.media_default)
-valued_of_printer name shown MediaSupported = texts_attribute name 0x44 (supported_of Media shown shown.settings.now.media_default)
-valued_of_printer name shown MediaReady = texts_attribute name 0x44 (union LoadedMedia shown.devices.now shown.settings.now.devices)
+valued_of_printer name shown MediaDefault = alone name (keyword shown.offer.now.printer.media_default)
+valued_of_printer name shown MediaSupported = texts_attribute name 0x44 (media_of shown.offer.now)
+valued_of_printer name shown MediaReady = texts_attribute name 0x44 (ready_media_of shown.offer.now)
 valued_of_printer name shown SidesDefault = alone name (keyword (codes "one-sided"))
-valued_of_printer name shown SidesSupported = sides_attribute name (prints_two_sided shown.devices.now shown.settings.now.devices)
+valued_of_printer name shown SidesSupported = sides_attribute name (sides_of shown.offer.now)
 
 -- an attribute of a printer
 abbrev pub printer_shown : PrinterShown → PrinterAttribute → IppAttribute

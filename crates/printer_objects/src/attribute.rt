@@ -1,7 +1,6 @@
 //! Attributes of the kinds that the tables have.
 ghost use Rattle.std.specs.Prelude.{◌≡◌, IfOk, pos, min, [], ◌∷◌, codes};
 ghost use Rattle.ipp_codec.specs.Message.{plain};
-ghost use Rattle.ipp_codec.specs.Owned.{attribute_owned, value_owned};
 ghost use Rattle.printer_objects.specs.Attribute.{alone, number, enumerated, keyword, no_value, time, reasons_attribute, texts_attribute};
 
 use base_types::{Moment, Text};
@@ -21,7 +20,7 @@ pub(crate) fn bytes(
     tag: ValueTag,
     bytes: &[u8],
 ) -> Result<Attribute, AllocError>
-    ensures { IfOk result (λ a. attribute_owned a ≡ alone name.now (plain tag bytes.now)) }
+    ensures { IfOk result (λ a. a ≡ alone name.now (plain tag bytes.now)) }
 {
     let value = Value::copy_of(alloc, tag, bytes)?;
     Attribute::new(alloc, name.as_bytes(), value)
@@ -29,28 +28,28 @@ pub(crate) fn bytes(
 
 /// One keyword (RFC 8010, section 3.9).
 pub(crate) fn keyword(alloc: Global, name: &str, word: &[u8]) -> Result<Attribute, AllocError>
-    ensures { IfOk result (λ a. attribute_owned a ≡ alone name.now (keyword word.now)) }
+    ensures { IfOk result (λ a. a ≡ alone name.now (keyword word.now)) }
 {
     bytes(alloc, name, ValueTag::KEYWORD, word)
 }
 
 /// The natural language of all texts of the server: English.
 pub(crate) fn english(alloc: Global, name: &str) -> Result<Attribute, AllocError>
-    ensures { IfOk result (λ a. attribute_owned a ≡ alone name.now (plain 0x48 (codes "en"))) }
+    ensures { IfOk result (λ a. a ≡ alone name.now (plain 0x48 (codes "en"))) }
 {
     bytes(alloc, name, ValueTag::NATURAL_LANGUAGE, b"en")
 }
 
 /// One boolean, which is true.
 pub(crate) fn yes(alloc: Global, name: &str) -> Result<Attribute, AllocError>
-    ensures { IfOk result (λ a. attribute_owned a ≡ alone name.now (plain 0x22 (1 ∷ []))) }
+    ensures { IfOk result (λ a. a ≡ alone name.now (plain 0x22 (1 ∷ []))) }
 {
     bytes(alloc, name, ValueTag::BOOLEAN, &[1])
 }
 
 /// One integer.
 pub(crate) fn number(alloc: Global, name: &str, amount: u64) -> Result<Attribute, AllocError>
-    ensures { IfOk result (λ a. attribute_owned a ≡ alone name.now (number amount)) }
+    ensures { IfOk result (λ a. a ≡ alone name.now (number amount)) }
 {
     let value = Value::integer(alloc, integer(amount))?;
     Attribute::new(alloc, name.as_bytes(), value)
@@ -58,7 +57,7 @@ pub(crate) fn number(alloc: Global, name: &str, amount: u64) -> Result<Attribute
 
 /// One number of an enumeration.
 pub(crate) fn enumerated(alloc: Global, name: &str, code: u32) -> Result<Attribute, AllocError>
-    ensures { IfOk result (λ a. attribute_owned a ≡ alone name.now (enumerated code)) }
+    ensures { IfOk result (λ a. a ≡ alone name.now (enumerated code)) }
 {
     let value = Value::enumeration(alloc, integer(u64::from(code)))?;
     Attribute::new(alloc, name.as_bytes(), value)
@@ -66,7 +65,7 @@ pub(crate) fn enumerated(alloc: Global, name: &str, code: u32) -> Result<Attribu
 
 /// No value.
 pub(crate) fn no_value(alloc: Global, name: &str) -> Result<Attribute, AllocError>
-    ensures { IfOk result (λ a. attribute_owned a ≡ alone name.now no_value) }
+    ensures { IfOk result (λ a. a ≡ alone name.now no_value) }
 {
     bytes(alloc, name, ValueTag::NO_VALUE, &[])
 }
@@ -77,7 +76,7 @@ pub(crate) fn time(
     name: &str,
     moment: Option<Moment>,
 ) -> Result<Attribute, AllocError>
-    ensures { IfOk result (λ a. attribute_owned a ≡ alone name.now (time moment)) }
+    ensures { IfOk result (λ a. a ≡ alone name.now (time moment)) }
 {
     match moment {
         Some(moment) => number(alloc, name, moment.millis() / MILLIS_PER_SECOND + 1),
@@ -91,7 +90,7 @@ pub(crate) fn reasons(
     name: &str,
     reasons: JobReasons,
 ) -> Result<Attribute, AllocError>
-    ensures { IfOk result (λ a. attribute_owned a ≡ reasons_attribute name.now reasons) }
+    ensures { IfOk result (λ a. a ≡ reasons_attribute name.now reasons) }
 {
     let first = reasons.first.keyword();
     let mut attribute = bytes(alloc, name, ValueTag::KEYWORD, first.as_bytes())?;
@@ -110,7 +109,7 @@ pub(crate) fn texts(
     tag: ValueTag,
     texts: &[Text],
 ) -> Result<Attribute, AllocError>
-    ensures { IfOk result (λ a. attribute_owned a ≡ texts_attribute name.now tag texts.now) }
+    ensures { IfOk result (λ a. a ≡ texts_attribute name.now tag texts.now) }
 {
     let [first, others @ ..] = texts else {
         return no_value(alloc, name);

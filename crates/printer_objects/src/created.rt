@@ -1,5 +1,4 @@
 ghost use Rattle.std.specs.Prelude.{◌≡◌, IfOk};
-ghost use Rattle.ipp_codec.specs.Owned.{group_owned};
 ghost use Rattle.printer_objects.specs.Created.{created_attributes};
 
 use crate::attribute::{bytes, enumerated, number, reasons};
@@ -20,7 +19,7 @@ pub fn created_job_attributes(
     state: JobState,
     why: JobReasons,
 ) -> Result<Group, AllocError>
-    ensures { IfOk result (λ group. group_owned group ≡ created_attributes uri_base.now id state why) }
+    ensures { IfOk result (λ group. group ≡ created_attributes uri_base.now id state why) }
 {
     let mut group = Group::new(alloc, GroupTag::JOB);
     let uri = job_uri(alloc, uri_base, id)?;

@@ -1,5 +1,4 @@
 ghost use Rattle.std.specs.Prelude.{◌≡◌, ◌++◌, IfOk, map, filter, None, Some};
-ghost use Rattle.ipp_codec.specs.Owned.{attribute_owned, group_owned};
 ghost use Rattle.printer_objects.specs.JobAttribute.{job_table, is_wanted};
 ghost use Rattle.printer_objects.specs.JobShown.{job_uri, printer_uri, hold_until, sides_keyword, k_octets, impressions_shown, job_shown};
 
@@ -33,7 +32,7 @@ pub fn job_attributes(
     shown: &JobShown<'_>,
     requested: &[Text],
 ) -> Result<Group, AllocError>
-    ensures { IfOk result (λ group. group_owned group ≡ record { tag = 0x02; attributes = map (job_shown shown.now) (filter (is_wanted requested.now) job_table) }) }
+    ensures { IfOk result (λ group. group ≡ record { tag = 0x02; attributes = map (job_shown shown.now) (filter (is_wanted requested.now) job_table) }) }
 {
     let mut group = Group::new(alloc, GroupTag::JOB);
     for which in JobAttribute::all() {
@@ -48,7 +47,7 @@ pub fn job_attributes(
 impl JobAttribute {
     /// The attribute of this job.
     fn shown(self, alloc: Global, shown: &JobShown<'_>) -> Result<Attribute, AllocError>
-        ensures { IfOk result (λ attribute. attribute_owned attribute ≡ job_shown shown.now self) }
+        ensures { IfOk result (λ attribute. attribute ≡ job_shown shown.now self) }
     {
         let name = self.name();
         let job = shown.job;

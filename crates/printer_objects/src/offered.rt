@@ -1,12 +1,11 @@
 //! Attributes of a printer that say what it offers.
 ghost use Rattle.std.specs.Prelude.{◌≡◌, IfOk};
-ghost use Rattle.std.specs.List.{slice_get};
-ghost use Rattle.ipp_codec.specs.Owned.{attribute_owned};
 ghost use Rattle.printer_objects.specs.Attribute.{alone};
-ghost use Rattle.printer_objects.specs.Offered.{operations_attribute, range, hold_untils_attribute, sides_attribute, prints_two_sided, is_two_sided};
+ghost use Rattle.printer_objects.specs.Offered.{operations_attribute, range, hold_untils_attribute, sides_attribute};
 
-use crate::attribute::{bytes, enumerated, keyword};
-use base_types::{DeviceId, DeviceNow, Limits};
+use crate::attribute::{bytes, enumerated, keyword, no_value};
+use crate::job_shown::sides_keyword;
+use base_types::{Limits, Sides};
 use ipp_codec::{Attribute, Value, ValueTag};
 use std::alloc::{AllocError, Global};
 
@@ -19,7 +18,7 @@ const OTHER_OPERATIONS: [i32; 11] = [
 
 /// The operations.
 pub(crate) fn operations(alloc: Global, name: &str) -> Result<Attribute, AllocError>
-    ensures { IfOk result (λ a. attribute_owned a ≡ operations_attribute name.now) }
+    ensures { IfOk result (λ a. a ≡ operations_attribute name.now) }
 {
     let mut attribute = enumerated(alloc, name, 0x0002)?;
     for code in OTHER_OPERATIONS {
@@ -31,7 +30,7 @@ pub(crate) fn operations(alloc: Global, name: &str) -> Result<Attribute, AllocEr
 
 /// How many copies a job may have.
 pub(crate) fn copies(alloc: Global, name: &str) -> Result<Attribute, AllocError>
-    ensures { IfOk result (λ a. attribute_owned a ≡ alone name.now (range 1 Limits.COPIES)) }
+    ensures { IfOk result (λ a. a ≡ alone name.now (range 1 Limits.COPIES)) }
 {
     let least: u32 = 1;
     let mut range = Vec::from_slice(alloc, &least.to_be_bytes())?;
@@ -41,7 +40,7 @@ pub(crate) fn copies(alloc: Global, name: &str) -> Result<Attribute, AllocError>
 
 /// Until when a job can be held.
 pub(crate) fn hold_untils(alloc: Global, name: &str) -> Result<Attribute, AllocError>
-    ensures { IfOk result (λ a. attribute_owned a ≡ hold_untils_attribute name.now) }
+    ensures { IfOk result (λ a. a ≡ hold_untils_attribute name.now) }
 {
     let mut attribute = keyword(alloc, name, b"no-hold")?;
     let value = Value::copy_of(alloc, ValueTag::KEYWORD, b"indefinite")?;
@@ -49,33 +48,18 @@ pub(crate) fn hold_untils(alloc: Global, name: &str) -> Result<Attribute, AllocE
     Ok(attribute)
 }
 
-/// On which sides a job can be printed.
-pub(crate) fn sides(alloc: Global, name: &str, two_sided: bool) -> Result<Attribute, AllocError>
-    ensures { IfOk result (λ a. attribute_owned a ≡ sides_attribute name.now two_sided) }
+/// On which sides a job can be printed; no value where there are none.
+pub(crate) fn sides(alloc: Global, name: &str, sides: &[Sides]) -> Result<Attribute, AllocError>
+    ensures { IfOk result (λ a. a ≡ sides_attribute name.now sides.now) }
 {
-    let mut attribute = keyword(alloc, name, b"one-sided")?;
-    if two_sided {
-        let long = Value::copy_of(alloc, ValueTag::KEYWORD, b"two-sided-long-edge")?;
-        attribute.push(long)?;
-        let short = Value::copy_of(alloc, ValueTag::KEYWORD, b"two-sided-short-edge")?;
-        attribute.push(short)?;
+    let [first, others @ ..] = sides else {
+        return no_value(alloc, name);
+    };
+    let mut attribute = keyword(alloc, name, sides_keyword(*first).as_bytes())?;
+    for sides in others {
+        let keyword = sides_keyword(*sides);
+        let value = Value::copy_of(alloc, ValueTag::KEYWORD, keyword.as_bytes())?;
+        attribute.push(value)?;
     }
     Ok(attribute)
-}
-
-/// Whether some device at these places prints both sides.
-pub(crate) fn prints_two_sided(devices: &[DeviceNow], places: &[DeviceId]) -> bool
-    ensures { result ≡ prints_two_sided devices.now places.now }
-{
-    places.iter().any(|id| is_two_sided(devices, *id))
-}
-
-/// Whether the device at a place prints both sides.
-fn is_two_sided(devices: &[DeviceNow], id: DeviceId) -> bool
-    ensures { result ≡ is_two_sided (slice_get devices.now id) }
-{
-    match devices.get(id.place()) {
-        Some(device) => device.rate_two.is_some(),
-        None => false,
-    }
 }

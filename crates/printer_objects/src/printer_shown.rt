@@ -1,31 +1,28 @@
 ghost use Rattle.std.specs.Prelude.{◌≡◌, IfOk, map, filter, Some};
-ghost use Rattle.ipp_codec.specs.Owned.{attribute_owned, group_owned};
 ghost use Rattle.printer_objects.specs.PrinterAttribute.{is_wanted_of_printer, printer_table};
-ghost use Rattle.printer_objects.specs.PrinterShown.{printer_shown, supported_of};
+ghost use Rattle.printer_objects.specs.PrinterShown.{printer_shown};
 
 use crate::attribute::{
     MILLIS_PER_SECOND, bytes, english, enumerated, keyword, number, texts, time, yes,
 };
 use crate::job_shown::printer_uri;
-use crate::offered::{copies, hold_untils, operations, prints_two_sided, sides};
+use crate::offer::Offer;
+use crate::offered::{copies, hold_untils, operations, sides};
 use crate::printer_attribute::PrinterAttribute;
 use crate::state::{printer_reason, printer_state};
-use crate::together::{Listed, add_once, union};
-use base_types::{DeviceNow, Limits, Moment, Text};
+use base_types::{Limits, Moment, Text};
 use ipp_codec::{Attribute, Group, GroupTag, ValueTag};
 use job_objects::Printer;
-use settings_file::PrinterSettings;
 use std::alloc::{AllocError, Global};
 
 /// What the attributes of a printer are made of.
 #[derive(Clone, Copy)]
 pub struct PrinterShown<'a> {
     pub printer: &'a Printer,
-    pub settings: &'a PrinterSettings,
+    /// Its settings, and what it offers.
+    pub offer: &'a Offer<'a>,
     /// What the URIs of printers and jobs begin with.
     pub uri_base: &'a Text,
-    /// All devices, in the order of the settings.
-    pub devices: &'a [DeviceNow],
     /// Whether some job keeps the printer busy ([`crate::keeps_busy`]).
     pub busy: bool,
     /// The unfinished jobs of the printer.
@@ -40,7 +37,7 @@ pub fn printer_attributes(
     shown: &PrinterShown<'_>,
     requested: &[Text],
 ) -> Result<Group, AllocError>
-    ensures { IfOk result (λ group. group_owned group ≡ record { tag = 0x04; attributes = map (printer_shown shown.now) (filter (is_wanted_of_printer requested.now) printer_table) }) }
+    ensures { IfOk result (λ group. group ≡ record { tag = 0x04; attributes = map (printer_shown shown.now) (filter (is_wanted_of_printer requested.now) printer_table) }) }
 {
     let mut group = Group::new(alloc, GroupTag::PRINTER);
     for which in PrinterAttribute::all() {
@@ -55,10 +52,11 @@ pub fn printer_attributes(
 impl PrinterAttribute {
     /// The attribute of this printer.
     fn shown(self, alloc: Global, shown: &PrinterShown<'_>) -> Result<Attribute, AllocError>
-        ensures { IfOk result (λ attribute. attribute_owned attribute ≡ printer_shown shown.now self) }
+        ensures { IfOk result (λ attribute. attribute ≡ printer_shown shown.now self) }
     {
         let name = self.name();
-        let settings = shown.settings;
+        let offer = shown.offer;
+        let settings = offer.printer();
         match self {
             PrinterAttribute::UriSupported => {
                 let uri = printer_uri(alloc, shown.uri_base, &settings.name)?;
@@ -97,7 +95,7 @@ impl PrinterAttribute {
                 settings.format_default.as_bytes(),
             ),
             PrinterAttribute::DocumentFormatSupported => {
-                let formats = supported(alloc, Listed::Formats, shown, &settings.format_default)?;
+                let formats = offer.formats(alloc)?;
                 texts(alloc, name, ValueTag::MIME_MEDIA_TYPE, &formats)
             }
             PrinterAttribute::IsAcceptingJobs => yes(alloc, name),
@@ -125,38 +123,15 @@ impl PrinterAttribute {
                 settings.media_default.as_bytes(),
             ),
             PrinterAttribute::MediaSupported => {
-                let media = supported(alloc, Listed::Media, shown, &settings.media_default)?;
+                let media = offer.media(alloc)?;
                 texts(alloc, name, ValueTag::KEYWORD, &media)
             }
             PrinterAttribute::MediaReady => {
-                let media = union(
-                    alloc,
-                    Listed::LoadedMedia,
-                    shown.devices,
-                    settings.devices.devices(),
-                )?;
+                let media = offer.ready_media(alloc)?;
                 texts(alloc, name, ValueTag::KEYWORD, &media)
             }
             PrinterAttribute::SidesDefault => keyword(alloc, name, b"one-sided"),
-            PrinterAttribute::SidesSupported => {
-                let two_sided = prints_two_sided(shown.devices, settings.devices.devices());
-                sides(alloc, name, two_sided)
-            }
+            PrinterAttribute::SidesSupported => sides(alloc, name, offer.sides()),
         }
     }
-}
-
-/// What the devices of a printer list, and its default where none of them does.
-fn supported(
-    alloc: Global,
-    listed: Listed,
-    shown: &PrinterShown<'_>,
-    default: &Text,
-) -> Result<Vec<Text>, AllocError>
-    ensures { IfOk result (λ texts. texts.items ≡ supported_of listed shown.now default.now) }
-{
-    let settings = shown.settings;
-    let mut found = union(alloc, listed, shown.devices, settings.devices.devices())?;
-    add_once(alloc, &mut found, default)?;
-    Ok(found)
 }

@@ -1,8 +1,8 @@
-ghost use Rattle.std.specs.Prelude.{◌≡◌, IfOk, OnOk};
-ghost use Rattle.std.specs.List.{slice_get};
-ghost use Rattle.printer_objects.specs.Together.{is_among, listed_by, union, with_device, with_entries, with_entry};
+//! Entries that several devices list, each at its first place.
+ghost use Rattle.std.specs.Prelude.{◌≡◌, OnOk};
+ghost use Rattle.printer_objects.specs.Together.{is_among, listed_by, with_entries, with_entry};
 
-use base_types::{DeviceId, DeviceNow, Text};
+use base_types::{DeviceNow, Text};
 use std::alloc::{AllocError, Global};
 
 /// What a device lists.
@@ -16,40 +16,8 @@ pub(crate) enum Listed {
     LoadedMedia,
 }
 
-/// What the devices at these places list, in their order, each entry at its first place.
-pub(crate) fn union(
-    alloc: Global,
-    listed: Listed,
-    devices: &[DeviceNow],
-    places: &[DeviceId],
-) -> Result<Vec<Text>, AllocError>
-    ensures { IfOk result (λ found. found.items ≡ union listed devices.now places.now) }
-{
-    let mut found = Vec::new(alloc);
-    for id in places {
-        add_device(alloc, &mut found, listed, devices, *id)?;
-    }
-    Ok(found)
-}
-
-/// Adds what the device at a place lists, where there is one.
-fn add_device(
-    alloc: Global,
-    found: &mut Vec<Text>,
-    listed: Listed,
-    devices: &[DeviceNow],
-    id: DeviceId,
-) -> Result<(), AllocError>
-    ensures { OnOk result (found.new.items ≡ with_device listed found.old.items (slice_get devices.now id)) }
-{
-    match devices.get(id.place()) {
-        Some(device) => add_listed(alloc, found, listed, device),
-        None => Ok(()),
-    }
-}
-
 /// Adds what a device lists.
-fn add_listed(
+pub(crate) fn add_listed(
     alloc: Global,
     found: &mut Vec<Text>,
     listed: Listed,

@@ -3,7 +3,6 @@ use Rattle.std.specs.Prelude.{ℕ, ◌≡◌, ◌++◌, Bool, true, false, if◌
 use Rattle.ipp_codec.specs.Message.{plain, IppAttribute, IppGroup, IppMessage}
 use Rattle.ipp_codec.specs.Spelling.{spelling}
 use Rattle.ipp_codec.specs.Grammar.{IsMessage}
-use Rattle.ipp_codec.specs.Owned.{groups_owned}
 use Rattle.dispatcher.specs.declared.reply.IppAnswer.{IppAnswer}
 use Rattle.dispatcher.specs.declared.status.Status.{Status}
 use Rattle.dispatcher.specs.declared.status.Status.TheVariants.{OkIgnoredOrSubstituted, AttributesNotSupported}
@@ -44,7 +43,7 @@ refusal_bytes status id = spelling (reply_of status id [])
 
 abbrev pub message_of : IppAnswer → ℕ → IppMessage
 message_of answer id =
-    reply_of answer.status id (unsupported_of answer.status answer.unsupported ++ groups_owned answer.groups.items)
+    reply_of answer.status id (unsupported_of answer.status answer.unsupported ++ answer.groups.items)
 
 -- the spelling of the answer where it has one, else its status alone
 pub record IsReply (answer : IppAnswer) (id : ℕ) (bytes : List ℕ) : Type 0 where

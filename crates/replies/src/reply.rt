@@ -1,6 +1,5 @@
 //! Answers as bytes.
 ghost use Rattle.std.specs.Prelude.{◌≡◌, ◌∷◌, IfOk};
-ghost use Rattle.ipp_codec.specs.Owned.{attributes_owned, group_owned, groups_owned, message_owned};
 ghost use Rattle.replies.specs.Reply.{opening_group, tells_unsupported, unsupported_of, message_of, IsReply};
 
 use crate::refusal::ipp_refusal;
@@ -8,7 +7,6 @@ use dispatcher::{IppAnswer, Status};
 use ipp_codec::{
     Attribute, EncodeFault, Group, GroupTag, Message, Value, ValueTag, Version, encode,
 };
-use job_template::RequestAttributes;
 use std::alloc::{AllocError, Global};
 
 /// The bytes of an answer, under a request-id (RFC 8011, section 4.1.4.2). The error is want of
@@ -29,7 +27,7 @@ pub fn ipp_reply(alloc: Global, answer: IppAnswer, request_id: u32) -> Result<Ve
 
 /// The message of an answer.
 fn message_of(alloc: Global, answer: IppAnswer, request_id: u32) -> Result<Message, AllocError>
-    ensures { IfOk result (λ message. message_owned message ≡ message_of answer request_id) }
+    ensures { IfOk result (λ message. message ≡ message_of answer request_id) }
 {
     let IppAnswer {
         status,
@@ -42,25 +40,11 @@ fn message_of(alloc: Global, answer: IppAnswer, request_id: u32) -> Result<Messa
     if tells_unsupported(status) && !unsupported.is_empty() {
         message.push(Group {
             tag: GroupTag::UNSUPPORTED,
-            attributes: attributes_of(alloc, unsupported)?,
+            attributes: unsupported.into_vec(),
         })?;
     }
     message.groups.append(&mut groups)?;
     Ok(message)
-}
-
-/// The attributes themselves.
-fn attributes_of(
-    alloc: Global,
-    unsupported: RequestAttributes,
-) -> Result<Vec<Attribute>, AllocError>
-    ensures { IfOk result (λ attributes. attributes_owned attributes.items ≡ unsupported) }
-{
-    let mut attributes = Vec::new(alloc);
-    for attribute in unsupported.into_vec() {
-        attributes.push(attribute.into_attribute())?;
-    }
-    Ok(attributes)
 }
 
 /// Whether the status tells that something isn't supported.
@@ -75,7 +59,7 @@ fn tells_unsupported(status: Status) -> bool
 
 /// The operation group of every reply: its charset and natural language.
 fn opening_group(alloc: Global) -> Result<Group, AllocError>
-    ensures { IfOk result (λ group. group_owned group ≡ opening_group) }
+    ensures { IfOk result (λ group. group ≡ opening_group) }
 {
     let mut group = Group::new(alloc, GroupTag::OPERATION);
     let charset = Value::copy_of(alloc, ValueTag::CHARSET, b"utf-8")?;

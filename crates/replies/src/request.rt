@@ -1,12 +1,11 @@
 //! Which messages are requests.
 ghost use Rattle.std.specs.Prelude.{◌≡◌, option_map, IfOk};
-ghost use Rattle.ipp_codec.specs.Owned.{attributes_owned};
 ghost use Rattle.ipp_codec.specs.Views.{attribute_shown, group_shown, message_shown};
 ghost use Rattle.replies.specs.Request.{is_named, begins_request, is_operation_group, operation_group, job_group, job_attributes, is_utf8};
 
 use crate::attributes::value_of;
 use ipp_codec::{AttributeView, Group, GroupTag, GroupView, MessageView, ValueTag};
-use job_template::{RequestAttribute, RequestAttributes};
+use job_template::RequestAttributes;
 use std::alloc::{AllocError, Global};
 
 /// The operation group of a request, which is its first group; none where the message is no request.
@@ -48,20 +47,16 @@ pub(crate) fn job_attributes(
     ensures { IfOk result (λ attributes. attributes ≡ job_attributes (message_shown message.now)) }
 {
     match job_group(message) {
-        Some(group) => request_attributes(alloc, group.to_owned(alloc)?),
+        Some(group) => Ok(request_attributes(group.to_owned(alloc)?)),
         None => Ok(RequestAttributes::new(alloc)),
     }
 }
 
 /// The attributes of a group.
-fn request_attributes(alloc: Global, group: Group) -> Result<RequestAttributes, AllocError>
-    ensures { IfOk result (λ attributes. attributes ≡ attributes_owned group.attributes.items) }
+fn request_attributes(group: Group) -> RequestAttributes
+    ensures { result ≡ group.attributes }
 {
-    let mut kept = Vec::new(alloc);
-    for attribute in group.attributes {
-        kept.push(RequestAttribute::new(attribute))?;
-    }
-    Ok(RequestAttributes::from_vec(kept))
+    RequestAttributes::from_vec(group.attributes)
 }
 
 /// Whether the group begins with the charset and the natural language.

@@ -2,7 +2,7 @@
 use super::{reply, reply_of, rows, texts};
 use base_types::{Activity, DeviceId, DeviceNow, Medium, Moment, PrinterSet, Text};
 use job_objects::Printer;
-use printer_objects::{PrinterShown, printer_attributes};
+use printer_objects::{Offer, PrinterShown, printer_attributes};
 use settings_file::PrinterSettings;
 use std::alloc::{AllocError, Global};
 use std::test::Fail;
@@ -184,9 +184,8 @@ fn shown(alloc: Global, row: Row) -> Result<Vec<u8>, Fail> {
     let requested = texts(alloc, row.asked)?;
     let shown = PrinterShown {
         printer: &Printer::new(),
-        settings: &settings,
+        offer: &Offer::new(&devices, &settings),
         uri_base: &uri_base,
-        devices: &devices,
         busy: false,
         queued: 0,
         moment: Moment::start(),

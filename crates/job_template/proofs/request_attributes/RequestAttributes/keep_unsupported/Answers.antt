@@ -6,6 +6,6 @@ use Rattle.job_template.proofs.request_attributes.RequestAttributes.keep_unsuppo
 
 pub returns : goal.returns
 returns c =
-    let test : IppAttribute → Bool = λ a. not (is_supported c.args.devices.now c.args.printer.now a) in
+    let test : IppAttribute → Bool = λ a. not (is_supported c.args.offer.now a) in
     filter_same _ test _ (λ x b f' k. search rules) _ _ c.retain.ensures.filtered
     ∙ ap (λ (xs : List IppAttribute). filter test xs) c.self.view_is

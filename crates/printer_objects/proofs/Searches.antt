@@ -1,5 +1,5 @@
 -- The first that passes, among what each entry of a list has.
-use Rattle.std.proofs.Common.{◌≡◌, ◌∙◌, ℕ, suc, ◌+◌, ◌<◌, Bool, List, [], ◌∷◌, ◌++◌, length, get_or, drop, find, Some, None, if◌then◌else◌, sym, ap, drop-cons, add-one}
+use Rattle.std.proofs.Common.{◌≡◌, ◌∙◌, ℕ, suc, ◌+◌, ◌<◌, Bool, List, [], ◌∷◌, ◌++◌, length, get_or, drop, find, map, cond, true, false, Some, None, option_map, refl, sym, ap, drop-cons, add-one}
 use Rattle.std.specs.List.{flat_map}
 use Rattle.std.specs.Option.{option_or}
 use Rattle.std.proofs.lemmas.List.Folds.{find-append}
@@ -22,6 +22,11 @@ pub not_at : {X A : Type 0} (p : A → Bool) (f : X → List A) (xs : List X) (i
 not_at p f xs i x inside is none =
     find_from p f xs i x inside is ∙ ap (λ o. option_or o (find p (flat_map f (drop (i + 1) xs)))) (sym none)
 
--- a search that ends with a default
-pub find_or_default : {A : Type 0} (p : A → Bool) (xs : List A) (d : A) → find p (xs ++ d ∷ []) ≡ option_or (find p xs) (if p d then Some d else None)
-find_or_default p xs d = find-append p xs (d ∷ [])
+-- a search among what each element gives
+pub find_mapped : {X A : Type 0} (p : A → Bool) (f : X → A) (xs : List X) → find p (map f xs) ≡ option_map f (find (λ x. p (f x)) xs)
+find_mapped p f [] = refl
+find_mapped p f (x ∷ xs) =
+    elim (p (f x)) as (λ b. cond b (Some (f x)) (find p (map f xs)) ≡ option_map f (cond b (Some x) (find (λ y. p (f y)) xs))) [
+      | true ↦ refl
+      | false ↦ find_mapped p f xs
+    ]

@@ -1,6 +1,6 @@
 use Rattle.std.proofs.lemmas.List.Edits.{map_over_more}
 use Rattle.job_template.specs.Unsupported.{returned}
-use Rattle.job_template.proofs.request_attributes.make_returned.Goals as goal
+use Rattle.job_template.proofs.request_attributes.make_each_returned.Goals as goal
 
 pub loop-attribute-preserved : goal.loop-attribute-preserved
 loop-attribute-preserved c =

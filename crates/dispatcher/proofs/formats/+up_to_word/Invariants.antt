@@ -1,5 +1,0 @@
-use Rattle.std.proofs.Common.{length}
-use Rattle.dispatcher.proofs.formats.+up_to_word.Given as goal
-
-abbrev pub decreases-up_to_word : goal.decreases-up_to_word
-decreases-up_to_word l = length l.bytes.now

@@ -1,0 +1,3 @@
+pub mod Searches
+pub mod Listing
+pub mod Taken

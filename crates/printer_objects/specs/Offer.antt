@@ -1,0 +1,68 @@
+-- What a printer offers (RFC 8011, sections 5.2 and 5.4). What is shown as supported is a list, and what a
+-- request asks for is looked up in that very list.
+use Rattle.std.specs.Prelude.{ℕ, Bool, false, if◌then◌else◌, List, [], ◌∷◌, ◌++◌, find, Option, Some, None, is_some}
+use Rattle.std.specs.List.{flat_map, list_any, slice_get}
+use Rattle.std.specs.Option.{option_map_or}
+use Rattle.std.specs.Str.{bytes_eq}
+use Rattle.base_types.specs.Device.{Device}
+use Rattle.base_types.specs.declared.needs.Sides.{Sides}
+use Rattle.base_types.specs.declared.needs.Sides.TheVariants.{One, LongEdge, ShortEdge}
+use Rattle.settings_file.specs.Settings.{PrinterEntry}
+use Rattle.printer_objects.specs.declared.together.Listed.{Listed}
+use Rattle.printer_objects.specs.declared.together.Listed.TheVariants.{Formats, Media, LoadedMedia}
+use Rattle.printer_objects.specs.DocumentFormat.{is_same_format}
+use Rattle.printer_objects.specs.JobShown.{sides_keyword}
+use Rattle.printer_objects.specs.Together.{listed_by, distinct}
+
+-- all devices, and a printer, which names its own among them by their places
+pub record OfferRecord : Type 0 where
+  pub devices : List Device
+  pub printer : PrinterEntry
+
+-- ---- the lists
+
+-- what the device at a place lists, if there is one
+abbrev pub listed_at : Listed → OfferRecord → ℕ → List (List ℕ)
+listed_at listed offer place = option_map_or (listed_by listed) (slice_get offer.devices place) []
+
+-- what the devices of the printer list, in their order
+abbrev pub listed_of : Listed → OfferRecord → List (List ℕ)
+listed_of listed offer = flat_map (listed_at listed offer) offer.printer.devices
+
+-- the formats of documents (section 5.4.22): its devices', then its default, each once
+unfoldable pub formats_of : OfferRecord → List (List ℕ)
+formats_of offer = distinct (listed_of Formats offer ++ offer.printer.format_default ∷ [])
+
+-- the media (section 5.2.11), loaded or not: its devices', then its default, each once
+unfoldable pub media_of : OfferRecord → List (List ℕ)
+media_of offer = distinct (listed_of Media offer ++ offer.printer.media_default ∷ [])
+
+-- the media that are loaded
+abbrev pub ready_media_of : OfferRecord → List (List ℕ)
+ready_media_of offer = distinct (listed_of LoadedMedia offer)
+
+abbrev pub is_two_sided : Option Device → Bool
+is_two_sided (Some device) = is_some device.rate_two
+is_two_sided None = false
+
+-- some device of the printer prints on both sides
+abbrev pub prints_two_sided : OfferRecord → Bool
+prints_two_sided offer = list_any (λ place. is_two_sided (slice_get offer.devices place)) offer.printer.devices
+
+-- the sides (section 5.2.8)
+unfoldable pub sides_of : OfferRecord → List Sides
+sides_of offer = if prints_two_sided offer then One ∷ LongEdge ∷ ShortEdge ∷ [] else One ∷ []
+
+-- ---- what a request may ask for
+
+-- the first of its formats that is the one asked for
+unfoldable pub format_named : OfferRecord → List ℕ → Option (List ℕ)
+format_named offer asked = find (is_same_format asked) (formats_of offer)
+
+-- the medium of a name
+unfoldable pub medium_named : OfferRecord → List ℕ → Option (List ℕ)
+medium_named offer name = find (bytes_eq name) (media_of offer)
+
+-- the sides of a keyword
+unfoldable pub sides_named : OfferRecord → List ℕ → Option Sides
+sides_named offer keyword = find (λ sides. bytes_eq keyword (sides_keyword sides)) (sides_of offer)

@@ -1,0 +1,279 @@
+//! What a printer offers (RFC 8011, sections 5.2 and 5.4): its devices' formats, media and sides, and
+//! its defaults. What is shown as supported is what a request may ask for.
+ghost use Rattle.std.specs.Prelude.{◌≡◌, ◌∷◌, [], find, map, IfOk, IsSome, OnOk, Contains};
+ghost use Rattle.std.specs.Option.{option_copied};
+ghost use Rattle.std.specs.List.{slice_get, flat_map};
+ghost use Rattle.std.specs.Str.{bytes_eq};
+ghost use Rattle.printer_objects.specs.DocumentFormat.{is_same_format};
+ghost use Rattle.printer_objects.specs.JobShown.{sides_keyword};
+ghost use Rattle.printer_objects.specs.Together.{with_entries, listed_by, distinct};
+ghost use Rattle.printer_objects.specs.Offer.{listed_at, listed_of, formats_of, media_of, ready_media_of, is_two_sided, prints_two_sided, sides_of, format_named, medium_named, sides_named};
+
+use crate::document_format::is_same_format;
+use crate::job_shown::sides_keyword;
+use crate::together::{Listed, add_listed, add_once};
+use base_types::{DeviceId, DeviceNow, Medium, Sides, Text};
+use settings_file::PrinterSettings;
+use std::alloc::{AllocError, Global};
+use std::marker::Model;
+
+/// What a printer offers, by what its devices are now. In clauses it is a record of the same fields.
+#[derive(Drop)]
+pub struct Offer<'a> {
+    /// All devices, in the order of the settings.
+    devices: &'a [DeviceNow],
+    printer: &'a PrinterSettings,
+}
+
+impl<'a> Model for Offer<'a> {
+    ghost use Rattle.printer_objects.specs.Offer.{OfferRecord};
+
+    ghost Value = { OfferRecord };
+
+    ghost view = { λ o. record { devices = o.devices.now; printer = o.printer.now } };
+}
+
+impl<'a> Offer<'a> {
+    /// What a printer offers with these devices, which are all devices of the settings.
+    pub fn new(devices: &'a [DeviceNow], printer: &'a PrinterSettings) -> Offer<'a>
+        ensures { result ≡ record { devices = devices.now; printer = printer.now } }
+    {
+        Offer { devices, printer }
+    }
+
+    /// The settings of the printer.
+    pub fn printer(&self) -> &'a PrinterSettings
+        ensures { result.now ≡ self.now.printer }
+    {
+        self.printer
+    }
+
+    /// The formats of documents: those of its devices in their order, then its default, each once.
+    #[tactic(auto, unfolding(crate::specs::Offer::formats_of))]
+    pub fn formats(&self, alloc: Global) -> Result<Vec<Text>, AllocError>
+        ensures { IfOk result (λ formats. formats.items ≡ formats_of self.now) }
+    {
+        let mut formats = self.listed(alloc, Listed::Formats)?;
+        add_once(alloc, &mut formats, self.default_format())?;
+        Ok(formats)
+    }
+
+    /// The media, loaded or not: those of its devices in their order, then its default, each once.
+    #[tactic(auto, unfolding(crate::specs::Offer::media_of))]
+    pub fn media(&self, alloc: Global) -> Result<Vec<Text>, AllocError>
+        ensures { IfOk result (λ media. media.items ≡ media_of self.now) }
+    {
+        let mut media = self.listed(alloc, Listed::Media)?;
+        add_once(alloc, &mut media, self.default_medium())?;
+        Ok(media)
+    }
+
+    /// The media that its devices hold, each once.
+    pub fn ready_media(&self, alloc: Global) -> Result<Vec<Text>, AllocError>
+        ensures { IfOk result (λ media. media.items ≡ ready_media_of self.now) }
+    {
+        self.listed(alloc, Listed::LoadedMedia)
+    }
+
+    /// The sides: one, and both ways of two where some device of it prints so.
+    #[tactic(auto, unfolding(crate::specs::Offer::sides_of))]
+    pub fn sides(&self) -> &'static [Sides]
+        ensures { result.now ≡ sides_of self.now }
+    {
+        if self.prints_two_sided() {
+            &[Sides::One, Sides::LongEdge, Sides::ShortEdge]
+        } else {
+            &[Sides::One]
+        }
+    }
+
+    /// The first of its formats that is the one asked for. Each that it shows is found.
+    #[tactic(auto, using(crate::proofs::Listing::find_offered, crate::proofs::Taken::format_taken), unfolding(crate::specs::Offer::format_named, crate::specs::Offer::formats_of))]
+    pub fn format_named(&self, asked: &[u8]) -> Option<&'a Text>
+        ensures found { option_copied result ≡ format_named self.now asked.now }
+        ensures taken { Contains (formats_of self.now) asked.now → IsSome result }
+    {
+        let default = self.default_format();
+        match self.first_format(asked) {
+            Some(format) => Some(format),
+            None if is_same_format(asked, default.as_bytes()) => Some(default),
+            None => None,
+        }
+    }
+
+    /// The medium of this name. Each that it shows is found.
+    #[tactic(auto, using(crate::proofs::Listing::find_offered, crate::proofs::Taken::medium_taken), unfolding(crate::specs::Offer::medium_named, crate::specs::Offer::media_of))]
+    pub fn medium_named(&self, name: &[u8]) -> Option<&'a Text>
+        ensures found { option_copied result ≡ medium_named self.now name.now }
+        ensures taken { Contains (media_of self.now) name.now → IsSome result }
+    {
+        let default = self.default_medium();
+        match self.first_medium(name) {
+            Some(medium) => Some(medium),
+            None if name == default.as_bytes() => Some(default),
+            None => None,
+        }
+    }
+
+    /// The sides of this keyword.
+    #[tactic(auto, unfolding(crate::specs::Offer::sides_named))]
+    pub fn sides_named(&self, keyword: &[u8]) -> Option<Sides>
+        ensures { result ≡ sides_named self.now keyword.now }
+    {
+        sides_among(self.sides(), keyword).copied()
+    }
+
+    /// The format of a document that names none.
+    pub fn default_format(&self) -> &'a Text
+        ensures { result.now ≡ self.now.printer.format_default }
+    {
+        let printer = self.printer;
+        &printer.format_default
+    }
+
+    /// The medium of a job that names none.
+    pub fn default_medium(&self) -> &'a Text
+        ensures { result.now ≡ self.now.printer.media_default }
+    {
+        let printer = self.printer;
+        &printer.media_default
+    }
+
+    /// The places of its devices.
+    fn places(&self) -> &'a [DeviceId]
+        ensures { result.now ≡ self.now.printer.devices }
+    {
+        let printer = self.printer;
+        printer.devices.devices()
+    }
+
+    /// The device at a place.
+    fn device(&self, place: DeviceId) -> Option<&'a DeviceNow>
+        ensures { option_copied result ≡ slice_get self.now.devices place }
+    {
+        self.devices.get(place.place())
+    }
+
+    /// What its devices list, in their order, each entry once.
+    fn listed(&self, alloc: Global, listed: Listed) -> Result<Vec<Text>, AllocError>
+        ensures { IfOk result (λ found. found.items ≡ distinct (listed_of listed self.now)) }
+    {
+        let mut found = Vec::new(alloc);
+        let places = self.places();
+        for place in places {
+            self.add_listed_at(alloc, &mut found, listed, *place)?;
+        }
+        Ok(found)
+    }
+
+    /// Adds what the device at a place lists, where there is one.
+    fn add_listed_at(
+        &self,
+        alloc: Global,
+        found: &mut Vec<Text>,
+        listed: Listed,
+        place: DeviceId,
+    ) -> Result<(), AllocError>
+        ensures { OnOk result (found.new.items ≡ with_entries found.old.items (listed_at listed self.now place)) }
+    {
+        match self.device(place) {
+            Some(device) => add_listed(alloc, found, listed, device),
+            None => Ok(()),
+        }
+    }
+
+    /// Whether some device of it prints on both sides.
+    fn prints_two_sided(&self) -> bool
+        ensures { result ≡ prints_two_sided self.now }
+    {
+        self.places().iter().any(|place| self.is_two_sided(*place))
+    }
+
+    /// Whether the device at a place prints on both sides.
+    fn is_two_sided(&self, place: DeviceId) -> bool
+        ensures { result ≡ is_two_sided (slice_get self.now.devices place) }
+    {
+        match self.device(place) {
+            Some(device) => device.rate_two.is_some(),
+            None => false,
+        }
+    }
+
+    /// The first format of its devices that is the one asked for.
+    fn first_format(&self, asked: &[u8]) -> Option<&'a Text>
+        ensures { option_copied result ≡ find (is_same_format asked.now) (listed_of Listed.Formats self.now) }
+    {
+        let places = self.places();
+        for place in places {
+            if let Some(format) = self.format_at(*place, asked) {
+                return Some(format);
+            }
+        }
+        None
+    }
+
+    /// The first format of the device at a place that is the one asked for.
+    fn format_at(&self, place: DeviceId, asked: &[u8]) -> Option<&'a Text>
+        ensures { option_copied result ≡ find (is_same_format asked.now) (listed_at Listed.Formats self.now place) }
+    {
+        let device = self.device(place)?;
+        format_among(&device.formats, asked)
+    }
+
+    /// The first medium of this name that its devices have.
+    fn first_medium(&self, name: &[u8]) -> Option<&'a Text>
+        ensures { option_copied result ≡ find (bytes_eq name.now) (listed_of Listed.Media self.now) }
+    {
+        let places = self.places();
+        for place in places {
+            if let Some(medium) = self.medium_at(*place, name) {
+                return Some(medium);
+            }
+        }
+        None
+    }
+
+    /// The first medium of this name that the device at a place has.
+    fn medium_at(&self, place: DeviceId, name: &[u8]) -> Option<&'a Text>
+        ensures { option_copied result ≡ find (bytes_eq name.now) (listed_at Listed.Media self.now place) }
+    {
+        let device = self.device(place)?;
+        medium_among(&device.media, name)
+    }
+}
+
+/// The first of these formats that is the one asked for.
+fn format_among<'a>(formats: &'a [Text], asked: &[u8]) -> Option<&'a Text>
+    ensures { option_copied result ≡ find (is_same_format asked.now) formats.now }
+{
+    formats
+        .iter()
+        .find(|format| is_same_format(asked, format.as_bytes()))
+}
+
+/// The name of the first of these media that has it.
+#[tactic(auto, using(crate::proofs::Searches::find_mapped))]
+fn medium_among<'a>(media: &'a [Medium], name: &[u8]) -> Option<&'a Text>
+    ensures { option_copied result ≡ find (bytes_eq name.now) (map (λ m. m.name) media.now) }
+{
+    match medium_of_name(media, name) {
+        Some(medium) => Some(&medium.name),
+        None => None,
+    }
+}
+
+/// The first of these media that has this name.
+fn medium_of_name<'a>(media: &'a [Medium], name: &[u8]) -> Option<&'a Medium>
+    ensures { option_copied result ≡ find (λ m. bytes_eq name.now m.name) media.now }
+{
+    media.iter().find(|medium| name == medium.name.as_bytes())
+}
+
+/// The first of these sides that has this keyword.
+fn sides_among<'a>(sides: &'a [Sides], keyword: &[u8]) -> Option<&'a Sides>
+    ensures { option_copied result ≡ find (λ s. bytes_eq keyword.now (sides_keyword s)) sides.now }
+{
+    sides
+        .iter()
+        .find(|sides| keyword == sides_keyword(**sides).as_bytes())
+}
