@@ -1,3 +1,4 @@
+//! The answer of a planner: a priced way, made of who sits where and at which rents.
 ghost use Rattle.std.specs.Prelude.{◌≡◌, ℕ, ◌^◌, ◌<◌, ◌≤◌, IfOk, List, length, map, pos, slice_index, sum, vec_len};
 ghost use Rattle.std.specs.List.{range_with_len};
 ghost use Rattle.std.specs.List.Sorted.{IsPermutation};

@@ -1,3 +1,4 @@
+//! What a job costs at a place from the end of a device's list.
 ghost use Rattle.std.specs.Prelude.{◌≡◌, ◌≤◌};
 ghost use Rattle.assignment.specs.Costs.{cost_at, cost_of, row_of};
 

@@ -3,6 +3,8 @@
 //! It promises a way of the class, fair prices and the stated total, whenever each job has a device
 //! that is able; want of memory is the only refusal. It doesn't promise speed, nor which of several
 //! best ways it finds.
+//!
+//! Tests stand in `planner_tests`.
 #![tactic(auto)]
 
 mod able;

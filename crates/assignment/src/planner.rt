@@ -1,3 +1,4 @@
+//! What each planner promises.
 ghost use Rattle.std.specs.Prelude.{◌≡◌, ◌+◌, ◌*◌, ◌^◌, ◌<◌, ◌≤◌, IfOk, length};
 ghost use Rattle.prices.specs.Total.{IsBest};
 ghost use Rattle.prices.specs.Prices.{IsProved};

@@ -1,3 +1,5 @@
+//! The search for the nearest free place: shortest ways from the new job, over the seats that
+//! others would leave.
 ghost use Rattle.std.specs.Prelude.{◌≡◌, ◌≢◌, ℕ, ◌+◌, ◌-◌, ◌<◌, ◌≤◌, ◌⊎◌, length, slice_index, slice_index_or, slice_set, vec_len, [], IfOk};
 ghost use Rattle.assignment.specs.Costs.{cost_of, nowhere};
 ghost use Rattle.assignment.specs.Seating.{IsFair, HasNewJob};

@@ -1,3 +1,4 @@
+//! The times that a planner reads, and how often it looked.
 ghost use Rattle.std.specs.Prelude.{◌≡◌, ℕ, ◌+◌, ◌*◌, ◌^◌, ◌<◌, ◌≤◌, IfOk, length};
 ghost use Rattle.cost_table.specs.Class.{Class, IsClass, time_in};
 ghost use Rattle.assignment.specs.Entries.{IsRead, IsReadRow};

@@ -1,3 +1,4 @@
+//! What a device is at a moment: what it can do, which media it has, and what it does.
 ghost use Rattle.std.specs.Prelude.{◌≡◌};
 
 use crate::ids::{DeviceId, JobId};

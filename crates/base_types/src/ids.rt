@@ -1,3 +1,4 @@
+//! The ids of jobs, and the places of devices and printers.
 ghost use Rattle.std.specs.Prelude.{◌≡◌, ℕ, ◌↔◌, IsSome, IfSome};
 ghost use Rattle.base_types.specs.Ranges.{IsJobId};
 

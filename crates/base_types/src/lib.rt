@@ -6,6 +6,8 @@
 //! here and not in `text`, since their lengths are limits of the server. It decides nothing; what
 //! happens to a job or a device stands in the crates above, and what any bytes are in `text`. Its
 //! calls are tried by the rows of the crates above.
+//!
+//! Tests stand in `reader_tests` and `queue_tests`.
 #![tactic(auto)]
 
 mod device;

@@ -1,3 +1,4 @@
+//! Moments, in ms from the server's start.
 ghost use Rattle.std.specs.Prelude.{◌≡◌, ℕ, ◌↔◌, IsSome, IfSome, max};
 ghost use Rattle.base_types.specs.Ranges.{IsMoment};
 

@@ -1,3 +1,4 @@
+//! Priorities of jobs.
 ghost use Rattle.std.specs.Prelude.{◌≡◌, ℕ, ◌↔◌, IsSome, IfSome};
 ghost use Rattle.base_types.specs.Ranges.{IsPriority};
 

@@ -1,3 +1,4 @@
+//! Texts of any bytes, owned.
 ghost use Rattle.std.specs.Prelude.{◌≡◌, ℕ, List, IsTrue, ◌↔◌, IfOk, length};
 
 use std::alloc::{AllocError, Global};

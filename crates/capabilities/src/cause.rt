@@ -1,3 +1,4 @@
+//! Why no device is able to print a job: the first filter that leaves none.
 ghost use Rattle.std.specs.Prelude.{◌≡◌, ◌↔◌, IsNone, max, slice_get};
 ghost use Rattle.std.specs.Option.{option_copied};
 ghost use Rattle.capabilities.specs.Cause.{cause_of, HasAbleDevice, order_of};

@@ -3,6 +3,8 @@
 //! It promises exact answers: a device is able just where [`able`]'s definition says so, and a job
 //! has a cause just where no device of the settings is able. It takes no memory, and knows nothing
 //! of how long a device is busy.
+//!
+//! Tests stand in `planner_tests`.
 #![tactic(auto)]
 
 mod able_device;

@@ -1,3 +1,4 @@
+//! The jobs of a class, and the problem that they are with their devices.
 ghost use Rattle.std.specs.Prelude.{◌≡◌, ◌<◌, IfOk, IfSome, length};
 ghost use Rattle.cost_table.specs.Time.{IsTime};
 ghost use Rattle.cost_table.specs.ClassJob.{CanBuild, IsClassOf, IsPairTime, IsRowOf, printer_of};

@@ -1,3 +1,4 @@
+//! The problem of a class: its jobs, their times, and when each device is free.
 ghost use Rattle.std.specs.Prelude.{◌≡◌, ◌↔◌, ◌==◌, ◌<◌, IsTrue, MatchOption, length, position};
 ghost use Rattle.std.specs.List.Sorted.{IsStrictlyIncreasing};
 ghost use Rattle.cost_table.specs.Class.{IsClass, place_of, time_in, wait_of};

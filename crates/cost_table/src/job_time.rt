@@ -1,3 +1,4 @@
+//! How long a job takes on a device.
 ghost use Rattle.std.specs.Prelude.{◌≡◌, ◌≤◌};
 ghost use Rattle.base_types.specs.Ranges.{IsRate};
 ghost use Rattle.capabilities.specs.Able.{PrintsSides};

@@ -3,6 +3,8 @@
 //!
 //! It promises exact times within their ranges, and that a class problem made of jobs and devices
 //! has a time exactly where the device is able. It plans nothing.
+//!
+//! Tests stand in `planner_tests`.
 #![tactic(auto)]
 
 mod class_job;

@@ -1,3 +1,4 @@
+//! The times of a job on each device.
 ghost use Rattle.std.specs.Prelude.{◌≡◌, ◌↔◌, All, IfSome, IsTrue, length};
 ghost use Rattle.cost_table.specs.Time.{IsTime};
 

@@ -5,6 +5,8 @@
 //! in order, and then the first fault, and that [`write_job`] and [`write_cancel`] append exactly
 //! their lines; [`read_report`] reads one line by itself. It opens no connection, and what a report does to a job or a device stands
 //! elsewhere. `docs/DEVICES.md` has the protocol for someone who writes an adapter.
+//!
+//! Tests stand in `reader_tests`.
 #![tactic(auto)]
 
 mod fault;

@@ -1,3 +1,4 @@
+//! The numbers of a device's line.
 ghost use Rattle.std.specs.Prelude.{◌≡◌};
 ghost use Rattle.device_link.specs.Line.{number_in};
 

@@ -1,3 +1,4 @@
+//! The lines that the server sends to a device.
 ghost use Rattle.std.specs.Prelude.{◌≡◌, ◌++◌, IfOk, OnOk, OnErr};
 ghost use Rattle.device_link.specs.Orders.{sides_word, job_line, cancel_line};
 

@@ -1,3 +1,4 @@
+//! The reader of a device's stream.
 ghost use Rattle.std.specs.Prelude.{◌≡◌, ◌<◌, ◌+◌, ◌++◌, [], List, ℕ, None, Some, Err, true, IfOk, IfSome, OnOk, OnErr, option_map, take, drop, length as length_of};
 ghost use Rattle.base_types.specs.Report.{ReportRecord, report_of};
 ghost use Rattle.device_link.specs.Line.{report_in};

@@ -1,3 +1,4 @@
+//! What each event does.
 ghost use Rattle.std.specs.Prelude.{◌≡◌, ◌≤◌, IfOk, IsOk, OnErr};
 ghost use Rattle.dispatcher.specs.Step.{Step, Reported, Ticks, TakesNoMemory};
 

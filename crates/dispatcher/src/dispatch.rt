@@ -1,3 +1,4 @@
+//! The dispatch: a plan, and the jobs that it starts.
 ghost use Rattle.std.specs.Prelude.{◌≡◌, max, IfOk, IfSome, false, IsOk, is_some};
 ghost use Rattle.std.specs.Option.{option_copied};
 ghost use Rattle.print_room.specs.GoodPlan.{IsGoodPlan, is_some_job};

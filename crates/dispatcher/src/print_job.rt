@@ -1,3 +1,5 @@
+//! What a Print-Job does (RFC 8011, section 4.2.1): it is refused by the first check that fails, or
+//! taken.
 ghost use Rattle.std.specs.Prelude.{◌≡◌, ◌≤◌, ◌∷◌, ◌&&◌, ◌==◌, [], IfOk, IsOk, IsErr, OnErr, None, if◌then◌else◌, length, not, position};
 ghost use Rattle.std.specs.Option.{option_copied};
 ghost use Rattle.std.specs.Str.{bytes_eq};

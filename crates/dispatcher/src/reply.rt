@@ -1,3 +1,4 @@
+//! What an event is answered.
 ghost use Rattle.std.specs.Prelude.{◌≡◌, []};
 ghost use Rattle.dispatcher.specs.PrintJob.{Replies};
 

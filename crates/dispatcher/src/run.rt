@@ -1,3 +1,4 @@
+//! Runs: events one after the other, each followed by a dispatch unless it is a query.
 ghost use Rattle.std.specs.Prelude.{◌≡◌, List, Option, IfOk, OnErr};
 ghost use Rattle.prices.specs.Plan.{PlanRecord};
 ghost use Rattle.print_room.specs.declared.started.Started.{Started};

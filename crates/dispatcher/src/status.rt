@@ -1,3 +1,4 @@
+//! The statuses that the core answers (RFC 8011, appendix B).
 ghost use Rattle.std.specs.Prelude.{◌≡◌};
 ghost use Rattle.dispatcher.specs.Status.{code_of};
 

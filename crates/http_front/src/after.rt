@@ -1,3 +1,4 @@
+//! What the reader awaits after a head or a body.
 ghost use Rattle.std.specs.Prelude.{◌≡◌};
 ghost use Rattle.http_front.specs.Stream.{after_head, body_by, after_body, begins_head};
 

@@ -1,3 +1,4 @@
+//! The line of a chunk's size (RFC 9112, section 7.1).
 ghost use Rattle.std.specs.Prelude.{◌≡◌};
 ghost use Rattle.http_front.specs.Chunk.{IsSizeOf, chunk_end};
 

@@ -1,3 +1,4 @@
+//! Fields of a head, by their names.
 ghost use Rattle.std.specs.Prelude.{◌≡◌, ◌≤◌, map, length};
 ghost use Rattle.std.specs.Option.{option_copied};
 ghost use Rattle.httparse.specs.Borrowed.{header_parts};

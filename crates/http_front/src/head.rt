@@ -1,3 +1,4 @@
+//! The head of a request: its parts, and the checks that it has to pass.
 ghost use Rattle.std.specs.Prelude.{◌≡◌, codes, map};
 ghost use Rattle.httparse.specs.Borrowed.{header_parts};
 ghost use Rattle.http_front.specs.Head.{is_chunked, coded, within_limit, counted, framing_of, is_ipp, is_plain, is_plain_ipp, closes_after, is_empty, expecting, judged, Asks};

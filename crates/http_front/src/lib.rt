@@ -4,6 +4,8 @@
 //! It promises that an [`HttpReader`] gives exactly the exchanges of the whole stream that it was
 //! fed, in order, up to the first request that is refused. It knows nothing of what the bodies say,
 //! and answers nothing by itself.
+//!
+//! Tests stand in `reader_tests`.
 #![tactic(auto)]
 
 mod after;

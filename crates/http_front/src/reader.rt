@@ -1,3 +1,4 @@
+//! The reader of a client's stream.
 ghost use Rattle.std.specs.Prelude.{◌≡◌, ◌≤◌, ◌<◌, ◌+◌, ◌++◌, [], List, ℕ, OnOk, OnErr, IsSome, None, true, take, drop, length as length_of};
 ghost use Rattle.http_front.specs.Stream.{Said, SaysOne, StaysInFront, Stands, Answers, Steps, IsOver, work, after_body, body_by, after_head, begins_head};
 ghost use Rattle.text.specs.FirstLine.{first_line_of};

@@ -1,3 +1,4 @@
+//! Why a request is refused, and with which status.
 ghost use Rattle.std.specs.Prelude.{◌≡◌};
 ghost use Rattle.http_front.specs.Reply.{IsReplyStatus, status_of};
 

@@ -1,3 +1,4 @@
+//! The heads of replies.
 ghost use Rattle.std.specs.Prelude.{◌≡◌, ◌+◌, ◌≤◌, ◌++◌, OnOk, OnErr, IsOk, vec_len, length as length_of};
 ghost use Rattle.std.specs.Vec.{vec_capacity};
 ghost use Rattle.http_front.specs.Reply.{IsReplyStatus, continue_head, ending, head, lines, opening};

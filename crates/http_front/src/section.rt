@@ -1,3 +1,4 @@
+//! The end of a head or of a trailer section: its empty line.
 ghost use Rattle.std.specs.Prelude.{◌≡◌, true};
 ghost use Rattle.http_front.specs.Section.{empty_line, empty_line_end, section_in};
 

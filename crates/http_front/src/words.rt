@@ -1,3 +1,4 @@
+//! The words of a field's value.
 ghost use Rattle.std.specs.Prelude.{◌≡◌};
 ghost use Rattle.http_front.specs.Words.{is_word, lists_word, length_in};
 

@@ -4,6 +4,8 @@
 //! with one, which message it is, and else what is first wrong with them. `encode` appends the one
 //! spelling of a message. Nothing here knows what an attribute or an operation means: a value is a
 //! tag and bytes, or a collection of members.
+//!
+//! Tests stand in `reader_tests`.
 #![tactic(auto)]
 
 mod element;

@@ -1,3 +1,4 @@
+//! The tags of groups and of values (RFC 8010, section 3.5).
 ghost use Rattle.std.specs.Prelude.{◌≡◌};
 
 use std::marker::Model;

@@ -1,3 +1,4 @@
+//! What a device says of the job that it has.
 ghost use Rattle.std.specs.Prelude.{◌≡◌};
 ghost use Rattle.job_objects.specs.DeviceSays.{change_of, is_end};
 

@@ -1,3 +1,4 @@
+//! How many impressions a job counts for.
 ghost use Rattle.std.specs.Prelude.{◌≡◌, ◌≤◌};
 ghost use Rattle.base_types.specs.Ranges.{IsImpressions};
 ghost use Rattle.job_objects.specs.Impressions.{impressions_of};

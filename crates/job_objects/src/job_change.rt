@@ -1,3 +1,5 @@
+//! The table of job states: what may happen to a job, and what it is then (RFC 8011, section
+//! 5.3.7).
 ghost use Rattle.std.specs.Prelude.{◌≡◌, is_ok, is_some, false};
 ghost use Rattle.job_objects.specs.JobStep.{job_after, stepped, waiting, moved, ended};
 

@@ -1,3 +1,4 @@
+//! The states of a job (RFC 8011, section 5.3.7).
 ghost use Rattle.std.specs.Prelude.{◌≡◌};
 ghost use Rattle.job_objects.specs.JobState.{state_code, is_finished, is_pending};
 

@@ -4,6 +4,8 @@
 //! It promises that a job changes just as the table of states says: [`job_step`] makes a change that
 //! the job's state allows, and leaves the job as it was where it doesn't. It takes no memory, holds no
 //! documents and knows nothing of other jobs; those stand in the spool above.
+//!
+//! Tests stand in `queue_tests`.
 #![tactic(auto)]
 
 mod device_says;

@@ -1,3 +1,4 @@
+//! What changes of a printer.
 ghost use Rattle.std.specs.Prelude.{◌≡◌, true, false};
 
 use std::marker::Model;

@@ -1,3 +1,4 @@
+//! Why a job is in its state (RFC 8011, section 5.3.8).
 ghost use Rattle.std.specs.Prelude.{◌≡◌, if◌then◌else◌};
 ghost use Rattle.job_objects.specs.Reasons.{keyword_of, reasons_of, held_reasons, canceled_reason};
 

@@ -4,6 +4,8 @@
 //! of what isn't there or isn't supported; [`RequestAttributes::make_unsupported`] gives what is
 //! returned to the client. The first attribute of a name acts, and each has one value. Whether a
 //! request is refused for what isn't supported is no business of this crate.
+//!
+//! Tests stand in `core_tests`.
 #![tactic(auto)]
 
 mod request_attribute;

@@ -1,3 +1,4 @@
+//! The attributes of a request's job group, and what of them is returned (RFC 8011, section 4.1.7).
 ghost use Rattle.std.specs.Prelude.{◌≡◌, ◌==◌, ◌<◌, [], map, filter, not, length};
 ghost use Rattle.std.specs.Option.{option_copied};
 ghost use Rattle.job_template.specs.Template.{named, is_supported};

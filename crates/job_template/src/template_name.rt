@@ -1,3 +1,4 @@
+//! The names of the template attributes that act.
 ghost use Rattle.std.specs.Prelude.{◌≡◌};
 ghost use Rattle.job_template.specs.Template.{template_name};
 

@@ -1,3 +1,4 @@
+//! Commands and subcommands of LPD (RFC 1179, sections 5 and 6).
 ghost use Rattle.std.specs.Prelude.{◌≡◌, IfOk, MatchOption, ◌-◌, ◌^◌, map, min, true, false};
 ghost use Rattle.std.specs.Str.Parse.{digits_value};
 ghost use Rattle.lpd_reader.specs.Session.{command_record, item_record, told};

@@ -1,3 +1,4 @@
+//! What a control file says (RFC 1179, section 7).
 ghost use Rattle.std.specs.Prelude.{◌≡◌, ◌++◌, IfOk, OnOk, OnErr, Some, map};
 ghost use Rattle.std.specs.Option.{option_or};
 ghost use Rattle.lpd_reader.specs.Control.{before, alone, nothing, joined, whole, control_in};

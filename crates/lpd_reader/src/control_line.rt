@@ -1,3 +1,4 @@
+//! A line of a control file.
 ghost use Rattle.std.specs.Prelude.{◌≡◌, IfOk};
 ghost use Rattle.lpd_reader.specs.Control.{print_of, other_line, lettered, line_in};
 ghost use Rattle.lpd_reader.specs.ControlLine.{told_line};

@@ -1,3 +1,4 @@
+//! The names of files (RFC 1179, sections 6.2 and 6.3).
 ghost use Rattle.std.specs.Prelude.{◌≡◌, ◌==◌, not};
 ghost use Rattle.std.specs.List.{list_all};
 ghost use Rattle.lpd_reader.specs.FileName.{is_file_name, is_numbered, is_host};

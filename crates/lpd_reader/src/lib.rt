@@ -4,6 +4,8 @@
 //! It promises that an [`LpdReader`] gives exactly the items of the whole stream that it was fed, in
 //! order, and then the first fault. It answers nothing and keeps no files: what is done with an item
 //! stands elsewhere.
+//!
+//! Tests stand in `reader_tests`.
 #![tactic(auto)]
 
 mod command;

@@ -1,3 +1,4 @@
+//! The reader of an LPD client's stream.
 ghost use Rattle.std.specs.Prelude.{◌≡◌, ◌<◌, ◌+◌, ◌++◌, [], List, ℕ, None, Some, Err, IfOk, IfSome, OnOk, OnErr, take, drop, length as length_of, true};
 ghost use Rattle.text.specs.FirstLine.{first_line_of};
 ghost use Rattle.text.specs.declared.line.FirstLine.TheVariants.{Whole};

@@ -1,3 +1,4 @@
+//! The operands of a command.
 ghost use Rattle.std.specs.Prelude.{◌≡◌, ◌<◌, IfOk, filter, length, map, nat_lt};
 ghost use Rattle.lpd_reader.specs.Command.{first_word, later_words, operands_of};
 

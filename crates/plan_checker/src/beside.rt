@@ -1,3 +1,4 @@
+//! Whether a job stands elsewhere in the plan, and whether waits follow from the class above.
 ghost use Rattle.std.specs.Prelude.{◌≡◌, ◌↔◌, All, IsTrue};
 ghost use Rattle.plan_checker.specs.Beside.{AboveHaveWays, NoneElsewhere, NotAbove, NotStranded, WaitsFollow};
 

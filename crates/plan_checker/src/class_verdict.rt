@@ -1,3 +1,4 @@
+//! The verdict on a priced way.
 ghost use Rattle.std.specs.Prelude.{◌≡◌, ◌↔◌, ◌≤◌, List, length};
 ghost use Rattle.cost_table.specs.Class.{IsClass};
 ghost use Rattle.prices.specs.Total.{IsBest, total_of};

@@ -1,3 +1,4 @@
+//! Whether each job and place has a price, and no price is too high.
 ghost use Rattle.std.specs.Prelude.{◌≡◌, ◌↔◌, ◌<◌, ◌≤◌, All, IsTrue, length, pos, ◌≤ℤ◌};
 ghost use Rattle.plan_checker.specs.Fair.{AllFairOn, AllPlacesPriced, IsFairOn, NoneMissing, NonePositive, NoneTooHigh};
 

@@ -1,3 +1,4 @@
+//! Laws of verdicts. Their functions do nothing: their contracts are what they are for.
 ghost use Rattle.std.specs.Prelude.{◌≡◌};
 ghost use Rattle.plan_checker.specs.Plan.{IsPlanVerdict, IsProvedPlan};
 

@@ -4,6 +4,8 @@
 //! solver, so anyone's plan may be put before it. A yes means that no way, and no timetable with
 //! gaps, does better; any other verdict names the first fault. The times, the first waits and the
 //! lists of jobs are taken as given. It finds no plan, and knows no text of one.
+//!
+//! Tests stand in `planner_tests`.
 #![tactic(auto)]
 
 mod beside;

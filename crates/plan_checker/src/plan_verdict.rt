@@ -1,3 +1,4 @@
+//! The verdict on a plan.
 ghost use Rattle.std.specs.Prelude.{◌≡◌, ◌↔◌, ◌≤◌, All, IsTrue, List, length};
 ghost use Rattle.prices.specs.Total.{IsBest, total_of};
 ghost use Rattle.prices.specs.Timetable.{Slot, IsTimetable, slots_total};

@@ -1,3 +1,4 @@
+//! Whether a stated total is the way's and the prices'.
 ghost use Rattle.std.specs.Prelude.{◌≡◌, ◌↔◌, ◌^◌, ◌≤◌, All, IsTrue, length, pos, neg_ℤ, ◌≤ℤ◌};
 ghost use Rattle.cost_table.specs.Class.{IsClass};
 ghost use Rattle.prices.specs.Way.{IsWay};

@@ -1,3 +1,4 @@
+//! The first word of a line, and the only one.
 ghost use Rattle.std.specs.Prelude.{map};
 ghost use Rattle.plan_text.specs.Reading.{Gives};
 ghost use Rattle.plan_text.specs.Line.{only_word, first_word};

@@ -1,3 +1,4 @@
+//! What a reader has heard of a plan so far.
 ghost use Rattle.std.specs.Prelude.{◌≡◌, ◌==◌, ◌&&◌, ◌≤◌, length, nat_lt, slice_index_or};
 ghost use Rattle.std.specs.Str.{bytes_eq};
 ghost use Rattle.cost_table.specs.Class.{IsClass};

@@ -3,6 +3,8 @@
 //! A text is read as its plan, or refused for its first faulty line; a plan is written as its text,
 //! which is read back as that plan. Nothing here says whether a plan is any good: a text may hold a
 //! bad one, which a checker judges.
+//!
+//! Tests stand in `planner_tests`.
 #![tactic(auto)]
 
 mod cut;

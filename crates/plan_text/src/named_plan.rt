@@ -1,3 +1,4 @@
+//! A plan with the names of its devices.
 ghost use Rattle.std.specs.Prelude.{◌≡◌};
 
 use base_types::Text;

@@ -1,3 +1,4 @@
+//! What a line says.
 ghost use Rattle.std.specs.Prelude.{◌≡◌, map};
 ghost use Rattle.std.specs.Str.{bytes_eq};
 ghost use Rattle.plan_text.specs.Reading.{Gives};

@@ -1,3 +1,4 @@
+//! The plan of a text, or its first fault.
 ghost use Rattle.std.specs.Prelude.{◌≡◌, All, IfOk, map};
 ghost use Rattle.prices.specs.Plan.{HasOneListEach};
 ghost use Rattle.plan_text.specs.NamedPlan.{HasOneEach};

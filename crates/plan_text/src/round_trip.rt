@@ -1,3 +1,4 @@
+//! That a written text is read back. The function does nothing: its contract is what it is for.
 ghost use Rattle.std.specs.Prelude.{◌≡◌};
 ghost use Rattle.plan_text.specs.Whole.{plan_at};
 ghost use Rattle.plan_text.specs.Writing.{plan_text};

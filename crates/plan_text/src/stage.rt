@@ -1,3 +1,4 @@
+//! Which lines may come next.
 ghost use Rattle.std.specs.Prelude.{◌≡◌, ◌==◌};
 ghost use Rattle.plan_text.specs.Whole.{stage_number};
 

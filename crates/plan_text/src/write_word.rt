@@ -1,3 +1,4 @@
+//! The words of a line, written.
 ghost use Rattle.std.specs.Prelude.{◌≡◌, ◌++◌, OnOk, codes};
 ghost use Rattle.std.specs.Fmt.{decimal, signed_decimal};
 ghost use Rattle.plan_text.specs.Writing.{cause_word, entry_word, entries_text, numbers_text, prices_text};

@@ -1,3 +1,4 @@
+//! Laws of ways and prices. Their functions do nothing: their contracts are what they are for.
 ghost use Rattle.std.specs.Prelude.{◌≡◌, ◌*◌, ◌≤◌, ℕ, List, All, pos, neg_ℤ, ◌≤ℤ◌};
 ghost use Rattle.prices.specs.Way.{IsWay};
 ghost use Rattle.prices.specs.Total.{IsBest, total_of};

@@ -3,6 +3,8 @@
 //! It promises exact totals, waits and starts, and the laws that make prices a proof: a way with
 //! fair prices is best, and no timetable, whatever its gaps, does better than a best way. It finds
 //! no way and judges none: a solver finds one, a checker judges it, and neither is mentioned here.
+//!
+//! Tests stand in `planner_tests`.
 #![tactic(auto)]
 
 mod laws;

@@ -1,3 +1,4 @@
+//! Plans: classes with their priced ways, and the jobs that no device can print.
 ghost use Rattle.std.specs.Prelude.{◌≡◌};
 
 use crate::price_lists::PricedWay;

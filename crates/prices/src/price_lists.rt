@@ -1,3 +1,4 @@
+//! The prices of jobs and of places.
 ghost use Rattle.std.specs.Prelude.{◌≡◌};
 
 use crate::way::Way;

@@ -1,3 +1,4 @@
+//! What makes a way, one by one.
 ghost use Rattle.std.specs.Prelude.{◌≡◌, ◌↔◌, ◌==◌, ◌<◌, ◌≤◌, All, IsSome, IsTrue, count_by, length};
 ghost use Rattle.cost_table.specs.Class.{place_of, time_in};
 ghost use Rattle.prices.specs.Way.{IsWay, NamesKnown, NoneTwice, AllNamed, AllAble, times_named as times_in};

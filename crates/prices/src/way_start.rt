@@ -1,3 +1,4 @@
+//! When a job starts by a way.
 ghost use Rattle.std.specs.Prelude.{◌≡◌, Contains, MatchOption};
 ghost use Rattle.std.specs.List.{concat};
 ghost use Rattle.prices.specs.Way.{IsWay};

@@ -1,3 +1,4 @@
+//! The total of a way.
 ghost use Rattle.std.specs.Prelude.{◌≡◌, ◌^◌, ◌<◌, length};
 ghost use Rattle.cost_table.specs.Class.{wait_of};
 ghost use Rattle.prices.specs.Way.{IsWay};

@@ -1,3 +1,4 @@
+//! When a way leaves each device free.
 ghost use Rattle.std.specs.Prelude.{◌≡◌, ◌↔◌, ◌+◌, ◌^◌, ◌<◌, length, IfOk, IsTrue};
 ghost use Rattle.cost_table.specs.Class.{wait_of};
 ghost use Rattle.prices.specs.Way.{IsWay};

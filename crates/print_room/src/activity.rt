@@ -1,3 +1,4 @@
+//! What a device does over time.
 ghost use Rattle.std.specs.Prelude.{◌≡◌, ◌≤◌, ℕ};
 ghost use Rattle.print_room.specs.Activity.{idle, job_on, KeepsTime, running_from, stopped_at, taking, wait_of};
 

@@ -1,3 +1,4 @@
+//! What a room shows.
 ghost use Rattle.std.specs.Prelude.{◌≡◌};
 ghost use Rattle.std.specs.Option.{option_copied};
 ghost use Rattle.spool.specs.Calls.{paused_at};

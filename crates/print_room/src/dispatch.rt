@@ -1,3 +1,4 @@
+//! A dispatch: the plan, and what it starts.
 ghost use Rattle.std.specs.Prelude.{◌≡◌, ◌≤◌, IfOk, OnOk, OnErr, true, false, IsOk};
 ghost use Rattle.print_room.specs.GoodPlan.{is_some_job};
 ghost use Rattle.print_room.specs.Ready.{ready_of};

@@ -1,3 +1,4 @@
+//! Jobs that come, and jobs that stop coming.
 ghost use Rattle.std.specs.Prelude.{◌≡◌, ◌≤◌, IfOk, IfErr, OnOk, OnErr};
 ghost use Rattle.spool.specs.Calls.{new_refusal, IsRefusal};
 ghost use Rattle.print_room.specs.Jobs.{Submits, expiring};

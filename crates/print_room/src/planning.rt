@@ -1,3 +1,4 @@
+//! The plan of the ready jobs, class by class.
 ghost use Rattle.std.specs.Prelude.{◌≡◌, ◌≤◌, ◌+◌, ℕ, List, suc, true, map, All, IfOk, OnOk, unwrap_or};
 ghost use Rattle.base_types.specs.declared.limits.TheConstants.Limits.{JOB_TIME};
 ghost use Rattle.spool.specs.Spool.{IsSpool};

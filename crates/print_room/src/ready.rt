@@ -1,3 +1,4 @@
+//! The ready jobs, and who can't be printed.
 ghost use Rattle.std.specs.Prelude.{◌≡◌, ◌&&◌, IfOk, None, if◌then◌else◌, map};
 ghost use Rattle.spool.specs.Calls.{is_ready};
 ghost use Rattle.spool.specs.Spool.{IsSpool};

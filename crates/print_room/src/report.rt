@@ -1,3 +1,4 @@
+//! What a device's report changes.
 ghost use Rattle.std.specs.Prelude.{◌≡◌, ◌≤◌, ◌<◌, length, IfSome};
 ghost use Rattle.print_room.specs.Activity.{KeepsTime};
 ghost use Rattle.print_room.specs.Report.{has_job, said_of_job, time_left, without_job, left_of, paged, activity_after, jobs_after, documents_out, refitted, Reports};

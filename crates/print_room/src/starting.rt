@@ -1,3 +1,4 @@
+//! Which jobs begin.
 ghost use Rattle.std.specs.Prelude.{◌≡◌, ◌<◌, ◌≤◌, IfOk, IfSome, None, length, All, if◌then◌else◌};
 ghost use Rattle.prices.specs.Way.{queue_of};
 ghost use Rattle.print_room.specs.Beginning.{CanBegin, AllCanBegin};

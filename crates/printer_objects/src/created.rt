@@ -1,3 +1,4 @@
+//! What the creation of a job is answered with.
 ghost use Rattle.std.specs.Prelude.{◌≡◌, IfOk};
 ghost use Rattle.printer_objects.specs.Created.{created_attributes};
 

@@ -1,3 +1,4 @@
+//! The attributes of a job, as a table (RFC 8011, section 5.3).
 ghost use Rattle.std.specs.Prelude.{◌≡◌};
 ghost use Rattle.printer_objects.specs.JobAttribute.{job_attribute_name, job_attribute_group, job_table, is_wanted};
 

@@ -1,3 +1,4 @@
+//! The attributes of a job, with their values.
 ghost use Rattle.std.specs.Prelude.{◌≡◌, ◌++◌, IfOk, map, filter, None, Some};
 ghost use Rattle.printer_objects.specs.JobAttribute.{job_table, is_wanted};
 ghost use Rattle.printer_objects.specs.JobShown.{job_uri, printer_uri, hold_until, sides_keyword, k_octets, impressions_shown, job_shown};

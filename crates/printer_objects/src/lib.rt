@@ -6,6 +6,8 @@
 //! `docs/ATTRIBUTES.md` that requested-attributes asks for, in the table's order, with their tags and
 //! values. It keeps no jobs and looks at no clock: what a value depends on is passed in, such as
 //! whether a job keeps the printer busy ([`keeps_busy`]). Only what makes attributes takes memory.
+//!
+//! Tests stand in `queue_tests`.
 #![tactic(auto)]
 
 mod attribute;

@@ -1,3 +1,4 @@
+//! The attributes of a printer, as a table (RFC 8011, section 5.4).
 ghost use Rattle.std.specs.Prelude.{◌≡◌};
 ghost use Rattle.printer_objects.specs.PrinterAttribute.{is_wanted_of_printer, printer_attribute_group, printer_attribute_name, printer_table};
 

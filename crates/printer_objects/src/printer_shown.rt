@@ -1,3 +1,4 @@
+//! The attributes of a printer, with their values.
 ghost use Rattle.std.specs.Prelude.{◌≡◌, IfOk, map, filter, Some};
 ghost use Rattle.printer_objects.specs.PrinterAttribute.{is_wanted_of_printer, printer_table};
 ghost use Rattle.printer_objects.specs.PrinterShown.{printer_shown};

@@ -1,3 +1,4 @@
+//! Which attributes requested-attributes asks for.
 ghost use Rattle.std.specs.Prelude.{◌≡◌};
 ghost use Rattle.printer_objects.specs.Requested.{asks_for, is_requested};
 

@@ -1,3 +1,4 @@
+//! The state of a printer, and its reason (RFC 8011, sections 5.4.11 and 5.4.12).
 ghost use Rattle.std.specs.Prelude.{◌≡◌};
 ghost use Rattle.printer_objects.specs.PrinterState.{is_on_device, printer_keyword, printer_reason_of, printer_state_code, printer_state_of, is_busy_with};
 

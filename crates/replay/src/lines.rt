@@ -1,3 +1,4 @@
+//! The lines of a trace.
 ghost use Rattle.std.specs.Prelude.{◌≡◌, ◌<◌, ◌≤◌, ◌+◌, ◌∷◌, [], IfSome, length, true};
 ghost use Rattle.std.specs.Option.{option_map_or};
 ghost use Rattle.replay.specs.Lines.{lines_of, IsOneLine, IsFirst, HasNoStop, IsSplit};

@@ -4,6 +4,8 @@
 //! answered; a body asks one thing ([`one_asked`]). [`ipp_reply`] and [`ipp_refusal`] say each byte
 //! of a reply. Only Print-Job exists so far. Nothing here knows what the core does with an event,
 //! nor over which wire a body comes. `docs/IPP.md` has the rules for someone who writes a client.
+//!
+//! Tests stand in `core_tests`.
 #![tactic(auto)]
 
 mod asked;

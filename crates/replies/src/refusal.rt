@@ -1,3 +1,4 @@
+//! The bytes of a refusal: a reply of a status alone.
 ghost use Rattle.std.specs.Prelude.{◌≡◌};
 ghost use Rattle.replies.specs.Reply.{refusal_bytes};
 

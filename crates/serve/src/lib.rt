@@ -8,6 +8,8 @@
 //! read and written goes over the network is the system's; what is proved is what every wire promises:
 //! how many bytes a call moves, and that a fault is counted. What an engine does over any such wire is
 //! `server`'s contract.
+//!
+//! Tests stand in `server_tests`.
 #![tactic(auto)]
 
 mod clock;

@@ -3,6 +3,8 @@
 //! [`Engine::turn`] polls the wire once round: it accepts, reads, acts on what is whole, writes what
 //! waits, and closes. Its contract says of every turn, whatever the wire answers, which bytes are due
 //! on which connection.
+//!
+//! Tests stand in `server_tests`.
 #![tactic(auto)]
 
 mod between;

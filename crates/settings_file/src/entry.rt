@@ -1,3 +1,4 @@
+//! The entries of any table, by their keys.
 ghost use Rattle.std.specs.Prelude.{◌≡◌, ◌≤◌, ◌<◌, [], vec_len, IfOk, IfErr, IfSome, IfNone, OnOk, None, Some, map, option_map, option_and_then, length};
 ghost use Rattle.std.specs.List.{list_all};
 ghost use Rattle.toml.specs.View.{view, array_view, table_view};

@@ -1,3 +1,4 @@
+//! What may be wrong with settings, and its line.
 ghost use Rattle.std.specs.Prelude.{◌≡◌, ◌++◌, IfOk, OnOk, OnErr, Some};
 ghost use Rattle.settings_file.specs.Fault.{Fault, fault_of, fault_words, words_about};
 

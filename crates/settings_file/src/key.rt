@@ -1,3 +1,4 @@
+//! The keys of the settings.
 ghost use Rattle.std.specs.Prelude.{◌≡◌};
 ghost use Rattle.settings_file.specs.Fault.{key_name};
 

@@ -1,3 +1,4 @@
+//! Who asks for a change of a job.
 ghost use Rattle.std.specs.Prelude.{◌≡◌, ◌||◌, IsTrue, ◌↔◌};
 ghost use Rattle.std.specs.Str.{bytes_eq};
 ghost use Rattle.spool.specs.Asker.{may_ask, canceler_of};

@@ -1,3 +1,4 @@
+//! What may be asked of jobs: to be shown, held, released, canceled.
 ghost use Rattle.std.specs.Prelude.{◌≡◌, OnOk, OnErr, IfErr, IfOk, None, Some, option_map};
 ghost use Rattle.std.specs.Option.{option_copied};
 ghost use Rattle.job_objects.specs.declared.job_change.JobChange.{JobChange};

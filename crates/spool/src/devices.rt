@@ -1,3 +1,4 @@
+//! What devices do to jobs.
 ghost use Rattle.std.specs.Prelude.{◌≡◌, false};
 ghost use Rattle.job_objects.specs.DeviceSays.{is_end};
 ghost use Rattle.job_objects.specs.declared.job_change.JobChange.TheVariants as Change;

@@ -1,3 +1,4 @@
+//! Jobs whose documents stopped coming in.
 ghost use Rattle.std.specs.Prelude.{◌≡◌, map};
 ghost use Rattle.spool.specs.Spooled.{expired};
 ghost use Rattle.spool.specs.Kept.{retained};

@@ -1,3 +1,4 @@
+//! Which finished jobs are kept.
 ghost use Rattle.std.specs.Prelude.{◌≡◌, not, position};
 ghost use Rattle.spool.specs.Calls.{is_unfinished, unfinished_jobs};
 ghost use Rattle.spool.specs.Kept.{end_of, is_later, later_jobs, is_kept, retained};

@@ -5,6 +5,8 @@
 //! [`Spool::create`] and [`Spool::add_document`] take memory; they make the room that the job's later
 //! states need. Jobs live in memory alone, and no document is read or converted. Which device prints
 //! a job is decided above; the spool knows only whether one has it.
+//!
+//! Tests stand in `queue_tests`.
 #![tactic(auto)]
 
 mod asker;

@@ -1,3 +1,4 @@
+//! A job that comes, before it has an id.
 ghost use Rattle.std.specs.Prelude.{◌≡◌, ◌≤◌, ◌<◌, IfOk, IfSome, IfNone, length, map, if◌then◌else◌};
 ghost use Rattle.spool.specs.Document.{octets_of};
 ghost use Rattle.spool.specs.Submission.{spooled_of};

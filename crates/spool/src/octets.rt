@@ -1,3 +1,4 @@
+//! The octets of a document.
 ghost use Rattle.std.specs.Prelude.{◌≡◌, ◌≤◌, ◌<◌, ◌↔◌, [], IsTrue, length, drop};
 ghost use Rattle.spool.specs.Document.{IsFrontOf};
 

@@ -1,3 +1,4 @@
+//! The jobs that may be planned.
 ghost use Rattle.std.specs.Prelude.{◌≡◌, map};
 ghost use Rattle.std.specs.List.Sorted.{IsStrictlyIncreasing};
 ghost use Rattle.spool.specs.Calls.{is_ready, paused_at};

@@ -1,3 +1,4 @@
+//! The spool: what it is made of, and the change of one job.
 ghost use Rattle.std.specs.Prelude.{◌≡◌, ◌≤◌, ◌<◌, ◌+◌, ◌∷◌, ◌++◌, [], false, OnOk, OnErr, IfErr, IfSome, IfNone, length, map, remove, slice_get, is_ok};
 ghost use Rattle.std.specs.Option.{option_copied};
 ghost use Rattle.spool.specs.Spooled.{changed, told, attached, expired};

@@ -1,3 +1,4 @@
+//! A job with its documents.
 ghost use Rattle.std.specs.Prelude.{◌≡◌, ◌≤◌, ◌<◌, ◌+◌, [], OnOk, OnErr, IfErr, length, is_ok, is_some, if◌then◌else◌};
 ghost use Rattle.job_objects.specs.JobStep.{job_after};
 ghost use Rattle.spool.specs.Spooled.{changed, on_device_after, let_go, told, handed_out, settled, is_settled, counted, attached, expired, is_overdue, marked};

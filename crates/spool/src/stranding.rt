@@ -1,3 +1,4 @@
+//! Which of the ready jobs are stranded.
 ghost use Rattle.std.specs.Prelude.{◌≡◌, ◌==◌, map};
 ghost use Rattle.std.specs.List.{list_any};
 ghost use Rattle.spool.specs.Calls.{marked_by};

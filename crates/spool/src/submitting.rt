@@ -1,3 +1,4 @@
+//! Jobs that come.
 ghost use Rattle.std.specs.Prelude.{◌≡◌, [], IfOk, OnOk, OnErr, IfErr, None, Some, true, false};
 ghost use Rattle.spool.specs.Calls.{is_full, new_refusal, IsRefusal, Takes};
 ghost use Rattle.spool.specs.OnDevice.{AllStay};

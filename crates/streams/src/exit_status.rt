@@ -1,3 +1,4 @@
+//! How a program ends.
 ghost use Rattle.std.specs.Prelude.{◌≡◌};
 ghost use Rattle.streams.specs.ExitStatus.{code_of};
 

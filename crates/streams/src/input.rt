@@ -1,3 +1,4 @@
+//! What a program reads.
 ghost use Rattle.std.specs.Prelude.{MatchResult};
 ghost use Rattle.streams.specs.Input.{IsWhole, StopsAt};
 

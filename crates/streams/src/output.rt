@@ -1,3 +1,4 @@
+//! What a program writes.
 ghost use Rattle.std.specs.Prelude.{◌≤◌, length, take};
 ghost use Rattle.std.specs.Io.KnownBytes.{Appends};
 

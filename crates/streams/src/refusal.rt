@@ -1,3 +1,4 @@
+//! The line of a refusal.
 ghost use Rattle.std.specs.Prelude.{◌≡◌, IfOk};
 ghost use Rattle.streams.specs.Said.{refused_as};
 

@@ -1,3 +1,4 @@
+//! Searches in bytes, and bytes taken from the front.
 ghost use Rattle.std.specs.Prelude.{◌≡◌, ◌==◌, ◌≤◌, ◌-◌, drop, length, position};
 
 /// The first place at which a byte stands.
