@@ -14,6 +14,7 @@ mod apply;
 mod dispatch;
 mod event;
 mod formats;
+mod law;
 mod print_job;
 mod reply;
 mod run;

@@ -6,6 +6,7 @@ mod activity;
 mod contents;
 mod dispatch;
 mod jobs;
+mod law;
 mod opening;
 mod planning;
 mod ready;
