@@ -3,4 +3,5 @@ pub mod Dispatched
 pub mod Lending
 pub mod PrintJob
 pub mod Step
+pub mod Keeping
 pub mod Run

@@ -15,6 +15,7 @@
 mod apply;
 mod dispatch;
 mod event;
+mod law;
 mod print_job;
 mod reply;
 mod run;

@@ -18,7 +18,7 @@ use Rattle.cost_table.specs.Class.{Class}
 use Rattle.prices.specs.declared.plan.PlannedClass.{PlannedClass}
 use Rattle.prices.specs.Way.{IsWay, queue_of, times_named}
 use Rattle.print_room.specs.declared.started.Started.{Started}
-use Rattle.print_room.specs.Dispatch.{first_of, first_of_queue, or_next, is_free, starts_from, starts_of, beginning, beginning_all, marked_state}
+use Rattle.print_room.specs.Dispatch.{first_of, first_of_queue, or_next, is_free, starts_from, starts_of, beginning, beginning_all, marked_state, Dispatches}
 use Rattle.prices.specs.Plan.{PlanRecord}
 use Rattle.base_types.specs.declared.needs.Stranded.{Stranded}
 use Rattle.job_objects.specs.declared.job_change.JobChange.TheVariants.{Begin}
@@ -377,3 +377,9 @@ dispatch_keeps s plan now good spool agree =
     (All-weaker (λ start. start.device < 0 + length s.devices) (λ start. start.device < length s.devices) (λ start below. omega (arith, below)) (starts_of s plan) (starts_inside plan.classes 0 s.devices))
     (plan_can_begin s plan now good spool)
     (agree_stay s.devices s.spool.jobs marked_s.spool.jobs stay agree))
+
+pub dispatches_keep : (now : ℕ) (s : State) (plan : Option PlanRecord) (started : List Started) (new : State) → IsSpool s.spool → Agree s.devices s.spool.jobs → Dispatches now s plan started new → AllKeep s new
+dispatches_keep now s None started new spool agree is = subst (λ (t : State). AllKeep s t) (sym is.2) (λ place id has. (has, refl))
+dispatches_keep now s (Some plan) started new spool agree is =
+    subst (λ (t : State). AllKeep s t) (sym is.3)
+    (subst (λ (ss : List Started). AllKeep s (record (beginning_all now ss (marked_state now plan s)) { begun = ss })) (sym is.2) (dispatch_keeps s plan now is.1 spool agree))

@@ -1,8 +1,9 @@
 -- The jobs that devices have, as devices and the spool change.
-use Rattle.std.proofs.Common.{◌≡◌, ◌⊎◌, ◌∙◌, ℕ, zero, suc, ◌<◌, length, Bool, true, false, cond, List, [], ◌∷◌, map, Option, Some, None, refl, sym, ap, subst, arith, inl, inr, true≢false}
+use Rattle.std.proofs.Common.{◌≡◌, ◌⊎◌, ◌∙◌, ℕ, zero, suc, ◌<◌, length, get_or, Bool, true, false, cond, List, [], ◌∷◌, map, Option, Some, None, refl, sym, ap, subst, arith, inl, inr, true≢false}
 use Rattle.std.specs.Prelude.{slice_get}
 use Rattle.std.specs.Option.{option_map_or, option_and_then}
 use Rattle.std.proofs.lemmas.Bool.{cases_eq}
+use Rattle.std.proofs.lemmas.Option.{slice_get-get_or}
 use Rattle.base_types.specs.Device.{Device}
 use Rattle.base_types.specs.declared.device.Activity.{Activity}
 use Rattle.base_types.specs.declared.device.Activity.TheVariants.{Running, Stopped}
@@ -42,6 +43,11 @@ job_here (suc place) change (x ∷ ds) d found = job_here place change ds d foun
 
 pub job_found : (place : ℕ) (devices : List Device) (d : Device) → slice_get devices place ≡ Some d → job_of devices place ≡ job_on d.activity
 job_found place devices d found = ap (λ (o : Option Device). option_and_then (λ x. job_on x.activity) o) found
+
+-- the device that was read at a place of the devices
+pub read_device : (read devices : List Device) (place : ℕ) (d : Device) → read ≡ devices → place < length read → d ≡ get_or read place d → slice_get devices place ≡ Some d
+read_device read devices place d same inside is =
+    subst (λ (ds : List Device). slice_get ds place ≡ Some d) same (slice_get-get_or read place d inside ∙ ap (λ (x : Device). Some x) (sym is))
 
 -- a place among the devices
 pub found_device : (place : ℕ) (devices : List Device) → place < length devices → (d : Device) × (slice_get devices place ≡ Some d)

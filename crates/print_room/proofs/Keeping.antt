@@ -1,5 +1,5 @@
 -- What becomes of the documents of the jobs that devices have.
-use Rattle.std.proofs.Common.{◌≡◌, ◌⊎◌, ◌∙◌, ℕ, Bool, true, false, cond, List, [], Option, Some, None, refl, sym, ap, subst, inl, inr}
+use Rattle.std.proofs.Common.{◌≡◌, ◌⊎◌, ◌∙◌, ℕ, Bool, true, false, cond, List, [], ◌∷◌, map, Option, Some, None, refl, sym, ap, subst, inl, inr}
 use Rattle.std.specs.Prelude.{slice_get, MatchOption}
 use Rattle.std.specs.Option.{option_map_or}
 use Rattle.base_types.specs.Device.{Device}
@@ -8,10 +8,13 @@ use Rattle.job_objects.specs.declared.device_says.DeviceSays.{DeviceSays}
 use Rattle.job_objects.specs.declared.device_says.DeviceSays.TheVariants.{Stop, Continue, Done, Fail}
 use Rattle.job_objects.specs.DeviceSays.{is_end}
 use Rattle.spool.specs.Document.{DocumentRecord}
-use Rattle.spool.specs.Spooled.{SpooledRecord, handed_out}
+use Rattle.spool.specs.Spooled.{SpooledRecord, handed_out, expired}
 use Rattle.spool.specs.Jobs.{spooled_at, documents_told}
 use Rattle.spool.specs.OnDevice.{is_on_device, documents_at, AllStay}
-use Rattle.spool.proofs.OnDevice.{there, others_told, stay_told, stay_same}
+use Rattle.spool.specs.Submission.{Submission, spooled_of}
+use Rattle.spool.specs.Kept.{retained}
+use Rattle.print_room.specs.Jobs.{with_new_job, expiring}
+use Rattle.spool.proofs.OnDevice.{there, others_told, stay_told, stay_same, stay_before, stay_then, stay_map, stay_retained, expired_on}
 use Rattle.print_room.specs.Activity.{job_on}
 use Rattle.print_room.specs.State.{State, with_device}
 use Rattle.print_room.specs.Report.{said_of_job, activity_after, refitted, jobs_after, documents_out, state_after, Reports}
@@ -96,3 +99,11 @@ reports_keep now place report old documents new agree = at (slice_get old.device
         subst (λ (s : State). KeepsOrEnds place old documents s) (sym reports.0) (subst (λ (ds : List DocumentRecord). KeepsOrEnds place old ds (record old { last = now })) (sym reports.1) (no_report_keeps now place old))
     at (Some d) found reports =
         subst (λ (s : State). KeepsOrEnds place old documents s) (sym reports.0) (subst (λ (ds : List DocumentRecord). KeepsOrEnds place old ds (state_after now place report d old)) (sym reports.1) (report_keeps now place report d old found agree))
+
+pub submits_keep : (now : ℕ) (job : Submission) (old : State) → Agree old.devices old.spool.jobs → AllKeep old (with_new_job now job old)
+submits_keep now job old agree = keep_from old (with_new_job now job old) (λ place id has. has) (stay_before old.spool.jobs (spooled_of job old.spool.next false ∷ [])) agree
+
+pub expires_keep : (now : ℕ) (old : State) → Agree old.devices old.spool.jobs → AllKeep old (expiring now old)
+expires_keep now old agree =
+    let after = map (expired now) old.spool.jobs in
+    keep_from old (expiring now old) (λ place id has. has) (stay_then old.spool.jobs after (retained after) (stay_map (expired now) (expired_on now) old.spool.jobs) (stay_retained after)) agree

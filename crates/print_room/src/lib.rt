@@ -11,6 +11,7 @@ mod activity;
 mod contents;
 mod dispatch;
 mod jobs;
+mod law;
 mod opening;
 mod planning;
 mod ready;

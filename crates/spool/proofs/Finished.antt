@@ -16,6 +16,7 @@ use Rattle.job_objects.specs.JobStep.{changed_from, job_after}
 use Rattle.spool.specs.Document.{DocumentRecord}
 use Rattle.spool.specs.Spooled.{SpooledRecord, settled, on_device_after, changed, let_go, told, attached, is_overdue, expired, marked}
 use Rattle.spool.specs.Calls.{is_ready, marked_by}
+use Rattle.spool.proofs.Ids.{either}
 
 abbrev IsFinished : SpooledRecord → Type 0
 IsFinished spooled = is_finished spooled.job.state ≡ true
@@ -52,10 +53,6 @@ no_step change now s is = from_finished change s.job.state now s.job is
 
 -- ---- what each call does to a job
 
-if_either : (b : Bool) (x y : SpooledRecord) → IsFinished x → IsFinished y → IsFinished (cond b x y)
-if_either true x y of_x of_y = of_x
-if_either false x y of_x of_y = of_y
-
 pub same_keeps : KeepsFinished (λ s. s)
 same_keeps s is = is
 
@@ -67,18 +64,18 @@ let_go_keeps : (change : JobChange) (now : ℕ) → KeepsFinished (let_go change
 let_go_keeps change now s is =
     let after = record s { job = unwrap_or (job_after change now s.job) s.job; documents = []; on_device = false } in
     let still : IsFinished after = ap (λ (o : Option JobRecord). is_finished (unwrap_or o s.job).state) (no_step change now s is) ∙ is in
-    if_either s.on_device after s still is
+    either IsFinished s.on_device after s still is
 
 pub told_keeps : (says : DeviceSays) (now : ℕ) → KeepsFinished (told says now)
 told_keeps says now s is =
-    if_either (is_end says) (let_go (change_of says) now s) (changed (change_of says) now s) (let_go_keeps (change_of says) now s is) (changed_keeps (change_of says) now s is)
+    either IsFinished (is_end says) (let_go (change_of says) now s) (changed (change_of says) now s) (let_go_keeps (change_of says) now s is) (changed_keeps (change_of says) now s is)
 
 pub attached_keeps : (document : DocumentRecord) (now : ℕ) → KeepsFinished (attached document now)
 attached_keeps document now s is = is
 
 pub expired_keeps : (now : ℕ) → KeepsFinished (expired now)
-expired_keeps now s is = if_either (is_overdue now s) (changed Fail now s) s (changed_keeps Fail now s is) is
+expired_keeps now s is = either IsFinished (is_overdue now s) (changed Fail now s) s (changed_keeps Fail now s is) is
 
 pub marked_keeps : (paused : List Bool) (stranded : List Stranded) → KeepsFinished (marked_by paused stranded)
 marked_keeps paused stranded s is =
-    if_either (is_ready paused s.job) (marked (list_any (λ e. e.job == s.job.id) stranded) s) s is is
+    either IsFinished (is_ready paused s.job) (marked (list_any (λ e. e.job == s.job.id) stranded) s) s is is

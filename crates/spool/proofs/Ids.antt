@@ -59,9 +59,10 @@ id_after Fail Processing now job = refl
 id_after Fail Stopped now job = refl
 id_after Fail _ now job = tt
 
-either : (b : Bool) (x y : SpooledRecord) (n : ℕ) → x.job.id ≡ n → y.job.id ≡ n → (cond b x y).job.id ≡ n
-either true x y n of_x of_y = of_x
-either false x y n of_x of_y = of_y
+-- what holds of two jobs holds of either
+pub either : (P : SpooledRecord → Type 0) (b : Bool) (x y : SpooledRecord) → P x → P y → P (cond b x y)
+either P true x y of_x of_y = of_x
+either P false x y of_x of_y = of_y
 
 pub changed_id : (change : JobChange) (now : ℕ) → KeepsId (changed change now)
 changed_id change now s = after (job_after change now s.job) (id_after change s.job.state now s.job)
@@ -70,11 +71,11 @@ changed_id change now s = after (job_after change now s.job) (id_after change s.
     after None is = refl
     after (Some job) is =
         let x : SpooledRecord = record s { job = job; on_device = on_device_after change s.on_device } in
-        either (is_settled x) (record x { documents = [] }) x s.job.id is is
+        either (λ y. y.job.id ≡ s.job.id) (is_settled x) (record x { documents = [] }) x is is
 
 let_go_id : (change : JobChange) (now : ℕ) → KeepsId (let_go change now)
 let_go_id change now s =
-    either s.on_device (record s { job = unwrap_or (job_after change now s.job) s.job; documents = []; on_device = false }) s s.job.id (after (job_after change now s.job) (id_after change s.job.state now s.job)) refl
+    either (λ y. y.job.id ≡ s.job.id) s.on_device (record s { job = unwrap_or (job_after change now s.job) s.job; documents = []; on_device = false }) s (after (job_after change now s.job) (id_after change s.job.state now s.job)) refl
   where
     after : (o : Option JobRecord) → IfSome o (λ job. job.id ≡ s.job.id) → (unwrap_or o s.job).id ≡ s.job.id
     after None is = refl
@@ -82,11 +83,11 @@ let_go_id change now s =
 
 pub told_id : (says : DeviceSays) (now : ℕ) → KeepsId (told says now)
 told_id says now s =
-    either (is_end says) (let_go (change_of says) now s) (changed (change_of says) now s) s.job.id (let_go_id (change_of says) now s) (changed_id (change_of says) now s)
+    either (λ y. y.job.id ≡ s.job.id) (is_end says) (let_go (change_of says) now s) (changed (change_of says) now s) (let_go_id (change_of says) now s) (changed_id (change_of says) now s)
 
 pub expired_id : (now : ℕ) → KeepsId (expired now)
-expired_id now s = either (is_overdue now s) (changed Fail now s) s s.job.id (changed_id Fail now s) refl
+expired_id now s = either (λ y. y.job.id ≡ s.job.id) (is_overdue now s) (changed Fail now s) s (changed_id Fail now s) refl
 
 pub marked_id : (paused : List Bool) (stranded : List Stranded) → KeepsId (marked_by paused stranded)
 marked_id paused stranded s =
-    either (is_ready paused s.job) (marked (list_any (λ e. e.job == s.job.id) stranded) s) s s.job.id refl refl
+    either (λ y. y.job.id ≡ s.job.id) (is_ready paused s.job) (marked (list_any (λ e. e.job == s.job.id) stranded) s) s refl refl

@@ -18,7 +18,7 @@ use Rattle.spool.specs.Spooled.{SpooledRecord, is_settled, settled, on_device_af
 use Rattle.spool.specs.Jobs.{spooled_at, with_job}
 use Rattle.spool.specs.Kept.{is_kept, later_jobs, retained, jobs_told}
 use Rattle.spool.specs.Calls.{is_ready, marked_by}
-use Rattle.spool.proofs.Ids.{KeepsId, changed_id, told_id, expired_id, marked_id}
+use Rattle.spool.proofs.Ids.{KeepsId, either, changed_id, told_id, expired_id, marked_id}
 use Rattle.spool.specs.OnDevice.{is_on_device, documents_at, Stays, AllStay, OthersStay}
 
 -- ---- what is found of a job of an id, where the list is changed
@@ -194,28 +194,20 @@ changed_on change now = record {
         let same = settled_same (record s { job = job; on_device = on_device_after change s.on_device }) still in
         (ap (λ (x : SpooledRecord). x.on_device) same ∙ still, ap (λ (x : SpooledRecord). x.documents) same)
 
-either_on : (b : Bool) (x y : SpooledRecord) → x.on_device ≡ true → y.on_device ≡ true → (cond b x y).on_device ≡ true
-either_on true x y of_x of_y = of_x
-either_on false x y of_x of_y = of_y
-
-either_documents : (b : Bool) (x y : SpooledRecord) (ds : List DocumentRecord) → x.documents ≡ ds → y.documents ≡ ds → (cond b x y).documents ≡ ds
-either_documents true x y ds of_x of_y = of_x
-either_documents false x y ds of_x of_y = of_y
-
 pub expired_on : (now : ℕ) → KeepsOn (expired now)
 expired_on now =
     let keeps = changed_on Change.Fail now in
     record {
       id = expired_id now;
-      on_device = λ s on. either_on (is_overdue now s) (changed Change.Fail now s) s (keeps.on_device s on) on;
-      documents = λ s on. either_documents (is_overdue now s) (changed Change.Fail now s) s s.documents (keeps.documents s on) refl;
+      on_device = λ s on. either (λ y. y.on_device ≡ true) (is_overdue now s) (changed Change.Fail now s) s (keeps.on_device s on) on;
+      documents = λ s on. either (λ y. y.documents ≡ s.documents) (is_overdue now s) (changed Change.Fail now s) s (keeps.documents s on) refl;
     }
 
 pub marked_on : (paused : List Bool) (stranded : List Stranded) → KeepsOn (marked_by paused stranded)
 marked_on paused stranded = record {
   id = marked_id paused stranded;
-  on_device = λ s on. either_on (is_ready paused s.job) (marked (list_any (λ e. e.job == s.job.id) stranded) s) s on on;
-  documents = λ s on. either_documents (is_ready paused s.job) (marked (list_any (λ e. e.job == s.job.id) stranded) s) s s.documents refl refl;
+  on_device = λ s on. either (λ y. y.on_device ≡ true) (is_ready paused s.job) (marked (list_any (λ e. e.job == s.job.id) stranded) s) s on on;
+  documents = λ s on. either (λ y. y.documents ≡ s.documents) (is_ready paused s.job) (marked (list_any (λ e. e.job == s.job.id) stranded) s) s refl refl;
 }
 
 -- what a device says that doesn't end the job

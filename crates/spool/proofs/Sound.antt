@@ -21,6 +21,7 @@ use Rattle.spool.specs.Spooled.{SpooledRecord, is_settled, settled, on_device_af
 use Rattle.spool.specs.Jobs.{SpoolRecord, Keyed, jobs_of, spooled_at, with_job, map_at}
 use Rattle.spool.specs.Calls.{is_ready, marked_by}
 use Rattle.spool.specs.Sound.{FitsState, IsSound}
+use Rattle.spool.proofs.Ids.{either}
 use Rattle.spool.proofs.Entries.{set_job, jobs_at, jobs_remove, new_entry, jobs_push}
 
 -- a job that is sound is so after the change too
@@ -79,12 +80,8 @@ fits_after Fail _ now job on is fits = tt
 
 -- ---- what each call does to a job
 
-either_sound : (b : Bool) (x y : SpooledRecord) → IsSound x → IsSound y → IsSound (cond b x y)
-either_sound true x y of_x of_y = of_x
-either_sound false x y of_x of_y = of_y
-
 settled_sound : (s : SpooledRecord) → IsSound s → IsSound (settled s)
-settled_sound s sound = either_sound (is_settled s) (record s { documents = [] }) s sound sound
+settled_sound s sound = either IsSound (is_settled s) (record s { documents = [] }) s sound sound
 
 pub changed_sound : (change : JobChange) (now : ℕ) → KeepsSound (changed change now)
 changed_sound change now s sound = after (job_after change now s.job) (fits_after change s.job.state now s.job s.on_device refl sound)
@@ -117,7 +114,7 @@ fail_fits Aborted now job on is fits = subst (λ (state : JobState). FitsState s
 fail_fits Completed now job on is fits = subst (λ (state : JobState). FitsState state job.incoming job.held false) is fits
 
 let_go_sound : (change : JobChange) (now : ℕ) (s : SpooledRecord) → Fits (unwrap_or (job_after change now s.job) s.job) false → IsSound s → IsSound (let_go change now s)
-let_go_sound change now s fits sound = either_sound s.on_device (record s { job = unwrap_or (job_after change now s.job) s.job; documents = []; on_device = false }) s fits sound
+let_go_sound change now s fits sound = either IsSound s.on_device (record s { job = unwrap_or (job_after change now s.job) s.job; documents = []; on_device = false }) s fits sound
 
 pub told_sound : (says : DeviceSays) (now : ℕ) → KeepsSound (told says now)
 told_sound Says.Stop now s sound = changed_sound Stop now s sound
@@ -132,11 +129,11 @@ pub attached_sound : (document : DocumentRecord) (now : ℕ) → KeepsSound (att
 attached_sound document now s sound = sound
 
 pub expired_sound : (now : ℕ) → KeepsSound (expired now)
-expired_sound now s sound = either_sound (is_overdue now s) (changed Fail now s) s (changed_sound Fail now s sound) sound
+expired_sound now s sound = either IsSound (is_overdue now s) (changed Fail now s) s (changed_sound Fail now s sound) sound
 
 pub marked_sound : (paused : List Bool) (stranded : List Stranded) → KeepsSound (marked_by paused stranded)
 marked_sound paused stranded s sound =
-    either_sound (is_ready paused s.job) (marked (list_any (λ e. e.job == s.job.id) stranded) s) s sound sound
+    either IsSound (is_ready paused s.job) (marked (list_any (λ e. e.job == s.job.id) stranded) s) s sound sound
 
 new_fits : (incoming held : Bool) → FitsState (cond (incoming || held) Held Pending) incoming held false
 new_fits true held = (refl, refl)

@@ -1,12 +1,11 @@
 use Rattle.std.proofs.Common.{◌≡◌, ◌∙◌, ℕ, List, [], Option, Some, refl, sym, ap, subst}
 use Rattle.std.specs.Prelude.{slice_get, MatchOption}
-use Rattle.std.proofs.lemmas.Option.{slice_get-get_or}
 use Rattle.base_types.specs.Device.{Device}
 use Rattle.print_room.specs.Activity.{job_on}
 use Rattle.print_room.specs.State.{State, with_device}
 use Rattle.print_room.specs.Report.{said_of_job, activity_after, refitted, jobs_after, documents_out, state_after}
 use Rattle.print_room.specs.DeviceJobs.{Agree}
-use Rattle.print_room.proofs.DeviceJobs.{report_leaves, same_or_none, agree_device, agree_told}
+use Rattle.print_room.proofs.DeviceJobs.{read_device, report_leaves, same_or_none, agree_device, agree_told}
 use Rattle.print_room.proofs.Keeping.{reports_keep}
 use Rattle.print_room.proofs.room.PrintRoom.report.Goals as goal
 
@@ -15,8 +14,7 @@ refit-requires-clause-agree c =
     let s : State = c.advance.new.self in
     let d : Device = c.in-Some.device.now in
     let report = c.args.report.now in
-    let devices : c.deref.result.now ≡ s.devices = c.deref.ensures.value ∙ ap (λ (t : State). t.devices) c.self.view_is in
-    let found : slice_get s.devices c.args.place ≡ Some d = rw (← devices) (slice_get-get_or c.deref.result.now c.args.place d c.in-Some.ensures.lookup.3.0 ∙ ap Some (sym c.in-Some.ensures.lookup.1)) in
+    let found : slice_get s.devices c.args.place ≡ Some d = read_device c.deref.result.now s.devices c.args.place d (c.deref.ensures.value ∙ ap (λ (t : State). t.devices) c.self.view_is) c.in-Some.ensures.lookup.3.0 c.in-Some.ensures.lookup.1 in
     let agree : Agree s.devices s.spool.jobs = subst (λ (t : State). Agree t.devices t.spool.jobs) c.self.view_is c.self.invariant.3 in
     rw c.activity_after-next.ensures.activity
     (agree_device c.args.place (refitted report (activity_after c.args.now report s.spool.jobs d)) s.devices s.spool.jobs d found
@@ -27,8 +25,7 @@ settle-requires c =
     let s : State = c.advance.new.self in
     let d : Device = c.in-Some.device.now in
     let report = c.args.report.now in
-    let devices : c.deref.result.now ≡ s.devices = c.deref.ensures.value ∙ ap (λ (t : State). t.devices) c.self.view_is in
-    let found : slice_get s.devices c.args.place ≡ Some d = rw (← devices) (slice_get-get_or c.deref.result.now c.args.place d c.in-Some.ensures.lookup.3.0 ∙ ap Some (sym c.in-Some.ensures.lookup.1)) in
+    let found : slice_get s.devices c.args.place ≡ Some d = read_device c.deref.result.now s.devices c.args.place d (c.deref.ensures.value ∙ ap (λ (t : State). t.devices) c.self.view_is) c.in-Some.ensures.lookup.3.0 c.in-Some.ensures.lookup.1 in
     let agree : Agree s.devices s.spool.jobs = subst (λ (t : State). Agree t.devices t.spool.jobs) c.self.view_is c.self.invariant.3 in
     let job : c.job_on-job.result ≡ job_on d.activity = c.job_on-job.ensures ∙ ap (λ (x : Device). job_on x.activity) c.device.view_is in
     let said : c.said_of_job-said.result ≡ said_of_job report d.activity = c.said_of_job-said.ensures ∙ ap (λ (x : Device). said_of_job report x.activity) c.device.view_is in
@@ -43,8 +40,7 @@ returns-clause-reports c =
     let d : Device = c.in-Some.device.now in
     let report = c.args.report.now in
     let same : s ≡ record old { last = c.args.now } = c.advance.ensures.state in
-    let devices : c.deref.result.now ≡ old.devices = c.deref.ensures.value ∙ (ap (λ (t : State). t.devices) c.self.view_is ∙ ap (λ (t : State). t.devices) same) in
-    let found : slice_get old.devices c.args.place ≡ Some d = rw (← devices) (slice_get-get_or c.deref.result.now c.args.place d c.in-Some.ensures.lookup.3.0 ∙ ap Some (sym c.in-Some.ensures.lookup.1)) in
+    let found : slice_get old.devices c.args.place ≡ Some d = read_device c.deref.result.now old.devices c.args.place d (c.deref.ensures.value ∙ (ap (λ (t : State). t.devices) c.self.view_is ∙ ap (λ (t : State). t.devices) same)) c.in-Some.ensures.lookup.3.0 c.in-Some.ensures.lookup.1 in
     let job : c.job_on-job.result ≡ job_on d.activity = c.job_on-job.ensures ∙ ap (λ (x : Device). job_on x.activity) c.device.view_is in
     let said : c.said_of_job-said.result ≡ said_of_job report d.activity = c.said_of_job-said.ensures ∙ ap (λ (x : Device). said_of_job report x.activity) c.device.view_is in
     let next : c.activity_after-next.result ≡ activity_after c.args.now report old.spool.jobs d = c.activity_after-next.ensures.activity ∙ ap (λ (t : State). activity_after c.args.now report t.spool.jobs d) same in

@@ -1,0 +1,24 @@
+use Rattle.std.proofs.Common.{ℕ, List, Option, subst}
+use Rattle.std.specs.Prelude.{max}
+use Rattle.prices.specs.Plan.{PlanRecord}
+use Rattle.print_room.specs.declared.started.Started.{Started}
+use Rattle.print_room.specs.State.{State}
+use Rattle.print_room.specs.Dispatch.{Dispatches}
+use Rattle.print_room.specs.DeviceJobs.{AllKeep}
+use Rattle.dispatcher.specs.declared.event.Event.{Event}
+use Rattle.dispatcher.specs.declared.reply.Reply.{Reply}
+use Rattle.dispatcher.specs.Step.{Step}
+use Rattle.dispatcher.specs.Keeping.{StepKeeps}
+use Rattle.dispatcher.proofs.Keeping.{step_keeps}
+use Rattle.dispatcher.proofs.server_core.Core.documents_stay.Goals as goal
+
+pub returns-clause-steps : goal.returns-clause-steps
+returns-clause-steps g c =
+    let s : State = c.self.inside.room in
+    let law = c.documents_stay.ensures in
+    subst (λ (t : State). (event : Event) (moment : ℕ) (reply : Reply) (new : State) → Step t event moment reply new → StepKeeps event t reply.documents.items new) c.self.view_is
+    (λ event moment reply new step. step_keeps s law.submits law.expires law.reports event (max moment s.last) reply new step)
+
+pub returns-clause-dispatches : goal.returns-clause-dispatches
+returns-clause-dispatches g c =
+    subst (λ (t : State). (now : ℕ) (plan : Option PlanRecord) (started : List Started) (new : State) → Dispatches now t plan started new → AllKeep t new) c.self.view_is c.documents_stay.ensures.dispatches

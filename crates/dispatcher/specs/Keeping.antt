@@ -1,0 +1,13 @@
+-- What a step and a dispatch leave of the documents of jobs that devices have.
+use Rattle.std.specs.Prelude.{◌≡◌, List, []}
+use Rattle.spool.specs.Document.{DocumentRecord}
+use Rattle.print_room.specs.State.{State}
+use Rattle.print_room.specs.DeviceJobs.{AllKeep, KeepsOrEnds}
+use Rattle.dispatcher.specs.declared.event.Event.{Event}
+use Rattle.dispatcher.specs.declared.event.Event.TheVariants as Is
+
+-- they stay, byte for byte; a device's report hands out whole those of the job that it ends
+abbrev pub StepKeeps : Event → State → List DocumentRecord → State → Type 0
+StepKeeps (Is.PrintJob request) old documents new = AllKeep old new × (documents ≡ [])
+StepKeeps (Is.Report device report) old documents new = KeepsOrEnds device old documents new
+StepKeeps Is.Tick old documents new = AllKeep old new × (documents ≡ [])

@@ -1,0 +1,19 @@
+use Rattle.std.proofs.Common.{ap, subst, sym}
+use Rattle.spool.specs.Jobs.{SpoolRecord}
+use Rattle.spool.specs.Spool.{IsSpool}
+use Rattle.print_room.specs.State.{State}
+use Rattle.print_room.proofs.Keeping.{submits_keep, expires_keep, reports_keep}
+use Rattle.print_room.proofs.Beginning.{dispatches_keep}
+use Rattle.print_room.proofs.room.PrintRoom.documents_stay.Goals as goal
+
+pub returns : goal.returns
+returns c =
+    let s : State = c.args.self.now in
+    let agree = c.devices-devices.ensures.kept.agree in
+    let spool : IsSpool s.spool = subst (λ (x : SpoolRecord). IsSpool x) c.spool.ensures c.jobs-jobs.ensures.kept in
+    record {
+      submits = λ now job. submits_keep now job s agree;
+      expires = λ now. expires_keep now s agree;
+      reports = λ now place report documents new is. reports_keep now place report s documents new agree is;
+      dispatches = λ now plan started new is. dispatches_keep now s plan started new spool agree is;
+    }
