@@ -5,7 +5,8 @@ use Rattle.std.specs.Option.{option_map_or}
 use Rattle.std.specs.Str.{bytes_eq}
 use Rattle.ipp_codec.specs.Message.{plain, IppAttribute}
 use Rattle.printer_objects.specs.Offer.{OfferRecord}
-use Rattle.job_template.specs.Template.{template_name, is_supported}
+use Rattle.job_template.specs.TemplateName.{template_name}
+use Rattle.job_template.specs.Template.{is_supported}
 
 -- whether one of these has a name
 abbrev pub is_among : List ℕ → List IppAttribute → Bool
