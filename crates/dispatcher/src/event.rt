@@ -1,7 +1,9 @@
 ghost use Rattle.std.specs.Prelude.{◌≡◌, false};
+ghost use Rattle.dispatcher.specs.Target.{names};
 
 use base_types::{DeviceId, Report, Text};
 use job_template::RequestAttributes;
+use settings_file::PrinterSettings;
 use spool::Octets;
 
 /// Which printer a request's printer-uri names.
@@ -13,6 +15,19 @@ pub enum Target {
     First,
     /// Nothing that this server has.
     Unknown,
+}
+
+impl Target {
+    /// Whether it names this printer; the first one is any, so that the first of all is taken.
+    pub(crate) fn names(&self, printer: &PrinterSettings) -> bool
+        ensures { result ≡ names self.now printer.now }
+    {
+        match self {
+            Target::Named(name) => name.as_bytes() == printer.name.as_bytes(),
+            Target::First => true,
+            Target::Unknown => false,
+        }
+    }
 }
 
 /// A Print-Job request (RFC 8011, section 4.2.1): what the server reads of it.
