@@ -7,6 +7,7 @@ use Rattle.base_types.specs.declared.needs.Sides.{Sides}
 use Rattle.base_types.specs.declared.needs.Sides.TheVariants.{One}
 use Rattle.ipp_codec.specs.Message.{IppValue, tag_of, bytes_in, IppAttribute}
 use Rattle.ipp_codec.specs.Typed.{integer_in, unsigned}
+use Rattle.ipp_codec.specs.Tag as tags
 use Rattle.printer_objects.specs.Offer.{OfferRecord, sides_named, medium_named}
 use Rattle.job_template.specs.declared.template_name.TemplateName.{TemplateName}
 use Rattle.job_template.specs.declared.template_name.TemplateName.TheVariants as Is
@@ -23,15 +24,15 @@ only_value attribute = alone attribute.first attribute.others
 
 -- an integer that isn't negative
 abbrev pub number_of : IppValue → Option ℕ
-number_of value = if tag_of value == 0x21 then option_and_then unsigned (integer_in value) else None
+number_of value = if tag_of value == tags.integer then option_and_then unsigned (integer_in value) else None
 
 -- a keyword
 abbrev pub keyword_of : IppValue → Option (List ℕ)
-keyword_of value = if tag_of value == 0x44 then Some (bytes_in value) else None
+keyword_of value = if tag_of value == tags.keyword then Some (bytes_in value) else None
 
 -- a keyword or a name without a language
 abbrev pub word_of : IppValue → Option (List ℕ)
-word_of value = if (tag_of value == 0x44) || (tag_of value == 0x42) then Some (bytes_in value) else None
+word_of value = if (tag_of value == tags.keyword) || (tag_of value == tags.name) then Some (bytes_in value) else None
 
 abbrev pub number : IppAttribute → Option ℕ
 number attribute = option_and_then number_of (only_value attribute)
