@@ -1,6 +1,6 @@
 -- What a Print-Job request comes to (RFC 8011, section 4.2.1): why it is refused, else the job that it
 -- makes, and what it is answered.
-use Rattle.std.specs.Prelude.{ℕ, ◌≡◌, ◌==◌, ◌&&◌, not, nat_lt, Bool, false, if◌then◌else◌, List, [], ◌∷◌, position, length, Option, Some, None, slice_get, Result, Ok, Err, MatchResult, codes}
+use Rattle.std.specs.Prelude.{ℕ, ◌≡◌, ◌==◌, ◌&&◌, not, nat_lt, Bool, false, if◌then◌else◌, List, [], ◌∷◌, length, Option, Some, None, Result, Ok, Err, MatchResult, codes}
 use Rattle.std.specs.Option.{option_map_or}
 use Rattle.std.specs.Str.{bytes_eq}
 use Rattle.base_types.specs.declared.limits.TheConstants.Limits.{JOB_OCTETS}
@@ -11,8 +11,6 @@ use Rattle.printer_objects.specs.Offer.{OfferRecord, format_named}
 use Rattle.spool.specs.Submission.{Submission, spooled_of}
 use Rattle.spool.specs.Calls.{is_full, paused_at}
 use Rattle.dispatcher.specs.declared.event.PrintJob.{PrintJob}
-use Rattle.dispatcher.specs.declared.event.Target.{Target}
-use Rattle.dispatcher.specs.declared.event.Target.TheVariants.{Named, First, Unknown}
 use Rattle.dispatcher.specs.declared.reply.Answer.{Answer}
 use Rattle.dispatcher.specs.declared.reply.Answer.TheVariants as Says
 use Rattle.dispatcher.specs.declared.reply.Reply.{Reply}
@@ -20,18 +18,13 @@ use Rattle.dispatcher.specs.declared.status.Status.{Status}
 use Rattle.dispatcher.specs.declared.status.Status.TheVariants as Went
 use Rattle.dispatcher.specs.declared.print_job.Accepted.{Accepted}
 use Rattle.dispatcher.specs.declared.print_job.Refusal.{Refusal}
+use Rattle.dispatcher.specs.Target.{printer_of}
 use Rattle.print_room.specs.State.{State}
 use Rattle.print_room.specs.Jobs.{with_new_job}
 use Rattle.job_template.specs.Template.{TemplateRecord, template_of, medium_of}
 use Rattle.job_template.specs.Unsupported.{unsupported_of}
 
 -- ---- what the request asks for
-
--- the place of the printer that printer-uri names (section 4.1.5): the first of that name, or the first of all
-abbrev pub place_of : Target → List PrinterEntry → Option ℕ
-place_of (Named name) printers = position (λ p. bytes_eq name p.name) printers
-place_of First printers = Some 0
-place_of Unknown printers = None
 
 -- compression is given and is not `none` (section 4.2.1.1)
 abbrev pub is_compressed : Option (List ℕ) → Bool
@@ -91,11 +84,9 @@ abbrev pub offer_of : State → PrinterEntry → OfferRecord
 offer_of old printer = record { devices = old.devices; printer = printer }
 
 -- the printer is unknown
-abbrev pub asked_at : PrintJob → ℕ → State → ℕ → Result Accepted Refusal
-asked_at request now old place = option_map_or (λ printer. asked_of_printer request now old place (offer_of old printer)) (slice_get old.settings.printers place) (Err (refused Went.NotFound))
-
 abbrev pub asked_of : PrintJob → ℕ → State → Result Accepted Refusal
-asked_of request now old = option_map_or (asked_at request now old) (place_of request.target old.settings.printers) (Err (refused Went.NotFound))
+asked_of request now old =
+    option_map_or (λ found. asked_of_printer request now old found.0 (offer_of old found.1)) (printer_of request.target old.settings.printers) (Err (refused Went.NotFound))
 
 -- ---- the answer
 

@@ -1,9 +1,11 @@
 //! What the core acts on.
 ghost use Rattle.std.specs.Prelude.{◌≡◌};
 ghost use Rattle.dispatcher.specs.Run.{is_query};
+ghost use Rattle.dispatcher.specs.Target.{names};
 
 use base_types::{DeviceId, Report, Text};
 use job_template::RequestAttributes;
+use settings_file::PrinterSettings;
 use spool::Octets;
 
 /// Which printer a request's printer-uri names.
@@ -15,6 +17,19 @@ pub enum Target {
     First,
     /// Nothing that this server has.
     Unknown,
+}
+
+impl Target {
+    /// Whether it names this printer; the first one is any, so that the first of all is taken.
+    pub(crate) fn names(&self, printer: &PrinterSettings) -> bool
+        ensures { result ≡ names self.now printer.now }
+    {
+        match self {
+            Target::Named(name) => name.as_bytes() == printer.name.as_bytes(),
+            Target::First => true,
+            Target::Unknown => false,
+        }
+    }
 }
 
 /// A Print-Job request (RFC 8011, section 4.2.1): what the server reads of it.

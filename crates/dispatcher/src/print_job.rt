@@ -1,11 +1,11 @@
 //! What a Print-Job does (RFC 8011, section 4.2.1): it is refused by the first check that fails, or
 //! taken.
-ghost use Rattle.std.specs.Prelude.{◌≡◌, ◌≤◌, ◌∷◌, ◌&&◌, ◌==◌, [], IfOk, IsOk, IsErr, OnErr, None, if◌then◌else◌, length, not, position};
+ghost use Rattle.std.specs.Prelude.{◌≡◌, ◌≤◌, ◌∷◌, ◌&&◌, ◌==◌, [], IfOk, IsOk, IsErr, OnErr, None, if◌then◌else◌, length, not, option_map};
 ghost use Rattle.std.specs.Option.{option_copied};
-ghost use Rattle.std.specs.Str.{bytes_eq};
 ghost use Rattle.job_objects.specs.Reasons.{one};
 ghost use Rattle.spool.specs.Calls.{new_refusal};
-ghost use Rattle.dispatcher.specs.PrintJob.{PrintsJob, TakesJob, RefusesJob, place_of, is_compressed, format_of, refused, asked_of_format, asked_of, submission_of, taken_with, group_of};
+ghost use Rattle.dispatcher.specs.PrintJob.{PrintsJob, TakesJob, RefusesJob, offer_of, is_compressed, format_of, refused, asked_of_format, asked_of_printer, asked_of, submission_of, taken_with, group_of};
+ghost use Rattle.dispatcher.specs.Target.{printer_of};
 
 use crate::event::{PrintJob, Target};
 use crate::reply::Reply;
@@ -114,12 +114,25 @@ fn asked_by(
     ensures free { IfOk result (λ asked. IfOk asked (λ accepted. new_refusal room.now.spool accepted.job.documents ≡ None)) }
 {
     let printers = &room.settings().printers;
-    let Some(place) = place_of(printers, &request.target) else {
-        return Ok(Err(refused(alloc, Status::NotFound)));
-    };
-    let Some(printer) = printers.get(place) else {
-        return Ok(Err(refused(alloc, Status::NotFound)));
-    };
+    match printer_of(printers, &request.target) {
+        Some(found) => asked_of_printer(alloc, room, found.0, found.1, request, now),
+        None => Ok(Err(refused(alloc, Status::NotFound))),
+    }
+}
+
+/// The job that a request asks of a printer, which stands at a place, or the first reason against it.
+fn asked_of_printer(
+    alloc: Global,
+    room: &PrintRoom,
+    place: usize,
+    printer: &PrinterSettings,
+    request: PrintJob,
+    now: Moment,
+) -> Result<Result<Accepted, Refusal>, AllocError>
+    ensures ok { IfOk result (λ asked. asked ≡ asked_of_printer request now room.now place (offer_of room.now printer.now)) }
+    ensures err { OnErr result (IsOk (asked_of_printer request now room.now place (offer_of room.now printer.now))) }
+    ensures free { IfOk result (λ asked. IfOk asked (λ accepted. new_refusal room.now.spool accepted.job.documents ≡ None)) }
+{
     if is_compressed(&request.compression) {
         return Ok(Err(refused(alloc, Status::CompressionNotSupported)));
     }
@@ -211,24 +224,19 @@ fn refused(alloc: Global, status: Status) -> Refusal
     }
 }
 
-/// The place of the printer that a request names.
-fn place_of(printers: &[PrinterSettings], target: &Target) -> Option<usize>
-    ensures { result ≡ place_of target.now printers.now }
+/// The first printer that a request names, with its place.
+fn printer_of<'a>(
+    printers: &'a [PrinterSettings],
+    target: &Target,
+) -> Option<(usize, &'a PrinterSettings)>
+    ensures { option_map (λ found. (found.0, found.1.now)) result ≡ printer_of target.now printers.now }
 {
-    match target {
-        Target::Named(name) => place_named(printers, name.as_bytes()),
-        Target::First => Some(0),
-        Target::Unknown => None,
+    for (place, printer) in printers.iter().enumerate() {
+        if target.names(printer) {
+            return Some((place, printer));
+        }
     }
-}
-
-/// The place of the first printer of a name.
-fn place_named(printers: &[PrinterSettings], name: &[u8]) -> Option<usize>
-    ensures { result ≡ position (λ p. bytes_eq name.now p.name) printers.now }
-{
-    printers
-        .iter()
-        .position(|printer| name == printer.name.as_bytes())
+    None
 }
 
 /// The format of a document, as the settings write it: the one asked for, if the printer has it;

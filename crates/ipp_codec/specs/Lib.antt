@@ -1,3 +1,4 @@
+pub mod Tag
 pub mod Message
 pub mod Code
 pub mod Spelling

@@ -3,6 +3,7 @@ use Rattle.std.specs.Prelude.{◌≡◌, ◌⊎◌, ◌<◌, ℕ, ℤ, pos, negs
 use Rattle.std.specs.Int.{w32, to_be_bytes, from_be_bytes, cast_signed, cast_unsigned}
 use Rattle.ipp_codec.specs.Message.{IppValue, tag_of, bytes_in}
 use Rattle.ipp_codec.specs.Spelling.{counted}
+use Rattle.ipp_codec.specs.Tag as tags
 
 -- four bytes, two's complement
 abbrev pub bytes_of_integer : ℤ → List ℕ
@@ -19,7 +20,7 @@ integer_of bytes = if length bytes == 4 then Some (cast_signed w32 (from_be_byte
 
 -- an integer or a number of an enumeration
 abbrev pub integer_in : IppValue → Option ℤ
-integer_in v = if (tag_of v == 0x21) || (tag_of v == 0x23) then integer_of (bytes_in v) else None
+integer_in v = if (tag_of v == tags.integer) || (tag_of v == tags.enumeration) then integer_of (bytes_in v) else None
 
 -- a number that isn't negative
 abbrev pub unsigned : ℤ → Option ℕ
@@ -33,7 +34,7 @@ boolean_of _ = None
 
 -- the truth value of a boolean
 abbrev pub boolean_in : IppValue → Option Bool
-boolean_in v = if tag_of v == 0x22 then boolean_of (bytes_in v) else None
+boolean_in v = if tag_of v == tags.boolean then boolean_of (bytes_in v) else None
 
 -- The bytes are some language and this text.
 abbrev pub HasText : List ℕ → List ℕ → Type 0
@@ -41,4 +42,4 @@ HasText bytes text = (language : List ℕ) × (length language < 0x8000) × (len
 
 -- The value is this text or name, with a language or without.
 abbrev pub SaysText : IppValue → List ℕ → Type 0
-SaysText v text = (((tag_of v ≡ 0x41) ⊎ (tag_of v ≡ 0x42)) × (bytes_in v ≡ text)) ⊎ (((tag_of v ≡ 0x35) ⊎ (tag_of v ≡ 0x36)) × HasText (bytes_in v) text)
+SaysText v text = (((tag_of v ≡ tags.text) ⊎ (tag_of v ≡ tags.name)) × (bytes_in v ≡ text)) ⊎ (((tag_of v ≡ tags.text_with_language) ⊎ (tag_of v ≡ tags.name_with_language)) × HasText (bytes_in v) text)

@@ -3,6 +3,7 @@ ghost use Rattle.std.specs.Prelude.{◌≡◌, [], ◌∷◌, ◌++◌, map, IfO
 ghost use Rattle.ipp_codec.specs.Message.{plain, collection, members_of, tag_of, bytes_in};
 ghost use Rattle.ipp_codec.specs.Owned.{value_owned, member_owned};
 ghost use Rattle.ipp_codec.specs.Typed.{bytes_of_integer, byte_of_boolean, integer_in};
+ghost use Rattle.ipp_codec.specs.Tag as tags;
 
 use crate::tag::ValueTag;
 use crate::typed::integer_of;
@@ -46,7 +47,7 @@ impl Value {
 
     /// An integer (RFC 8010, section 3.9).
     pub fn integer(alloc: Global, number: i32) -> Result<Value, AllocError>
-        ensures { IfOk result (λ value. value_owned value ≡ plain 0x21 (bytes_of_integer number)) }
+        ensures { IfOk result (λ value. value_owned value ≡ plain tags.integer (bytes_of_integer number)) }
     {
         Value::copy_of(
             alloc,
@@ -57,14 +58,14 @@ impl Value {
 
     /// A number of an enumeration (RFC 8010, section 3.9).
     pub fn enumeration(alloc: Global, number: i32) -> Result<Value, AllocError>
-        ensures { IfOk result (λ value. value_owned value ≡ plain 0x23 (bytes_of_integer number)) }
+        ensures { IfOk result (λ value. value_owned value ≡ plain tags.enumeration (bytes_of_integer number)) }
     {
         Value::copy_of(alloc, ValueTag::ENUM, &number.cast_unsigned().to_be_bytes())
     }
 
     /// A truth value (RFC 8010, section 3.9).
     pub fn boolean(alloc: Global, truth: bool) -> Result<Value, AllocError>
-        ensures { IfOk result (λ value. value_owned value ≡ plain 0x22 (byte_of_boolean truth ∷ [])) }
+        ensures { IfOk result (λ value. value_owned value ≡ plain tags.boolean (byte_of_boolean truth ∷ [])) }
     {
         Value::copy_of(alloc, ValueTag::BOOLEAN, &[u8::from(truth)])
     }

@@ -1,2 +1,3 @@
+pub mod TemplateName
 pub mod Template
 pub mod Unsupported

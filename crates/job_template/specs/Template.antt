@@ -7,9 +7,11 @@ use Rattle.base_types.specs.declared.needs.Sides.{Sides}
 use Rattle.base_types.specs.declared.needs.Sides.TheVariants.{One}
 use Rattle.ipp_codec.specs.Message.{IppValue, tag_of, bytes_in, IppAttribute}
 use Rattle.ipp_codec.specs.Typed.{integer_in, unsigned}
+use Rattle.ipp_codec.specs.Tag as tags
 use Rattle.printer_objects.specs.Offer.{OfferRecord, sides_named, medium_named}
 use Rattle.job_template.specs.declared.template_name.TemplateName.{TemplateName}
 use Rattle.job_template.specs.declared.template_name.TemplateName.TheVariants as Is
+use Rattle.job_template.specs.TemplateName.{name_of, template_name}
 
 -- ---- the value of an attribute that has just one
 
@@ -22,15 +24,15 @@ only_value attribute = alone attribute.first attribute.others
 
 -- an integer that isn't negative
 abbrev pub number_of : IppValue → Option ℕ
-number_of value = if tag_of value == 0x21 then option_and_then unsigned (integer_in value) else None
+number_of value = if tag_of value == tags.integer then option_and_then unsigned (integer_in value) else None
 
 -- a keyword
 abbrev pub keyword_of : IppValue → Option (List ℕ)
-keyword_of value = if tag_of value == 0x44 then Some (bytes_in value) else None
+keyword_of value = if tag_of value == tags.keyword then Some (bytes_in value) else None
 
 -- a keyword or a name without a language
 abbrev pub word_of : IppValue → Option (List ℕ)
-word_of value = if (tag_of value == 0x44) || (tag_of value == 0x42) then Some (bytes_in value) else None
+word_of value = if (tag_of value == tags.keyword) || (tag_of value == tags.name) then Some (bytes_in value) else None
 
 abbrev pub number : IppAttribute → Option ℕ
 number attribute = option_and_then number_of (only_value attribute)
@@ -75,16 +77,6 @@ medium_in offer attribute = option_and_then (medium_named offer) (word attribute
 
 -- ---- which attributes are supported
 
--- the template attribute of a name
-abbrev pub template_name : List ℕ → Option TemplateName
-template_name name =
-    if bytes_eq name (codes "copies") then Some Is.Copies
-    else if bytes_eq name (codes "media") then Some Is.Media
-    else if bytes_eq name (codes "sides") then Some Is.Sides
-    else if bytes_eq name (codes "job-priority") then Some Is.JobPriority
-    else if bytes_eq name (codes "job-hold-until") then Some Is.JobHoldUntil
-    else None
-
 -- by its name, whether its value is supported
 abbrev pub supports : OfferRecord → IppAttribute → Option TemplateName → Bool
 supports offer attribute (Some Is.Copies) = is_some (copies_in attribute)
@@ -100,12 +92,12 @@ is_supported offer attribute = supports offer attribute (template_name attribute
 -- ---- what a job becomes by the group
 
 -- the first of a name
-abbrev pub named : List ℕ → List IppAttribute → Option IppAttribute
-named name attributes = find (λ a. bytes_eq name a.name) attributes
+abbrev pub named : TemplateName → List IppAttribute → Option IppAttribute
+named which attributes = find (λ a. bytes_eq (name_of which) a.name) attributes
 
 -- what the first attribute of a name asks for, if it is supported
-abbrev pub asked_by : {X : Type 0} → List ℕ → (IppAttribute → Option X) → List IppAttribute → Option X
-asked_by name value attributes = option_and_then value (named name attributes)
+abbrev pub asked_by : {X : Type 0} → TemplateName → (IppAttribute → Option X) → List IppAttribute → Option X
+asked_by which value attributes = option_and_then value (named which attributes)
 
 -- all but the medium
 pub record TemplateRecord : Type 0 where
@@ -117,12 +109,12 @@ pub record TemplateRecord : Type 0 where
 -- what isn't there or isn't supported has its default
 unfoldable pub template_of : OfferRecord → List IppAttribute → TemplateRecord
 template_of offer attributes = record {
-  priority = unwrap_or (asked_by (codes "job-priority") priority_in attributes) DEFAULT_PRIORITY;
-  sides = unwrap_or (asked_by (codes "sides") (sides_in offer) attributes) One;
-  copies = unwrap_or (asked_by (codes "copies") copies_in attributes) 1;
-  held = unwrap_or (asked_by (codes "job-hold-until") hold_in attributes) false;
+  priority = unwrap_or (asked_by Is.JobPriority priority_in attributes) DEFAULT_PRIORITY;
+  sides = unwrap_or (asked_by Is.Sides (sides_in offer) attributes) One;
+  copies = unwrap_or (asked_by Is.Copies copies_in attributes) 1;
+  held = unwrap_or (asked_by Is.JobHoldUntil hold_in attributes) false;
 }
 
 -- the medium; without one that is supported the printer's default
 unfoldable pub medium_of : OfferRecord → List IppAttribute → List ℕ
-medium_of offer attributes = unwrap_or (asked_by (codes "media") (medium_in offer) attributes) offer.printer.media_default
+medium_of offer attributes = unwrap_or (asked_by Is.Media (medium_in offer) attributes) offer.printer.media_default

@@ -4,8 +4,10 @@ use Rattle.std.specs.List.{list_any}
 use Rattle.std.specs.Option.{option_map_or}
 use Rattle.std.specs.Str.{bytes_eq}
 use Rattle.ipp_codec.specs.Message.{plain, IppAttribute}
+use Rattle.ipp_codec.specs.Tag as tags
 use Rattle.printer_objects.specs.Offer.{OfferRecord}
-use Rattle.job_template.specs.Template.{template_name, is_supported}
+use Rattle.job_template.specs.TemplateName.{template_name}
+use Rattle.job_template.specs.Template.{is_supported}
 
 -- whether one of these has a name
 abbrev pub is_among : List ℕ → List IppAttribute → Bool
@@ -30,7 +32,7 @@ first_ones attributes = first_behind [] attributes
 abbrev pub returned : IppAttribute → IppAttribute
 returned attribute =
     if is_some (template_name attribute.name) then attribute
-    else record { name = attribute.name; first = plain 0x10 []; others = [] }
+    else record { name = attribute.name; first = plain tags.unsupported []; others = [] }
 
 -- those that count and aren't supported, in the request's order
 unfoldable pub unsupported_of : OfferRecord → List IppAttribute → List IppAttribute

@@ -2,6 +2,7 @@
 ghost use Rattle.std.specs.Prelude.{◌≡◌, [], option_map};
 ghost use Rattle.ipp_codec.specs.Message.{plain};
 ghost use Rattle.ipp_codec.specs.Owned.{value_owned};
+ghost use Rattle.ipp_codec.specs.Tag as tags;
 ghost use Rattle.job_template.specs.Template.{only_value, number, keyword, word};
 ghost use Rattle.job_template.specs.Unsupported.{returned};
 
@@ -68,7 +69,7 @@ pub(crate) fn make_returned(attribute: &mut Attribute, alloc: Global)
 
 /// Keeps its name, with the one value that says that it isn't supported.
 fn lose_values(attribute: &mut Attribute, alloc: Global)
-    ensures { attribute.new ≡ record { name = attribute.old.name; first = plain 0x10 []; others = [] } }
+    ensures { attribute.new ≡ record { name = attribute.old.name; first = plain tags.unsupported []; others = [] } }
 {
     attribute.first = Value::empty(alloc, ValueTag::UNSUPPORTED);
     attribute.others = Vec::new(alloc);

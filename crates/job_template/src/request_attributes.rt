@@ -6,6 +6,7 @@ ghost use Rattle.job_template.specs.Unsupported.{is_among, is_again, first_ones,
 
 use crate::request_attribute::make_returned;
 use crate::template::is_unsupported;
+use crate::template_name::TemplateName;
 use ipp_codec::Attribute;
 use printer_objects::Offer;
 use std::alloc::Global;
@@ -62,9 +63,10 @@ impl RequestAttributes {
     }
 
     /// The first of a name.
-    pub(crate) fn named(&self, name: &[u8]) -> Option<&Attribute>
-        ensures { option_copied result ≡ named name.now self.now }
+    pub(crate) fn named(&self, which: TemplateName) -> Option<&Attribute>
+        ensures { option_copied result ≡ named which self.now }
     {
+        let name = which.name();
         self.attributes
             .iter()
             .find(|attribute| name == attribute.name())

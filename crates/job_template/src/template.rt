@@ -1,6 +1,6 @@
 //! What a printer supports of a job's template, and what the job becomes by it (RFC 8011, section
 //! 5.2).
-ghost use Rattle.std.specs.Prelude.{◌≡◌, not, false, unwrap_or, codes};
+ghost use Rattle.std.specs.Prelude.{◌≡◌, not, false, unwrap_or};
 ghost use Rattle.std.specs.Option.{option_copied};
 ghost use Rattle.job_template.specs.Template.{up_to, copies_in, priority_in, hold_named, hold_in, sides_in, medium_in, supports, is_supported, asked_by, template_of, medium_of};
 ghost use Rattle.base_types.specs.Ranges.{IsCopies};
@@ -154,9 +154,9 @@ pub fn template_of(offer: &Offer<'_>, attributes: &RequestAttributes) -> JobTemp
 
 /// The priority of a job.
 fn priority_of(attributes: &RequestAttributes) -> Priority
-    ensures { result ≡ unwrap_or (asked_by (codes "job-priority") priority_in attributes.now) Limits.DEFAULT_PRIORITY }
+    ensures { result ≡ unwrap_or (asked_by TemplateName.JobPriority priority_in attributes.now) Limits.DEFAULT_PRIORITY }
 {
-    match attributes.named(b"job-priority") {
+    match attributes.named(TemplateName::JobPriority) {
         Some(attribute) => priority_in(attribute).unwrap_or(Priority::normal()),
         None => Priority::normal(),
     }
@@ -164,9 +164,9 @@ fn priority_of(attributes: &RequestAttributes) -> Priority
 
 /// The sides of a job.
 fn sides_of(offer: &Offer<'_>, attributes: &RequestAttributes) -> Sides
-    ensures { result ≡ unwrap_or (asked_by (codes "sides") (sides_in offer.now) attributes.now) Sides.One }
+    ensures { result ≡ unwrap_or (asked_by TemplateName.Sides (sides_in offer.now) attributes.now) Sides.One }
 {
-    match attributes.named(b"sides") {
+    match attributes.named(TemplateName::Sides) {
         Some(attribute) => sides_in(offer, attribute).unwrap_or(Sides::One),
         None => Sides::One,
     }
@@ -174,10 +174,10 @@ fn sides_of(offer: &Offer<'_>, attributes: &RequestAttributes) -> Sides
 
 /// The copies of a job.
 fn copies_of(attributes: &RequestAttributes) -> u32
-    ensures value { result ≡ unwrap_or (asked_by (codes "copies") copies_in attributes.now) 1 }
+    ensures value { result ≡ unwrap_or (asked_by TemplateName.Copies copies_in attributes.now) 1 }
     ensures in_range { IsCopies result }
 {
-    match attributes.named(b"copies") {
+    match attributes.named(TemplateName::Copies) {
         Some(attribute) => copies_in(attribute).unwrap_or(1),
         None => 1,
     }
@@ -185,9 +185,9 @@ fn copies_of(attributes: &RequestAttributes) -> u32
 
 /// Whether a job is held.
 fn is_held(attributes: &RequestAttributes) -> bool
-    ensures { result ≡ unwrap_or (asked_by (codes "job-hold-until") hold_in attributes.now) false }
+    ensures { result ≡ unwrap_or (asked_by TemplateName.JobHoldUntil hold_in attributes.now) false }
 {
-    match attributes.named(b"job-hold-until") {
+    match attributes.named(TemplateName::JobHoldUntil) {
         Some(attribute) => hold_in(attribute).unwrap_or(false),
         None => false,
     }
@@ -199,7 +199,7 @@ pub fn medium_of<'a>(offer: &Offer<'a>, attributes: &RequestAttributes) -> &'a T
     ensures { result.now ≡ medium_of offer.now attributes.now }
 {
     let default = offer.default_medium();
-    match attributes.named(b"media") {
+    match attributes.named(TemplateName::Media) {
         Some(attribute) => medium_in(offer, attribute).unwrap_or(default),
         None => default,
     }

@@ -1,6 +1,10 @@
-//! The names of the template attributes that act.
-ghost use Rattle.std.specs.Prelude.{◌≡◌};
-ghost use Rattle.job_template.specs.Template.{template_name};
+//! The attributes of the job template.
+ghost use Rattle.std.specs.Prelude.{◌≡◌, find};
+ghost use Rattle.std.specs.Option.{option_copied};
+ghost use Rattle.std.specs.Str.{bytes_eq};
+ghost use Rattle.job_template.specs.TemplateName.{template_table, name_of, template_name};
+
+use printer_objects::JobAttribute;
 
 /// The job template attributes that this server knows (RFC 8011, section 5.2).
 #[derive(Clone, Copy, Debug, PartialEq, Eq)]
@@ -12,21 +16,45 @@ pub(crate) enum TemplateName {
     JobHoldUntil,
 }
 
+impl TemplateName {
+    /// All of them.
+    fn all() -> [TemplateName; 5]
+        ensures { result ≡ template_table }
+    {
+        [
+            TemplateName::Copies,
+            TemplateName::Media,
+            TemplateName::Sides,
+            TemplateName::JobPriority,
+            TemplateName::JobHoldUntil,
+        ]
+    }
+
+    /// Its name, under which the job shows it too.
+    pub(crate) fn name(self) -> &'static [u8]
+        ensures { result.now ≡ name_of self }
+    {
+        let shown = match self {
+            TemplateName::Copies => JobAttribute::Copies,
+            TemplateName::Media => JobAttribute::Media,
+            TemplateName::Sides => JobAttribute::Sides,
+            TemplateName::JobPriority => JobAttribute::Priority,
+            TemplateName::JobHoldUntil => JobAttribute::HoldUntil,
+        };
+        shown.name().as_bytes()
+    }
+}
+
 /// The template attribute of this name, if it is one.
 pub(crate) fn template_name(name: &[u8]) -> Option<TemplateName>
     ensures { result ≡ template_name name.now }
 {
-    if name == b"copies".as_slice() {
-        Some(TemplateName::Copies)
-    } else if name == b"media".as_slice() {
-        Some(TemplateName::Media)
-    } else if name == b"sides".as_slice() {
-        Some(TemplateName::Sides)
-    } else if name == b"job-priority".as_slice() {
-        Some(TemplateName::JobPriority)
-    } else if name == b"job-hold-until".as_slice() {
-        Some(TemplateName::JobHoldUntil)
-    } else {
-        None
-    }
+    first_named(&TemplateName::all(), name).copied()
+}
+
+/// The first of these attributes that has this name.
+fn first_named<'a>(all: &'a [TemplateName], name: &[u8]) -> Option<&'a TemplateName>
+    ensures { option_copied result ≡ find (λ which. bytes_eq name.now (name_of which)) all.now }
+{
+    all.iter().find(|which| name == which.name())
 }

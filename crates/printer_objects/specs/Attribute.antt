@@ -2,6 +2,7 @@
 use Rattle.std.specs.Prelude.{ℕ, ◌+◌, ◌/◌, pos, min, map, List, [], ◌∷◌, Option, Some, None}
 use Rattle.ipp_codec.specs.Message.{IppValue, plain, IppAttribute}
 use Rattle.ipp_codec.specs.Typed.{bytes_of_integer}
+use Rattle.ipp_codec.specs.Tag as tags
 use Rattle.job_objects.specs.declared.reason.Reason.{Reason}
 use Rattle.job_objects.specs.declared.reason.JobReasons.{JobReasons}
 use Rattle.job_objects.specs.Reasons.{keyword_of}
@@ -13,17 +14,17 @@ alone name value = record { name = name; first = value; others = [] }
 
 -- an integer; a number past the greatest integer is shown as that
 abbrev pub number : ℕ → IppValue
-number n = plain 0x21 (bytes_of_integer (pos (min n LAST_INTEGER)))
+number n = plain tags.integer (bytes_of_integer (pos (min n LAST_INTEGER)))
 
 -- a number of an enumeration
 abbrev pub enumerated : ℕ → IppValue
-enumerated n = plain 0x23 (bytes_of_integer (pos (min n LAST_INTEGER)))
+enumerated n = plain tags.enumeration (bytes_of_integer (pos (min n LAST_INTEGER)))
 
 abbrev pub no_value : IppValue
-no_value = plain 0x13 []
+no_value = plain tags.no_value []
 
 abbrev pub keyword : List ℕ → IppValue
-keyword word = plain 0x44 word
+keyword word = plain tags.keyword word
 
 -- a moment in ms, in seconds begun since the start, or no value before it has come
 abbrev pub time : Option ℕ → IppValue

@@ -4,6 +4,7 @@ use Rattle.std.specs.Fmt.{decimal}
 use Rattle.base_types.specs.declared.needs.Sides.{Sides}
 use Rattle.base_types.specs.declared.needs.Sides.TheVariants as side
 use Rattle.ipp_codec.specs.Message.{plain, IppAttribute}
+use Rattle.ipp_codec.specs.Tag as tags
 use Rattle.job_objects.specs.Job.{JobRecord}
 use Rattle.job_objects.specs.JobState.{state_code}
 use Rattle.job_objects.specs.Reasons.{reasons_of}
@@ -45,11 +46,11 @@ sides_keyword side.ShortEdge = codes "two-sided-short-edge"
 
 -- the values of an attribute under its name
 abbrev pub valued : List ℕ → JobShown → JobAttribute → IppAttribute
-valued name shown Uri = alone name (plain 0x45 (job_uri shown.uri_base.now shown.job.now.id))
+valued name shown Uri = alone name (plain tags.uri (job_uri shown.uri_base.now shown.job.now.id))
 valued name shown Id = alone name (number shown.job.now.id)
-valued name shown PrinterUri = alone name (plain 0x45 (printer_uri shown.uri_base.now shown.printer_name.now))
-valued name shown Name = alone name (plain 0x42 shown.job.now.name)
-valued name shown OriginatingUserName = alone name (plain 0x42 shown.job.now.owner)
+valued name shown PrinterUri = alone name (plain tags.uri (printer_uri shown.uri_base.now shown.printer_name.now))
+valued name shown Name = alone name (plain tags.name shown.job.now.name)
+valued name shown OriginatingUserName = alone name (plain tags.name shown.job.now.owner)
 valued name shown State = alone name (enumerated (state_code shown.job.now.state))
 valued name shown StateReasons = reasons_attribute name (reasons_of shown.job.now shown.printer_paused)
 valued name shown NumberOfDocuments = alone name (number shown.job.now.documents)

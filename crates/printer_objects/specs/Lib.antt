@@ -6,6 +6,7 @@ pub mod JobShown
 pub mod DocumentFormat
 pub mod Together
 pub mod Offer
+pub mod Operation
 pub mod Offered
 pub mod PrinterAttribute
 pub mod PrinterShown

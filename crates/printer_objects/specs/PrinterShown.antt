@@ -2,6 +2,7 @@
 use Rattle.std.specs.Prelude.{ℕ, ◌/◌, List, [], ◌∷◌, Some, codes}
 use Rattle.base_types.specs.declared.limits.TheConstants.Limits.{COPIES, DEFAULT_PRIORITY, HIGHEST_PRIORITY, INCOMING_JOB_TIME}
 use Rattle.ipp_codec.specs.Message.{plain, IppAttribute}
+use Rattle.ipp_codec.specs.Tag as tags
 use Rattle.printer_objects.specs.declared.attribute.TheConstants.{MILLIS_PER_SECOND}
 use Rattle.printer_objects.specs.declared.printer_shown.PrinterShown.{PrinterShown}
 use Rattle.printer_objects.specs.declared.printer_attribute.PrinterAttribute.{PrinterAttribute}
@@ -10,28 +11,29 @@ use Rattle.printer_objects.specs.PrinterState.{printer_state_code, printer_state
 use Rattle.printer_objects.specs.Attribute.{alone, number, enumerated, keyword, time, texts_attribute}
 use Rattle.printer_objects.specs.JobShown.{printer_uri}
 use Rattle.printer_objects.specs.PrinterAttribute.{printer_attribute_name}
+use Rattle.printer_objects.specs.Operation.{operation_table}
 use Rattle.printer_objects.specs.Offer.{formats_of, media_of, ready_media_of, sides_of}
 use Rattle.printer_objects.specs.Offered.{operations_attribute, range, hold_untils_attribute, sides_attribute}
 
 -- the values of an attribute under its name
 abbrev pub valued_of_printer : List ℕ → PrinterShown → PrinterAttribute → IppAttribute
-valued_of_printer name shown UriSupported = alone name (plain 0x45 (printer_uri shown.uri_base.now shown.offer.now.printer.name))
+valued_of_printer name shown UriSupported = alone name (plain tags.uri (printer_uri shown.uri_base.now shown.offer.now.printer.name))
 valued_of_printer name shown UriSecuritySupported = alone name (keyword (codes "none"))
 valued_of_printer name shown UriAuthenticationSupported = alone name (keyword (codes "requesting-user-name"))
-valued_of_printer name shown Name = alone name (plain 0x42 shown.offer.now.printer.name)
+valued_of_printer name shown Name = alone name (plain tags.name shown.offer.now.printer.name)
 valued_of_printer name shown State = alone name (enumerated (printer_state_code (printer_state_of shown.busy shown.printer.now)))
 valued_of_printer name shown StateReasons = alone name (keyword (printer_keyword (printer_reason_of shown.busy shown.printer.now)))
 valued_of_printer name shown IppVersionsSupported = alone name (keyword (codes "1.1"))
-valued_of_printer name shown OperationsSupported = operations_attribute name
-valued_of_printer name shown MultipleDocumentJobsSupported = alone name (plain 0x22 (1 ∷ []))
+valued_of_printer name shown OperationsSupported = operations_attribute name operation_table
+valued_of_printer name shown MultipleDocumentJobsSupported = alone name (plain tags.boolean (1 ∷ []))
 valued_of_printer name shown MultipleOperationTimeOut = alone name (number (INCOMING_JOB_TIME / MILLIS_PER_SECOND))
-valued_of_printer name shown CharsetConfigured = alone name (plain 0x47 (codes "utf-8"))
-valued_of_printer name shown CharsetSupported = alone name (plain 0x47 (codes "utf-8"))
-valued_of_printer name shown NaturalLanguageConfigured = alone name (plain 0x48 (codes "en"))
-valued_of_printer name shown GeneratedNaturalLanguageSupported = alone name (plain 0x48 (codes "en"))
-valued_of_printer name shown DocumentFormatDefault = alone name (plain 0x49 shown.offer.now.printer.format_default)
-valued_of_printer name shown DocumentFormatSupported = texts_attribute name 0x49 (formats_of shown.offer.now)
-valued_of_printer name shown IsAcceptingJobs = alone name (plain 0x22 (1 ∷ []))
+valued_of_printer name shown CharsetConfigured = alone name (plain tags.charset (codes "utf-8"))
+valued_of_printer name shown CharsetSupported = alone name (plain tags.charset (codes "utf-8"))
+valued_of_printer name shown NaturalLanguageConfigured = alone name (plain tags.natural_language (codes "en"))
+valued_of_printer name shown GeneratedNaturalLanguageSupported = alone name (plain tags.natural_language (codes "en"))
+valued_of_printer name shown DocumentFormatDefault = alone name (plain tags.mime_media_type shown.offer.now.printer.format_default)
+valued_of_printer name shown DocumentFormatSupported = texts_attribute name tags.mime_media_type (formats_of shown.offer.now)
+valued_of_printer name shown IsAcceptingJobs = alone name (plain tags.boolean (1 ∷ []))
 valued_of_printer name shown QueuedJobCount = alone name (number shown.queued)
 valued_of_printer name shown PdlOverrideSupported = alone name (keyword (codes "not-attempted"))
 valued_of_printer name shown UpTime = alone name (time (Some shown.moment))
@@ -43,8 +45,8 @@ valued_of_printer name shown HoldUntilSupported = hold_untils_attribute name
 valued_of_printer name shown PriorityDefault = alone name (number DEFAULT_PRIORITY)
 valued_of_printer name shown PrioritySupported = alone name (number HIGHEST_PRIORITY)
 valued_of_printer name shown MediaDefault = alone name (keyword shown.offer.now.printer.media_default)
-valued_of_printer name shown MediaSupported = texts_attribute name 0x44 (media_of shown.offer.now)
-valued_of_printer name shown MediaReady = texts_attribute name 0x44 (ready_media_of shown.offer.now)
+valued_of_printer name shown MediaSupported = texts_attribute name tags.keyword (media_of shown.offer.now)
+valued_of_printer name shown MediaReady = texts_attribute name tags.keyword (ready_media_of shown.offer.now)
 valued_of_printer name shown SidesDefault = alone name (keyword (codes "one-sided"))
 valued_of_printer name shown SidesSupported = sides_attribute name (sides_of shown.offer.now)
 

@@ -1,6 +1,8 @@
 //! Attributes of the kinds that the tables have.
 ghost use Rattle.std.specs.Prelude.{◌≡◌, IfOk, pos, min, [], ◌∷◌, codes};
 ghost use Rattle.ipp_codec.specs.Message.{plain};
+ghost use Rattle.ipp_codec.specs.Owned.{value_owned};
+ghost use Rattle.ipp_codec.specs.Tag as tags;
 ghost use Rattle.printer_objects.specs.Attribute.{alone, number, enumerated, keyword, no_value, time, reasons_attribute, texts_attribute};
 
 use base_types::{Moment, Text};
@@ -35,14 +37,14 @@ pub(crate) fn keyword(alloc: Global, name: &str, word: &[u8]) -> Result<Attribut
 
 /// The natural language of all texts of the server: English.
 pub(crate) fn english(alloc: Global, name: &str) -> Result<Attribute, AllocError>
-    ensures { IfOk result (λ a. a ≡ alone name.now (plain 0x48 (codes "en"))) }
+    ensures { IfOk result (λ a. a ≡ alone name.now (plain tags.natural_language (codes "en"))) }
 {
     bytes(alloc, name, ValueTag::NATURAL_LANGUAGE, b"en")
 }
 
 /// One boolean, which is true.
 pub(crate) fn yes(alloc: Global, name: &str) -> Result<Attribute, AllocError>
-    ensures { IfOk result (λ a. a ≡ alone name.now (plain 0x22 (1 ∷ []))) }
+    ensures { IfOk result (λ a. a ≡ alone name.now (plain tags.boolean (1 ∷ []))) }
 {
     bytes(alloc, name, ValueTag::BOOLEAN, &[1])
 }
@@ -59,8 +61,15 @@ pub(crate) fn number(alloc: Global, name: &str, amount: u64) -> Result<Attribute
 pub(crate) fn enumerated(alloc: Global, name: &str, code: u32) -> Result<Attribute, AllocError>
     ensures { IfOk result (λ a. a ≡ alone name.now (enumerated code)) }
 {
-    let value = Value::enumeration(alloc, integer(u64::from(code)))?;
+    let value = enumeration(alloc, code)?;
     Attribute::new(alloc, name.as_bytes(), value)
+}
+
+/// A number of an enumeration, as a value.
+pub(crate) fn enumeration(alloc: Global, code: u32) -> Result<Value, AllocError>
+    ensures { IfOk result (λ value. value_owned value ≡ enumerated code) }
+{
+    Value::enumeration(alloc, integer(u64::from(code)))
 }
 
 /// No value.

@@ -1,5 +1,6 @@
 //! The attributes of a job, with their values.
 ghost use Rattle.std.specs.Prelude.{◌≡◌, ◌++◌, IfOk, map, filter, None, Some};
+ghost use Rattle.ipp_codec.specs.Tag as tags;
 ghost use Rattle.printer_objects.specs.JobAttribute.{job_table, is_wanted};
 ghost use Rattle.printer_objects.specs.JobShown.{job_uri, printer_uri, hold_until, sides_keyword, k_octets, impressions_shown, job_shown};
 
@@ -33,7 +34,7 @@ pub fn job_attributes(
     shown: &JobShown<'_>,
     requested: &[Text],
 ) -> Result<Group, AllocError>
-    ensures { IfOk result (λ group. group ≡ record { tag = 0x02; attributes = map (job_shown shown.now) (filter (is_wanted requested.now) job_table) }) }
+    ensures { IfOk result (λ group. group ≡ record { tag = tags.job_attributes; attributes = map (job_shown shown.now) (filter (is_wanted requested.now) job_table) }) }
 {
     let mut group = Group::new(alloc, GroupTag::JOB);
     for which in JobAttribute::all() {

@@ -3,26 +3,27 @@ ghost use Rattle.std.specs.Prelude.{◌≡◌, IfOk};
 ghost use Rattle.printer_objects.specs.Attribute.{alone};
 ghost use Rattle.printer_objects.specs.Offered.{operations_attribute, range, hold_untils_attribute, sides_attribute};
 
-use crate::attribute::{bytes, enumerated, keyword, no_value};
+use crate::attribute::{bytes, enumerated, enumeration, keyword, no_value};
 use crate::job_shown::sides_keyword;
+use crate::operation::Operation;
 use base_types::{Limits, Sides};
 use ipp_codec::{Attribute, Value, ValueTag};
 use std::alloc::{AllocError, Global};
 
-/// The codes of the operations behind the first, Print-Job (RFC 8011, section 5.4.15): Validate-Job,
-/// Create-Job, Send-Document, Cancel-Job, Get-Job-Attributes, Get-Jobs, Get-Printer-Attributes,
-/// Hold-Job, Release-Job, Pause-Printer, Resume-Printer.
-const OTHER_OPERATIONS: [i32; 11] = [
-    0x0004, 0x0005, 0x0006, 0x0008, 0x0009, 0x000A, 0x000B, 0x000C, 0x000D, 0x0010, 0x0011,
-];
-
-/// The operations.
-pub(crate) fn operations(alloc: Global, name: &str) -> Result<Attribute, AllocError>
-    ensures { IfOk result (λ a. a ≡ operations_attribute name.now) }
+/// The operations; no value where there are none.
+pub(crate) fn operations(
+    alloc: Global,
+    name: &str,
+    operations: &[Operation],
+) -> Result<Attribute, AllocError>
+    ensures { IfOk result (λ a. a ≡ operations_attribute name.now operations.now) }
 {
-    let mut attribute = enumerated(alloc, name, 0x0002)?;
-    for code in OTHER_OPERATIONS {
-        let value = Value::enumeration(alloc, code)?;
+    let [first, others @ ..] = operations else {
+        return no_value(alloc, name);
+    };
+    let mut attribute = enumerated(alloc, name, u32::from(first.code()))?;
+    for operation in others {
+        let value = enumeration(alloc, u32::from(operation.code()))?;
         attribute.push(value)?;
     }
     Ok(attribute)

@@ -1,5 +1,6 @@
 //! The attributes of a printer, with their values.
 ghost use Rattle.std.specs.Prelude.{◌≡◌, IfOk, map, filter, Some};
+ghost use Rattle.ipp_codec.specs.Tag as tags;
 ghost use Rattle.printer_objects.specs.PrinterAttribute.{is_wanted_of_printer, printer_table};
 ghost use Rattle.printer_objects.specs.PrinterShown.{printer_shown};
 
@@ -9,6 +10,7 @@ use crate::attribute::{
 use crate::job_shown::printer_uri;
 use crate::offer::Offer;
 use crate::offered::{copies, hold_untils, operations, sides};
+use crate::operation::Operation;
 use crate::printer_attribute::PrinterAttribute;
 use crate::state::{printer_reason, printer_state};
 use base_types::{Limits, Moment, Text};
@@ -38,7 +40,7 @@ pub fn printer_attributes(
     shown: &PrinterShown<'_>,
     requested: &[Text],
 ) -> Result<Group, AllocError>
-    ensures { IfOk result (λ group. group ≡ record { tag = 0x04; attributes = map (printer_shown shown.now) (filter (is_wanted_of_printer requested.now) printer_table) }) }
+    ensures { IfOk result (λ group. group ≡ record { tag = tags.printer_attributes; attributes = map (printer_shown shown.now) (filter (is_wanted_of_printer requested.now) printer_table) }) }
 {
     let mut group = Group::new(alloc, GroupTag::PRINTER);
     for which in PrinterAttribute::all() {
@@ -79,7 +81,7 @@ impl PrinterAttribute {
                 keyword(alloc, name, reason.keyword().as_bytes())
             }
             PrinterAttribute::IppVersionsSupported => keyword(alloc, name, b"1.1"),
-            PrinterAttribute::OperationsSupported => operations(alloc, name),
+            PrinterAttribute::OperationsSupported => operations(alloc, name, &Operation::all()),
             PrinterAttribute::MultipleDocumentJobsSupported => yes(alloc, name),
             PrinterAttribute::MultipleOperationTimeOut => {
                 let seconds = Limits::INCOMING_JOB_TIME / MILLIS_PER_SECOND;

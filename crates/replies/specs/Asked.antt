@@ -7,6 +7,8 @@ use Rattle.ipp_codec.specs.declared.fault.CodecFault.TheVariants as fault
 use Rattle.ipp_codec.specs.Message.{IppMessage}
 use Rattle.ipp_codec.specs.Grammar.{Spells}
 use Rattle.ipp_codec.specs.FirstFault.{HeadFault}
+use Rattle.printer_objects.specs.declared.operation.Operation.TheVariants as operation
+use Rattle.printer_objects.specs.Operation.{operation_code}
 use Rattle.dispatcher.specs.declared.event.PrintJob.{PrintJob}
 use Rattle.dispatcher.specs.declared.event.Event.TheVariants as event
 use Rattle.dispatcher.specs.declared.status.Status.{Status}
@@ -33,7 +35,7 @@ request_id_of body = option_map (λ header. header.request_id) (header_of body)
 abbrev pub refused_by : Header → Option Status
 refused_by header =
     if not ((header.major == 1) || (header.major == 2)) then Some status.VersionNotSupported
-    else if not (header.operation == 0x0002) then Some status.OperationNotSupported
+    else if not (header.operation == operation_code operation.PrintJob) then Some status.OperationNotSupported
     else None
 
 abbrev pub status_of : CodecFault → Status

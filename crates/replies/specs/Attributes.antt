@@ -5,6 +5,7 @@ use Rattle.std.specs.Option.{option_map_or, option_and_then}
 use Rattle.std.specs.Str.{bytes_eq}
 use Rattle.ipp_codec.specs.Message.{IppValue, tag_of, bytes_in, IppAttribute, IppGroup}
 use Rattle.ipp_codec.specs.Typed.{integer_in, unsigned, boolean_in}
+use Rattle.ipp_codec.specs.Tag as tags
 
 abbrev pub first_of : List ℕ → List IppAttribute → Option IppValue
 first_of name attributes = option_map (λ attribute. attribute.first) (find (λ attribute. bytes_eq attribute.name name) attributes)
@@ -24,7 +25,7 @@ behind_language _ = []
 
 -- the text of a name, without its language (RFC 8010, section 3.9)
 abbrev pub name_in : IppValue → List ℕ
-name_in value = if tag_of value == 0x36 then behind_language (bytes_in value) else bytes_in value
+name_in value = if tag_of value == tags.name_with_language then behind_language (bytes_in value) else bytes_in value
 
 -- the name of an attribute, or a default where it isn't there
 abbrev pub name_or : List ℕ → List ℕ → IppGroup → List ℕ

@@ -3,6 +3,7 @@ use Rattle.std.specs.Prelude.{ℕ, not, if◌then◌else◌, List, [], ◌∷◌
 use Rattle.std.specs.List.{list_all}
 use Rattle.std.specs.Option.{option_map_or}
 use Rattle.ipp_codec.specs.Message.{IppValue, bytes_in, IppAttribute, IppGroup, IppMessage}
+use Rattle.ipp_codec.specs.Tag as tags
 use Rattle.dispatcher.specs.declared.event.PrintJob.{PrintJob}
 use Rattle.dispatcher.specs.declared.status.Status.{Status}
 use Rattle.dispatcher.specs.declared.status.Status.TheVariants.{BadRequest, CharsetNotSupported}
@@ -13,13 +14,13 @@ use Rattle.replies.specs.Target.{target_of}
 -- the attributes that are read, each with the tags that its first value may have (RFC 8010, section 3.5.2)
 abbrev pub print_job_table : List (List ℕ × List ℕ)
 print_job_table =
-    (codes "printer-uri", 0x45 ∷ [])
-    ∷ (codes "requesting-user-name", 0x42 ∷ 0x36 ∷ [])
-    ∷ (codes "job-name", 0x42 ∷ 0x36 ∷ [])
-    ∷ (codes "job-impressions", 0x21 ∷ [])
-    ∷ (codes "ipp-attribute-fidelity", 0x22 ∷ [])
-    ∷ (codes "document-format", 0x49 ∷ [])
-    ∷ (codes "compression", 0x44 ∷ [])
+    (codes "printer-uri", tags.uri ∷ [])
+    ∷ (codes "requesting-user-name", tags.name ∷ tags.name_with_language ∷ [])
+    ∷ (codes "job-name", tags.name ∷ tags.name_with_language ∷ [])
+    ∷ (codes "job-impressions", tags.integer ∷ [])
+    ∷ (codes "ipp-attribute-fidelity", tags.boolean ∷ [])
+    ∷ (codes "document-format", tags.mime_media_type ∷ [])
+    ∷ (codes "compression", tags.keyword ∷ [])
     ∷ []
 
 -- what is read of a request that has passed all checks

@@ -3,6 +3,7 @@ use Rattle.std.specs.Prelude.{ℕ, ◌≡◌, ◌++◌, Bool, true, false, if◌
 use Rattle.ipp_codec.specs.Message.{plain, IppAttribute, IppGroup, IppMessage}
 use Rattle.ipp_codec.specs.Spelling.{spelling}
 use Rattle.ipp_codec.specs.Grammar.{IsMessage}
+use Rattle.ipp_codec.specs.Tag as tags
 use Rattle.dispatcher.specs.declared.reply.IppAnswer.{IppAnswer}
 use Rattle.dispatcher.specs.declared.status.Status.{Status}
 use Rattle.dispatcher.specs.declared.status.Status.TheVariants.{OkIgnoredOrSubstituted, AttributesNotSupported}
@@ -15,8 +16,8 @@ alone name tag bytes = record { name = name; first = plain tag bytes; others = [
 -- the charset and the natural language of the reply
 abbrev pub opening_group : IppGroup
 opening_group = record {
-  tag = 1;
-  attributes = alone (codes "attributes-charset") 0x47 (codes "utf-8") ∷ alone (codes "attributes-natural-language") 0x48 (codes "en") ∷ [];
+  tag = tags.operation_attributes;
+  attributes = alone (codes "attributes-charset") tags.charset (codes "utf-8") ∷ alone (codes "attributes-natural-language") tags.natural_language (codes "en") ∷ [];
 }
 
 -- whether the status tells that something isn't supported (section 4.1.7)
@@ -28,7 +29,7 @@ tells_unsupported _ = false
 -- what isn't supported, if there is any
 abbrev pub unsupported_group : List IppAttribute → List IppGroup
 unsupported_group [] = []
-unsupported_group (attribute ∷ attributes) = record { tag = 5; attributes = attribute ∷ attributes } ∷ []
+unsupported_group (attribute ∷ attributes) = record { tag = tags.unsupported_attributes; attributes = attribute ∷ attributes } ∷ []
 
 abbrev pub unsupported_of : Status → List IppAttribute → List IppGroup
 unsupported_of status attributes = if tells_unsupported status then unsupported_group attributes else []

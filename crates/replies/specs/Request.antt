@@ -3,6 +3,7 @@ use Rattle.std.specs.Prelude.{ℕ, ◌==◌, ◌&&◌, Bool, false, if◌then◌
 use Rattle.std.specs.Option.{option_map_or}
 use Rattle.std.specs.Str.{bytes_eq, str_eq_ignore_ascii_case}
 use Rattle.ipp_codec.specs.Message.{tag_of, bytes_in, IppAttribute, IppGroup, IppMessage}
+use Rattle.ipp_codec.specs.Tag as tags
 use Rattle.replies.specs.Attributes.{value_of}
 
 -- an attribute of this name, whose first value has this tag
@@ -12,11 +13,11 @@ is_named name tag attribute = bytes_eq attribute.name name && (tag_of attribute.
 -- the first two attributes are the charset and the natural language
 abbrev pub begins_request : List IppAttribute → Bool
 begins_request (first ∷ second ∷ later) =
-    is_named (codes "attributes-charset") 0x47 first && is_named (codes "attributes-natural-language") 0x48 second
+    is_named (codes "attributes-charset") tags.charset first && is_named (codes "attributes-natural-language") tags.natural_language second
 begins_request _ = false
 
 abbrev pub is_operation_group : IppGroup → Bool
-is_operation_group group = (group.tag == 1) && begins_request group.attributes
+is_operation_group group = (group.tag == tags.operation_attributes) && begins_request group.attributes
 
 abbrev pub operation_group_in : List IppGroup → Option IppGroup
 operation_group_in (group ∷ later) = if is_operation_group group then Some group else None
@@ -27,7 +28,7 @@ abbrev pub operation_group : IppMessage → Option IppGroup
 operation_group message = operation_group_in message.groups
 
 abbrev pub first_job_group : List IppGroup → Option IppGroup
-first_job_group groups = find (λ group. group.tag == 2) groups
+first_job_group groups = find (λ group. group.tag == tags.job_attributes) groups
 
 -- the job group: the first of its tag
 abbrev pub job_group : IppMessage → Option IppGroup

@@ -3,9 +3,7 @@ ghost use Rattle.std.specs.Prelude.{◌≡◌};
 ghost use Rattle.replies.specs.Asked.{header_of, refused_by, request_id_of};
 
 use dispatcher::Status;
-
-/// The code of Print-Job (RFC 8011, section 5.4.15).
-const PRINT_JOB: u16 = 0x0002;
+use printer_objects::Operation;
 
 /// The first eight bytes of a request (RFC 8010, section 3.1.1), without the version's minor number.
 #[derive(Clone, Copy, Debug, PartialEq, Eq)]
@@ -46,8 +44,8 @@ pub(crate) fn refused_by(header: Header) -> Option<Status>
     if header.major != 1 && header.major != 2 {
         return Some(Status::VersionNotSupported);
     }
-    match header.operation {
-        PRINT_JOB => None,
-        _ => Some(Status::OperationNotSupported),
+    if header.operation != Operation::PrintJob.code() {
+        return Some(Status::OperationNotSupported);
     }
+    None
 }

@@ -1,8 +1,7 @@
 use Rattle.std.proofs.Common.{◌≡◌, take, map}
-use Rattle.ipp_codec.specs.Message.{plain}
-use Rattle.ipp_codec.specs.Typed.{bytes_of_integer}
 use Rattle.printer_objects.specs.Attribute.{enumerated}
+use Rattle.printer_objects.specs.Operation.{operation_code}
 use Rattle.printer_objects.proofs.offered.operations.Given as goal
 
-abbrev pub invariant-loop-code : goal.invariant-loop-code
-invariant-loop-code l = l.attribute ≡ record { name = l.name; first = enumerated 0x0002; others = map (λ n. plain 0x23 (bytes_of_integer n)) (take l.code-index l.code-items) }
+abbrev pub invariant-loop-operation : goal.invariant-loop-operation
+invariant-loop-operation l = l.attribute ≡ record l.initial.attribute { others = map enumerated (map operation_code (take l.operation-index l.others)) }
