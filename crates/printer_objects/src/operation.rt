@@ -1,3 +1,4 @@
+//! The operations of IPP and their codes (RFC 8011, section 5.4.15).
 ghost use Rattle.std.specs.Prelude.{◌≡◌};
 ghost use Rattle.printer_objects.specs.Operation.{operation_code, operation_table};
 

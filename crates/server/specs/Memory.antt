@@ -1,5 +1,6 @@
 -- What a call of a wire in memory does.
-use Rattle.std.specs.Prelude.{ℕ, ◌≡◌, ◌⊎◌, ◌&&◌, not, Bool, true, false, List, ◌++◌, take, Some, None, slice_get, slice_set}
+use Rattle.std.specs.Prelude.{ℕ, ◌≡◌, ◌<◌, ◌^◌, ◌⊎◌, ◌&&◌, ◌||◌, not, Bool, true, false, List, ◌++◌, take, Some, None, slice_get, slice_set}
+use Rattle.std.specs.Option.{option_map_or}
 use Rattle.server.specs.declared.wire.Door.{Door}
 use Rattle.server.specs.declared.wire.Answer.TheVariants.{Done, Waiting, End, Fault}
 use Rattle.server.specs.declared.memory_wire.Memory.{Memory}
@@ -12,6 +13,18 @@ pub record SamePeers (old new : Memory) : Type 0 where
 -- it comes in at a door, and isn't accepted yet
 abbrev pub IsNext : Door → PeerState → Type 0
 IsNext door peer = (peer.accepted ≡ false) × (peer.door ≡ door)
+
+-- no peer whose number is one of the wire's comes in at a door
+abbrev pub NoneComes : Door → List PeerState → Type 0
+NoneComes door peers = (id : ℕ) (peer : PeerState) → id < 2 ^ 32 → slice_get peers id ≡ Some peer → ¬ (IsNext door peer)
+
+-- whether nothing more is read of the peer of a number, once its input is: it ends, was given up, or there is none
+abbrev pub ends_reading : ℕ → List PeerState → Bool
+ends_reading id peers = option_map_or (λ p. p.ended || p.closed) (slice_get peers id) true
+
+-- whether the peer of a number takes nothing more: it was given up, or there is none
+abbrev pub ends_writing : ℕ → List PeerState → Bool
+ends_writing id peers = option_map_or (λ p. p.closed) (slice_get peers id) true
 
 -- it was accepted, and not given up
 abbrev pub is_open : PeerState → Bool
@@ -46,15 +59,15 @@ IsGivenUp id old new =
 
 abbrev pub MemoryPolls : Memory → Poll → Memory → Type 0
 MemoryPolls old (Accepts door (Done id)) new = OnPeer id (IsAccepted door) old new
-MemoryPolls old (Accepts door Waiting) new = SamePeers old new
+MemoryPolls old (Accepts door Waiting) new = SamePeers old new × NoneComes door old.peers.items
 MemoryPolls old (Accepts door End) new = ⊥
 MemoryPolls old (Accepts door Fault) new = SamePeers old new
 MemoryPolls old (Reads id (Done bytes)) new = OnPeer id (Sends bytes) old new
-MemoryPolls old (Reads id Waiting) new = SamePeers old new
-MemoryPolls old (Reads id End) new = SamePeers old new
+MemoryPolls old (Reads id Waiting) new = SamePeers old new × (ends_reading id old.peers.items ≡ false)
+MemoryPolls old (Reads id End) new = SamePeers old new × (ends_reading id old.peers.items ≡ true)
 MemoryPolls old (Reads id Fault) new = SamePeers old new
 MemoryPolls old (Writes id offered (Done n)) new = OnPeer id (Gets (take n offered)) old new
-MemoryPolls old (Writes id offered Waiting) new = SamePeers old new
-MemoryPolls old (Writes id offered End) new = SamePeers old new
+MemoryPolls old (Writes id offered Waiting) new = SamePeers old new × (ends_writing id old.peers.items ≡ false)
+MemoryPolls old (Writes id offered End) new = SamePeers old new × (ends_writing id old.peers.items ≡ true)
 MemoryPolls old (Writes id offered Fault) new = SamePeers old new
 MemoryPolls old (Closes id) new = IsGivenUp id old new

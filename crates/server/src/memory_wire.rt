@@ -1,7 +1,7 @@
 //! A wire in memory: what its peers send is there from the start, and what they get is kept. It
 //! stands in for sockets where a run is to be the same each time.
 ghost use Rattle.std.specs.Prelude.{◌≡◌, ◌<◌, ◌≤◌, ℕ, length, take, IsTrue, IsFalse, IfSome, IfNone, IfOk, OnErr, Some, slice_get, true, false, []};
-ghost use Rattle.server.specs.Memory.{Sends, Gets, SamePeers, IsNext, is_open};
+ghost use Rattle.server.specs.Memory.{Sends, Gets, SamePeers, IsNext, NoneComes, is_open, ends_reading, ends_writing};
 
 use crate::wire::{Answer, Door, Wire, WireId};
 use std::alloc::{AllocError, Global};
@@ -96,16 +96,40 @@ impl Memory {
         true
     }
 
-    /// The first peer of a door that isn't accepted yet.
-    fn next_peer(&self, door: Door) -> Option<usize>
-        ensures { IfSome result (λ id. (peer : _) × (slice_get self.now.peers.items id ≡ Some peer) × IsNext door peer) }
+    /// The number of the first peer of a door that isn't accepted yet.
+    fn next_peer(&self, door: Door) -> Option<WireId>
+        ensures some { IfSome result (λ id. (peer : _) × (slice_get self.now.peers.items id ≡ Some peer) × IsNext door peer) }
+        ensures none { IfNone result (NoneComes door self.now.peers.items) }
     {
-        for (id, peer) in self.peers.iter().enumerate() {
+        for (place, peer) in self.peers.iter().enumerate() {
+            let Ok(id) = u32::try_from(place) else {
+                return None;
+            };
             if peer.comes(door) {
                 return Some(id);
             }
         }
         None
+    }
+
+    /// Whether nothing more is read of a peer, once its input is.
+    fn ends_reading(&self, id: WireId) -> bool
+        ensures { result ≡ ends_reading id self.now.peers.items }
+    {
+        match self.peers.get(id as usize) {
+            Some(peer) => peer.ended || peer.closed,
+            None => true,
+        }
+    }
+
+    /// Whether a peer takes nothing more.
+    fn ends_writing(&self, id: WireId) -> bool
+        ensures { result ≡ ends_writing id self.now.peers.items }
+    {
+        match self.peers.get(id as usize) {
+            Some(peer) => peer.closed,
+            None => true,
+        }
     }
 }
 
@@ -138,7 +162,8 @@ impl Peer {
 
     /// Whether it comes in at a door.
     fn comes(&self, door: Door) -> bool
-        ensures { IsTrue result → IsNext door self.now }
+        ensures yes { IsTrue result → IsNext door self.now }
+        ensures no { IsFalse result → ¬ (IsNext door self.now) }
     {
         if self.accepted {
             return false;
@@ -207,13 +232,10 @@ impl Wire for Memory {
             return Answer::Fault;
         }
         match self.next_peer(door) {
-            Some(place) => match u32::try_from(place) {
-                Ok(id) => {
-                    self.peers[place].accepted = true;
-                    Answer::Done(id)
-                }
-                Err(_) => Answer::Waiting,
-            },
+            Some(id) => {
+                self.peers[id as usize].accepted = true;
+                Answer::Done(id)
+            }
             None => Answer::Waiting,
         }
     }
@@ -226,10 +248,11 @@ impl Wire for Memory {
         if place >= self.peers.len() {
             return Answer::End;
         }
-        let ended = self.peers[place].ended || self.peers[place].closed;
+        let ends = self.ends_reading(id);
         match self.peers[place].send(buffer) {
             Some(n) => Answer::Done(n),
-            None => { if ended { Answer::End } else { Answer::Waiting } }
+            None if ends => Answer::End,
+            None => Answer::Waiting,
         }
     }
 
@@ -237,10 +260,10 @@ impl Wire for Memory {
         if self.fails() {
             return Answer::Fault;
         }
-        let place = id as usize;
-        if place >= self.peers.len() || self.peers[place].closed {
+        if self.ends_writing(id) {
             return Answer::End;
         }
+        let place = id as usize;
         match self.peers[place].get(bytes) {
             Ok(Some(n)) => Answer::Done(n),
             Ok(None) => Answer::Waiting,
