@@ -30,7 +30,7 @@ impl<'a> Model for ClassJob<'a> {
 /// time of the job on the device, and no other pair has one.
 ///
 /// The jobs stand by rising id, the devices and the printers in the order of the settings, with a
-/// wait for each device. The only error is want of memory.
+/// wait for each device. The only error is out of memory.
 pub fn build(
     alloc: Global,
     jobs: &[ClassJob],

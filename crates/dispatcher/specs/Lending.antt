@@ -14,6 +14,6 @@ module _ (P : RattleType) where
   abbrev pub EndsAs : MutBor State → (State → Type 0) → Fml
   EndsAs core P' = follows_so (the_row P) (the_row P) core.ghost_name none (λ _ _. ⊤) P'
 
-  -- the core is as after the dispatch of the plan that was lent; after want of memory as before
+  -- the core is as after the dispatch of the plan that was lent; out of memory as before
   abbrev pub EndsDispatched : ℕ → MutBor State → Result Dispatched AllocError → Fml
   EndsDispatched now core result = EndsAs core (λ new. MatchResult result (λ made. Dispatches now core.now (plan_of made) (started_of made) new) (λ _. new ≡ core.now))

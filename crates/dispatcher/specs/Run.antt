@@ -22,8 +22,8 @@ is_query Is.Tick = false
 abbrev pub Hearing : Type 0 → Type 1
 Hearing L = L → Option PlanRecord → List Started → L → Type 0
 
--- What becomes of an event. None is dropped for want of memory where it takes none. A dispatch may choose
--- any good plan, which the listener hears; one that is refused for want of memory changes nothing, and none
+-- What becomes of an event. None that takes no memory is dropped. A dispatch may choose
+-- any good plan, which the listener hears; one that is refused memory changes nothing, and none
 -- is refused where no job is ready.
 abbrev pub Comes : {L : Type 0} → Hearing L → State → L → Timed → Outcome → State → L → Type 0
 Comes hears old listener timed Dropped new listener' = (new ≡ old) × (listener' ≡ listener) × (TakesNoMemory timed.event timed.moment old → ⊥)

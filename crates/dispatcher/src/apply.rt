@@ -11,7 +11,7 @@ use std::alloc::{AllocError, Global};
 
 /// Acts on an event, at a moment or, where that is earlier, at the last one.
 ///
-/// After want of memory the event is dropped and the room is as it was. A report, a tick and a
+/// Out of memory, the event is dropped and the room is as it was. A report, a tick and a
 /// Print-Job that is refused take no memory.
 pub(crate) fn apply(
     alloc: Global,

@@ -49,7 +49,7 @@ impl<P: Planner + Drop> Core<P> {
     /// without a capable device is named with its cause. The plan is kept, and each idle running device
     /// starts the first job of its list.
     ///
-    /// The only error is want of memory; the state is then as it was.
+    /// The only error is out of memory; the state is then as it was.
     pub fn dispatch(&mut self, moment: Moment) -> Result<Dispatched<'_>, AllocError>
         ensures idle { is_some_job (ready_of self.old) ≡ false → IsOk result }
         ensures planned { IfOk result (λ made. is_some (plan_of made) ≡ is_some_job (ready_of self.old)) }

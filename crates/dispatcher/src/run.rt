@@ -23,12 +23,12 @@ pub struct Timed {
 /// What becomes of an event.
 #[derive(Drop)]
 pub enum Outcome {
-    /// It was dropped for want of memory, and nothing changed: never a tick, a device's report, or a
+    /// It was dropped, out of memory, and nothing changed: never a tick, a device's report, or a
     /// request that is refused.
     Dropped,
     /// It was a query, and answered.
     Queried(Reply),
-    /// It was answered; the dispatch that follows was refused for want of memory and changed nothing.
+    /// It was answered; the dispatch that follows was refused memory and changed nothing.
     Undispatched(Reply),
     /// It was answered, and a dispatch followed, which may have found no job ready.
     Dispatched(Reply),
@@ -74,7 +74,7 @@ impl<P: Planner + Drop> Core<P> {
     /// devices and order them; its prices prove this to the checker alone, and every job without a
     /// capable device is named.
     ///
-    /// The only error is want of memory for the answers, before anything happens.
+    /// The only error is out of memory for the answers, before anything happens.
     pub fn run<L: Listener>(
         &mut self,
         alloc: Global,

@@ -38,7 +38,7 @@ impl<P: Planner + Drop> Core<P> {
     /// The core of a server that starts, with settings within the limits: no jobs, no plan, no printer
     /// paused, and each device stopped, idle and with all media of its settings loaded.
     ///
-    /// The only error is want of memory.
+    /// The only error is out of memory.
     pub fn new(alloc: Global, settings: Settings, planner: P) -> Result<Core<P>, AllocError>
         requires { MeetsLimits settings }
         ensures { IfOk result (λ core. core ≡ opening settings 1) }
@@ -54,7 +54,7 @@ impl<P: Planner + Drop> Core<P> {
 
     /// Acts on an event, at a moment or, where that is earlier, at the last one.
     ///
-    /// After want of memory the event is dropped and the state is as it was. A report, a tick and a
+    /// Out of memory, the event is dropped and the state is as it was. A report, a tick and a
     /// Print-Job that is refused take no memory.
     pub fn apply(&mut self, event: Event, moment: Moment) -> Result<Reply, AllocError>
         ensures ok { IfOk result (λ reply. Step self.old event moment reply self.new) }

@@ -92,7 +92,7 @@ fn own_groups(alloc: Global, bytes: &[u8]) -> Result<Vec<Group>, AllocError>
 }
 
 impl<'a> GroupView<'a> {
-    /// A group of its own that says the same. The error is want of memory.
+    /// A group of its own that says the same. The error is out of memory.
     pub fn to_owned(&self, alloc: Global) -> Result<Group, AllocError>
         ensures { IfOk result (λ group. group ≡ group_shown self.now) }
     {

@@ -11,7 +11,7 @@ struct Speed {
     impression: u64,
 }
 
-/// A class of jobs 1, 2, .. on devices of unlike speeds: about one pair in eight isn't able, but
+/// A class of jobs 1, 2, .. on devices of different speeds: about one pair in eight isn't able, but
 /// each job has a device.
 pub(crate) fn made_class(
     alloc: Global,

@@ -23,7 +23,7 @@ use text::{parts, words};
 ///
 /// The fault of the first faulty line: a line is judged by itself, first for its form and then for
 /// its ranges, and then by those before it. A text that ends before the line `end` has no end.
-/// Otherwise want of memory.
+/// Otherwise out of memory.
 #[tactic(auto, using(crate::proofs::Sound::judged_since, crate::proofs::Sound::written_since))]
 pub fn read_plan_text(alloc: Global, text: &[u8]) -> Result<PlanText, ReadError>
     ensures plan { Gives (λ plan. plan) result (plan_at text.now) }

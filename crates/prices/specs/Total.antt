@@ -1,5 +1,5 @@
 -- The total of a way, and the best ways: those with the least sum of completions, for jobs on
--- devices of unlike speeds (W. A. Horn, Minimizing average flow time with parallel machines, 1973;
+-- devices of different speeds (W. A. Horn, Minimizing average flow time with parallel machines, 1973;
 -- J. Bruno, E. G. Coffman and R. Sethi, Scheduling independent tasks to reduce mean finishing time, 1974).
 use Rattle.std.specs.Prelude.{ℕ, suc, ◌+◌, ◌*◌, ◌≤◌, List, [], ◌∷◌, length, unwrap_or}
 use Rattle.cost_table.specs.Class.{Class, time_in, wait_of}

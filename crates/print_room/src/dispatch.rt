@@ -24,7 +24,7 @@ impl PrintRoom {
     /// device is named with its cause. The plan is kept, and each idle running device starts the first
     /// job of its list.
     ///
-    /// The only error is want of memory; nothing has changed then.
+    /// The only error is out of memory; nothing has changed then.
     pub fn dispatch<P: Planner>(&mut self, planner: &P, now: Moment) -> Result<bool, AllocError>
         requires { self.old.last ≤ now }
         ensures idle { is_some_job (ready_of self.old) ≡ false → IsOk result }

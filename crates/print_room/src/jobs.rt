@@ -12,7 +12,7 @@ use spool::{NewJob, Refused};
 impl PrintRoom {
     /// Takes a job that is all in, under the next id: it is pending, or held.
     ///
-    /// A refusal changes nothing and hands the job back. In this order: too large, busy, want of memory.
+    /// A refusal changes nothing and hands the job back. In this order: too large, busy, out of memory.
     pub fn submit(&mut self, job: NewJob, now: Moment) -> Result<JobId, Refused>
         requires { self.old.last ≤ now }
         ensures ok { IfOk result (λ id. Submits now self.old job id self.new) }

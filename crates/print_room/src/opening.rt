@@ -18,7 +18,7 @@ impl PrintRoom {
     /// printer paused, and each device stopped, idle and with all media of its settings loaded. The
     /// first job gets this id.
     ///
-    /// The only error is want of memory.
+    /// The only error is out of memory.
     pub fn new(alloc: Global, settings: Settings, first: JobId) -> Result<PrintRoom, AllocError>
         requires { MeetsLimits settings }
         ensures { IfOk result (λ room. room ≡ opening settings first) }

@@ -41,7 +41,7 @@ fn has_job(jobs: &[ClassJob<'_>]) -> bool
 
 impl PrintRoom {
     /// A good plan of the ready jobs for a moment that is not before the last one. The only error is
-    /// want of memory.
+    /// out of memory.
     pub(crate) fn good_plan<P: Planner>(&self, planner: &P, now: Moment) -> Result<Plan, AllocError>
         requires { self.now.last ≤ now }
         ensures plan { IfOk result (λ plan. IsGoodPlan now self.now plan) }

@@ -168,7 +168,7 @@ fn told<W: Write>(error: &Error, err: &mut W) -> ExitStatus {
 }
 
 /// What the words ask for, or how to end once the text about them is written: refused, or failed for
-/// want of memory or a writer that fails.
+/// lack of memory or a writer that fails.
 pub fn read_words<'a, W: Write>(
     alloc: Global,
     words: &'a [&'a str],

@@ -12,7 +12,7 @@ use std::alloc::{AllocError, Global};
 /// What the creation of a job is answered with (RFC 8011, section 4.2.1.2): the job group with the
 /// URI, the id, the state and the reasons that the job has or will have.
 ///
-/// The only error is want of memory.
+/// The only error is out of memory.
 pub fn created_job_attributes(
     alloc: Global,
     uri_base: &Text,

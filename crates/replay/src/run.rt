@@ -128,7 +128,7 @@ fn run_lines(
     }
 }
 
-/// Appends the line of refused settings, and gives its status. The error is want of memory, which the
+/// Appends the line of refused settings, and gives its status. The error is out of memory, which the
 /// fault may be already.
 fn refuse_settings(
     alloc: Global,

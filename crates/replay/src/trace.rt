@@ -27,7 +27,7 @@ pub enum Line {
 /// What a line of a trace says, where the devices have these names; nothing where it is no such
 /// line.
 ///
-/// The error is want of memory.
+/// The error is out of memory.
 pub fn read_line(alloc: Global, text: &[u8], devices: &[Text]) -> Result<Option<Line>, AllocError>
     ensures { IfOk result (λ line. Finds (IsLine devices.now text.now) line) }
 {

@@ -20,7 +20,7 @@ pub enum Asked {
 }
 
 /// The event of an IPP body, or the status of the first check that it fails (RFC 8011, section
-/// 4.1). The error is want of memory.
+/// 4.1). The error is out of memory.
 pub fn ipp_event(alloc: Global, body: &[u8]) -> Result<Asked, AllocError>
     ensures { IfOk result (λ asked. Asks body.now asked) }
 {

@@ -25,7 +25,7 @@ pub struct Server {
 }
 
 impl Server {
-    /// A server that listens. The error is the system's, or want of memory.
+    /// A server that listens. The error is the system's, or out of memory.
     pub fn open(
         alloc: Global,
         net: &impl Net,

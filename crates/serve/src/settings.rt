@@ -14,8 +14,8 @@ use streams::{ExitStatus, refused_line, write_front};
 ///
 /// # Errors
 ///
-/// The exit status, once the line of the first fault is written to `err`: refused, or failed for want
-/// of memory or a writer that fails. Bytes that aren't UTF-8 are no TOML.
+/// The exit status, once the line of the first fault is written to `err`: refused, or failed for
+/// lack of memory or a writer that fails. Bytes that aren't UTF-8 are no TOML.
 pub fn read_serve<W: Write>(
     alloc: Global,
     bytes: &[u8],
@@ -32,7 +32,7 @@ pub fn read_serve<W: Write>(
     }
 }
 
-/// The line of a fault. The error is want of memory, which the fault may be already.
+/// The line of a fault. The error is out of memory, which the fault may be already.
 fn line_of(alloc: Global, fault: &SettingsFault) -> Result<Vec<u8>, AllocError>
     ensures { IfOk result (λ line. (named : Fault) × (fault_of fault.now ≡ Some named) × (line.items ≡ fault_line named)) }
 {

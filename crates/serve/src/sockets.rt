@@ -47,7 +47,7 @@ fn listen(net: &impl Net, poll: &Poll, address: IpAddr, port: u16) -> io::Result
 
 impl Sockets {
     /// Listens at the three doors. The error is the system's: a port in use, an address that isn't the
-    /// machine's, or want of memory.
+    /// machine's, or out of memory.
     pub fn bind(
         alloc: Global,
         net: &impl Net,

@@ -110,7 +110,7 @@ impl<P: Planner + Drop> Engine<P> {
         }
     }
 
-    /// The bytes of an answer. The error is want of memory, which the listener is told of.
+    /// The bytes of an answer. The error is out of memory, which the listener is told of.
     fn bytes_of<N: Notes>(
         &self,
         answer: Says,

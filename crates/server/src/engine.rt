@@ -24,7 +24,7 @@ pub struct Engine<P: Planner + Drop> {
     pub(crate) connections: Slab<Connection>,
     /// The moment of the last tick.
     pub(crate) ticked: Option<Moment>,
-    /// The last dispatch was refused for want of memory.
+    /// The last dispatch was refused memory.
     pub(crate) undispatched: bool,
     pub(crate) alloc: Global,
 }
@@ -38,7 +38,7 @@ impl<P: Planner + Drop> Model for Engine<P> {
 }
 
 impl<P: Planner + Drop> Engine<P> {
-    /// A server that starts, with settings within the limits. The only error is want of memory.
+    /// A server that starts, with settings within the limits. The only error is out of memory.
     pub fn new(alloc: Global, settings: Settings, planner: P) -> Result<Engine<P>, AllocError>
         requires { MeetsLimits settings }
         ensures { IfOk result (StandsAt (opening settings 1) []) }

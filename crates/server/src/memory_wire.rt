@@ -60,7 +60,7 @@ pub struct Memory {
 }
 
 impl Memory {
-    /// A wire of these peers, none of whose polls faults but for want of memory.
+    /// A wire of these peers, none of whose polls faults but for lack of memory.
     pub fn new(peers: Vec<Peer>) -> Memory
         ensures { result.peers.items ≡ peers.items }
     {
@@ -197,7 +197,7 @@ impl Peer {
         Some(n)
     }
 
-    /// A front of the bytes is taken. The error is want of memory.
+    /// A front of the bytes is taken. The error is out of memory.
     fn get(&mut self, bytes: &[u8]) -> Result<Option<usize>, AllocError>
         ensures got { IfOk result (λ taken. IfSome taken (λ n. Gets (take n bytes.now) self.old self.new)) }
         ensures count { IfOk result (λ taken. IfSome taken (λ n. (0 < n) × (n ≤ length bytes.now))) }

@@ -31,7 +31,7 @@ key_name Devices = codes "devices"
 key_name MediaDefault = codes "media_default"
 key_name FormatDefault = codes "format_default"
 
--- the fault that the code names, which is none for want of memory
+-- the fault that the code names, which is none where it is out of memory
 abbrev pub fault_of : SettingsFault → Option Fault
 fault_of code.NotToml = Some not_toml
 fault_of (code.Missing key) = Some (missing key)

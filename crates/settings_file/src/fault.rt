@@ -7,7 +7,7 @@ use base_types::Text;
 use std::alloc::{AllocError, AllocFailed, Global};
 use thiserror::Error;
 
-/// Why settings are refused: the first fault of a text, or want of memory.
+/// Why settings are refused: the first fault of a text, or out of memory.
 #[derive(Debug, Drop, Error)]
 pub enum SettingsFault {
     /// The text is no TOML.
@@ -52,7 +52,7 @@ impl<T: Drop> From<AllocFailed<T>> for SettingsFault {
     }
 }
 
-/// Writes a fault in words at the end of `output`, as `settings Missing name`. Want of memory isn't a
+/// Writes a fault in words at the end of `output`, as `settings Missing name`. Out of memory isn't a
 /// fault of the settings: it has no words, and is the error.
 ///
 /// # Errors

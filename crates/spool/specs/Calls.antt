@@ -30,14 +30,14 @@ unfinished_jobs jobs = count_by is_unfinished jobs
 abbrev pub is_full : SpoolRecord → Bool
 is_full spool = nat_le UNFINISHED_JOBS (unfinished_jobs spool.jobs) || nat_lt LAST_JOB_ID spool.next
 
--- why a job of these documents isn't taken, if there is a cause other than want of memory
+-- why a job of these documents isn't taken, if there is a cause other than out of memory
 abbrev pub new_refusal : SpoolRecord → List DocumentRecord → Option SpoolRefusal
 new_refusal spool documents =
     if nat_lt JOB_DOCUMENTS (length documents) || nat_lt JOB_OCTETS (octets_of documents) then Some Why.TooLarge
     else if is_full spool then Some Why.Busy
     else None
 
--- the cause, or want of memory where there is none
+-- the cause, or out of memory where there is none
 abbrev pub IsRefusal : Option SpoolRefusal → SpoolRefusal → Type 0
 IsRefusal cause Why.OutOfMemory = cause ≡ None
 IsRefusal cause refusal = cause ≡ Some refusal
@@ -90,7 +90,7 @@ taking_refusal document added found =
     else if added && is_too_large (length document.contents) s.job then Some Why.TooLarge
     else None) found None
 
--- why a document that someone sends isn't taken, if there is a cause other than want of memory
+-- why a document that someone sends isn't taken, if there is a cause other than out of memory
 abbrev pub document_refusal : List ℕ → Bool → DocumentRecord → Bool → Option SpooledRecord → Option SpoolRefusal
 document_refusal name is_operator document last found =
     or_else (asking_refusal name is_operator found) (taking_refusal document (adds document last) found)

@@ -32,7 +32,7 @@ impl Spool {
     /// last one the job is all in. A last document without octets isn't added.
     ///
     /// A refusal hands the document back and changes nothing. In this order: not found, not
-    /// authorized, not possible, too large, want of memory.
+    /// authorized, not possible, too large, out of memory.
     pub fn add_document(
         &mut self,
         id: JobId,
@@ -60,7 +60,7 @@ impl Spool {
         Ok(())
     }
 
-    /// Why a document that someone sends isn't taken, if there is a cause other than want of memory.
+    /// Why a document that someone sends isn't taken, if there is a cause other than out of memory.
     pub fn admits_document(
         &self,
         id: JobId,

@@ -33,7 +33,7 @@ impl Spool {
 
     /// Takes a job that is all in, under the next id: it is pending, or held.
     ///
-    /// A refusal hands the job back. In this order: too large, busy, want of memory.
+    /// A refusal hands the job back. In this order: too large, busy, out of memory.
     pub fn submit(&mut self, new: NewJob) -> Result<JobId, Refused>
         ensures ok { IfOk result (λ id. Takes self.old new false id self.new) }
         ensures kept { OnErr result (self.new ≡ self.old) }
@@ -46,7 +46,7 @@ impl Spool {
 
     /// Takes a job whose documents are still to come, under the next id.
     ///
-    /// In this order: busy, want of memory.
+    /// In this order: busy, out of memory.
     pub fn create(&mut self, new: NewJob) -> Result<JobId, SpoolRefusal>
         requires { new.documents ≡ [] }
         ensures ok { IfOk result (λ id. Takes self.old new true id self.new) }
