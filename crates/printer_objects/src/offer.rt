@@ -1,12 +1,12 @@
 //! What a printer offers (RFC 8011, sections 5.2 and 5.4): its devices' formats, media and sides, and
 //! its defaults. What is shown as supported is what a request may ask for.
-ghost use Rattle.std.specs.Prelude.{◌≡◌, ◌∷◌, [], find, map, IfOk, IsSome, OnOk, Contains};
+ghost use Rattle.std.specs.Prelude.{◌≡◌, find, map, IfOk, IsSome, OnOk, Contains};
 ghost use Rattle.std.specs.Option.{option_copied};
-ghost use Rattle.std.specs.List.{slice_get, flat_map};
+ghost use Rattle.std.specs.List.{slice_get};
 ghost use Rattle.std.specs.Str.{bytes_eq};
 ghost use Rattle.printer_objects.specs.DocumentFormat.{is_same_format};
 ghost use Rattle.printer_objects.specs.JobShown.{sides_keyword};
-ghost use Rattle.printer_objects.specs.Together.{with_entries, listed_by, distinct};
+ghost use Rattle.printer_objects.specs.Together.{with_entries, distinct};
 ghost use Rattle.printer_objects.specs.Offer.{listed_at, listed_of, formats_of, media_of, ready_media_of, is_two_sided, prints_two_sided, sides_of, format_named, medium_named, sides_named};
 
 use crate::document_format::is_same_format;
