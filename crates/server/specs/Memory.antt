@@ -1,7 +1,8 @@
 -- What a call of a wire in memory does.
-use Rattle.std.specs.Prelude.{ℕ, ◌≡◌, ◌<◌, ◌^◌, ◌⊎◌, ◌&&◌, ◌||◌, not, Bool, true, false, List, ◌++◌, take, Some, None, slice_get, slice_set}
+use Rattle.std.specs.Prelude.{ℕ, ◌≡◌, ◌^◌, nat_le, ◌⊎◌, ◌&&◌, ◌||◌, not, Bool, true, false, List, ◌++◌, take, position, Option, Some, None, slice_get, slice_set}
 use Rattle.std.specs.Option.{option_map_or}
 use Rattle.server.specs.declared.wire.Door.{Door}
+use Rattle.server.specs.declared.wire.Door.TheVariants.{Ipp, Lpd, Devices}
 use Rattle.server.specs.declared.wire.Answer.TheVariants.{Done, Waiting, End, Fault}
 use Rattle.server.specs.declared.memory_wire.Memory.{Memory}
 use Rattle.server.specs.Polls.{Poll, Accepts, Reads, Writes, Closes}
@@ -10,13 +11,23 @@ use Rattle.server.specs.Peer.{PeerState}
 pub record SamePeers (old new : Memory) : Type 0 where
   pub peers : new.peers.items ≡ old.peers.items
 
--- it comes in at a door, and isn't accepted yet
-abbrev pub IsNext : Door → PeerState → Type 0
-IsNext door peer = (peer.accepted ≡ false) × (peer.door ≡ door)
+abbrev pub is_same_door : Door → Door → Bool
+is_same_door Ipp Ipp = true
+is_same_door Lpd Lpd = true
+is_same_door Devices Devices = true
+is_same_door one other = false
 
--- no peer whose number is one of the wire's comes in at a door
-abbrev pub NoneComes : Door → List PeerState → Type 0
-NoneComes door peers = (id : ℕ) (peer : PeerState) → id < 2 ^ 32 → slice_get peers id ≡ Some peer → ¬ (IsNext door peer)
+-- whether it comes in at a door, and isn't accepted yet
+abbrev pub comes : Door → PeerState → Bool
+comes door peer = not peer.accepted && is_same_door peer.door door
+
+-- the place of the first peer that does
+abbrev pub next_at : Door → List PeerState → Option ℕ
+next_at door peers = position (comes door) peers
+
+-- none does, or the first has no number that can be given
+abbrev pub none_comes : Door → List PeerState → Bool
+none_comes door peers = option_map_or (λ place. nat_le (2 ^ 32) place) (next_at door peers) true
 
 -- whether nothing more is read of the peer of a number, once its input is: it ends, was given up, or there is none
 abbrev pub ends_reading : ℕ → List PeerState → Bool
@@ -49,17 +60,18 @@ pub record OnPeer (id : ℕ) (change : PeerState → PeerState → Type 0) (old 
   pub changes : change before after
   pub peers : new.peers.items ≡ slice_set old.peers.items id after
 
-abbrev pub IsAccepted : Door → PeerState → PeerState → Type 0
-IsAccepted door p q = IsNext door p × (q ≡ record p { accepted = true })
+abbrev pub IsAccepted : PeerState → PeerState → Type 0
+IsAccepted p q = q ≡ record p { accepted = true }
 
 -- a peer is given up; there may be none of the number
 abbrev pub IsGivenUp : ℕ → Memory → Memory → Type 0
 IsGivenUp id old new =
     OnPeer id (λ p q. q ≡ record p { closed = true }) old new ⊎ ((slice_get old.peers.items id ≡ None) × SamePeers old new)
 
+-- what each call does and answers
 abbrev pub MemoryPolls : Memory → Poll → Memory → Type 0
-MemoryPolls old (Accepts door (Done id)) new = OnPeer id (IsAccepted door) old new
-MemoryPolls old (Accepts door Waiting) new = SamePeers old new × NoneComes door old.peers.items
+MemoryPolls old (Accepts door (Done id)) new = (next_at door old.peers.items ≡ Some id) × OnPeer id IsAccepted old new
+MemoryPolls old (Accepts door Waiting) new = SamePeers old new × (none_comes door old.peers.items ≡ true)
 MemoryPolls old (Accepts door End) new = ⊥
 MemoryPolls old (Accepts door Fault) new = SamePeers old new
 MemoryPolls old (Reads id (Done bytes)) new = OnPeer id (Sends bytes) old new

@@ -1,7 +1,7 @@
 //! A wire in memory: what its peers send is there from the start, and what they get is kept. It
 //! stands in for sockets where a run is to be the same each time.
-ghost use Rattle.std.specs.Prelude.{◌≡◌, ◌<◌, ◌≤◌, ℕ, length, take, IsTrue, IsFalse, IfSome, IfNone, IfOk, OnErr, Some, slice_get, true, false, []};
-ghost use Rattle.server.specs.Memory.{Sends, Gets, SamePeers, IsNext, NoneComes, is_open, ends_reading, ends_writing};
+ghost use Rattle.std.specs.Prelude.{◌≡◌, ◌<◌, ◌≤◌, length, take, IsTrue, IsFalse, IfSome, IfNone, IfOk, OnErr, Some, true, false, []};
+ghost use Rattle.server.specs.Memory.{Sends, Gets, SamePeers, comes, next_at, is_open, ends_reading, ends_writing};
 
 use crate::wire::{Answer, Door, Wire, WireId};
 use std::alloc::{AllocError, Global};
@@ -96,20 +96,11 @@ impl Memory {
         true
     }
 
-    /// The number of the first peer of a door that isn't accepted yet.
-    fn next_peer(&self, door: Door) -> Option<WireId>
-        ensures some { IfSome result (λ id. (peer : _) × (slice_get self.now.peers.items id ≡ Some peer) × IsNext door peer) }
-        ensures none { IfNone result (NoneComes door self.now.peers.items) }
+    /// The place of the first peer of a door that isn't accepted yet.
+    fn next_peer(&self, door: Door) -> Option<usize>
+        ensures { result ≡ next_at door self.now.peers.items }
     {
-        for (place, peer) in self.peers.iter().enumerate() {
-            let Ok(id) = u32::try_from(place) else {
-                return None;
-            };
-            if peer.comes(door) {
-                return Some(id);
-            }
-        }
-        None
+        self.peers.iter().position(|peer| peer.comes(door))
     }
 
     /// Whether nothing more is read of a peer, once its input is.
@@ -162,8 +153,7 @@ impl Peer {
 
     /// Whether it comes in at a door.
     fn comes(&self, door: Door) -> bool
-        ensures yes { IsTrue result → IsNext door self.now }
-        ensures no { IsFalse result → ¬ (IsNext door self.now) }
+        ensures { result ≡ comes door self.now }
     {
         if self.accepted {
             return false;
@@ -232,10 +222,13 @@ impl Wire for Memory {
             return Answer::Fault;
         }
         match self.next_peer(door) {
-            Some(id) => {
-                self.peers[id as usize].accepted = true;
-                Answer::Done(id)
-            }
+            Some(place) => match u32::try_from(place) {
+                Ok(id) => {
+                    self.peers[place].accepted = true;
+                    Answer::Done(id)
+                }
+                Err(_) => Answer::Waiting,
+            },
             None => Answer::Waiting,
         }
     }
