@@ -17,13 +17,7 @@ pub struct Example {
     pub status: ExitStatus,
 }
 
-pub const EXAMPLES: [Example; 17] = [
-    Example {
-        input: "one_job.trace",
-        output: "one_job.out",
-        program: Program::Replay,
-        status: ExitStatus::Done,
-    },
+pub const EXAMPLES: [Example; 16] = [
     Example {
         input: "two_devices.trace",
         output: "two_devices.out",

@@ -1,4 +1,4 @@
-//! Plays each example of `data/` (`examples/` at the top), and compares what is written with what its
+//! Plays each example of `data/`, which `examples/README.md` tells of, and compares what is written with what its
 //! file says must be; of a trace also the texts of its plans are put before the checker. It prints a
 //! line for each, and ends with status 1 where one differs.
 //!
