@@ -1,5 +1,5 @@
 -- The text of a plan: its lines, each with a line feed.
-use Rattle.std.specs.Prelude.{◌≡◌, ℕ, ℤ, List, [], ◌∷◌, ◌++◌, length, Option, Some, None, codes}
+use Rattle.std.specs.Prelude.{ℕ, ℤ, List, [], ◌∷◌, ◌++◌, Option, Some, None, codes}
 use Rattle.std.specs.Fmt.{decimal, signed_decimal}
 use Rattle.base_types.specs.declared.needs.Cause.{Cause}
 use Rattle.base_types.specs.declared.needs.Cause.TheVariants as causes

@@ -1,5 +1,5 @@
 -- What the lines of a trace give is given by one run of the core over their events.
-use Rattle.std.proofs.Common.{◌≡◌, ◌⊎◌, ℕ, suc, Bool, List, [], ◌∷◌, ◌++◌, refl, ap, sym, ◌∙◌, subst, inl, inr, append-nil}
+use Rattle.std.proofs.Common.{◌≡◌, ℕ, suc, Bool, List, [], ◌∷◌, ◌++◌, refl, ap, sym, ◌∙◌, subst, inl, inr, append-nil}
 use Rattle.std.proofs.lemmas.List.{append_assoc}
 use Rattle.std.specs.List.{concat}
 use Rattle.dispatcher.specs.declared.reply.Reply.{Reply}
@@ -12,12 +12,11 @@ use Rattle.dispatcher.specs.Run.{Comes, Run}
 use Rattle.print_room.specs.State.{State}
 use Rattle.replies.specs.declared.asked.Asked.{Asked}
 use Rattle.replies.specs.declared.asked.Asked.TheVariants as Body
-use Rattle.replies.specs.Asked.{Asks}
 use Rattle.streams.specs.Said.{Said, said_after}
 use Rattle.replay.specs.declared.trace.Line.{Line}
 use Rattle.replay.specs.declared.trace.Line.TheVariants as Form
 use Rattle.replay.specs.Printed.{Prints, cancel_lines, reply_line}
-use Rattle.replay.specs.Replay.{Standing, Answers, Happens, ComesTo, Gives, IsReplyOf, LinesGive}
+use Rattle.replay.specs.Replay.{Standing, Answers, Happens, ComesTo, Gives, LinesGive}
 use Rattle.replay.specs.OneRun.{PrintsEach, Part, nothing, then_part, IsOne, BodyMeans, Means, moment_after, LinesMean, IsOneRun}
 
 -- ---- a run hears the same after whatever was heard before
