@@ -3,12 +3,15 @@
 //! verdict on it.
 #![tactic(auto)]
 
+ghost use Rattle.settings_file.specs.Settings.{MeetsLimits};
+
 mod words;
 
 use crate::words::{Asked, Serving, read_words};
 use plan_audit::run_check;
 use replay::run_replay;
-use serve::{Server, read_serve, serve};
+use serve::{Ports, Server, read_serve, serve};
+use settings_file::Settings;
 use std::alloc::AllocError;
 use std::io::ErrorKind;
 use std::net::IpAddr;
@@ -45,25 +48,47 @@ fn lent<'a>(rt: &HostRuntime, words: &'a [String]) -> Result<Vec<&'a str>, Alloc
     Ok(texts)
 }
 
+/// Writes where a server listens, a line for each door.
+fn announce(rt: &HostRuntime, ports: Ports) -> io::Result<()> {
+    let (ipp, lpd, devices) = (ports.ipp, ports.lpd, ports.devices);
+    println!(rt; "ipp {ipp}")?;
+    println!(rt; "lpd {lpd}")?;
+    println!(rt; "devices {devices}")
+}
+
+/// Says where a server listens, and has it take its turns.
+fn announce_and_serve(rt: &HostRuntime, server: &mut Server, turns: u64) -> io::Result<()> {
+    announce(rt, server.ports()?)?;
+    serve(rt, server, turns)
+}
+
+/// Serves with these settings.
+fn serve_settings(
+    rt: &HostRuntime,
+    settings: Settings,
+    address: IpAddr,
+    serving: Serving<'_>,
+) -> io::Result<ExitStatus>
+    requires { MeetsLimits settings }
+{
+    let mut server = Server::open(rt.alloc(), rt, settings, address, serving.ports)?;
+    match announce_and_serve(rt, &mut server, serving.turns) {
+        Ok(()) => Ok(ExitStatus::Done),
+        Err(error) => Err(error),
+    }
+}
+
 /// Serves. The error is the system's: of the file, the sockets, the clock or the output.
 fn run_serve(rt: &HostRuntime, serving: Serving<'_>) -> io::Result<ExitStatus> {
-    let bytes = fs::read(rt, serving.settings)?;
-    let settings = match read_serve(rt.alloc(), &bytes, &mut rt.stderr()) {
-        Ok(settings) => settings,
-        Err(status) => return Ok(status),
-    };
     let address = serving
         .address
         .parse::<IpAddr>()
         .map_err(|_| io::Error::from(ErrorKind::InvalidInput))?;
-    let mut server = Server::open(rt.alloc(), rt, settings, address, serving.ports)?;
-    let ports = server.ports()?;
-    let (ipp, lpd, devices) = (ports.ipp, ports.lpd, ports.devices);
-    println!(rt; "ipp {ipp}")?;
-    println!(rt; "lpd {lpd}")?;
-    println!(rt; "devices {devices}")?;
-    serve(rt, &mut server, serving.turns)?;
-    Ok(ExitStatus::Done)
+    let bytes = fs::read(rt, serving.settings)?;
+    match read_serve(rt.alloc(), &bytes, &mut rt.stderr()) {
+        Ok(settings) => serve_settings(rt, settings, address, serving),
+        Err(status) => Ok(status),
+    }
 }
 
 /// Does what the words ask for, and gives the status.
