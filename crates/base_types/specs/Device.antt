@@ -2,14 +2,18 @@
 use Rattle.std.specs.Prelude.{ℕ, List, Option, map, filter}
 use Rattle.base_types.specs.declared.device.Activity.{Activity}
 use Rattle.base_types.specs.declared.device.Medium.{Medium}
+use Rattle.base_types.specs.declared.finishings.Finishings.{Finishings}
 
 pub record Device : Type 0 where
   pub rate_one : ℕ
   pub rate_two : Option ℕ
   pub setup : ℕ
   pub formats : List (List ℕ)
+  pub finishings : Finishings
   pub media : List Medium
   pub activity : Activity
+  -- it begins no job before this moment
+  pub not_before : ℕ
 
 -- the names of the media that are loaded
 abbrev pub loaded_media : Device → List (List ℕ)

@@ -1,5 +1,6 @@
 pub mod Ranges
 pub mod Forms
+pub mod Finishings
 pub mod Needs
 pub mod Device
 pub mod Report

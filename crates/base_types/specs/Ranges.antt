@@ -1,6 +1,6 @@
 -- The ranges of the server's numbers.
 use Rattle.std.specs.Prelude.{ℕ, ◌≤◌}
-use Rattle.base_types.specs.declared.limits.TheConstants.Limits.{LAST_JOB_ID, LAST_MOMENT, HIGHEST_PRIORITY, IMPRESSIONS, COPIES, RATE, SETUP}
+use Rattle.base_types.specs.declared.limits.TheConstants.Limits.{LAST_JOB_ID, LAST_MOMENT, HIGHEST_PRIORITY, IMPRESSIONS, COPIES, RATE, SETUP, NOT_BEFORE}
 
 -- an IPP job-id (RFC 8011, section 5.3.2)
 abbrev pub IsJobId : ℕ → Type 0
@@ -29,3 +29,7 @@ IsRate rate = (1 ≤ rate) × (rate ≤ RATE)
 -- a device's time before a job's first impression, in ms
 abbrev pub IsSetup : ℕ → Type 0
 IsSetup setup = setup ≤ SETUP
+
+-- a moment before which a device begins no job
+abbrev pub IsNotBefore : ℕ → Type 0
+IsNotBefore moment = moment ≤ NOT_BEFORE

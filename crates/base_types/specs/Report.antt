@@ -8,6 +8,7 @@ pub data ReportRecord : Type 0 where
   SaysMedia : (names : List (List ℕ)) → ReportRecord
   SaysReady : ReportRecord
   SaysStop : ReportRecord
+  SaysBusy : (time : ℕ) → ReportRecord
   SaysPages : (job printed : ℕ) → ReportRecord
   SaysDone : (job : ℕ) → ReportRecord
   SaysFail : (job : ℕ) → ReportRecord
@@ -19,6 +20,7 @@ report_of (reported.Hello name) = SaysHello name
 report_of (reported.Media names) = SaysMedia names.items
 report_of reported.Ready = SaysReady
 report_of reported.Stop = SaysStop
+report_of (reported.Busy time) = SaysBusy time
 report_of (reported.Pages job printed) = SaysPages job printed
 report_of (reported.Done job) = SaysDone job
 report_of (reported.Fail job) = SaysFail job

@@ -1,6 +1,7 @@
 //! What a device is at a moment: what it can do, which media it has, and what it does.
 ghost use Rattle.std.specs.Prelude.{◌≡◌};
 
+use crate::finishings::Finishings;
 use crate::ids::{DeviceId, JobId};
 use crate::text::Text;
 use std::marker::Model;
@@ -46,14 +47,19 @@ pub struct DeviceNow {
     pub setup: u32,
     /// The document formats that it prints.
     pub formats: Vec<Text>,
+    /// The finishings that it has.
+    pub finishings: Finishings,
     /// The media of its settings, in their order, each loaded or not.
     pub media: Vec<Medium>,
     pub activity: Activity,
+    /// The moment before which it begins no job, in ms, at most [`Limits::NOT_BEFORE`]; 0 where it
+    /// named none.
+    pub not_before: u64,
 }
 
 impl Model for DeviceNow {
     ghost use Rattle.base_types.specs.Device.{Device};
-    ghost use Rattle.base_types.specs.Ranges.{IsRate, IsSetup};
+    ghost use Rattle.base_types.specs.Ranges.{IsNotBefore, IsRate, IsSetup};
     ghost use Rattle.std.specs.Option.{ForSome};
 
     ghost Value = { Device };
@@ -63,11 +69,13 @@ impl Model for DeviceNow {
       rate_two = d.rate_two;
       setup = d.setup;
       formats = d.formats.items;
+      finishings = d.finishings;
       media = d.media.items;
       activity = d.activity;
+      not_before = d.not_before;
     } };
 
-    ghost invariant = { λ d. IsRate d.rate_one × ForSome d.rate_two IsRate × IsSetup d.setup };
+    ghost invariant = { λ d. IsRate d.rate_one × ForSome d.rate_two IsRate × IsSetup d.setup × IsNotBefore d.not_before };
 }
 
 /// The devices of a printer, in the order of the settings. In clauses it is the list of their places.

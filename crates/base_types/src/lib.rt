@@ -11,6 +11,7 @@
 #![tactic(auto)]
 
 mod device;
+mod finishings;
 mod form;
 mod ids;
 mod limits;
@@ -21,6 +22,7 @@ mod report;
 mod text;
 
 pub use device::{Activity, DeviceNow, Interrupted, Medium, PrinterSet, Printing};
+pub use finishings::Finishings;
 pub use form::{is_format, is_media, is_name, is_uri_base};
 pub use ids::{DeviceId, JobId, PrinterId};
 pub use limits::Limits;

@@ -1,3 +1,4 @@
+use crate::finishings::Finishings;
 use crate::ids::{JobId, PrinterId};
 use crate::text::Text;
 use std::marker::Model;
@@ -44,6 +45,7 @@ pub struct Needs {
     /// The format of each document.
     pub formats: Vec<Text>,
     pub sides: Sides,
+    pub finishings: Finishings,
     pub media: Text,
     /// Impressions of one copy, as estimated: 1 to [`Limits::IMPRESSIONS`].
     pub impressions: u32,
@@ -61,6 +63,7 @@ impl Model for Needs {
       printer = n.printer;
       formats = n.formats.items;
       sides = n.sides;
+      finishings = n.finishings;
       media = n.media;
       impressions = n.impressions;
       copies = n.copies;

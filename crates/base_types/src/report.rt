@@ -13,6 +13,8 @@ pub enum Report {
     Ready,
     /// It stops, with the job that it has.
     Stop,
+    /// It begins no job for so many ms, counted from now. What it said of this before is past.
+    Busy(u32),
     /// So many impressions of the job are printed, all copies together.
     Pages { job: u32, printed: u32 },
     /// The job is printed.

@@ -4,6 +4,7 @@ use Rattle.std.specs.Prelude.{ℕ, ◌≡◌, ◌==◌, ◌&&◌, not, nat_lt, B
 use Rattle.std.specs.Option.{option_map_or}
 use Rattle.std.specs.Str.{bytes_eq}
 use Rattle.base_types.specs.declared.limits.TheConstants.Limits.{JOB_OCTETS}
+use Rattle.base_types.specs.Finishings.{no_finishings}
 use Rattle.settings_file.specs.Settings.{PrinterEntry}
 use Rattle.ipp_codec.specs.Message.{IppAttribute, IppGroup}
 use Rattle.printer_objects.specs.Created.{created_group}
@@ -47,6 +48,7 @@ submission_of request now place format medium template = record {
   name = request.job_name;
   priority = template.priority;
   sides = template.sides;
+  finishings = no_finishings;
   media = medium;
   copies = template.copies;
   held = template.held;

@@ -10,7 +10,7 @@ ghost use Rattle.dispatcher.specs.Target.{printer_of};
 use crate::event::{PrintJob, Target};
 use crate::reply::Reply;
 use crate::status::Status;
-use base_types::{Limits, Moment, PrinterId, Text};
+use base_types::{Finishings, Limits, Moment, PrinterId, Text};
 use ipp_codec::Group;
 use job_objects::{JobReasons, JobState, Reason};
 use job_template::{JobTemplate, RequestAttributes, medium_of, template_of};
@@ -206,6 +206,7 @@ fn new_job(
         name: request.job_name,
         priority: template.priority,
         sides: template.sides,
+        finishings: Finishings::none(),
         media,
         copies: template.copies,
         held: template.held,

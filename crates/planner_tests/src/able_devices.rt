@@ -1,6 +1,7 @@
 //! Which devices are able to print a job, and why none is.
 use base_types::{
-    Activity, Cause, DeviceId, DeviceNow, Medium, Needs, PrinterId, PrinterSet, Sides, Text,
+    Activity, Cause, DeviceId, DeviceNow, Finishings, Medium, Needs, PrinterId, PrinterSet, Sides,
+    Text,
 };
 use capabilities::{able, stranded_cause};
 use std::alloc::{AllocError, Global};
@@ -14,6 +15,7 @@ fn job(alloc: Global, format: &[u8], sides: Sides) -> Result<Needs, AllocError> 
         printer: PrinterId::new(0),
         formats,
         sides,
+        finishings: Finishings::none(),
         media: Text::copy_of(alloc, b"iso_a4_210x297mm")?,
         impressions: 1,
         copies: 1,
@@ -34,12 +36,14 @@ fn device(alloc: Global, two_sided: bool, a4: bool, runs: bool) -> Result<Device
         rate_two: if two_sided { Some(10) } else { None },
         setup: 0,
         formats,
+        finishings: Finishings::none(),
         media,
         activity: if runs {
             Activity::Running(None)
         } else {
             Activity::Stopped(None)
         },
+        not_before: 0,
     })
 }
 

@@ -4,7 +4,8 @@ ghost use Rattle.base_types.specs.Ranges.{IsImpressions, IsCopies, IsRate, IsSet
 
 use crate::problems::{THREE, class_of};
 use base_types::{
-    Activity, DeviceId, DeviceNow, JobId, Limits, Medium, Needs, PrinterId, PrinterSet, Sides, Text,
+    Activity, DeviceId, DeviceNow, Finishings, JobId, Limits, Medium, Needs, PrinterId, PrinterSet,
+    Sides, Text,
 };
 use cost_table::{ClassJob, build, time};
 use std::alloc::{AllocError, Global};
@@ -22,6 +23,7 @@ fn job(alloc: Global, impressions: u32, copies: u32) -> Result<Needs, AllocError
         printer: PrinterId::new(0),
         formats,
         sides: Sides::One,
+        finishings: Finishings::none(),
         media: Text::copy_of(alloc, b"iso_a4_210x297mm")?,
         impressions,
         copies,
@@ -43,8 +45,10 @@ fn device(alloc: Global, rate_one: u32, setup: u32, a4: bool) -> Result<DeviceNo
         rate_two: None,
         setup,
         formats,
+        finishings: Finishings::none(),
         media,
         activity: Activity::Running(None),
+        not_before: 0,
     })
 }
 

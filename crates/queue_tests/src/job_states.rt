@@ -1,5 +1,5 @@
 //! The table of a job's states.
-use base_types::{JobId, Moment, Needs, PrinterId, Priority, Sides, Text};
+use base_types::{Finishings, JobId, Moment, Needs, PrinterId, Priority, Sides, Text};
 use job_objects::{
     Canceler, Job, JobChange, JobReasons, JobState, Reason, StateRefusal, job_step, reasons,
 };
@@ -33,6 +33,7 @@ fn needs(alloc: Global) -> Result<Needs, AllocError> {
         printer: PrinterId::new(0),
         formats: Vec::new(alloc),
         sides: Sides::One,
+        finishings: Finishings::none(),
         media: Text::copy_of(alloc, b"iso_a4_210x297mm")?,
         impressions: 1,
         copies: 1,

@@ -1,7 +1,7 @@
 //! Jobs that come, are canceled, given up and forgotten.
 ghost use Rattle.std.specs.Prelude.{◌≡◌, [], IfOk};
 
-use base_types::{JobId, Limits, Moment, PrinterId, Priority, Sides, Text};
+use base_types::{Finishings, JobId, Limits, Moment, PrinterId, Priority, Sides, Text};
 use job_objects::{DeviceSays, JobState};
 use spool::{Asker, Document, NewJob, Octets, Spool, SpoolRefusal};
 use std::alloc::{AllocError, Global};
@@ -25,6 +25,7 @@ fn job(alloc: Global) -> Result<NewJob, AllocError>
         name: Text::copy_of(alloc, b"letter")?,
         priority: Priority::normal(),
         sides: Sides::One,
+        finishings: Finishings::none(),
         media: Text::copy_of(alloc, b"iso_a4_210x297mm")?,
         copies: 1,
         held: false,

@@ -1,5 +1,5 @@
 //! Lines between the server and its devices.
-use base_types::{JobId, Needs, PrinterId, Report, Sides, Text};
+use base_types::{Finishings, JobId, Needs, PrinterId, Report, Sides, Text};
 use device_link::{LinkError, LinkReader, read_report, write_cancel, write_job};
 use std::alloc::{AllocError, Global};
 use std::test::Fail;
@@ -152,6 +152,7 @@ fn lines_to_a_device(rt: HostRuntime) -> Result<(), Fail> {
         printer: PrinterId::new(0),
         formats: Vec::new(alloc),
         sides: Sides::One,
+        finishings: Finishings::none(),
         media: Text::copy_of(alloc, b"iso_a4_210x297mm")?,
         impressions: 1,
         copies: 1,

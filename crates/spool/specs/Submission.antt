@@ -1,5 +1,6 @@
 -- A job as it is submitted, and the job that it becomes.
 use Rattle.std.specs.Prelude.{ℕ, ◌||◌, Bool, false, if◌then◌else◌, List, map, length, Option, None}
+use Rattle.base_types.specs.declared.finishings.Finishings.{Finishings}
 use Rattle.base_types.specs.declared.needs.Sides.{Sides}
 use Rattle.job_objects.specs.declared.job_state.JobState.TheVariants.{Pending, Held}
 use Rattle.job_objects.specs.Impressions.{impressions_of}
@@ -13,6 +14,7 @@ pub record Submission : Type 0 where
   pub name : List ℕ
   pub priority : ℕ
   pub sides : Sides
+  pub finishings : Finishings
   pub media : List ℕ
   pub copies : ℕ
   pub held : Bool
@@ -31,6 +33,7 @@ spooled_of new id incoming = record {
       printer = new.printer;
       formats = map (λ d. d.format) new.documents;
       sides = new.sides;
+      finishings = new.finishings;
       media = new.media;
       impressions = impressions_of new.impressions (octets_of new.documents);
       copies = new.copies;

@@ -5,7 +5,7 @@ ghost use Rattle.spool.specs.Submission.{spooled_of};
 
 use crate::document::Document;
 use crate::spooled::SpooledJob;
-use base_types::{JobId, Limits, Moment, Needs, PrinterId, Priority, Sides, Text};
+use base_types::{Finishings, JobId, Limits, Moment, Needs, PrinterId, Priority, Sides, Text};
 use job_objects::{Job, JobState, estimated_impressions};
 use std::alloc::{AllocError, Global};
 use std::marker::Model;
@@ -19,6 +19,7 @@ pub struct NewJob {
     pub name: Text,
     pub priority: Priority,
     pub sides: Sides,
+    pub finishings: Finishings,
     pub media: Text,
     /// 1 to [`base_types::Limits::COPIES`].
     pub copies: u32,
@@ -42,6 +43,7 @@ impl Model for NewJob {
       name = n.name;
       priority = n.priority;
       sides = n.sides;
+      finishings = n.finishings;
       media = n.media;
       copies = n.copies;
       held = n.held;
@@ -91,6 +93,7 @@ pub(crate) fn taken(new: NewJob, id: JobId, formats: Vec<Text>, incoming: bool) 
         printer: new.printer,
         formats,
         sides: new.sides,
+        finishings: new.finishings,
         media: new.media,
         impressions: estimated_impressions(new.impressions, octets),
         copies: new.copies,

@@ -1,6 +1,6 @@
 //! A job that is new, one that is held and one that is printed, and what they make of their printer.
 use super::{reply, reply_of, rows, texts};
-use base_types::{JobId, Limits, Moment, Needs, PrinterId, Priority, Sides, Text};
+use base_types::{Finishings, JobId, Limits, Moment, Needs, PrinterId, Priority, Sides, Text};
 use job_objects::{Job, JobState, Printer};
 use printer_objects::{JobShown, job_attributes, keeps_busy, printer_reason, printer_state};
 use std::alloc::{AllocError, Global};
@@ -58,6 +58,7 @@ fn needs(alloc: Global, sides: Sides) -> Result<Needs, AllocError> {
         printer: PrinterId::new(0),
         formats: Vec::new(alloc),
         sides,
+        finishings: Finishings::none(),
         media: Text::copy_of(alloc, b"iso_a4_210x297mm")?,
         impressions: 1,
         copies: 1,

@@ -1,6 +1,6 @@
 //! Printers of the small settings, and one with two devices.
 use super::{reply, reply_of, rows, texts};
-use base_types::{Activity, DeviceId, DeviceNow, Medium, Moment, PrinterSet, Text};
+use base_types::{Activity, DeviceId, DeviceNow, Finishings, Medium, Moment, PrinterSet, Text};
 use job_objects::Printer;
 use printer_objects::{Offer, PrinterShown, printer_attributes};
 use settings_file::PrinterSettings;
@@ -136,8 +136,10 @@ fn device(alloc: Global, row: DeviceRow) -> Result<DeviceNow, AllocError> {
         rate_two: if row.two_sided { Some(20) } else { None },
         setup: 0,
         formats: texts(alloc, row.formats)?,
+        finishings: Finishings::none(),
         media: media_of(alloc, row.media, row.loaded)?,
         activity: Activity::Running(None),
+        not_before: 0,
     })
 }
 

@@ -1,0 +1,27 @@
+//! What is done to the sheets of a job once they are printed.
+ghost use Rattle.std.specs.Prelude.{◌≡◌};
+ghost use Rattle.base_types.specs.Finishings.{no_finishings};
+
+/// The finishings that a job wants, or that a device has (RFC 8011, section 5.2.6).
+#[derive(Clone, Copy, Debug, PartialEq, Eq)]
+pub struct Finishings {
+    /// The sheets of a copy are stapled.
+    pub staple: bool,
+    /// They are punched.
+    pub punch: bool,
+    /// They are bound.
+    pub bind: bool,
+}
+
+impl Finishings {
+    /// No finishing at all.
+    pub fn none() -> Finishings
+        ensures { result ≡ no_finishings }
+    {
+        Finishings {
+            staple: false,
+            punch: false,
+            bind: false,
+        }
+    }
+}
