@@ -76,8 +76,9 @@ impl Limits {
     pub const JOB_TIME: u64 = 599_403_600_000;
     /// Time for which a device says that it isn't free, in ms.
     pub const BUSY: u32 = 2_147_483_647;
-    /// The last moment until which a device isn't free: `LAST_MOMENT + BUSY`.
-    pub const NOT_BEFORE: u64 = 281_477_124_194_303;
+    /// The moment from which every device may begin a job: 2^49, past any moment and any time that a
+    /// device may say.
+    pub const NOT_BEFORE: u64 = 562_949_953_421_312;
     /// Time until a device is free, in ms: 2^54.
     pub const WAIT: u64 = 18_014_398_509_481_984;
     /// A total or a price in the text of a plan, in ms: 2^62.

@@ -4,15 +4,19 @@ use Rattle.std.specs.Option.{option_and_then}
 use Rattle.std.specs.List.{list_all}
 use Rattle.std.specs.Str.{bytes_eq}
 use Rattle.std.specs.Str.Lines.{strip_carriage_return}
-use Rattle.base_types.specs.declared.limits.TheConstants.Limits.{LAST_JOB_ID, DEVICE_LINE_BYTES}
+use Rattle.base_types.specs.declared.limits.TheConstants.Limits.{BUSY, LAST_JOB_ID, DEVICE_LINE_BYTES}
 use Rattle.text.specs.Digits.{number_up_to}
 use Rattle.text.specs.Parts.{parts_at, words_of}
 use Rattle.base_types.specs.Forms.{is_name, is_media}
-use Rattle.base_types.specs.Report.{ReportRecord, SaysHello, SaysMedia, SaysReady, SaysStop, SaysPages, SaysDone, SaysFail}
+use Rattle.base_types.specs.Report.{ReportRecord, SaysHello, SaysMedia, SaysReady, SaysStop, SaysBusy, SaysPages, SaysDone, SaysFail}
 
 -- a number up to the last job id
 abbrev pub number_in : List ℕ → Option ℕ
 number_in word = number_up_to LAST_JOB_ID word
+
+-- a time, in ms
+abbrev pub time_in : List ℕ → Option ℕ
+time_in word = number_up_to BUSY word
 
 -- the names of media, with commas between them
 unfoldable pub media_in : List ℕ → Option (List (List ℕ))
@@ -34,6 +38,7 @@ unfoldable pub said_of_one : List ℕ → List ℕ → Option ReportRecord
 said_of_one word operand =
     if bytes_eq word (codes "HELLO") then option_map SaysHello (name_in operand)
     else if bytes_eq word (codes "MEDIA") then option_map SaysMedia (media_in operand)
+    else if bytes_eq word (codes "BUSY") then option_map SaysBusy (time_in operand)
     else if bytes_eq word (codes "DONE") then option_map SaysDone (number_in operand)
     else if bytes_eq word (codes "FAIL") then option_map SaysFail (number_in operand)
     else None

@@ -8,7 +8,7 @@ ghost use Rattle.base_types.specs.Report.{report_of};
 ghost use Rattle.text.specs.Parts.{parts_at, words_of};
 ghost use Rattle.device_link.specs.Line.{media_in, name_in, said_alone, said_of_one, said_of_two, said, in_turn, report_in, reported_by};
 
-use crate::number::number_in;
+use crate::number::{number_in, time_in};
 use base_types::{Limits, Report, Text, is_media, is_name};
 use std::alloc::{AllocError, Global};
 use text::{cut_at, parts};
@@ -103,6 +103,8 @@ fn read_one(alloc: Global, word: &[u8], operand: &[u8]) -> Result<Option<Report>
         Ok(read_name(alloc, operand)?.map(|name| Report::Hello(name)))
     } else if word == b"MEDIA".as_slice() {
         Ok(read_media(alloc, operand)?.map(|names| Report::Media(names)))
+    } else if word == b"BUSY".as_slice() {
+        Ok(time_in(operand).map(|time| Report::Busy(time)))
     } else if word == b"DONE".as_slice() {
         Ok(number_in(operand).map(|job| Report::Done { job }))
     } else if word == b"FAIL".as_slice() {

@@ -18,7 +18,7 @@ use Rattle.cost_table.specs.Class.{Class}
 use Rattle.prices.specs.declared.plan.PlannedClass.{PlannedClass}
 use Rattle.prices.specs.Way.{IsWay, queue_of, times_named}
 use Rattle.print_room.specs.declared.started.Started.{Started}
-use Rattle.print_room.specs.Dispatch.{first_of, first_of_queue, or_next, is_free, starts_from, starts_of, beginning, beginning_all, marked_state, Dispatches}
+use Rattle.print_room.specs.Dispatch.{first_of, first_of_queue, or_next, runs_idle, is_free, starts_from, starts_of, beginning, beginning_all, marked_state, Dispatches}
 use Rattle.prices.specs.Plan.{PlanRecord}
 use Rattle.base_types.specs.declared.needs.Stranded.{Stranded}
 use Rattle.job_objects.specs.declared.job_change.JobChange.TheVariants.{Begin}
@@ -31,7 +31,7 @@ use Rattle.spool.proofs.Ids.{changed_id, marked_id}
 use Rattle.job_objects.specs.JobStep.{changed_from}
 use Rattle.spool.specs.OnDevice.{is_on_device}
 use Rattle.spool.proofs.OnDevice.{found_map, found_other, found_with, changed_on, stay_with, marked_on, stay_map}
-use Rattle.print_room.specs.Activity.{job_on}
+use Rattle.print_room.specs.Activity.{job_on, wait_of}
 use Rattle.print_room.specs.State.{State, with_device, doing}
 use Rattle.print_room.specs.Ready.{ready_of, class_of, belongs}
 use Rattle.print_room.specs.GoodPlan.{IsGoodPlan, waits_of}
@@ -211,11 +211,14 @@ marked_waits paused stranded jobs id =
 
 -- ---- what begins, device by device
 
-free_job : (activity : Activity) → is_free activity ≡ true → job_on activity ≡ None
-free_job (Running None) free = refl
-free_job (Running (Some printing)) free = absurd (true≢false (sym free))
-free_job (Stopped None) free = absurd (true≢false (sym free))
-free_job (Stopped (Some interrupted)) free = absurd (true≢false (sym free))
+idle_job : (activity : Activity) → runs_idle activity ≡ true → job_on activity ≡ None
+idle_job (Running None) free = refl
+idle_job (Running (Some printing)) free = absurd (true≢false (sym free))
+idle_job (Stopped None) free = absurd (true≢false (sym free))
+idle_job (Stopped (Some interrupted)) free = absurd (true≢false (sym free))
+
+free_job : (now : ℕ) (d : Device) → is_free now d ≡ true → job_on d.activity ≡ None
+free_job now d free = idle_job d.activity (first_of_both (runs_idle d.activity) (wait_of now d == 0) free)
 
 -- the device on which a job begins
 device_is : (classes : List PlannedClass) (place : ℕ) (start : Started) → first_of classes place ≡ Some start → start.device ≡ place
@@ -244,17 +247,17 @@ next_begun now classes apart place d devices start state is can =
           ∙ next.waits k other le found;
     }
 
-starts_can : (now : ℕ) (classes : List PlannedClass) → AllApart classes → (place : ℕ) (devices : List Device) (state : State) → CanFrom classes place devices state → AllCanBegin now (starts_from classes place devices) state
+starts_can : (now : ℕ) (classes : List PlannedClass) → AllApart classes → (place : ℕ) (devices : List Device) (state : State) → CanFrom classes place devices state → AllCanBegin now (starts_from now classes place devices) state
 starts_can now classes apart place [] state can = tt
 starts_can now classes apart place (d ∷ devices) state can =
-    step (is_free d.activity) refl (first_of classes place) refl (λ other next. starts_can now classes apart (suc place) devices other next)
+    step (is_free now d) refl (first_of classes place) refl (λ other next. starts_can now classes apart (suc place) devices other next)
   where
-    step : (b : Bool) → is_free d.activity ≡ b → (o : Option Started) → first_of classes place ≡ o → ((other : State) → CanFrom classes (suc place) devices other → AllCanBegin now (starts_from classes (suc place) devices) other) → AllCanBegin now (option_to_list (if b then o else None) ++ starts_from classes (suc place) devices) state
+    step : (b : Bool) → is_free now d ≡ b → (o : Option Started) → first_of classes place ≡ o → ((other : State) → CanFrom classes (suc place) devices other → AllCanBegin now (starts_from now classes (suc place) devices) other) → AllCanBegin now (option_to_list (if b then o else None) ++ starts_from now classes (suc place) devices) state
     step true free (Some start) is rest = (
       record {
         free =
             let at : start.device ≡ place = device_is classes place start is in
-            subst (λ (n : ℕ). job_of state.devices n ≡ None) (omega (arith, at)) (can.same 0 d refl ∙ free_job d.activity free);
+            subst (λ (n : ℕ). job_of state.devices n ≡ None) (omega (arith, at)) (can.same 0 d refl ∙ free_job now d free);
         waits = can.waits place start (omega arith) is;
       },
       rest (beginning now start state) (next_begun now classes apart place d devices start state is can),
@@ -285,7 +288,7 @@ module _ (s : State) (plan : PlanRecord) (now : ℕ) (good : IsGoodPlan now s pl
       class_waits at.0 class below job (subst (λ (cs : List PlannedClass). Contains (ids_of (get_or cs at.0 class)) job) (sym is) (at.2 class))
 
   -- what begins under a good plan can begin
-  pub plan_can_begin : AllCanBegin now (starts_of s plan) (marked_state now plan s)
+  pub plan_can_begin : AllCanBegin now (starts_of now s plan) (marked_state now plan s)
   plan_can_begin = starts_can now plan.classes apart 0 s.devices (marked_state now plan s) (record {
     same = devices_same s.devices;
     waits = λ k start le is. marked_waits s.paused plan.stranded s.spool.jobs start.job ∙ some_waits plan.classes refl start.job (some_has plan.classes apart k start is);
@@ -367,14 +370,14 @@ can_next now i starts start s inside is can = subst (λ (ss : List Started). All
 -- ---- a dispatch
 
 -- devices keep their jobs over it
-pub dispatch_keeps : (s : State) (plan : PlanRecord) (now : ℕ) → IsGoodPlan now s plan → IsSpool s.spool → Agree s.devices s.spool.jobs → AllKeep s (beginning_all now (starts_of s plan) (marked_state now plan s))
+pub dispatch_keeps : (s : State) (plan : PlanRecord) (now : ℕ) → IsGoodPlan now s plan → IsSpool s.spool → Agree s.devices s.spool.jobs → AllKeep s (beginning_all now (starts_of now s plan) (marked_state now plan s))
 dispatch_keeps s plan now good spool agree =
     let marked_s = marked_state now plan s in
     let stay = stay_map (marked_by s.paused plan.stranded) (marked_on s.paused plan.stranded) s.spool.jobs in
-    keep_then s marked_s (beginning_all now (starts_of s plan) marked_s)
+    keep_then s marked_s (beginning_all now (starts_of now s plan) marked_s)
     (keep_from s marked_s (λ place id has. has) stay agree)
-    (all_begin_keep now (starts_of s plan) marked_s
-    (All-weaker (λ start. start.device < 0 + length s.devices) (λ start. start.device < length s.devices) (λ start below. omega (arith, below)) (starts_of s plan) (starts_inside plan.classes 0 s.devices))
+    (all_begin_keep now (starts_of now s plan) marked_s
+    (All-weaker (λ start. start.device < 0 + length s.devices) (λ start. start.device < length s.devices) (λ start below. omega (arith, below)) (starts_of now s plan) (starts_inside now plan.classes 0 s.devices))
     (plan_can_begin s plan now good spool)
     (agree_stay s.devices s.spool.jobs marked_s.spool.jobs stay agree))
 

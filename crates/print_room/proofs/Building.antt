@@ -7,7 +7,7 @@ use Rattle.std.proofs.lemmas.List.{get_or_past}
 use Rattle.std.proofs.lemmas.List.Elements.{Contains-get_or, All-map, All-weaker, filter_passes}
 use Rattle.base_types.specs.Needs.{JobNeeds}
 use Rattle.base_types.specs.Device.{Device}
-use Rattle.base_types.specs.declared.limits.TheConstants.Limits.{JOB_TIME, UNFINISHED_JOBS, DEVICES}
+use Rattle.base_types.specs.declared.limits.TheConstants.Limits.{JOB_TIME, NOT_BEFORE, UNFINISHED_JOBS, DEVICES}
 use Rattle.job_objects.specs.Job.{JobRecord}
 use Rattle.capabilities.specs.Able.{IsAble}
 use Rattle.base_types.specs.declared.needs.Cause.{Cause}
@@ -93,7 +93,7 @@ module _ (s : State) (spool : IsSpool s.spool) where
     few : length jobs ≤ UNFINISHED_JOBS
     few = omega (arith, ap (λ (js : List JobOfClass). length js) is, length_class (class_of s p), length_filter (belongs s p) (ready_of s), ready_few)
 
-    pub can_build : All (λ job. HasAbleDevice job.needs (printer_of job.needs (sets_of s.settings)) s.devices) jobs → length waits ≡ length s.devices → All (λ wait. wait ≤ JOB_TIME + jobs_above p s * JOB_TIME) waits → length s.devices ≤ DEVICES → CanBuild jobs s.devices (sets_of s.settings) waits
+    pub can_build : All (λ job. HasAbleDevice job.needs (printer_of job.needs (sets_of s.settings)) s.devices) jobs → length waits ≡ length s.devices → All (λ wait. wait ≤ NOT_BEFORE + jobs_above p s * JOB_TIME) waits → length s.devices ≤ DEVICES → CanBuild jobs s.devices (sets_of s.settings) waits
     can_build able each short devices = record {
       rising = rising;
       known_printers = λ k d below. known_printer (get_or jobs k d).needs (sets_of s.settings) s.devices (able k d below);

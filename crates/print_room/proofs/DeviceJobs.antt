@@ -169,15 +169,27 @@ failed_job : (b : Bool) (activity : Activity) → Leaves (cond b (Some Fail) Non
 failed_job true activity = idle_job activity
 failed_job false activity = refl
 
-pub report_leaves : (now : ℕ) (report : Report) (jobs : List SpooledRecord) (d : Device) → Leaves (said_of_job report d.activity) (job_on d.activity) (job_on (refitted report (activity_after now report jobs d) d).activity)
-report_leaves now (Says.Hello name) jobs d = refl
-report_leaves now (Says.Media names) jobs d = refl
-report_leaves now Says.Ready jobs d = running_job now d.activity
-report_leaves now Says.Stop jobs d = stopping_job now d.activity
-report_leaves now (Says.Pages number printed) jobs d = paged_job now d.activity (left_of number printed jobs d)
-report_leaves now (Says.Done number) jobs d = done_job (has_job number d.activity) d.activity
-report_leaves now (Says.Fail number) jobs d = failed_job (has_job number d.activity) d.activity
-report_leaves now Says.Gone jobs d = gone_job now d.activity
+pub activity_leaves : (now : ℕ) (report : Report) (jobs : List SpooledRecord) (d : Device) → Leaves (said_of_job report d.activity) (job_on d.activity) (job_on (activity_after now report jobs d))
+activity_leaves now (Says.Hello name) jobs d = refl
+activity_leaves now (Says.Media names) jobs d = refl
+activity_leaves now Says.Ready jobs d = running_job now d.activity
+activity_leaves now Says.Stop jobs d = stopping_job now d.activity
+activity_leaves now (Says.Busy time) jobs d = refl
+activity_leaves now (Says.Pages number printed) jobs d = paged_job now d.activity (left_of number printed jobs d)
+activity_leaves now (Says.Done number) jobs d = done_job (has_job number d.activity) d.activity
+activity_leaves now (Says.Fail number) jobs d = failed_job (has_job number d.activity) d.activity
+activity_leaves now Says.Gone jobs d = gone_job now d.activity
+
+pub report_leaves : (at now : ℕ) (report : Report) (jobs : List SpooledRecord) (d : Device) → Leaves (said_of_job report d.activity) (job_on d.activity) (job_on (refitted at report (activity_after now report jobs d) d).activity)
+report_leaves at now (Says.Hello name) jobs d = activity_leaves now (Says.Hello name) jobs d
+report_leaves at now (Says.Media names) jobs d = activity_leaves now (Says.Media names) jobs d
+report_leaves at now Says.Ready jobs d = activity_leaves now Says.Ready jobs d
+report_leaves at now Says.Stop jobs d = activity_leaves now Says.Stop jobs d
+report_leaves at now (Says.Busy time) jobs d = activity_leaves now (Says.Busy time) jobs d
+report_leaves at now (Says.Pages number printed) jobs d = activity_leaves now (Says.Pages number printed) jobs d
+report_leaves at now (Says.Done number) jobs d = activity_leaves now (Says.Done number) jobs d
+report_leaves at now (Says.Fail number) jobs d = activity_leaves now (Says.Fail number) jobs d
+report_leaves at now Says.Gone jobs d = activity_leaves now Says.Gone jobs d
 
 pub same_or_none : (said : Option DeviceSays) (old new : Option ℕ) → Leaves said old new → (new ≡ old) ⊎ (new ≡ None)
 same_or_none None old new is = inl is

@@ -30,13 +30,20 @@ length_with place change [] = refl
 length_with zero change (device ∷ devices) = refl
 length_with (suc place) change (device ∷ devices) = ap suc (length_with place change devices)
 
--- a report other than of media is of what the device does
-pub other_report : (place : ℕ) (report : Report) (activity : Activity) (devices : List Device) → ((names : _) → report ≡ Says.Media names → ⊥) → with_device place (refitted report activity) devices ≡ with_device place (doing activity) devices
-other_report place (Says.Hello name) activity devices other = refl
-other_report place (Says.Media names) activity devices other = absurd (other names refl)
-other_report place Says.Ready activity devices other = refl
-other_report place Says.Stop activity devices other = refl
-other_report place (Says.Pages number printed) activity devices other = refl
-other_report place (Says.Done number) activity devices other = refl
-other_report place (Says.Fail number) activity devices other = refl
-other_report place Says.Gone activity devices other = refl
+-- a report other than of media, a time or its end is of what the device does
+pub other_report : (now place : ℕ) (report : Report) (activity : Activity) (devices : List Device) → ((names : _) → report ≡ Says.Media names → ⊥) → ((time : _) → report ≡ Says.Busy time → ⊥) → (report ≡ Says.Gone → ⊥) → with_device place (refitted now report activity) devices ≡ with_device place (doing activity) devices
+other_report now place (Says.Hello name) activity devices media busy gone = refl
+other_report now place (Says.Media names) activity devices media busy gone = absurd (media names refl)
+other_report now place Says.Ready activity devices media busy gone = refl
+other_report now place Says.Stop activity devices media busy gone = refl
+other_report now place (Says.Busy time) activity devices media busy gone = absurd (busy time refl)
+other_report now place (Says.Pages number printed) activity devices media busy gone = refl
+other_report now place (Says.Done number) activity devices media busy gone = refl
+other_report now place (Says.Fail number) activity devices media busy gone = refl
+other_report now place Says.Gone activity devices media busy gone = absurd (gone refl)
+
+-- a device that is changed twice
+pub twice_changed : (place : ℕ) (first next : Device → Device) (devices : List Device) → with_device place next (with_device place first devices) ≡ with_device place (λ d. next (first d)) devices
+twice_changed place first next [] = refl
+twice_changed zero first next (device ∷ devices) = refl
+twice_changed (suc place) first next (device ∷ devices) = ap (λ (ds : List Device). device ∷ ds) (twice_changed place first next devices)

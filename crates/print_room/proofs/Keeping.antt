@@ -50,23 +50,23 @@ told_all says ends id jobs on =
 
 -- the state after a report of the device at the place
 module _ (now place : ℕ) (report : Report) (d : Device) (old : State) (found : slice_get old.devices place ≡ Some d) (agree : Agree old.devices old.spool.jobs) where
-  new_here : job_of (with_device place (refitted report (activity_after now report old.spool.jobs d)) old.devices) place ≡ job_on (refitted report (activity_after now report old.spool.jobs d) d).activity
-  new_here = job_here place (refitted report (activity_after now report old.spool.jobs d)) old.devices d found
+  new_here : job_of (with_device place (refitted now report (activity_after now report old.spool.jobs d)) old.devices) place ≡ job_on (refitted now report (activity_after now report old.spool.jobs d) d).activity
+  new_here = job_here place (refitted now report (activity_after now report old.spool.jobs d)) old.devices d found
 
   old_here : job_of old.devices place ≡ job_on d.activity
   old_here = job_found place old.devices d found
 
   others : (other : ℕ) → ¬ (other ≡ place) → KeepsAt other old (state_after now place report d old)
-  others other differ id has = (job_elsewhere place other (refitted report (activity_after now report old.spool.jobs d)) old.devices differ ∙ has, same (job_on d.activity) refl (said_of_job report d.activity))
+  others other differ id has = (job_elsewhere place other (refitted now report (activity_after now report old.spool.jobs d)) old.devices differ ∙ has, same (job_on d.activity) refl (said_of_job report d.activity))
     where
       same : (o : Option ℕ) → job_on d.activity ≡ o → (said : Option DeviceSays) → documents_at id (jobs_after now o said old.spool.jobs) ≡ documents_at id old.spool.jobs
       same None is said = refl
       same (Some one) is None = refl
       same (Some one) is (Some says) = (others_told one says now old.spool.jobs id (λ e. differ (agree.apart other place id has (old_here ∙ (is ∙ ap (λ (n : ℕ). Some n) (sym e))))) (agree.in_spool other id has)).documents
 
-  own : (said : Option DeviceSays) → Leaves said (job_on d.activity) (job_on (refitted report (activity_after now report old.spool.jobs d) d).activity) → (o : Option ℕ) → job_on d.activity ≡ o
-      → ((job_of (with_device place (refitted report (activity_after now report old.spool.jobs d)) old.devices) place ≡ o) × AllStay old.spool.jobs (jobs_after now o said old.spool.jobs) × (documents_out o said old.spool.jobs ≡ []))
-      ⊎ ((id : ℕ) × (o ≡ Some id) × (job_of (with_device place (refitted report (activity_after now report old.spool.jobs d)) old.devices) place ≡ None) × (documents_out o said old.spool.jobs ≡ documents_at id old.spool.jobs))
+  own : (said : Option DeviceSays) → Leaves said (job_on d.activity) (job_on (refitted now report (activity_after now report old.spool.jobs d) d).activity) → (o : Option ℕ) → job_on d.activity ≡ o
+      → ((job_of (with_device place (refitted now report (activity_after now report old.spool.jobs d)) old.devices) place ≡ o) × AllStay old.spool.jobs (jobs_after now o said old.spool.jobs) × (documents_out o said old.spool.jobs ≡ []))
+      ⊎ ((id : ℕ) × (o ≡ Some id) × (job_of (with_device place (refitted now report (activity_after now report old.spool.jobs d)) old.devices) place ≡ None) × (documents_out o said old.spool.jobs ≡ documents_at id old.spool.jobs))
   own None leaves None is = inl (new_here ∙ (leaves ∙ is), stay_same old.spool.jobs, refl)
   own None leaves (Some id) is = inl (new_here ∙ (leaves ∙ is), stay_same old.spool.jobs, refl)
   own (Some Stop) leaves None is = inl (new_here ∙ (leaves ∙ is), stay_same old.spool.jobs, refl)
@@ -81,7 +81,7 @@ module _ (now place : ℕ) (report : Report) (d : Device) (old : State) (found :
   pub report_keeps : KeepsOrEnds place old (documents_out (job_on d.activity) (said_of_job report d.activity) old.spool.jobs) (state_after now place report d old)
   report_keeps = record {
     others = others;
-    own = elim (own (said_of_job report d.activity) (report_leaves now report old.spool.jobs d) (job_on d.activity) refl) [
+    own = elim (own (said_of_job report d.activity) (report_leaves now now report old.spool.jobs d) (job_on d.activity) refl) [
       | inl kept ↦ inl ((λ id has. (kept.0 ∙ (sym old_here ∙ has), (kept.1 id (agree.in_spool place id has)).documents)), kept.2)
       | inr ended ↦ inr (record { job = ended.0; had = old_here ∙ ended.1; has_none = ended.2; all = ended.3 })
     ];

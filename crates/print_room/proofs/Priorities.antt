@@ -1,7 +1,7 @@
 -- One priority after the other is planned.
 use Rattle.std.proofs.Common.{◌≡◌, ℕ, suc, ◌+◌, ◌*◌, ◌≤◌, ◌==◌, ◌&&◌, Bool, true, false, cond, List, [], ◌∷◌, ◌++◌, length, map, filter, count_by, nat_lt, is_none, All, refl, sym, ap, subst, ◌∙◌, arith, append-nil}
 use Rattle.std.proofs.lemmas.List.Sums.{sum_by-cons}
-use Rattle.base_types.specs.declared.limits.TheConstants.Limits.{JOB_TIME}
+use Rattle.base_types.specs.declared.limits.TheConstants.Limits.{JOB_TIME, NOT_BEFORE}
 use Rattle.job_objects.specs.Job.{JobRecord}
 use Rattle.prices.specs.declared.plan.PlannedClass.{PlannedClass}
 use Rattle.prices.specs.Waits.{waits_after, GrowsByTimes}
@@ -57,7 +57,7 @@ pub next_some : (s : State) (now p : ℕ) (classes : List PlannedClass) (waits a
     → after ≡ waits_after class.problem class.priced.way → length after ≡ length waits → length class.problem.ids ≤ length (class_of s (suc p)) → GrowsByTimes class.problem after → PlannedAbove s now p (classes ++ class ∷ []) after
 next_some s now p classes waits after class h some is best left same few grows =
     let rest : List ℕ = filter (λ level. is_some_job (class_of s level)) (falling p) in
-    let most : ℕ = JOB_TIME + jobs_above (suc p) s * JOB_TIME in
+    let most : ℕ = NOT_BEFORE + jobs_above (suc p) s * JOB_TIME in
     let given : class.problem.waits ≡ waits = best.problem.waits_given in
     let grown : All (λ wait. wait ≤ most + length class.problem.ids * JOB_TIME) after = grows most (subst (λ (ws : List ℕ). All (λ wait. wait ≤ most) ws) (sym given) h.short) in
     record {

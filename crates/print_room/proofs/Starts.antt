@@ -38,12 +38,12 @@ first_later classes i place class first inside is found none =
 -- ---- what begins
 
 -- one device more
-pub starts_next : (classes : List PlannedClass) (devices : List Device) (place : ℕ) (device : Device) (starts all : List Started) (start : Option Started) → place < length devices → device ≡ get_or devices place device → start ≡ (if is_free device.activity then first_of classes place else None)
-    → starts ++ starts_from classes place (drop place devices) ≡ all → (starts ++ option_to_list start) ++ starts_from classes (place + 1) (drop (place + 1) devices) ≡ all
-starts_next classes devices place device starts all start inside is begins so_far =
-    let split : starts_from classes place (drop place devices) ≡ option_to_list start ++ starts_from classes (suc place) (drop (place + 1) devices) = rw (split_at devices place device inside is, ← begins) refl in
-    append_assoc starts (option_to_list start) (starts_from classes (place + 1) (drop (place + 1) devices))
-    ∙ (ap (λ (p : ℕ). starts ++ (option_to_list start ++ starts_from classes p (drop (place + 1) devices))) (add-one place)
+pub starts_next : (now : ℕ) (classes : List PlannedClass) (devices : List Device) (place : ℕ) (device : Device) (starts all : List Started) (start : Option Started) → place < length devices → device ≡ get_or devices place device → start ≡ (if is_free now device then first_of classes place else None)
+    → starts ++ starts_from now classes place (drop place devices) ≡ all → (starts ++ option_to_list start) ++ starts_from now classes (place + 1) (drop (place + 1) devices) ≡ all
+starts_next now classes devices place device starts all start inside is begins so_far =
+    let split : starts_from now classes place (drop place devices) ≡ option_to_list start ++ starts_from now classes (suc place) (drop (place + 1) devices) = rw (split_at devices place device inside is, ← begins) refl in
+    append_assoc starts (option_to_list start) (starts_from now classes (place + 1) (drop (place + 1) devices))
+    ∙ (ap (λ (p : ℕ). starts ++ (option_to_list start ++ starts_from now classes p (drop (place + 1) devices))) (add-one place)
     ∙ (ap (λ (ss : List Started). starts ++ ss) (sym split) ∙ so_far))
 
 -- ---- beginning
@@ -87,10 +87,10 @@ chosen : (P : Started → Type 0) (b : Bool) (o : Option Started) → IfSome o P
 chosen P true o h = h
 chosen P false o h = tt
 
-pub starts_inside : (classes : List PlannedClass) (place : ℕ) (devices : List Device) → All (λ start. start.device < place + length devices) (starts_from classes place devices)
-starts_inside classes place [] = All-nil (λ start. start.device < place + 0)
-starts_inside classes place (device ∷ devices) =
+pub starts_inside : (now : ℕ) (classes : List PlannedClass) (place : ℕ) (devices : List Device) → All (λ start. start.device < place + length devices) (starts_from now classes place devices)
+starts_inside now classes place [] = All-nil (λ start. start.device < place + 0)
+starts_inside now classes place (device ∷ devices) =
     let P : Started → Type 0 = λ start. start.device < place + suc (length devices) in
-    All-append P (option_to_list (if is_free device.activity then first_of classes place else None)) (starts_from classes (suc place) devices)
-    (All-weaker (λ s. s.device ≡ place) P (λ s is. omega (arith, is)) (option_to_list (if is_free device.activity then first_of classes place else None)) (all_option (λ s. s.device ≡ place) (if is_free device.activity then first_of classes place else None) (chosen (λ s. s.device ≡ place) (is_free device.activity) (first_of classes place) (first_place classes place))))
-    (All-weaker (λ s. s.device < suc place + length devices) P (λ s below. omega (arith, below)) (starts_from classes (suc place) devices) (starts_inside classes (suc place) devices))
+    All-append P (option_to_list (if is_free now device then first_of classes place else None)) (starts_from now classes (suc place) devices)
+    (All-weaker (λ s. s.device ≡ place) P (λ s is. omega (arith, is)) (option_to_list (if is_free now device then first_of classes place else None)) (all_option (λ s. s.device ≡ place) (if is_free now device then first_of classes place else None) (chosen (λ s. s.device ≡ place) (is_free now device) (first_of classes place) (first_place classes place))))
+    (All-weaker (λ s. s.device < suc place + length devices) P (λ s below. omega (arith, below)) (starts_from now classes (suc place) devices) (starts_inside now classes (suc place) devices))

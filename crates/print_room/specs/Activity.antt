@@ -1,6 +1,7 @@
--- What a device does over time: whether it runs, which job it has, and for how long.
-use Rattle.std.specs.Prelude.{ℕ, ◌+◌, ◌-◌, ◌≤◌, Option, Some, None}
+-- What a device does over time: whether it runs, which job it has, for how long, and when it is free.
+use Rattle.std.specs.Prelude.{ℕ, ◌+◌, ◌-◌, ◌≤◌, max, Option, Some, None}
 use Rattle.base_types.specs.declared.limits.TheConstants.Limits.{JOB_TIME}
+use Rattle.base_types.specs.Device.{Device}
 use Rattle.base_types.specs.declared.device.Activity.{Activity}
 use Rattle.base_types.specs.declared.device.Activity.TheVariants.{Running, Stopped}
 
@@ -41,8 +42,13 @@ KeepsTime now (Running (Some printing)) = printing.end ≤ now + JOB_TIME
 KeepsTime now (Stopped (Some interrupted)) = interrupted.left ≤ JOB_TIME
 KeepsTime now _ = Unit {0}
 
--- when the device is free, counted from a moment: never below 0
-abbrev pub wait_of : ℕ → Activity → ℕ
-wait_of now (Running (Some printing)) = printing.end - now
-wait_of now (Stopped (Some interrupted)) = interrupted.left
-wait_of now _ = 0
+-- how long the job that it has will still take, from a moment on: never below 0
+abbrev pub taken_for : ℕ → Activity → ℕ
+taken_for now (Running (Some printing)) = printing.end - now
+taken_for now (Stopped (Some interrupted)) = interrupted.left
+taken_for now _ = 0
+
+-- how long it is until the device is free, from a moment on: its job has ended then, and the moment
+-- before which it begins none has come
+abbrev pub wait_of : ℕ → Device → ℕ
+wait_of now device = max (taken_for now device.activity) (device.not_before - now)

@@ -1,5 +1,5 @@
 -- A dispatch: a good plan is kept, and each free device begins a job.
-use Rattle.std.specs.Prelude.{ℕ, suc, ◌≡◌, ◌≢◌, ◌+◌, Bool, true, false, if◌then◌else◌, List, [], ◌∷◌, ◌++◌, map, Option, Some, None, option_to_list}
+use Rattle.std.specs.Prelude.{ℕ, suc, ◌≡◌, ◌≢◌, ◌==◌, ◌&&◌, ◌+◌, Bool, true, false, if◌then◌else◌, List, [], ◌∷◌, ◌++◌, map, Option, Some, None, option_to_list}
 use Rattle.base_types.specs.Device.{Device}
 use Rattle.base_types.specs.declared.device.Activity.{Activity}
 use Rattle.base_types.specs.declared.device.Activity.TheVariants.{Running}
@@ -12,14 +12,19 @@ use Rattle.job_objects.specs.declared.job_change.JobChange.TheVariants.{Begin}
 use Rattle.spool.specs.Spooled.{changed}
 use Rattle.spool.specs.Calls.{marked_by}
 use Rattle.print_room.specs.declared.started.Started.{Started}
+use Rattle.print_room.specs.Activity.{wait_of}
 use Rattle.print_room.specs.State.{State, with_device, doing}
 use Rattle.print_room.specs.Ready.{ready_of}
 use Rattle.print_room.specs.GoodPlan.{IsGoodPlan}
 
 -- whether a device runs and has no job
-abbrev pub is_free : Activity → Bool
-is_free (Running None) = true
-is_free _ = false
+abbrev pub runs_idle : Activity → Bool
+runs_idle (Running None) = true
+runs_idle _ = false
+
+-- whether a device can begin a job at a moment: it runs, has no job, and isn't kept from it any longer
+abbrev pub is_free : ℕ → Device → Bool
+is_free now device = runs_idle device.activity && (wait_of now device == 0)
 
 -- the first of the jobs that a class has for a device, and its time there
 abbrev pub first_of_queue : PlannedClass → ℕ → List ℕ → Option Started
@@ -36,15 +41,15 @@ abbrev pub first_of : List PlannedClass → ℕ → Option Started
 first_of [] place = None
 first_of (class ∷ classes) place = or_next (first_of_queue class place (queue_of class.priced.way place)) (first_of classes place)
 
--- what each of these devices begins, the first standing at a place: where it is free, the first job of
--- its list
-abbrev pub starts_from : List PlannedClass → ℕ → List Device → List Started
-starts_from classes place [] = []
-starts_from classes place (device ∷ devices) = option_to_list (if is_free device.activity then first_of classes place else None) ++ starts_from classes (suc place) devices
+-- what each of these devices begins at a moment, the first standing at a place: where it is free, the
+-- first job of its list
+abbrev pub starts_from : ℕ → List PlannedClass → ℕ → List Device → List Started
+starts_from now classes place [] = []
+starts_from now classes place (device ∷ devices) = option_to_list (if is_free now device then first_of classes place else None) ++ starts_from now classes (suc place) devices
 
 -- what begins under a plan, by device
-abbrev pub starts_of : State → PlanRecord → List Started
-starts_of state plan = starts_from plan.classes 0 state.devices
+abbrev pub starts_of : ℕ → State → PlanRecord → List Started
+starts_of now state plan = starts_from now plan.classes 0 state.devices
 
 -- a device begins a job, which is expected to end after its time
 abbrev pub beginning : ℕ → Started → State → State
@@ -71,7 +76,7 @@ marked_state now plan state = record state {
 abbrev pub Dispatches : ℕ → State → Option PlanRecord → List Started → State → Type 0
 Dispatches now old None started new = (ready_of old ≡ []) × (started ≡ []) × (new ≡ old)
 Dispatches now old (Some plan) started new =
-    (ready_of old ≢ []) × IsGoodPlan now old plan × (started ≡ starts_of old plan)
+    (ready_of old ≢ []) × IsGoodPlan now old plan × (started ≡ starts_of now old plan)
     × (new ≡ record (beginning_all now started (marked_state now plan old)) { begun = started })
 
 -- the same, told by whether a plan was made

@@ -20,7 +20,7 @@ use Rattle.print_room.specs.Ready.{class_of, stranded_of}
 
 -- ms from a moment until each device is free
 abbrev pub waits_of : ℕ → State → List ℕ
-waits_of now state = map (λ d. wait_of now d.activity) state.devices
+waits_of now state = map (wait_of now) state.devices
 
 abbrev pub is_some_job : List JobRecord → Bool
 is_some_job [] = false

@@ -1,6 +1,6 @@
 -- How far the planning of a state has come: the classes of the priorities above one are planned.
 use Rattle.std.specs.Prelude.{ℕ, Bool, true, false, ◌≡◌, ◌+◌, ◌*◌, ◌≤◌, nat_lt, List, [], ◌∷◌, ◌++◌, map, filter, length, count_by, All}
-use Rattle.base_types.specs.declared.limits.TheConstants.Limits.{JOB_TIME}
+use Rattle.base_types.specs.declared.limits.TheConstants.Limits.{JOB_TIME, NOT_BEFORE}
 use Rattle.cost_table.specs.ClassJob.{JobOfClass}
 use Rattle.prices.specs.declared.plan.PlannedClass.{PlannedClass}
 use Rattle.prices.specs.Waits.{waits_after}
@@ -27,4 +27,4 @@ pub record PlannedAbove (state : State) (now priority : ℕ) (classes : List Pla
   pub best : AllPlannedBest state (waits_of now state) classes
   pub left : left_by (waits_of now state) classes ≡ waits
   pub one_each : length waits ≡ length state.devices
-  pub short : All (λ wait. wait ≤ JOB_TIME + jobs_above priority state * JOB_TIME) waits
+  pub short : All (λ wait. wait ≤ NOT_BEFORE + jobs_above priority state * JOB_TIME) waits

@@ -1,5 +1,5 @@
 -- What a device's report does: to the device, to the job that it has, and to that job's documents.
-use Rattle.std.specs.Prelude.{ℕ, ◌≡◌, ◌-◌, ◌*◌, ◌==◌, Bool, false, if◌then◌else◌, List, [], Option, Some, None, option_map, slice_get, MatchOption}
+use Rattle.std.specs.Prelude.{ℕ, ◌≡◌, ◌+◌, ◌-◌, ◌*◌, ◌==◌, Bool, false, if◌then◌else◌, List, [], Option, Some, None, option_map, slice_get, MatchOption}
 use Rattle.std.specs.Option.{option_map_or}
 use Rattle.base_types.specs.Needs.{JobNeeds}
 use Rattle.base_types.specs.Device.{Device}
@@ -15,7 +15,7 @@ use Rattle.spool.specs.Spooled.{SpooledRecord}
 use Rattle.spool.specs.Kept.{jobs_told}
 use Rattle.spool.specs.Jobs.{job_at, documents_told}
 use Rattle.print_room.specs.Activity.{job_on, running_from, stopped_at, taking, idle}
-use Rattle.print_room.specs.State.{State, with_device, doing, holding}
+use Rattle.print_room.specs.State.{State, with_device, doing, free_from, holding}
 
 -- whether the device has the job of this number
 abbrev pub has_job : ℕ → Activity → Bool
@@ -53,15 +53,19 @@ activity_after now (Says.Hello name) jobs device = device.activity
 activity_after now (Says.Media names) jobs device = device.activity
 activity_after now Says.Ready jobs device = running_from now device.activity
 activity_after now Says.Stop jobs device = stopped_at now device.activity
+activity_after now (Says.Busy time) jobs device = device.activity
 activity_after now (Says.Pages number printed) jobs device = paged now number printed jobs device
 activity_after now (Says.Done number) jobs device = without_job number device.activity
 activity_after now (Says.Fail number) jobs device = without_job number device.activity
 activity_after now Says.Gone jobs device = stopped_at now (idle device.activity)
 
--- the device after a report: it holds other media, or does something else
-abbrev pub refitted : Report → Activity → Device → Device
-refitted (Says.Media names) activity device = holding names.items device
-refitted report activity device = doing activity device
+-- the device after a report: it holds other media, is kept from beginning a job, or does something else;
+-- once it is gone nothing keeps it any more
+abbrev pub refitted : ℕ → Report → Activity → Device → Device
+refitted now (Says.Media names) activity device = holding names.items device
+refitted now (Says.Busy time) activity device = free_from (now + time) device
+refitted now Says.Gone activity device = free_from 0 (doing activity device)
+refitted now report activity device = doing activity device
 
 -- the jobs, once the device that has a job said something of it
 abbrev pub jobs_after : ℕ → Option ℕ → Option DeviceSays → List SpooledRecord → List SpooledRecord
@@ -77,7 +81,7 @@ documents_out _ _ jobs = []
 abbrev pub state_after : ℕ → ℕ → Report → Device → State → State
 state_after now place report device old = record old {
   last = now;
-  devices = with_device place (refitted report (activity_after now report old.spool.jobs device)) old.devices;
+  devices = with_device place (refitted now report (activity_after now report old.spool.jobs device)) old.devices;
   spool = record old.spool { jobs = jobs_after now (job_on device.activity) (said_of_job report device.activity) old.spool.jobs };
 }
 

@@ -43,6 +43,10 @@ with_device (suc place) change (device ∷ devices) = device ∷ with_device pla
 abbrev pub doing : Activity → Device → Device
 doing activity device = record device { activity = activity }
 
+-- it begins no job before a moment
+abbrev pub free_from : ℕ → Device → Device
+free_from moment device = record device { not_before = moment }
+
 -- a medium is loaded where it is one of these
 abbrev pub loaded_if : List (List ℕ) → Medium → Medium
 loaded_if names medium = record medium { loaded = list_any (bytes_eq medium.name) names }

@@ -1,8 +1,8 @@
 //! What a device does over time.
 ghost use Rattle.std.specs.Prelude.{◌≡◌, ◌≤◌, ℕ};
-ghost use Rattle.print_room.specs.Activity.{idle, job_on, KeepsTime, running_from, stopped_at, taking, wait_of};
+ghost use Rattle.print_room.specs.Activity.{idle, job_on, KeepsTime, running_from, stopped_at, taken_for, taking, wait_of};
 
-use base_types::{Activity, Interrupted, JobId, Limits, Moment, Printing};
+use base_types::{Activity, DeviceNow, Interrupted, JobId, Limits, Moment, Printing};
 
 /// The job that a device has.
 pub fn job_on(activity: Activity) -> Option<JobId>
@@ -76,9 +76,9 @@ pub fn idle(activity: Activity) -> Activity
     }
 }
 
-/// How long the device is taken from a moment on, in ms.
-pub fn wait_of(activity: Activity, now: Moment) -> u64
-    ensures value { result ≡ wait_of now activity }
+/// How long the job that a device has will still take, from a moment on, in ms.
+pub fn taken_for(activity: Activity, now: Moment) -> u64
+    ensures value { result ≡ taken_for now activity }
     ensures short { (last : ℕ) → last ≤ now → KeepsTime last activity → result ≤ Limits.JOB_TIME }
 {
     match activity {
@@ -86,4 +86,14 @@ pub fn wait_of(activity: Activity, now: Moment) -> u64
         Activity::Stopped(Some(interrupted)) => interrupted.left,
         Activity::Running(None) | Activity::Stopped(None) => 0,
     }
+}
+
+/// How long it is until a device is free, from a moment on, in ms: its job has ended then, and the
+/// moment before which it begins none has come.
+pub fn wait_of(device: &DeviceNow, now: Moment) -> u64
+    ensures value { result ≡ wait_of now device.now }
+    ensures short { (last : ℕ) → last ≤ now → KeepsTime last device.now.activity → result ≤ Limits.NOT_BEFORE }
+{
+    let taken = taken_for(device.activity, now);
+    taken.max(device.not_before.saturating_sub(now.millis()))
 }

@@ -21,8 +21,8 @@ impl PrintRoom {
     /// from the highest down and given when the classes above leave each device free, has the least
     /// total of estimated completion times among all ways to assign its ready jobs to capable devices
     /// and order them; its prices prove this to the checker alone, and every ready job without a capable
-    /// device is named with its cause. The plan is kept, and each idle running device starts the first
-    /// job of its list.
+    /// device is named with its cause. The plan is kept, and each running device that is idle and may
+    /// begin a job starts the first of its list.
     ///
     /// The only error is out of memory; nothing has changed then.
     pub fn dispatch<P: Planner>(&mut self, planner: &P, now: Moment) -> Result<bool, AllocError>
@@ -49,7 +49,7 @@ impl PrintRoom {
         ensures err { OnErr result (self.new ≡ self.old) }
     {
         let plan = self.good_plan(planner, now)?;
-        let starts = starts_of(self.alloc, plan.classes(), &self.devices)?;
+        let starts = starts_of(self.alloc, plan.classes(), &self.devices, now)?;
         self.keep(now, plan);
         self.begin_all(&starts);
         self.note_begun(starts);

@@ -1,6 +1,6 @@
 //! The plan of the ready jobs, class by class.
 ghost use Rattle.std.specs.Prelude.{◌≡◌, ◌≤◌, ◌+◌, ℕ, List, suc, true, map, All, IfOk, OnOk, unwrap_or};
-ghost use Rattle.base_types.specs.declared.limits.TheConstants.Limits.{JOB_TIME};
+ghost use Rattle.base_types.specs.declared.limits.TheConstants.Limits.{NOT_BEFORE};
 ghost use Rattle.spool.specs.Spool.{IsSpool};
 ghost use Rattle.print_room.specs.Ready.{class_of};
 ghost use Rattle.print_room.specs.GoodPlan.{IsGoodPlan, is_some_job, job_of_class, waits_of};
@@ -79,11 +79,11 @@ impl PrintRoom {
     fn waits(&self, now: Moment) -> Result<Vec<u64>, AllocError>
         requires { self.now.last ≤ now }
         ensures waits { IfOk result (λ waits. waits.items ≡ waits_of now self.now) }
-        ensures short { IfOk result (λ waits. All (λ wait. wait ≤ JOB_TIME) waits.items) }
+        ensures short { IfOk result (λ waits. All (λ wait. wait ≤ NOT_BEFORE) waits.items) }
     {
         let mut waits = Vec::with_capacity(self.alloc, self.devices.len())?;
         for device in &self.devices {
-            waits.push(wait_of(device.activity, now))?;
+            waits.push(wait_of(device, now))?;
         }
         Ok(waits)
     }

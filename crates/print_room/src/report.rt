@@ -2,7 +2,7 @@
 ghost use Rattle.std.specs.Prelude.{◌≡◌, ◌≤◌, ◌<◌, length, IfSome};
 ghost use Rattle.print_room.specs.Activity.{KeepsTime};
 ghost use Rattle.print_room.specs.Report.{has_job, said_of_job, time_left, without_job, left_of, paged, activity_after, jobs_after, documents_out, refitted, Reports};
-ghost use Rattle.print_room.specs.State.{with_device};
+ghost use Rattle.print_room.specs.State.{with_device, doing};
 ghost use Rattle.print_room.specs.DeviceJobs.{Agree, KeepsOrEnds};
 
 use crate::activity::{idle, job_on, running_from, stopped_at, taking};
@@ -68,7 +68,7 @@ impl PrintRoom {
     {
         let activity = device.activity;
         match report {
-            Report::Hello(_) | Report::Media(_) => activity,
+            Report::Hello(_) | Report::Media(_) | Report::Busy(_) => activity,
             Report::Ready => running_from(activity, now),
             Report::Stop => stopped_at(activity, now),
             Report::Pages { job, printed } => self.paged(*job, *printed, device, now),
@@ -125,17 +125,22 @@ impl PrintRoom {
         self.settle(job, said, now)
     }
 
-    /// The device at a place holds the media that the report names, or does this from now on.
+    /// The device at a place holds the media that the report names, is kept from beginning a job for
+    /// its time, or does this from now on.
     fn refit(&mut self, place: usize, report: &Report, activity: Activity)
         requires inside { place < length self.old.devices }
         requires in_time { KeepsTime self.old.last activity }
-        requires agree { Agree (with_device place (refitted report.now activity) self.old.devices) self.old.spool.jobs }
-        ensures { self.new ≡ record self.old { devices = with_device place (refitted report.now activity) self.old.devices } }
+        requires agree { Agree (with_device place (doing activity) self.old.devices) self.old.spool.jobs }
+        ensures { self.new ≡ record self.old { devices = with_device place (refitted self.old.last report.now activity) self.old.devices } }
     {
-        if let Report::Media(names) = report {
-            self.load(place, names);
-        } else {
-            self.set_activity(place, activity);
+        match report {
+            Report::Media(names) => self.load(place, names),
+            Report::Busy(time) => self.set_free_from(place, self.last.millis() + u64::from(*time)),
+            Report::Gone => {
+                self.set_activity(place, activity);
+                self.set_free_from(place, 0);
+            }
+            _ => self.set_activity(place, activity),
         }
     }
 

@@ -2,8 +2,9 @@
 ghost use Rattle.std.specs.Prelude.{◌≡◌, ◌≤◌, ◌<◌, IfOk, length, None, Some, [], map};
 ghost use Rattle.std.specs.List.{list_any};
 ghost use Rattle.std.specs.Str.{bytes_eq};
+ghost use Rattle.base_types.specs.Ranges.{IsNotBefore};
 ghost use Rattle.print_room.specs.Activity.{KeepsTime};
-ghost use Rattle.print_room.specs.State.{with_device, doing, holding, loaded_if};
+ghost use Rattle.print_room.specs.State.{with_device, doing, free_from, holding, loaded_if};
 ghost use Rattle.print_room.specs.DeviceJobs.{Agree, AllKeep};
 
 use crate::started::Started;
@@ -72,6 +73,16 @@ impl PrintRoom {
     {
         let device = &mut self.devices[place];
         device.activity = activity;
+    }
+
+    /// The device at a place begins no job before this moment.
+    pub(crate) fn set_free_from(&mut self, place: usize, moment: u64)
+        requires inside { place < length self.old.devices }
+        requires bound { IsNotBefore moment }
+        ensures { self.new ≡ record self.old { devices = with_device place (free_from moment) self.old.devices } }
+    {
+        let device = &mut self.devices[place];
+        device.not_before = moment;
     }
 
     /// These media are loaded in the device at a place, and no others.

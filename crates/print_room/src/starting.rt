@@ -2,17 +2,25 @@
 ghost use Rattle.std.specs.Prelude.{◌≡◌, ◌<◌, ◌≤◌, IfOk, IfSome, None, length, All, if◌then◌else◌};
 ghost use Rattle.prices.specs.Way.{queue_of};
 ghost use Rattle.print_room.specs.Beginning.{CanBegin, AllCanBegin};
-ghost use Rattle.print_room.specs.Dispatch.{is_free, beginning, beginning_all, first_of, first_of_queue, starts_from};
+ghost use Rattle.print_room.specs.Dispatch.{runs_idle, is_free, beginning, beginning_all, first_of, first_of_queue, starts_from};
 
+use crate::activity::wait_of;
 use crate::room::PrintRoom;
 use crate::started::Started;
-use base_types::{Activity, DeviceId, DeviceNow, JobId, Limits, Printing};
+use base_types::{Activity, DeviceId, DeviceNow, JobId, Limits, Moment, Printing};
 use prices::{PlannedClass, Way};
 use std::alloc::{AllocError, Global};
 
+/// Whether a device can begin a job at a moment: it runs, has no job, and isn't kept from it any longer.
+fn is_free(device: &DeviceNow, now: Moment) -> bool
+    ensures { result ≡ is_free now device.now }
+{
+    runs_idle(device.activity) && wait_of(device, now) == 0
+}
+
 /// Whether a device runs and has no job.
-fn is_free(activity: Activity) -> bool
-    ensures { result ≡ is_free activity }
+fn runs_idle(activity: Activity) -> bool
+    ensures { result ≡ runs_idle activity }
 {
     match activity {
         Activity::Running(None) => true,
@@ -64,30 +72,37 @@ fn first_of(classes: &[PlannedClass], device: DeviceId) -> Option<Started>
     None
 }
 
-/// What the device at a place begins under these classes: where it is free, the first job of its list.
-fn start_on(classes: &[PlannedClass], place: usize, device: &DeviceNow) -> Option<Started>
-    ensures start { result ≡ (if is_free device.now.activity then first_of classes.now place else None) }
+/// What the device at a place begins under these classes at a moment: where it is free, the first job
+/// of its list.
+fn start_on(
+    classes: &[PlannedClass],
+    place: usize,
+    device: &DeviceNow,
+    now: Moment,
+) -> Option<Started>
+    ensures start { result ≡ (if is_free now device.now then first_of classes.now place else None) }
     ensures short { IfSome result (λ start. start.time ≤ Limits.JOB_TIME) }
 {
-    if is_free(device.activity) {
+    if is_free(device, now) {
         first_of(classes, DeviceId::new(place))
     } else {
         None
     }
 }
 
-/// What begins on these devices under these classes, by device.
+/// What begins on these devices under these classes at a moment, by device.
 pub(crate) fn starts_of(
     alloc: Global,
     classes: &[PlannedClass],
     devices: &[DeviceNow],
+    now: Moment,
 ) -> Result<Vec<Started>, AllocError>
-    ensures starts { IfOk result (λ starts. starts.items ≡ starts_from classes.now 0 devices.now) }
+    ensures starts { IfOk result (λ starts. starts.items ≡ starts_from now classes.now 0 devices.now) }
     ensures short { IfOk result (λ starts. All (λ start. start.time ≤ Limits.JOB_TIME) starts.items) }
 {
     let mut starts = Vec::with_capacity(alloc, devices.len())?;
     for (place, device) in devices.iter().enumerate() {
-        if let Some(start) = start_on(classes, place, device) {
+        if let Some(start) = start_on(classes, place, device, now) {
             starts.push(start)?;
         }
     }

@@ -17,6 +17,7 @@ fn tell(alloc: Global, text: &mut Vec<u8>, report: &Report) -> Result<(), AllocE
         }
         Report::Ready => text.extend_from_slice(b"ready"),
         Report::Stop => text.extend_from_slice(b"stop"),
+        Report::Busy(time) => tell_numbers(alloc, text, b"busy", &[*time]),
         Report::Pages { job, printed } => tell_numbers(alloc, text, b"pages", &[*job, *printed]),
         Report::Done { job } => tell_numbers(alloc, text, b"done", &[*job]),
         Report::Fail { job } => tell_numbers(alloc, text, b"fail", &[*job]),
@@ -78,7 +79,7 @@ fn heard(alloc: Global, bytes: &[u8], cut: usize) -> Result<Vec<u8>, AllocError>
 #[test]
 fn reports_from_any_cutting(rt: HostRuntime) -> Result<(), Fail> {
     let alloc = rt.alloc();
-    let rows: [(&[u8], &[u8]); 4] = [
+    let rows: [(&[u8], &[u8]); 5] = [
         (
             b"HELLO A\nREADY\nPAGES 1 0\n",
             b"hello A, ready, pages 1 0, ",
@@ -90,6 +91,10 @@ fn reports_from_any_cutting(rt: HostRuntime) -> Result<(), Fail> {
         (
             b"HELLO A\nDONE 0001\nFAIL 2147483647\n",
             b"hello A, done 1, fail 2147483647, ",
+        ),
+        (
+            b"HELLO A\nBUSY 0\nBUSY 2147483647\n",
+            b"hello A, busy 0, busy 2147483647, ",
         ),
         (b"HELLO A\nREADY\nFO", b"hello A, ready, "),
     ];
@@ -115,7 +120,7 @@ fn is_kept(alloc: Global, bytes: &[u8]) -> Result<bool, AllocError> {
 #[test]
 fn faults_are_kept(rt: HostRuntime) -> Result<(), Fail> {
     let alloc = rt.alloc();
-    let rows: [(&[u8], &[u8]); 9] = [
+    let rows: [(&[u8], &[u8]); 12] = [
         (b"HELLO A\nREADY\nFOO\n", b"hello A, ready, BadLine"),
         (b"READY\n", b"BadLine"),
         (b"HELLO A\nHELLO A\n", b"hello A, BadLine"),
@@ -124,6 +129,9 @@ fn faults_are_kept(rt: HostRuntime) -> Result<(), Fail> {
         (b"HELLO A\nMEDIA A4\n", b"hello A, BadLine"),
         (b"HELLO A\nDONE 2147483648\n", b"hello A, BadLine"),
         (b"HELLO A\nPAGES 1  4\n", b"hello A, BadLine"),
+        (b"HELLO A\nBUSY\n", b"hello A, BadLine"),
+        (b"HELLO A\nBUSY 1 2\n", b"hello A, BadLine"),
+        (b"HELLO A\nBUSY 2147483648\n", b"hello A, BadLine"),
         (&[b'A'; 1024], b"LineTooLong"),
     ];
     for (bytes, wanted) in rows {

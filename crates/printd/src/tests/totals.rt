@@ -1,5 +1,7 @@
-//! As many jobs as there can be, each as long as one can be, at the last moment.
+//! As many jobs as there can be: each as long as one can be, at the last moment; and on as many devices
+//! as there can be.
 use crate::tests::run;
+use std::alloc::{AllocError, Global};
 use std::test::Fail;
 
 /// A device that is as slow as one can be, at the last moment.
@@ -32,11 +34,11 @@ plan 50:599403600000\n\
 start 1 A\n\
 ";
 
-/// With the first job begun, 127 wait behind it: 2 + 3 + .. + 128 = 8,255 times its time. The
+/// With the first job begun, 511 wait behind it: 2 + 3 + .. + 512 = 131,327 times its time. The
 /// next request is answered that the server is busy, and the plan stays.
-const LAST: &str = "plan 50:4948076718000000\n\
+const LAST: &str = "plan 50:78717876577200000\n\
 reply 010105070000000101470012617474726962757465732d6368617273657400057574662d3848001b617474726962757465732d6e61747572616c2d6c616e67756167650002656e03\n\
-plan 50:4948076718000000\n\
+plan 50:78717876577200000\n\
 ";
 
 /// How many lines of the output begin so.
@@ -50,15 +52,59 @@ fn lines_with(output: &[u8], front: &[u8]) -> usize {
 #[test]
 fn largest_totals(rt: HostRuntime) -> Result<(), Fail> {
     let mut trace = String::from_str(rt.alloc(), SLOW_DEVICE)?;
-    for _ in 0..129 {
+    for _ in 0..513 {
         trace.push_str(LONGEST_JOB)?;
     }
     let (status, output) = run(&rt, trace.as_str());
     assert_eq!(rt; status, 0);
     assert!(rt; output.as_slice().starts_with(FIRST.as_bytes()));
     assert!(rt; output.as_slice().ends_with(LAST.as_bytes()));
-    assert_eq!(rt; lines_with(output.as_slice(), b"reply 01010000"), 128);
-    assert_eq!(rt; lines_with(output.as_slice(), b"plan "), 129);
+    assert_eq!(rt; lines_with(output.as_slice(), b"reply 01010000"), 512);
+    assert_eq!(rt; lines_with(output.as_slice(), b"plan "), 513);
     assert_eq!(rt; lines_with(output.as_slice(), b"start "), 1);
+    Ok(())
+}
+
+/// A Print-Job of five octets, 10 ms on each of the devices.
+const SHORT_JOB: &str =
+    "ipp 010100020000000101470012617474726962757465732d6368617273657400057574662d3848001b617474726962757465732d6e61747572616c2d6c616e67756167650002656e45000b7072696e7465722d75726900206970703a2f2f6c6f63616c686f73743a3633312f7072696e746572732f6c61620368656c6c6f\n";
+
+/// With 32 jobs begun, 480 wait behind them, 15 for each device: 32 times 20 + 30 + .. + 160. The next
+/// request is answered that the server is busy, and the plan stays.
+const FULL: &str = "plan 50:43200\n\
+reply 010105070000000101470012617474726962757465732d6368617273657400057574662d3848001b617474726962757465732d6e61747572616c2d6c616e67756167650002656e03\n\
+plan 50:43200\n\
+";
+
+/// Settings with 32 equal devices, each of which says that it is ready.
+fn many_devices(alloc: Global) -> Result<String, AllocError> {
+    let mut settings = String::from_str(alloc, "version = 1\nuri_base = \"ipp://localhost:631\"\n")?;
+    let mut names = String::new(alloc);
+    let mut ready = String::new(alloc);
+    for place in 0..32 {
+        let device = format!(in alloc; "[[device]]\nname = \"D{place}\"\nrate_one = 10\nmedia = [\"iso_a4_210x297mm\"]\nformats = [\"text/plain\"]\n")?;
+        settings.push_str(device.as_str())?;
+        let name = format!(in alloc; "\"D{place}\",")?;
+        names.push_str(name.as_str())?;
+        let line = format!(in alloc; "dev D{place} READY\n")?;
+        ready.push_str(line.as_str())?;
+    }
+    let printer = format!(in alloc; "[[printer]]\nname = \"lab\"\ndevices = [{names}]\nmedia_default = \"iso_a4_210x297mm\"\nformat_default = \"text/plain\"\n.\nat 0\n")?;
+    settings.push_str(printer.as_str())?;
+    settings.push_str(ready.as_str())?;
+    Ok(settings)
+}
+
+#[test]
+fn many_jobs_on_many_devices(rt: HostRuntime) -> Result<(), Fail> {
+    let mut trace = many_devices(rt.alloc())?;
+    for _ in 0..513 {
+        trace.push_str(SHORT_JOB)?;
+    }
+    let (status, output) = run(&rt, trace.as_str());
+    assert_eq!(rt; status, 0);
+    assert!(rt; output.as_slice().ends_with(FULL.as_bytes()));
+    assert_eq!(rt; lines_with(output.as_slice(), b"plan "), 513);
+    assert_eq!(rt; lines_with(output.as_slice(), b"start "), 32);
     Ok(())
 }

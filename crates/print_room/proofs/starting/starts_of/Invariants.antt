@@ -5,5 +5,5 @@ use Rattle.print_room.proofs.starting.starts_of.Given as goal
 
 abbrev pub invariant-loop-place : goal.invariant-loop-place
 invariant-loop-place l =
-    (l.starts.items ++ starts_from l.classes l.place (drop l.place l.devices) ≡ starts_from l.classes 0 l.devices)
+    (l.starts.items ++ starts_from l.now l.classes l.place (drop l.place l.devices) ≡ starts_from l.now l.classes 0 l.devices)
     × All (λ start. start.time ≤ JOB_TIME) l.starts.items

@@ -2,10 +2,10 @@ use Rattle.std.proofs.Common.{◌≡◌, ◌∙◌, ℕ, List, [], Option, Some,
 use Rattle.std.specs.Prelude.{slice_get, MatchOption}
 use Rattle.base_types.specs.Device.{Device}
 use Rattle.print_room.specs.Activity.{job_on}
-use Rattle.print_room.specs.State.{State, with_device}
+use Rattle.print_room.specs.State.{State, with_device, doing}
 use Rattle.print_room.specs.Report.{said_of_job, activity_after, refitted, jobs_after, documents_out, state_after}
 use Rattle.print_room.specs.DeviceJobs.{Agree}
-use Rattle.print_room.proofs.DeviceJobs.{read_device, report_leaves, same_or_none, agree_device, agree_told}
+use Rattle.print_room.proofs.DeviceJobs.{read_device, activity_leaves, report_leaves, same_or_none, agree_device, agree_told}
 use Rattle.print_room.proofs.Keeping.{reports_keep}
 use Rattle.print_room.proofs.room.PrintRoom.report.Goals as goal
 
@@ -17,8 +17,8 @@ refit-requires-clause-agree c =
     let found : slice_get s.devices c.args.place ≡ Some d = read_device c.deref.result.now s.devices c.args.place d (c.deref.ensures.value ∙ ap (λ (t : State). t.devices) c.self.view_is) c.in-Some.ensures.lookup.3.0 c.in-Some.ensures.lookup.1 in
     let agree : Agree s.devices s.spool.jobs = subst (λ (t : State). Agree t.devices t.spool.jobs) c.self.view_is c.self.invariant.3 in
     rw c.activity_after-next.ensures.activity
-    (agree_device c.args.place (refitted report (activity_after c.args.now report s.spool.jobs d)) s.devices s.spool.jobs d found
-    (same_or_none (said_of_job report d.activity) (job_on d.activity) (job_on (refitted report (activity_after c.args.now report s.spool.jobs d) d).activity) (report_leaves c.args.now report s.spool.jobs d)) agree)
+    (agree_device c.args.place (doing (activity_after c.args.now report s.spool.jobs d)) s.devices s.spool.jobs d found
+    (same_or_none (said_of_job report d.activity) (job_on d.activity) (job_on (activity_after c.args.now report s.spool.jobs d)) (activity_leaves c.args.now report s.spool.jobs d)) agree)
 
 pub settle-requires : goal.settle-requires
 settle-requires c =
@@ -31,7 +31,7 @@ settle-requires c =
     let said : c.said_of_job-said.result ≡ said_of_job report d.activity = c.said_of_job-said.ensures ∙ ap (λ (x : Device). said_of_job report x.activity) c.device.view_is in
     subst (λ (t : State). Agree t.devices (jobs_after c.args.now c.job_on-job.result c.said_of_job-said.result t.spool.jobs)) (sym c.refit.ensures)
     (rw (job, said, c.activity_after-next.ensures.activity)
-    (agree_told c.args.now c.args.place (refitted report (activity_after c.args.now report s.spool.jobs d)) s.devices s.spool.jobs d (said_of_job report d.activity) found (report_leaves c.args.now report s.spool.jobs d) agree))
+    (agree_told c.args.now c.args.place (refitted s.last report (activity_after c.args.now report s.spool.jobs d)) s.devices s.spool.jobs d (said_of_job report d.activity) found (report_leaves s.last c.args.now report s.spool.jobs d) agree))
 
 pub returns-clause-reports : goal.returns-clause-reports
 returns-clause-reports c =
@@ -45,7 +45,7 @@ returns-clause-reports c =
     let said : c.said_of_job-said.result ≡ said_of_job report d.activity = c.said_of_job-said.ensures ∙ ap (λ (x : Device). said_of_job report x.activity) c.device.view_is in
     let next : c.activity_after-next.result ≡ activity_after c.args.now report old.spool.jobs d = c.activity_after-next.ensures.activity ∙ ap (λ (t : State). activity_after c.args.now report t.spool.jobs d) same in
     let told : State → State = λ (t : State). record t { spool = record t.spool { jobs = jobs_after c.args.now c.job_on-job.result c.said_of_job-said.result t.spool.jobs } } in
-    let fitted : State → State = λ (t : State). record t { devices = with_device c.args.place (refitted report c.activity_after-next.result) t.devices } in
+    let fitted : State → State = λ (t : State). record t { devices = with_device c.args.place (refitted t.last report c.activity_after-next.result) t.devices } in
     let all : told (fitted (record old { last = c.args.now })) ≡ state_after c.args.now c.args.place report d old = rw (job, said, next) refl in
     let jobs : State → List _ = λ (t : State). documents_out c.job_on-job.result c.said_of_job-said.result t.spool.jobs in
     let out : jobs old ≡ documents_out (job_on d.activity) (said_of_job report d.activity) old.spool.jobs = rw (job, said) refl in

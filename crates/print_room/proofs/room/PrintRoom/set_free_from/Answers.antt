@@ -1,0 +1,37 @@
+use Rattle.std.proofs.Common.{◌≡◌, ◌∙◌, ◌<◌, ◌≤◌, ap, sym, subst, refl, inl, List, set, length, All}
+use Rattle.base_types.specs.Device.{Device}
+use Rattle.print_room.specs.State.{State, with_device, free_from, sets_of}
+use Rattle.print_room.specs.DeviceJobs.{Agree}
+use Rattle.print_room.specs.Activity.{KeepsTime}
+use Rattle.base_types.specs.declared.limits.TheConstants.Limits.{DEVICES}
+use Rattle.print_room.proofs.Devices.{set_one, all_with, length_with}
+use Rattle.print_room.proofs.DeviceJobs.{found_device, agree_device}
+use Rattle.print_room.proofs.room.PrintRoom.set_free_from.Goals as goal
+
+pub returns : goal.returns
+returns c =
+    let inside : c.args.place < length c.self.inside.devices.items = rw (ap (λ (s : State). s.devices) c.self.view_is) c.requires.inside in
+    let state : List Device → State = λ (ds : List Device). record { settings = c.self.inside.settings; paused = c.self.inside.printers.items; devices = ds; spool = c.self.inside.spool; last = c.self.inside.last; plan = c.self.inside.plan; begun = c.self.inside.begun.items } in
+    let written : Device → State = λ (d : Device). state (set c.self.inside.devices.items c.args.place (free_from c.args.moment d)) in
+    ap written c.device.view_is
+    ∙ (ap written c.index_mut-device.ensures.value
+    ∙ (ap state (set_one (free_from c.args.moment) c.self.inside.devices.items c.args.place c.index_mut-device.result.now inside)
+    ∙ ap (λ (s : State). record s { devices = with_device c.args.place (free_from c.args.moment) s.devices }) c.self.view_is))
+
+pub invariant_of-self : goal.invariant_of-self
+invariant_of-self c =
+    let old = c.self.inside in
+    let place = c.args.place in
+    let change : Device → Device = free_from c.args.moment in
+    let inside : place < length old.devices.items = rw (ap (λ (s : State). s.devices) c.self.view_is) c.requires.inside in
+    let d = found_device place old.devices.items inside in
+    let written : Device → List Device = λ (d : Device). set old.devices.items place (change d) in
+    let in_time : KeepsTime old.last c.args.activity = subst (λ (s : State). KeepsTime s.last c.args.activity) (sym c.self.view_is) c.requires.in_time in
+    subst (λ (ds : List Device). All (λ d. KeepsTime old.last d.activity) ds × (length ds ≤ DEVICES) × (old.sets.items ≡ sets_of old.settings) × Agree ds old.spool.jobs × (length old.printers.items ≡ length old.settings.printers))
+    (sym (ap written c.device.view_is ∙ (ap written c.index_mut-device.ensures.value ∙ set_one change old.devices.items place c.index_mut-device.result.now inside))) (
+      all_with (λ d. KeepsTime old.last d.activity) place change (λ d h. h) old.devices.items c.self.invariant.0,
+      rw (length_with place change old.devices.items) c.self.invariant.1,
+      c.self.invariant.2,
+      agree_device place change old.devices.items old.spool.jobs d.0 d.1 (inl refl) c.self.invariant.3,
+      c.self.invariant.4,
+    )
