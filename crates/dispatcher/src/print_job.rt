@@ -2,7 +2,6 @@
 //! taken.
 ghost use Rattle.std.specs.Prelude.{◌≡◌, ◌≤◌, ◌∷◌, ◌&&◌, ◌==◌, [], IfOk, IsOk, IsErr, OnErr, None, if◌then◌else◌, length, not, option_map};
 ghost use Rattle.std.specs.Option.{option_copied};
-ghost use Rattle.job_objects.specs.Reasons.{one};
 ghost use Rattle.spool.specs.Calls.{new_refusal};
 ghost use Rattle.dispatcher.specs.PrintJob.{PrintsJob, TakesJob, RefusesJob, offer_of, is_compressed, format_of, refused, asked_of_format, asked_of_printer, asked_of, submission_of, taken_with, group_of};
 ghost use Rattle.dispatcher.specs.Target.{printer_of};
@@ -12,7 +11,7 @@ use crate::reply::Reply;
 use crate::status::Status;
 use base_types::{Finishings, Limits, Moment, PrinterId, Text};
 use ipp_codec::Group;
-use job_objects::{JobReasons, JobState, Reason};
+use job_objects::{JobState, waiting_reasons};
 use job_template::{JobTemplate, RequestAttributes, medium_of, template_of};
 use print_room::PrintRoom;
 use printer_objects::{Offer, created_job_attributes};
@@ -93,8 +92,8 @@ fn groups_of(alloc: Global, room: &PrintRoom, job: &NewJob) -> Result<Vec<Group>
     ensures { IfOk result (λ groups. groups.items ≡ group_of room.now job.now ∷ []) }
 {
     let id = room.spool().next_id().unwrap();
-    let state = first_state(job.held);
-    let reasons = first_reasons(job.held, room.is_paused(job.printer));
+    let state = JobState::waiting(false, job.held);
+    let reasons = waiting_reasons(false, job.held, false, room.is_paused(job.printer));
     let settings = room.settings();
     let group = created_job_attributes(alloc, &settings.uri_base, id, state, reasons)?;
     let mut groups = Vec::with_capacity(alloc, 1)?;
@@ -258,34 +257,6 @@ fn is_compressed(compression: &Option<Text>) -> bool
     match compression {
         Some(compression) => compression.as_bytes() != b"none".as_slice(),
         None => false,
-    }
-}
-
-/// The state of a job that is taken whole.
-fn first_state(held: bool) -> JobState
-    ensures { result ≡ (if held then JobState.Held else JobState.Pending) }
-{
-    if held {
-        JobState::Held
-    } else {
-        JobState::Pending
-    }
-}
-
-/// Why a job that is taken whole is in its state.
-fn first_reasons(held: bool, printer_paused: bool) -> JobReasons
-    ensures { result ≡ one (if held then Reason.JobHoldUntilSpecified else (if printer_paused then Reason.PrinterStopped else Reason.Nothing)) }
-{
-    let first = if held {
-        Reason::JobHoldUntilSpecified
-    } else if printer_paused {
-        Reason::PrinterStopped
-    } else {
-        Reason::Nothing
-    };
-    JobReasons {
-        first,
-        second: None,
     }
 }
 

@@ -1,7 +1,7 @@
 -- The table of states: what each change makes of a job (RFC 8011, section 5.3.7).
 use Rattle.std.specs.Prelude.{ℕ, true, false, ◌||◌, if◌then◌else◌, Option, Some, None, unwrap_or}
 use Rattle.job_objects.specs.declared.job_state.JobState.{JobState}
-use Rattle.job_objects.specs.declared.job_state.JobState.TheVariants.{Pending, Held, Processing, Stopped, Canceled, Aborted, Completed}
+use Rattle.job_objects.specs.declared.job_state.JobState.TheVariants.{Pending, PendingHeld, Processing, Stopped, Canceled, Aborted, Completed}
 use Rattle.job_objects.specs.declared.job_change.JobChange.{JobChange}
 use Rattle.job_objects.specs.declared.job_change.JobChange.TheVariants.{Close, Hold, Release, Begin, Stop, Continue, Cancel, Done, Fail}
 use Rattle.job_objects.specs.Job.{JobRecord}
@@ -12,7 +12,7 @@ moved state job = record job { state = state; stranded = false }
 
 -- a job that no device has yet: it is held back while it comes in or is held, else pending
 abbrev pub waiting : JobRecord → JobRecord
-waiting job = if job.incoming || job.held then moved Held job else record job { state = Pending }
+waiting job = if job.incoming || job.held then moved PendingHeld job else record job { state = Pending }
 
 -- a finished job
 abbrev pub ended : JobState → ℕ → JobRecord → JobRecord
@@ -20,23 +20,23 @@ ended state now job = record (moved state job) { incoming = false; finished = So
 
 -- the job after a change from a state, where that is possible
 abbrev pub changed_from : JobChange → JobState → ℕ → JobRecord → Option JobRecord
-changed_from Close Held now job = if job.incoming then Some (waiting (record job { incoming = false })) else None
+changed_from Close PendingHeld now job = if job.incoming then Some (waiting (record job { incoming = false })) else None
 changed_from Hold Pending now job = Some (waiting (record job { held = true }))
-changed_from Hold Held now job = Some (waiting (record job { held = true }))
+changed_from Hold PendingHeld now job = Some (waiting (record job { held = true }))
 changed_from Release Pending now job = Some (waiting (record job { held = false }))
-changed_from Release Held now job = Some (waiting (record job { held = false }))
+changed_from Release PendingHeld now job = Some (waiting (record job { held = false }))
 changed_from Release Processing now job = Some job
 changed_from Release Stopped now job = Some job
 changed_from Begin Pending now job = Some (record (moved Processing job) { started = Some now })
 changed_from Stop Processing now job = Some (moved Stopped job)
 changed_from Continue Stopped now job = Some (moved Processing job)
 changed_from (Cancel by) Pending now job = Some (record (ended Canceled now job) { canceled_by = Some by })
-changed_from (Cancel by) Held now job = Some (record (ended Canceled now job) { canceled_by = Some by })
+changed_from (Cancel by) PendingHeld now job = Some (record (ended Canceled now job) { canceled_by = Some by })
 changed_from (Cancel by) Processing now job = Some (record (ended Canceled now job) { canceled_by = Some by })
 changed_from (Cancel by) Stopped now job = Some (record (ended Canceled now job) { canceled_by = Some by })
 changed_from Done Processing now job = Some (ended Completed now job)
 changed_from Done Stopped now job = Some (ended Completed now job)
-changed_from Fail Held now job = if job.incoming then Some (ended Aborted now job) else None
+changed_from Fail PendingHeld now job = if job.incoming then Some (ended Aborted now job) else None
 changed_from Fail Processing now job = Some (ended Aborted now job)
 changed_from Fail Stopped now job = Some (ended Aborted now job)
 changed_from _ _ now job = None

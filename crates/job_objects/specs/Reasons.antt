@@ -1,7 +1,7 @@
 -- Why a job is in its state, and the keywords of the reasons (RFC 8011, section 5.3.8).
-use Rattle.std.specs.Prelude.{ℕ, Bool, true, false, if◌then◌else◌, List, Option, Some, None, codes}
+use Rattle.std.specs.Prelude.{ℕ, ◌||◌, Bool, true, false, if◌then◌else◌, List, Option, Some, None, codes}
 use Rattle.job_objects.specs.declared.job_state.JobState.{JobState}
-use Rattle.job_objects.specs.declared.job_state.JobState.TheVariants.{Pending, Held, Processing, Stopped, Canceled, Aborted, Completed}
+use Rattle.job_objects.specs.declared.job_state.JobState.TheVariants.{Pending, PendingHeld, Processing, Stopped, Canceled, Aborted, Completed}
 use Rattle.job_objects.specs.declared.job.Canceler.{Canceler}
 use Rattle.job_objects.specs.declared.job.Canceler.TheVariants.{Owner}
 use Rattle.job_objects.specs.declared.reason.Reason.{Reason}
@@ -24,19 +24,29 @@ keyword_of JobCompletedSuccessfully = codes "job-completed-successfully"
 abbrev pub one : Reason → JobReasons
 one reason = record { first = reason; second = None }
 
+-- a pending job waits for its printer or for a device that can print it
+abbrev pub pending_reason : Bool → Bool → Reason
+pending_reason stranded paused = if paused then PrinterStopped else if stranded then ResourcesAreNotReady else Nothing
+
 -- a job that is held back says that it comes in, that it is held, or both in this order
 abbrev pub held_reasons : Bool → Bool → JobReasons
 held_reasons true true = record { first = JobIncoming; second = Some JobHoldUntilSpecified }
 held_reasons true false = one JobIncoming
 held_reasons false held = one JobHoldUntilSpecified
 
+-- why a job that no device has is pending or held back
+abbrev pub waiting_reasons : Bool → Bool → Bool → Bool → JobReasons
+waiting_reasons incoming held stranded paused =
+    if incoming || held then held_reasons incoming held
+    else one (pending_reason stranded paused)
+
 abbrev pub canceled_reason : Option Canceler → Reason
 canceled_reason (Some Owner) = JobCanceledByUser
 canceled_reason _ = JobCanceledByOperator
 
 abbrev pub reasons_in : JobState → JobRecord → Bool → JobReasons
-reasons_in Pending job paused = one (if paused then PrinterStopped else if job.stranded then ResourcesAreNotReady else Nothing)
-reasons_in Held job paused = held_reasons job.incoming job.held
+reasons_in Pending job paused = one (pending_reason job.stranded paused)
+reasons_in PendingHeld job paused = held_reasons job.incoming job.held
 reasons_in Processing job paused = one JobPrinting
 reasons_in Stopped job paused = one PrinterStopped
 reasons_in Canceled job paused = one (canceled_reason job.canceled_by)

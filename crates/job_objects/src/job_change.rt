@@ -44,19 +44,19 @@ pub fn job_step(job: &mut Job, change: JobChange, now: Moment) -> Result<(), Sta
     ensures same_job { job.new.id ≡ job.old.id }
 {
     match (change, job.state) {
-        (JobChange::Close, JobState::Held) if job.incoming => job.close(),
-        (JobChange::Hold, JobState::Pending | JobState::Held) => job.hold(true),
-        (JobChange::Release, JobState::Pending | JobState::Held) => job.hold(false),
+        (JobChange::Close, JobState::PendingHeld) if job.incoming => job.close(),
+        (JobChange::Hold, JobState::Pending | JobState::PendingHeld) => job.hold(true),
+        (JobChange::Release, JobState::Pending | JobState::PendingHeld) => job.hold(false),
         (JobChange::Release, JobState::Processing | JobState::Stopped) => {}
         (JobChange::Begin, JobState::Pending) => job.begin(now),
         (JobChange::Stop, JobState::Processing) => job.take_state(JobState::Stopped),
         (JobChange::Continue, JobState::Stopped) => job.take_state(JobState::Processing),
-        (JobChange::Cancel(by), JobState::Pending | JobState::Held) => job.cancel(by, now),
+        (JobChange::Cancel(by), JobState::Pending | JobState::PendingHeld) => job.cancel(by, now),
         (JobChange::Cancel(by), JobState::Processing | JobState::Stopped) => job.cancel(by, now),
         (JobChange::Done, JobState::Processing | JobState::Stopped) => {
             job.end(JobState::Completed, now)
         }
-        (JobChange::Fail, JobState::Held) if job.incoming => job.end(JobState::Aborted, now),
+        (JobChange::Fail, JobState::PendingHeld) if job.incoming => job.end(JobState::Aborted, now),
         (JobChange::Fail, JobState::Processing | JobState::Stopped) => {
             job.end(JobState::Aborted, now)
         }
@@ -90,7 +90,7 @@ impl Job {
         ensures same_job { self.new.id ≡ self.old.id }
     {
         if self.incoming || self.held {
-            self.take_state(JobState::Held);
+            self.take_state(JobState::PendingHeld);
         } else {
             self.state = JobState::Pending;
         }

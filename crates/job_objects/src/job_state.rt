@@ -1,6 +1,6 @@
 //! The states of a job (RFC 8011, section 5.3.7).
 ghost use Rattle.std.specs.Prelude.{◌≡◌};
-ghost use Rattle.job_objects.specs.JobState.{state_code, is_finished, is_pending};
+ghost use Rattle.job_objects.specs.JobState.{state_code, is_finished, is_pending, waiting_state};
 
 /// Where a job stands (RFC 8011, section 5.3.7).
 #[derive(Clone, Copy, Debug, PartialEq, Eq)]
@@ -8,7 +8,7 @@ pub enum JobState {
     /// All of it is in, and nothing holds it back.
     Pending,
     /// It is still coming in, or is held.
-    Held,
+    PendingHeld,
     /// A device prints it.
     Processing,
     /// The device that prints it is stopped.
@@ -19,13 +19,24 @@ pub enum JobState {
 }
 
 impl JobState {
+    /// The state of a job that no device has yet: it is held back while it comes in or is held.
+    pub fn waiting(incoming: bool, held: bool) -> JobState
+        ensures { result ≡ waiting_state incoming held }
+    {
+        if incoming || held {
+            JobState::PendingHeld
+        } else {
+            JobState::Pending
+        }
+    }
+
     /// Its value as a job-state.
     pub fn code(self) -> u32
         ensures { result ≡ state_code self }
     {
         match self {
             JobState::Pending => 3,
-            JobState::Held => 4,
+            JobState::PendingHeld => 4,
             JobState::Processing => 5,
             JobState::Stopped => 6,
             JobState::Canceled => 7,
@@ -40,7 +51,7 @@ impl JobState {
     {
         match self {
             JobState::Pending => true,
-            JobState::Held | JobState::Processing | JobState::Stopped => false,
+            JobState::PendingHeld | JobState::Processing | JobState::Stopped => false,
             JobState::Canceled | JobState::Aborted | JobState::Completed => false,
         }
     }
@@ -50,7 +61,7 @@ impl JobState {
         ensures { result ≡ is_finished self }
     {
         match self {
-            JobState::Pending | JobState::Held | JobState::Processing | JobState::Stopped => false,
+            JobState::Pending | JobState::PendingHeld | JobState::Processing | JobState::Stopped => false,
             JobState::Canceled | JobState::Aborted | JobState::Completed => true,
         }
     }

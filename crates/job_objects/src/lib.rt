@@ -22,4 +22,4 @@ pub use job::{Canceler, Job};
 pub use job_change::{JobChange, StateRefusal, job_step};
 pub use job_state::JobState;
 pub use printer::Printer;
-pub use reason::{JobReasons, Reason, reasons};
+pub use reason::{JobReasons, Reason, reasons, waiting_reasons};

@@ -1,6 +1,6 @@
 //! Why a job is in its state (RFC 8011, section 5.3.8).
 ghost use Rattle.std.specs.Prelude.{◌≡◌, if◌then◌else◌};
-ghost use Rattle.job_objects.specs.Reasons.{keyword_of, reasons_of, held_reasons, canceled_reason};
+ghost use Rattle.job_objects.specs.Reasons.{keyword_of, reasons_of, held_reasons, pending_reason, waiting_reasons, canceled_reason};
 
 use crate::job::{Canceler, Job};
 use crate::job_state::JobState;
@@ -60,7 +60,7 @@ pub fn reasons(job: &Job, printer_paused: bool) -> JobReasons
 {
     match job.state {
         JobState::Pending => one(pending_reason(printer_paused, job.stranded)),
-        JobState::Held => held_reasons(job.incoming, job.held),
+        JobState::PendingHeld => held_reasons(job.incoming, job.held),
         JobState::Processing => one(Reason::JobPrinting),
         JobState::Stopped => one(Reason::PrinterStopped),
         JobState::Canceled => one(canceled_reason(job.canceled_by)),
@@ -79,9 +79,21 @@ fn one(reason: Reason) -> JobReasons
     }
 }
 
+/// Why a job that no device has is pending or held back: it comes in, it is held, or else what keeps it
+/// from being printed.
+pub fn waiting_reasons(incoming: bool, held: bool, stranded: bool, printer_paused: bool) -> JobReasons
+    ensures { result ≡ waiting_reasons incoming held stranded printer_paused }
+{
+    if incoming || held {
+        held_reasons(incoming, held)
+    } else {
+        one(pending_reason(printer_paused, stranded))
+    }
+}
+
 /// Why a pending job isn't printed yet.
 fn pending_reason(printer_paused: bool, stranded: bool) -> Reason
-    ensures { result ≡ (if printer_paused then Reason.PrinterStopped else (if stranded then Reason.ResourcesAreNotReady else Reason.Nothing)) }
+    ensures { result ≡ pending_reason stranded printer_paused }
 {
     if printer_paused {
         Reason::PrinterStopped

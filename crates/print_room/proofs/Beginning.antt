@@ -13,7 +13,7 @@ use Rattle.base_types.specs.declared.device.Activity.TheVariants.{Running, Stopp
 use Rattle.job_objects.specs.Job.{JobRecord}
 use Rattle.job_objects.specs.JobState.{is_pending}
 use Rattle.job_objects.specs.declared.job_state.JobState.{JobState}
-use Rattle.job_objects.specs.declared.job_state.JobState.TheVariants.{Pending, Held, Processing, Canceled, Aborted, Completed, Stopped as Interrupted}
+use Rattle.job_objects.specs.declared.job_state.JobState.TheVariants.{Pending, PendingHeld, Processing, Canceled, Aborted, Completed, Stopped as Interrupted}
 use Rattle.cost_table.specs.Class.{Class}
 use Rattle.prices.specs.declared.plan.PlannedClass.{PlannedClass}
 use Rattle.prices.specs.Way.{IsWay, queue_of, times_named}
@@ -174,7 +174,7 @@ first_of_both a b h = (and_parts a b h).0
 -- no device has a pending job
 sound_waits : (state : JobState) (incoming held on : Bool) → FitsState state incoming held on → is_pending state ≡ true → (is_pending state && not on) ≡ true
 sound_waits Pending incoming held on fits is = ap not fits.2
-sound_waits Held incoming held on fits is = absurd (true≢false (sym is))
+sound_waits PendingHeld incoming held on fits is = absurd (true≢false (sym is))
 sound_waits Processing incoming held on fits is = absurd (true≢false (sym is))
 sound_waits Interrupted incoming held on fits is = absurd (true≢false (sym is))
 sound_waits Canceled incoming held on fits is = absurd (true≢false (sym is))
@@ -298,7 +298,7 @@ module _ (s : State) (plan : PlanRecord) (now : ℕ) (good : IsGoodPlan now s pl
 
 begins_on : (now : ℕ) (s : SpooledRecord) (state : JobState) → is_pending state ≡ true → (option_map_or (λ job. settled (record s { job = job; on_device = true })) (changed_from Begin state now s.job) s).on_device ≡ true
 begins_on now s Pending is = refl
-begins_on now s Held is = absurd (true≢false (sym is))
+begins_on now s PendingHeld is = absurd (true≢false (sym is))
 begins_on now s Processing is = absurd (true≢false (sym is))
 begins_on now s Interrupted is = absurd (true≢false (sym is))
 begins_on now s Canceled is = absurd (true≢false (sym is))

@@ -8,7 +8,7 @@ use Rattle.base_types.specs.declared.needs.Stranded.{Stranded}
 use Rattle.job_objects.specs.Job.{JobRecord}
 use Rattle.job_objects.specs.JobState.{is_pending, is_finished}
 use Rattle.job_objects.specs.declared.job_state.JobState.{JobState}
-use Rattle.job_objects.specs.declared.job_state.JobState.TheVariants.{Pending, Held, Processing, Stopped, Canceled, Aborted, Completed}
+use Rattle.job_objects.specs.declared.job_state.JobState.TheVariants.{Pending, PendingHeld, Processing, Stopped, Canceled, Aborted, Completed}
 use Rattle.spool.specs.Spooled.{SpooledRecord}
 use Rattle.spool.specs.Calls.{is_ready, is_unfinished, unfinished_jobs, paused_at}
 use Rattle.spool.specs.Ready.{ready_jobs}
@@ -69,7 +69,7 @@ class_more s p paused xs i x b inside is chosen =
 pending_unfinished : (state : JobState) (b : Bool) → cond (is_pending state && b) 1 0 ≤ cond (not (is_finished state)) 1 0
 pending_unfinished Pending true = omega arith
 pending_unfinished Pending false = omega arith
-pending_unfinished Held b = omega arith
+pending_unfinished PendingHeld b = omega arith
 pending_unfinished Processing b = omega arith
 pending_unfinished Stopped b = omega arith
 pending_unfinished Canceled b = omega arith

@@ -14,19 +14,19 @@ printer_state_code Idle = 3
 printer_state_code Processing = 4
 printer_state_code Stopped = 5
 
--- whether a job in this state is on a device, which runs or is stopped
-abbrev pub is_on_device : JobState → Bool
-is_on_device Job.Pending = false
-is_on_device Job.Held = false
-is_on_device Job.Processing = true
-is_on_device Job.Stopped = true
-is_on_device Job.Canceled = false
-is_on_device Job.Aborted = false
-is_on_device Job.Completed = false
+-- whether a job in this state is printed, or was until its device stopped
+abbrev pub is_printing_or_stopped : JobState → Bool
+is_printing_or_stopped Job.Pending = false
+is_printing_or_stopped Job.PendingHeld = false
+is_printing_or_stopped Job.Processing = true
+is_printing_or_stopped Job.Stopped = true
+is_printing_or_stopped Job.Canceled = false
+is_printing_or_stopped Job.Aborted = false
+is_printing_or_stopped Job.Completed = false
 
--- the job was sent to the printer at this place of the settings, and is on a device
+-- the job was sent to the printer at this place of the settings, and is printed or was until its device stopped
 abbrev pub is_busy_with : ℕ → JobRecord → Bool
-is_busy_with printer job = (job.needs.printer == printer) && is_on_device job.state
+is_busy_with printer job = (job.needs.printer == printer) && is_printing_or_stopped job.state
 
 -- told whether some job keeps the printer busy, and whether it is paused
 abbrev pub printer_state_of : Bool → Bool → PrinterState

@@ -1,6 +1,6 @@
 //! The state of a printer, and its reason (RFC 8011, sections 5.4.11 and 5.4.12).
 ghost use Rattle.std.specs.Prelude.{◌≡◌};
-ghost use Rattle.printer_objects.specs.PrinterState.{is_on_device, printer_keyword, printer_reason_of, printer_state_code, printer_state_of, is_busy_with};
+ghost use Rattle.printer_objects.specs.PrinterState.{is_printing_or_stopped, printer_keyword, printer_reason_of, printer_state_code, printer_state_of, is_busy_with};
 
 use base_types::PrinterId;
 use job_objects::{Job, JobState, Printer};
@@ -58,16 +58,16 @@ impl PrinterReason {
 pub fn keeps_busy(job: &Job, printer: PrinterId) -> bool
     ensures { result ≡ is_busy_with printer job.now }
 {
-    job.needs.printer.place() == printer.place() && is_on_device(job.state)
+    job.needs.printer.place() == printer.place() && is_printing_or_stopped(job.state)
 }
 
-/// Whether a job in this state is on a device.
-fn is_on_device(state: JobState) -> bool
-    ensures { result ≡ is_on_device state }
+/// Whether a job in this state is printed, or was until its device stopped.
+fn is_printing_or_stopped(state: JobState) -> bool
+    ensures { result ≡ is_printing_or_stopped state }
 {
     match state {
         JobState::Processing | JobState::Stopped => true,
-        JobState::Pending | JobState::Held => false,
+        JobState::Pending | JobState::PendingHeld => false,
         JobState::Canceled | JobState::Aborted | JobState::Completed => false,
     }
 }

@@ -43,9 +43,9 @@ fn needs(alloc: Global) -> Result<Needs, AllocError> {
 /// The states from which each change is tried, each with whether the job is incoming and held.
 const FROM: [(JobState, bool, bool); 9] = [
     (JobState::Pending, false, false),
-    (JobState::Held, true, false),
-    (JobState::Held, false, true),
-    (JobState::Held, true, true),
+    (JobState::PendingHeld, true, false),
+    (JobState::PendingHeld, false, true),
+    (JobState::PendingHeld, true, true),
     (JobState::Processing, false, false),
     (JobState::Stopped, false, false),
     (JobState::Canceled, false, false),
@@ -114,7 +114,7 @@ fn state_table(rt: HostRuntime) -> Result<(), Fail> {
 /// The hold of a canceled job stays, and it comes in no more.
 #[test]
 fn canceled_while_held(rt: HostRuntime) -> Result<(), Fail> {
-    let mut job = job(rt.alloc(), JobState::Held, true, true)?;
+    let mut job = job(rt.alloc(), JobState::PendingHeld, true, true)?;
     assert_eq!(rt;
         job_step(&mut job, JobChange::Begin, Moment::start()),
         Err(StateRefusal::NotPossible)

@@ -102,10 +102,10 @@ fn replay(
     ensures ok { IfOk result (λ status. TraceGives texts trace.now (record { text = output.new.items; status = status })) }
     ensures err { OnErr result (TraceLeaves texts trace.now output.new.items) }
 {
-    let Some(parts) = split_settings(trace) else {
+    let Some(cut) = split_settings(trace) else {
         return refuse_settings(alloc, &SettingsFault::NotToml, output);
     };
-    run_lines(alloc, parts.0, parts.1, parts.2, texts, output)
+    run_lines(alloc, cut.settings, cut.lines, cut.stop, texts, output)
 }
 
 /// Runs the lines after the settings, appends what they give, and gives the status.
@@ -230,12 +230,12 @@ impl Run {
     {
         let mut rest = lines;
         let mut number = before;
-        while let Some(parts) = next_line(rest) {
+        while let Some(cut) = next_line(rest) {
             number += 1;
-            if !self.act(parts.0, output)? {
+            if !self.act(cut.line, output)? {
                 return refuse_line(self.alloc, number, output);
             }
-            rest = parts.1;
+            rest = cut.later;
         }
         Ok(ExitStatus::Done)
     }

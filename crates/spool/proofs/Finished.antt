@@ -5,7 +5,7 @@ use Rattle.std.specs.List.{list_any}
 use Rattle.std.specs.Option.{option_map_or}
 use Rattle.base_types.specs.declared.needs.Stranded.{Stranded}
 use Rattle.job_objects.specs.declared.job_state.JobState.{JobState}
-use Rattle.job_objects.specs.declared.job_state.JobState.TheVariants.{Pending, Held, Processing, Stopped, Canceled, Aborted, Completed}
+use Rattle.job_objects.specs.declared.job_state.JobState.TheVariants.{Pending, PendingHeld, Processing, Stopped, Canceled, Aborted, Completed}
 use Rattle.job_objects.specs.declared.job_change.JobChange.{JobChange}
 use Rattle.job_objects.specs.declared.job_change.JobChange.TheVariants.{Close, Fail}
 use Rattle.job_objects.specs.declared.device_says.DeviceSays.{DeviceSays}
@@ -44,7 +44,7 @@ from_finished change Canceled now job is = from_canceled change now job
 from_finished change Aborted now job is = from_aborted change now job
 from_finished change Completed now job is = from_completed change now job
 from_finished change Pending now job is = absurd (true≢false (sym is))
-from_finished change Held now job is = absurd (true≢false (sym is))
+from_finished change PendingHeld now job is = absurd (true≢false (sym is))
 from_finished change Processing now job is = absurd (true≢false (sym is))
 from_finished change Stopped now job is = absurd (true≢false (sym is))
 

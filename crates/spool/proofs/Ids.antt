@@ -5,7 +5,7 @@ use Rattle.std.specs.List.{list_any}
 use Rattle.std.specs.Option.{option_map_or}
 use Rattle.base_types.specs.declared.needs.Stranded.{Stranded}
 use Rattle.job_objects.specs.declared.job_state.JobState.{JobState}
-use Rattle.job_objects.specs.declared.job_state.JobState.TheVariants.{Pending, Held, Processing, Stopped, Aborted}
+use Rattle.job_objects.specs.declared.job_state.JobState.TheVariants.{Pending, PendingHeld, Processing, Stopped, Aborted}
 use Rattle.job_objects.specs.declared.job_change.JobChange.{JobChange}
 use Rattle.job_objects.specs.declared.job_change.JobChange.TheVariants.{Close, Hold, Release, Begin, Stop, Continue, Cancel, Done, Fail}
 use Rattle.job_objects.specs.declared.device_says.DeviceSays.{DeviceSays}
@@ -23,20 +23,20 @@ either_id true x y n of_x of_y = of_x
 either_id false x y n of_x of_y = of_y
 
 waiting_id : (job : JobRecord) → (waiting job).id ≡ job.id
-waiting_id job = either_id (job.incoming || job.held) (moved Held job) (record job { state = Pending }) job.id refl refl
+waiting_id job = either_id (job.incoming || job.held) (moved PendingHeld job) (record job { state = Pending }) job.id refl refl
 
 chosen : (b : Bool) (x job : JobRecord) → x.id ≡ job.id → IfSome (cond b (Some x) None) (λ after. after.id ≡ job.id)
 chosen true x job is = is
 chosen false x job is = tt
 
 id_after : (change : JobChange) (state : JobState) (now : ℕ) (job : JobRecord) → IfSome (changed_from change state now job) (λ after. after.id ≡ job.id)
-id_after Close Held now job = chosen job.incoming (waiting (record job { incoming = false })) job (waiting_id (record job { incoming = false }))
+id_after Close PendingHeld now job = chosen job.incoming (waiting (record job { incoming = false })) job (waiting_id (record job { incoming = false }))
 id_after Close _ now job = tt
 id_after Hold Pending now job = waiting_id (record job { held = true })
-id_after Hold Held now job = waiting_id (record job { held = true })
+id_after Hold PendingHeld now job = waiting_id (record job { held = true })
 id_after Hold _ now job = tt
 id_after Release Pending now job = waiting_id (record job { held = false })
-id_after Release Held now job = waiting_id (record job { held = false })
+id_after Release PendingHeld now job = waiting_id (record job { held = false })
 id_after Release Processing now job = refl
 id_after Release Stopped now job = refl
 id_after Release _ now job = tt
@@ -47,14 +47,14 @@ id_after Stop _ now job = tt
 id_after Continue Stopped now job = refl
 id_after Continue _ now job = tt
 id_after (Cancel by) Pending now job = refl
-id_after (Cancel by) Held now job = refl
+id_after (Cancel by) PendingHeld now job = refl
 id_after (Cancel by) Processing now job = refl
 id_after (Cancel by) Stopped now job = refl
 id_after (Cancel by) _ now job = tt
 id_after Done Processing now job = refl
 id_after Done Stopped now job = refl
 id_after Done _ now job = tt
-id_after Fail Held now job = chosen job.incoming (ended Aborted now job) job refl
+id_after Fail PendingHeld now job = chosen job.incoming (ended Aborted now job) job refl
 id_after Fail Processing now job = refl
 id_after Fail Stopped now job = refl
 id_after Fail _ now job = tt

@@ -8,7 +8,7 @@ use Rattle.std.proofs.lemmas.List.Elements.{All-nil, All-cons, All-head, All-tai
 use Rattle.indexmap.specs.IndexMap.{insert_entry, set_value_at}
 use Rattle.base_types.specs.declared.needs.Stranded.{Stranded}
 use Rattle.job_objects.specs.declared.job_state.JobState.{JobState}
-use Rattle.job_objects.specs.declared.job_state.JobState.TheVariants.{Pending, Held, Processing, Stopped, Canceled, Aborted, Completed}
+use Rattle.job_objects.specs.declared.job_state.JobState.TheVariants.{Pending, PendingHeld, Processing, Stopped, Canceled, Aborted, Completed}
 use Rattle.job_objects.specs.declared.job_change.JobChange.{JobChange}
 use Rattle.job_objects.specs.declared.job_change.JobChange.TheVariants.{Close, Hold, Release, Begin, Stop, Continue, Cancel, Done, Fail}
 use Rattle.job_objects.specs.declared.device_says.DeviceSays.{DeviceSays}
@@ -32,7 +32,7 @@ KeepsSound f = (s : SpooledRecord) → IsSound s → IsSound (f s)
 
 -- a job that no device has, told whether it comes in and is held
 waiting_fits : (incoming held on : Bool) (job : JobRecord) → job.incoming ≡ incoming → job.held ≡ held → on ≡ false
-    → FitsState (cond (incoming || held) (moved Held job) (record job { state = Pending })).state (cond (incoming || held) (moved Held job) (record job { state = Pending })).incoming (cond (incoming || held) (moved Held job) (record job { state = Pending })).held on
+    → FitsState (cond (incoming || held) (moved PendingHeld job) (record job { state = Pending })).state (cond (incoming || held) (moved PendingHeld job) (record job { state = Pending })).incoming (cond (incoming || held) (moved PendingHeld job) (record job { state = Pending })).held on
 waiting_fits true held on job comes is free = (ap (λ (b : Bool). b || job.held) comes, free)
 waiting_fits false true on job comes is free = (ap (λ (b : Bool). b || job.held) comes ∙ is, free)
 waiting_fits false false on job comes is free = (comes, is, free)
@@ -49,13 +49,13 @@ chosen true on job fits = fits
 chosen false on job fits = tt
 
 fits_after : (change : JobChange) (state : JobState) (now : ℕ) (job : JobRecord) (on : Bool) → state ≡ job.state → FitsState state job.incoming job.held on → IfSome (changed_from change state now job) (λ after. Fits after (on_device_after change on))
-fits_after Close Held now job on is fits = chosen job.incoming on (waiting (record job { incoming = false })) (waits on (record job { incoming = false }) fits.1)
+fits_after Close PendingHeld now job on is fits = chosen job.incoming on (waiting (record job { incoming = false })) (waits on (record job { incoming = false }) fits.1)
 fits_after Close _ now job on is fits = tt
 fits_after Hold Pending now job on is fits = waits on (record job { held = true }) fits.2
-fits_after Hold Held now job on is fits = waits on (record job { held = true }) fits.1
+fits_after Hold PendingHeld now job on is fits = waits on (record job { held = true }) fits.1
 fits_after Hold _ now job on is fits = tt
 fits_after Release Pending now job on is fits = waits on (record job { held = false }) fits.2
-fits_after Release Held now job on is fits = waits on (record job { held = false }) fits.1
+fits_after Release PendingHeld now job on is fits = waits on (record job { held = false }) fits.1
 fits_after Release Processing now job on is fits = subst (λ (state : JobState). FitsState state job.incoming job.held on) is fits
 fits_after Release Stopped now job on is fits = subst (λ (state : JobState). FitsState state job.incoming job.held on) is fits
 fits_after Release _ now job on is fits = tt
@@ -66,14 +66,14 @@ fits_after Stop _ now job on is fits = tt
 fits_after Continue Stopped now job on is fits = fits
 fits_after Continue _ now job on is fits = tt
 fits_after (Cancel by) Pending now job on is fits = refl
-fits_after (Cancel by) Held now job on is fits = refl
+fits_after (Cancel by) PendingHeld now job on is fits = refl
 fits_after (Cancel by) Processing now job on is fits = refl
 fits_after (Cancel by) Stopped now job on is fits = refl
 fits_after (Cancel by) _ now job on is fits = tt
 fits_after Done Processing now job on is fits = refl
 fits_after Done Stopped now job on is fits = refl
 fits_after Done _ now job on is fits = tt
-fits_after Fail Held now job on is fits = chosen job.incoming on (ended Aborted now job) refl
+fits_after Fail PendingHeld now job on is fits = chosen job.incoming on (ended Aborted now job) refl
 fits_after Fail Processing now job on is fits = refl
 fits_after Fail Stopped now job on is fits = refl
 fits_after Fail _ now job on is fits = tt
@@ -93,7 +93,7 @@ changed_sound change now s sound = after (job_after change now s.job) (fits_afte
 -- a job that ends, or was finished before, isn't on a device any more
 done_fits : (state : JobState) (now : ℕ) (job : JobRecord) (on : Bool) → state ≡ job.state → FitsState state job.incoming job.held on → Fits (unwrap_or (changed_from Done state now job) job) false
 done_fits Pending now job on is fits = subst (λ (state : JobState). FitsState state job.incoming job.held false) is (fits.0, fits.1, refl)
-done_fits Held now job on is fits = subst (λ (state : JobState). FitsState state job.incoming job.held false) is (fits.0, refl)
+done_fits PendingHeld now job on is fits = subst (λ (state : JobState). FitsState state job.incoming job.held false) is (fits.0, refl)
 done_fits Processing now job on is fits = refl
 done_fits Stopped now job on is fits = refl
 done_fits Canceled now job on is fits = subst (λ (state : JobState). FitsState state job.incoming job.held false) is fits
@@ -106,7 +106,7 @@ failed false now job fits = fits
 
 fail_fits : (state : JobState) (now : ℕ) (job : JobRecord) (on : Bool) → state ≡ job.state → FitsState state job.incoming job.held on → Fits (unwrap_or (changed_from Fail state now job) job) false
 fail_fits Pending now job on is fits = subst (λ (state : JobState). FitsState state job.incoming job.held false) is (fits.0, fits.1, refl)
-fail_fits Held now job on is fits = failed job.incoming now job (subst (λ (state : JobState). FitsState state job.incoming job.held false) is (fits.0, refl))
+fail_fits PendingHeld now job on is fits = failed job.incoming now job (subst (λ (state : JobState). FitsState state job.incoming job.held false) is (fits.0, refl))
 fail_fits Processing now job on is fits = refl
 fail_fits Stopped now job on is fits = refl
 fail_fits Canceled now job on is fits = subst (λ (state : JobState). FitsState state job.incoming job.held false) is fits
@@ -135,7 +135,7 @@ pub marked_sound : (paused : List Bool) (stranded : List Stranded) → KeepsSoun
 marked_sound paused stranded s sound =
     either IsSound (is_ready paused s.job) (marked (list_any (λ e. e.job == s.job.id) stranded) s) s sound sound
 
-new_fits : (incoming held : Bool) → FitsState (cond (incoming || held) Held Pending) incoming held false
+new_fits : (incoming held : Bool) → FitsState (cond (incoming || held) PendingHeld Pending) incoming held false
 new_fits true held = (refl, refl)
 new_fits false true = (refl, refl)
 new_fits false false = (refl, refl, refl)
@@ -204,7 +204,7 @@ sound_found id (s ∷ jobs) sound = step (eqb id s.job.id) (sound_found id jobs 
 -- a job whose documents are still to come isn't on a device
 off_device : (state : JobState) (held on : Bool) → FitsState state true held on → on ≡ false
 off_device Pending held on fits = absurd (true≢false fits.0)
-off_device Held held on fits = fits.1
+off_device PendingHeld held on fits = fits.1
 off_device Processing held on fits = absurd (true≢false fits.0)
 off_device Stopped held on fits = absurd (true≢false fits.0)
 off_device Canceled held on fits = absurd (true≢false fits)

@@ -2,14 +2,14 @@
 -- whether a device has it (RFC 8011, section 5.3.7).
 use Rattle.std.specs.Prelude.{◌≡◌, ◌||◌, Bool, true, false}
 use Rattle.job_objects.specs.declared.job_state.JobState.{JobState}
-use Rattle.job_objects.specs.declared.job_state.JobState.TheVariants.{Pending, Held, Processing, Stopped, Canceled, Aborted, Completed}
+use Rattle.job_objects.specs.declared.job_state.JobState.TheVariants.{Pending, PendingHeld, Processing, Stopped, Canceled, Aborted, Completed}
 use Rattle.spool.specs.Spooled.{SpooledRecord}
 
 -- A device has a job that it prints or has stopped in, and no job that waits; a canceled one it may still
 -- have. What a device has, or may get, is all in and isn't held.
 abbrev pub FitsState : JobState → Bool → Bool → Bool → Type 0
 FitsState Pending incoming held on_device = (incoming ≡ false) × (held ≡ false) × (on_device ≡ false)
-FitsState Held incoming held on_device = ((incoming || held) ≡ true) × (on_device ≡ false)
+FitsState PendingHeld incoming held on_device = ((incoming || held) ≡ true) × (on_device ≡ false)
 FitsState Processing incoming held on_device = (incoming ≡ false) × (held ≡ false) × (on_device ≡ true)
 FitsState Stopped incoming held on_device = (incoming ≡ false) × (held ≡ false) × (on_device ≡ true)
 FitsState Canceled incoming held on_device = incoming ≡ false

@@ -1,8 +1,8 @@
 -- A job as it is submitted, and the job that it becomes.
-use Rattle.std.specs.Prelude.{ℕ, ◌||◌, Bool, false, if◌then◌else◌, List, map, length, Option, None}
+use Rattle.std.specs.Prelude.{ℕ, Bool, false, List, map, length, Option, None}
 use Rattle.base_types.specs.declared.finishings.Finishings.{Finishings}
 use Rattle.base_types.specs.declared.needs.Sides.{Sides}
-use Rattle.job_objects.specs.declared.job_state.JobState.TheVariants.{Pending, Held}
+use Rattle.job_objects.specs.JobState.{waiting_state}
 use Rattle.job_objects.specs.Impressions.{impressions_of}
 use Rattle.spool.specs.Document.{DocumentRecord, octets_of}
 use Rattle.spool.specs.Spooled.{SpooledRecord}
@@ -39,7 +39,7 @@ spooled_of new id incoming = record {
       copies = new.copies;
     };
     impressions = new.impressions;
-    state = if incoming || new.held then Held else Pending;
+    state = waiting_state incoming new.held;
     incoming = incoming;
     held = new.held;
     stranded = false;

@@ -105,7 +105,7 @@ pub(crate) fn taken(new: NewJob, id: JobId, formats: Vec<Text>, incoming: bool) 
         priority: new.priority,
         needs,
         impressions: new.impressions,
-        state: first_state(incoming || new.held),
+        state: JobState::waiting(incoming, new.held),
         incoming,
         held: new.held,
         stranded: false,
@@ -121,16 +121,5 @@ pub(crate) fn taken(new: NewJob, id: JobId, formats: Vec<Text>, incoming: bool) 
         documents: new.documents,
         arrived: new.created,
         on_device: false,
-    }
-}
-
-/// The state of a job that is taken, told whether it is held back.
-fn first_state(held_back: bool) -> JobState
-    ensures { result ≡ (if held_back then JobState.Held else JobState.Pending) }
-{
-    if held_back {
-        JobState::Held
-    } else {
-        JobState::Pending
     }
 }

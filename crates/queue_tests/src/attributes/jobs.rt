@@ -80,7 +80,7 @@ fn job_of(alloc: Global, which: Which) -> Result<Job, Fail> {
     }
     let mut job = new_job(alloc)?;
     if matches!(which, Which::Held) {
-        job.state = JobState::Held;
+        job.state = JobState::PendingHeld;
         job.incoming = true;
         job.held = true;
     }

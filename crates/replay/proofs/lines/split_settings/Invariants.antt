@@ -2,8 +2,8 @@ use Rattle.std.proofs.Common.{◌≤◌, ◌+◌, length}
 use Rattle.replay.proofs.Settings.{Passed}
 use Rattle.replay.proofs.lines.split_settings.Given as goal
 
-abbrev pub invariant-loop-parts : goal.invariant-loop-parts
-invariant-loop-parts l = record { within : l.count + length l.rest ≤ length l.trace; passed : Passed l.trace l.rest l.count }
+abbrev pub invariant-loop-cut : goal.invariant-loop-cut
+invariant-loop-cut l = record { within : l.count + length l.rest ≤ length l.trace; passed : Passed l.trace l.rest l.count }
 
-abbrev pub decreases-loop-parts : goal.decreases-loop-parts
-decreases-loop-parts l = length l.rest
+abbrev pub decreases-loop-cut : goal.decreases-loop-cut
+decreases-loop-cut l = length l.rest
