@@ -12,12 +12,12 @@ const NOT_FOUND: &[u8] =
 
 /// Whether the request is that of the body.
 fn is_request(request: &PrintJob) -> bool {
-    let Target::Named(name) = &request.target else {
+    let Target::Named(name) = &request.job.target else {
         return false;
     };
     name.is(b"lab")
-        && request.user.is(b"anonymous")
-        && request.job_name.is(b"untitled")
+        && request.job.user.is(b"anonymous")
+        && request.job.name.is(b"untitled")
         && request.octets.piece(0) == b"hello".as_slice()
 }
 

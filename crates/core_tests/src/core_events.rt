@@ -6,7 +6,10 @@ mod runs;
 
 use assignment::Lazy;
 use base_types::{Activity, Cause, DeviceId, JobId, Moment, Report, Sides, Text};
-use dispatcher::{Answer, Core, Dispatched, Event, PrintJob, Reply, Started, Status, Target};
+use dispatcher::{
+    Answer, AskedJob, Core, Dispatched, DocumentForm, Event, PrintJob, Reply, Started, Status,
+    Target,
+};
 use ipp_codec::{Attribute, Value, ValueTag};
 use job_objects::JobState;
 use job_template::RequestAttributes;
@@ -148,18 +151,22 @@ fn target_of(alloc: Global, asked: Asked) -> Result<Target, AllocError> {
 fn print_job(alloc: Global, asked: Asked) -> Result<Event, AllocError> {
     let target = target_of(alloc, asked)?;
     let user = Text::copy_of(alloc, b"anna")?;
-    let job_name = Text::copy_of(alloc, b"letter")?;
+    let name = Text::copy_of(alloc, b"letter")?;
     let template = job_group(alloc, asked)?;
     let bytes = Vec::from_slice(alloc, b"hello")?;
     Ok(Event::PrintJob(PrintJob {
-        target,
-        user,
-        job_name,
-        impressions: Some(asked.impressions),
-        compression: None,
-        format: None,
-        fidelity: true,
-        template,
+        job: AskedJob {
+            target,
+            user,
+            name,
+            impressions: Some(asked.impressions),
+            fidelity: true,
+            template,
+        },
+        form: DocumentForm {
+            compression: None,
+            format: None,
+        },
         octets: Octets::new(bytes),
     }))
 }

@@ -9,5 +9,6 @@ use Rattle.dispatcher.specs.declared.event.Event.TheVariants as Is
 -- they stay, byte for byte; a device's report hands out whole those of the job that it ends
 abbrev pub StepKeeps : Event → State → List DocumentRecord → State → Type 0
 StepKeeps (Is.PrintJob request) old documents new = AllKeep old new × (documents ≡ [])
+StepKeeps (Is.ValidateJob request) old documents new = AllKeep old new × (documents ≡ [])
 StepKeeps (Is.Report device report) old documents new = KeepsOrEnds device old documents new
 StepKeeps Is.Tick old documents new = AllKeep old new × (documents ≡ [])

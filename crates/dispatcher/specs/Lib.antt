@@ -2,7 +2,10 @@ pub mod Status
 pub mod Dispatched
 pub mod Lending
 pub mod Target
+pub mod Answers
+pub mod Checks
 pub mod PrintJob
+pub mod ValidateJob
 pub mod Step
 pub mod Keeping
 pub mod Run

@@ -15,6 +15,7 @@ use Rattle.print_room.specs.Dispatch.{Dispatches}
 -- whether an event only asks
 abbrev pub is_query : Event → Bool
 is_query (Is.PrintJob request) = false
+is_query (Is.ValidateJob request) = true
 is_query (Is.Report device report) = false
 is_query Is.Tick = false
 

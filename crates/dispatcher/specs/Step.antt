@@ -6,6 +6,7 @@ use Rattle.dispatcher.specs.declared.event.Event.TheVariants as Is
 use Rattle.dispatcher.specs.declared.reply.Reply.{Reply}
 use Rattle.dispatcher.specs.declared.reply.Answer.TheVariants as Says
 use Rattle.dispatcher.specs.PrintJob.{PrintsJob, asked_of}
+use Rattle.dispatcher.specs.ValidateJob.{ValidatesJob}
 use Rattle.print_room.specs.Report.{Reports}
 use Rattle.print_room.specs.State.{State}
 use Rattle.print_room.specs.Jobs.{expiring}
@@ -27,6 +28,7 @@ pub record Ticks (now : ℕ) (old : State) (reply : Reply) (new : State) : Type 
 -- by cases on the event, at a moment that is not before the last one
 abbrev pub StepAt : Event → ℕ → State → Reply → State → Type 0
 StepAt (Is.PrintJob request) now old reply new = PrintsJob now request old reply new
+StepAt (Is.ValidateJob request) now old reply new = ValidatesJob now request old reply new
 StepAt (Is.Report device report) now old reply new = Reported now device report old reply new
 StepAt Is.Tick now old reply new = Ticks now old reply new
 
@@ -36,6 +38,7 @@ Step old event moment reply new = StepAt event (max moment old.last) old reply n
 -- an event that is acted on without memory: all but a Print-Job that takes a job
 abbrev pub TakesNoMemoryAt : Event → ℕ → State → Type 0
 TakesNoMemoryAt (Is.PrintJob request) now old = IsErr (asked_of request now old)
+TakesNoMemoryAt (Is.ValidateJob request) now old = Unit {0}
 TakesNoMemoryAt (Is.Report device report) now old = Unit {0}
 TakesNoMemoryAt Is.Tick now old = Unit {0}
 

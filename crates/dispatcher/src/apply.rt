@@ -5,14 +5,15 @@ ghost use Rattle.dispatcher.specs.Step.{Step, Reported, Ticks, TakesNoMemory};
 use crate::event::Event;
 use crate::print_job::print_job;
 use crate::reply::Reply;
+use crate::validate_job::validate_job;
 use base_types::{DeviceId, Moment, Report};
 use print_room::PrintRoom;
 use std::alloc::{AllocError, Global};
 
 /// Acts on an event, at a moment or, where that is earlier, at the last one.
 ///
-/// Out of memory, the event is dropped and the room is as it was. A report, a tick and a
-/// Print-Job that is refused take no memory.
+/// Out of memory, the event is dropped and the room is as it was. Only a Print-Job that is taken takes
+/// memory.
 pub(crate) fn apply(
     alloc: Global,
     room: &mut PrintRoom,
@@ -26,6 +27,7 @@ pub(crate) fn apply(
     let now = moment.later(room.last());
     match event {
         Event::PrintJob(request) => print_job(alloc, room, request, now),
+        Event::ValidateJob(request) => Ok(validate_job(alloc, room, request, now)),
         Event::Report(device, report) => Ok(act_on(alloc, room, device, &report, now)),
         Event::Tick => Ok(tick(alloc, room, now)),
     }

@@ -13,6 +13,7 @@
 #![tactic(auto)]
 
 mod apply;
+mod checks;
 mod dispatch;
 mod event;
 mod law;
@@ -21,9 +22,10 @@ mod reply;
 mod run;
 mod server_core;
 mod status;
+mod validate_job;
 
 pub use dispatch::Dispatched;
-pub use event::{Event, PrintJob, Target};
+pub use event::{AskedJob, DocumentForm, Event, PrintJob, Target, ValidateJob};
 pub use print_room::Started;
 pub use reply::{Answer, Cancel, IppAnswer, Reply};
 pub use run::{Listener, Outcome, Timed};

@@ -1,11 +1,13 @@
 //! What an event is answered.
-ghost use Rattle.std.specs.Prelude.{◌≡◌, []};
-ghost use Rattle.dispatcher.specs.PrintJob.{Replies};
+ghost use Rattle.std.specs.Prelude.{◌≡◌, ◌≤◌, []};
+ghost use Rattle.dispatcher.specs.Answers.{Refuses, Replies, taken_with};
 
+use crate::checks::Refusal;
 use crate::status::Status;
-use base_types::{DeviceId, JobId};
+use base_types::{DeviceId, JobId, Moment};
 use ipp_codec::Group;
 use job_template::RequestAttributes;
+use print_room::PrintRoom;
 use spool::Document;
 use std::alloc::Global;
 
@@ -77,4 +79,28 @@ impl Reply {
             documents,
         }
     }
+}
+
+/// How a job is taken or found to be one that would be, by what isn't supported.
+pub(crate) fn taken_with(unsupported: &RequestAttributes) -> Status
+    ensures { result ≡ taken_with unsupported.now }
+{
+    if unsupported.is_empty() {
+        Status::Ok
+    } else {
+        Status::OkIgnoredOrSubstituted
+    }
+}
+
+/// Answers a status and what isn't supported.
+pub(crate) fn refuse(alloc: Global, room: &mut PrintRoom, refusal: Refusal, now: Moment) -> Reply
+    requires { room.old.last ≤ now }
+    ensures { Refuses now room.old refusal result room.new }
+{
+    let Refusal {
+        status,
+        unsupported,
+    } = refusal;
+    room.advance(now);
+    Reply::answered(alloc, status, unsupported, Vec::new(alloc))
 }

@@ -61,7 +61,8 @@ impl JobState {
         ensures { result ≡ is_finished self }
     {
         match self {
-            JobState::Pending | JobState::PendingHeld | JobState::Processing | JobState::Stopped => false,
+            JobState::Pending | JobState::PendingHeld | JobState::Processing | JobState::Stopped =>
+                false,
             JobState::Canceled | JobState::Aborted | JobState::Completed => true,
         }
     }

@@ -81,7 +81,12 @@ fn one(reason: Reason) -> JobReasons
 
 /// Why a job that no device has is pending or held back: it comes in, it is held, or else what keeps it
 /// from being printed.
-pub fn waiting_reasons(incoming: bool, held: bool, stranded: bool, printer_paused: bool) -> JobReasons
+pub fn waiting_reasons(
+    incoming: bool,
+    held: bool,
+    stranded: bool,
+    printer_paused: bool,
+) -> JobReasons
     ensures { result ≡ waiting_reasons incoming held stranded printer_paused }
 {
     if incoming || held {

@@ -3,7 +3,6 @@ use Rattle.std.specs.Prelude.{ℕ, ◌≡◌, Bool, true, false, List, [], ◌++
 use Rattle.settings_file.specs.Settings.{ServerSettings}
 use Rattle.dispatcher.specs.declared.event.Event.{Event}
 use Rattle.dispatcher.specs.declared.event.Event.TheVariants as Is
-use Rattle.dispatcher.specs.declared.event.PrintJob.{PrintJob}
 use Rattle.print_room.specs.Opening.{opening}
 use Rattle.print_room.specs.State.{State}
 use Rattle.replay.specs.declared.trace.Line.{Line}
@@ -19,7 +18,10 @@ Acts log bytes old output false log' new output' = (log' ≡ log) × (new ≡ ol
 
 -- an event that is a request, and so is answered
 abbrev pub IsRequest : Event → Type 0
-IsRequest event = (request : PrintJob) × (event ≡ Is.PrintJob request)
+IsRequest (Is.PrintJob request) = Unit {0}
+IsRequest (Is.ValidateJob request) = Unit {0}
+IsRequest (Is.Report device report) = ⊥
+IsRequest Is.Tick = ⊥
 
 -- a server that starts with these settings
 pub record IsStart (texts : Bool) (settings : ServerSettings) (log : LogRecord) (moment : ℕ) (state : State) : Type 0 where

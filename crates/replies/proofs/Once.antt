@@ -1,5 +1,5 @@
 -- A body asks one thing: by its one first fault, or by the one message that its first bytes spell.
-use Rattle.std.proofs.Common.{◌≡◌, ◌<◌, ◌≤◌, ◌++◌, ℕ, suc, zero, true, false, nat_le, List, [], ◌∷◌, length, take, drop, min, Option, Some, None, Result, Err, MatchOption, refl, sym, ap, subst, ◌∙◌, inl, inr, arith}
+use Rattle.std.proofs.Common.{◌≡◌, ◌<◌, ◌≤◌, ◌++◌, ℕ, suc, zero, true, false, nat_le, List, [], ◌∷◌, length, take, drop, min, Option, Some, None, Result, Ok, Err, MatchOption, MatchResult, refl, sym, ap, subst, ◌∙◌, inl, inr, arith}
 use Rattle.std.proofs.lemmas.List.{take-append-drop, take_min}
 use Rattle.std.proofs.Math.Seq.{take-length}
 use Rattle.base_types.specs.declared.limits.TheConstants.Limits.{IPP_HEAD_BYTES}
@@ -10,13 +10,14 @@ use Rattle.ipp_codec.specs.Spelling.{spelling}
 use Rattle.ipp_codec.specs.Grammar.{IsMessage, Spells}
 use Rattle.ipp_codec.specs.FirstFault.{FirstFault, HeadFault}
 use Rattle.ipp_codec.specs.Decoding.{fault_within}
-use Rattle.dispatcher.specs.declared.event.PrintJob.{PrintJob}
+use Rattle.printer_objects.specs.declared.operation.Operation.{Operation}
+use Rattle.dispatcher.specs.declared.event.Event.{Event}
 use Rattle.dispatcher.specs.declared.status.Status.{Status}
 use Rattle.replies.specs.declared.header.Header.{Header}
 use Rattle.replies.specs.declared.asked.Asked.{Asked}
 use Rattle.replies.specs.declared.asked.Asked.TheVariants.{TooShort, Refused}
-use Rattle.replies.specs.Asked.{header_of, refused_by, status_of, Requests, answered, AsksUnder, Asks}
-use Rattle.replies.specs.PrintJob.{request_of}
+use Rattle.replies.specs.Asked.{header_of, operation_of, status_of, Requests, answered, AsksUnder, Asks}
+use Rattle.replies.specs.Event.{event_of}
 
 -- the codec's three laws
 pub record Laws : Type 0 where
@@ -79,28 +80,28 @@ no_message laws bytes f n m h le s =
 spelt : (bytes : List ℕ) (n : ℕ) (m : IppMessage) → Spells (take n bytes) m → spelling m ++ drop n bytes ≡ bytes
 spelt bytes n m s = ap (λ xs. xs ++ drop n bytes) (sym s.1) ∙ take-append-drop n bytes
 
-same_request : Laws → (body : List ℕ) (given said : Result PrintJob Status) → Requests body given → Requests body said → given ≡ said
-same_request laws body given said (inl a) (inl b) = a.2 ∙ ap (λ f. Err (status_of f)) (same_fault laws body a.0 b.0 a.1 b.1) ∙ sym b.2
-same_request laws body given said (inl a) (inr b) = absurd (no_message laws body a.0 b.0 b.1 a.1 b.2 b.3)
-same_request laws body given said (inr a) (inl b) = absurd (no_message laws body b.0 a.0 a.1 b.1 a.2 a.3)
-same_request laws body given said (inr a) (inr b) =
+same_request : Laws → (asked : Operation) (body : List ℕ) (given said : Result Event Status) → Requests asked body given → Requests asked body said → given ≡ said
+same_request laws asked body given said (inl a) (inl b) = a.2 ∙ ap (λ f. Err (status_of f)) (same_fault laws body a.0 b.0 a.1 b.1) ∙ sym b.2
+same_request laws asked body given said (inl a) (inr b) = absurd (no_message laws body a.0 b.0 b.1 a.1 b.2 b.3)
+same_request laws asked body given said (inr a) (inl b) = absurd (no_message laws body b.0 a.0 a.1 b.1 a.2 a.3)
+same_request laws asked body given said (inr a) (inr b) =
     let same = laws.one_spelling a.1 b.1 (drop a.0 body) (drop b.0 body) a.3.0 b.3.0 (spelt body a.0 a.1 a.3 ∙ sym (spelt body b.0 b.1 b.3)) in
-    a.4 ∙ ap (λ m. request_of m (drop a.0 body)) same.0 ∙ ap (λ d. request_of b.1 d) same.1 ∙ sym b.4
+    a.4 ∙ ap (λ m. event_of asked m (drop a.0 body)) same.0 ∙ ap (λ d. event_of asked b.1 d) same.1 ∙ sym b.4
 
-abbrev Under : Option Status → ℕ → List ℕ → Asked → Type 0
-Under refused id body asked =
-    MatchOption refused ((request : Result PrintJob Status) × Requests body request × (asked ≡ answered id request)) (λ status. asked ≡ Refused status id)
+abbrev Under : Result Operation Status → ℕ → List ℕ → Asked → Type 0
+Under operation id body asked =
+    MatchResult operation (λ o. (event : Result Event Status) × Requests o body event × (asked ≡ answered id event)) (λ status. asked ≡ Refused status id)
 
-same_under : Laws → (refused : Option Status) (id : ℕ) (body : List ℕ) (given said : Asked) → Under refused id body given → Under refused id body said → given ≡ said
-same_under laws None id body given said a b = a.2 ∙ ap (λ r. answered id r) (same_request laws body a.0 b.0 a.1 b.1) ∙ sym b.2
-same_under laws (Some status) id body given said a b = a ∙ sym b
+same_under : Laws → (operation : Result Operation Status) (id : ℕ) (body : List ℕ) (given said : Asked) → Under operation id body given → Under operation id body said → given ≡ said
+same_under laws (Ok o) id body given said a b = a.2 ∙ ap (λ r. answered id r) (same_request laws o body a.0 b.0 a.1 b.1) ∙ sym b.2
+same_under laws (Err status) id body given said a b = a ∙ sym b
 
 abbrev At : Option Header → List ℕ → Asked → Type 0
 At header body asked = MatchOption header (asked ≡ TooShort) (λ h. AsksUnder h body asked)
 
 same_at : Laws → (header : Option Header) (body : List ℕ) (given said : Asked) → At header body given → At header body said → given ≡ said
 same_at laws None body given said a b = a ∙ sym b
-same_at laws (Some h) body given said a b = same_under laws (refused_by h) h.request_id body given said a b
+same_at laws (Some h) body given said a b = same_under laws (operation_of h) h.request_id body given said a b
 
 pub same_asked : Laws → (body : List ℕ) (given said : Asked) → Asks body given → Asks body said → given ≡ said
 same_asked laws body given said a b = same_at laws (header_of body) body given said a b

@@ -1,5 +1,6 @@
 -- What an IPP body asks (RFC 8011, section 4.1): its header is looked at first, then its attributes; the document follows them.
-use Rattle.std.specs.Prelude.{ℕ, ◌≡◌, ◌≤◌, ◌⊎◌, ◌==◌, ◌||◌, not, if◌then◌else◌, List, [], ◌∷◌, take, drop, Option, Some, None, option_map, MatchOption, Result, Ok, Err}
+use Rattle.std.specs.Prelude.{ℕ, ◌≡◌, ◌≤◌, ◌⊎◌, ◌==◌, ◌||◌, not, if◌then◌else◌, List, [], ◌∷◌, take, drop, find, Option, Some, None, option_map, MatchOption, Result, Ok, Err, MatchResult}
+use Rattle.std.specs.Option.{option_map_or}
 use Rattle.std.specs.Int.{w16, w32, from_be_bytes}
 use Rattle.base_types.specs.declared.limits.TheConstants.Limits.{IPP_HEAD_BYTES}
 use Rattle.ipp_codec.specs.declared.fault.CodecFault.{CodecFault}
@@ -7,16 +8,16 @@ use Rattle.ipp_codec.specs.declared.fault.CodecFault.TheVariants as fault
 use Rattle.ipp_codec.specs.Message.{IppMessage}
 use Rattle.ipp_codec.specs.Grammar.{Spells}
 use Rattle.ipp_codec.specs.FirstFault.{HeadFault}
+use Rattle.printer_objects.specs.declared.operation.Operation.{Operation}
 use Rattle.printer_objects.specs.declared.operation.Operation.TheVariants as operation
 use Rattle.printer_objects.specs.Operation.{operation_code}
-use Rattle.dispatcher.specs.declared.event.PrintJob.{PrintJob}
-use Rattle.dispatcher.specs.declared.event.Event.TheVariants as event
+use Rattle.dispatcher.specs.declared.event.Event.{Event}
 use Rattle.dispatcher.specs.declared.status.Status.{Status}
 use Rattle.dispatcher.specs.declared.status.Status.TheVariants as status
 use Rattle.replies.specs.declared.header.Header.{Header}
 use Rattle.replies.specs.declared.asked.Asked.{Asked}
-use Rattle.replies.specs.declared.asked.Asked.TheVariants.{TooShort, Refused, Event}
-use Rattle.replies.specs.PrintJob.{request_of}
+use Rattle.replies.specs.declared.asked.Asked.TheVariants.{TooShort, Refused, Event as Comes}
+use Rattle.replies.specs.Event.{event_of}
 
 -- version, operation and request-id: the first eight bytes (RFC 8010, section 3.1.1)
 abbrev pub header_of : List ℕ → Option Header
@@ -31,32 +32,39 @@ header_of _ = None
 abbrev pub request_id_of : List ℕ → Option ℕ
 request_id_of body = option_map (λ header. header.request_id) (header_of body)
 
--- the version's major number is 1 or 2 (RFC 8011, section 4.1.8), the operation is Print-Job (section 5.4.15)
-abbrev pub refused_by : Header → Option Status
-refused_by header =
-    if not ((header.major == 1) || (header.major == 2)) then Some status.VersionNotSupported
-    else if not (header.operation == operation_code operation.PrintJob) then Some status.OperationNotSupported
-    else None
+-- the operations that are served (section 5.4.15)
+abbrev pub served : List Operation
+served = operation.PrintJob ∷ operation.ValidateJob ∷ []
+
+-- the operation of a code, if it is served
+abbrev pub operation_in : ℕ → Option Operation
+operation_in code = find (λ o. operation_code o == code) served
+
+-- the operation that a header asks for: the version's major number is 1 or 2 (RFC 8011, section 4.1.8), and the operation is served
+abbrev pub operation_of : Header → Result Operation Status
+operation_of header =
+    if not ((header.major == 1) || (header.major == 2)) then Err status.VersionNotSupported
+    else option_map_or Ok (operation_in header.operation) (Err status.OperationNotSupported)
 
 abbrev pub status_of : CodecFault → Status
 status_of fault.TooLarge = status.TooLarge
 status_of _ = status.BadRequest
 
--- the first fault of the bytes, or the request of the message that the first of them spell; the document is the others
-abbrev pub Requests : List ℕ → Result PrintJob Status → Type 0
-Requests body request =
-    ((fault : CodecFault) × HeadFault body fault × (request ≡ Err (status_of fault)))
-    ⊎ ((n : ℕ) × (message : IppMessage) × (n ≤ IPP_HEAD_BYTES) × Spells (take n body) message × (request ≡ request_of message (drop n body)))
+-- the first fault of the bytes, or the event of the message that the first of them spell; the document is the others
+abbrev pub Requests : Operation → List ℕ → Result Event Status → Type 0
+Requests asked body event =
+    ((fault : CodecFault) × HeadFault body fault × (event ≡ Err (status_of fault)))
+    ⊎ ((n : ℕ) × (message : IppMessage) × (n ≤ IPP_HEAD_BYTES) × Spells (take n body) message × (event ≡ event_of asked message (drop n body)))
 
-abbrev pub answered : ℕ → Result PrintJob Status → Asked
-answered id (Ok request) = Event id (event.PrintJob request)
+abbrev pub answered : ℕ → Result Event Status → Asked
+answered id (Ok event) = Comes id event
 answered id (Err status) = Refused status id
 
 -- what a body with this header asks
 abbrev pub AsksUnder : Header → List ℕ → Asked → Type 0
 AsksUnder header body asked =
-    MatchOption (refused_by header)
-    ((request : Result PrintJob Status) × Requests body request × (asked ≡ answered header.request_id request))
+    MatchResult (operation_of header)
+    (λ operation. (event : Result Event Status) × Requests operation body event × (asked ≡ answered header.request_id event))
     (λ status. asked ≡ Refused status header.request_id)
 
 abbrev pub Asks : List ℕ → Asked → Type 0

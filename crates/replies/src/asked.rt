@@ -2,10 +2,11 @@
 ghost use Rattle.std.specs.Prelude.{◌≡◌, IfOk};
 ghost use Rattle.replies.specs.Asked.{Asks, Requests, status_of};
 
-use crate::header::{header_of, refused_by};
-use crate::print_job::request_of;
-use dispatcher::{Event, PrintJob, Status};
+use crate::event::event_of;
+use crate::header::{header_of, operation_of};
+use dispatcher::{Event, Status};
 use ipp_codec::{CodecFault, decode};
+use printer_objects::Operation;
 use std::alloc::{AllocError, Global};
 
 /// What an IPP body comes to.
@@ -27,21 +28,26 @@ pub fn ipp_event(alloc: Global, body: &[u8]) -> Result<Asked, AllocError>
     let Some(header) = header_of(body) else {
         return Ok(Asked::TooShort);
     };
-    if let Some(status) = refused_by(header) {
-        return Ok(Asked::Refused(status, header.request_id));
-    }
-    match request_in(alloc, body)? {
-        Ok(request) => Ok(Asked::Event(header.request_id, Event::PrintJob(request))),
+    let operation = match operation_of(header) {
+        Ok(operation) => operation,
+        Err(status) => return Ok(Asked::Refused(status, header.request_id)),
+    };
+    match event_by(alloc, operation, body)? {
+        Ok(event) => Ok(Asked::Event(header.request_id, event)),
         Err(status) => Ok(Asked::Refused(status, header.request_id)),
     }
 }
 
-/// The request of a body, or the status of the first check that it fails after its header.
-fn request_in(alloc: Global, body: &[u8]) -> Result<Result<PrintJob, Status>, AllocError>
-    ensures { IfOk result (λ request. Requests body.now request) }
+/// The event of a body, or the status of the first check that it fails after its header.
+fn event_by(
+    alloc: Global,
+    operation: Operation,
+    body: &[u8],
+) -> Result<Result<Event, Status>, AllocError>
+    ensures { IfOk result (λ event. Requests operation body.now event) }
 {
     match decode(body) {
-        Ok((message, length)) => request_of(alloc, &message, &body[length..]),
+        Ok((message, length)) => event_of(alloc, operation, &message, &body[length..]),
         Err(fault) => Ok(Err(status_of(fault))),
     }
 }

@@ -1,6 +1,6 @@
 //! The header of a body.
 ghost use Rattle.std.specs.Prelude.{◌≡◌};
-ghost use Rattle.replies.specs.Asked.{header_of, refused_by, request_id_of};
+ghost use Rattle.replies.specs.Asked.{header_of, operation_in, operation_of, request_id_of};
 
 use dispatcher::Status;
 use printer_objects::Operation;
@@ -36,16 +36,29 @@ pub fn request_id(body: &[u8]) -> Option<u32>
     header_of(body).map(|header| header.request_id)
 }
 
-/// The status of a header that is refused: of another version, or of an operation that doesn't
-/// exist.
-pub(crate) fn refused_by(header: Header) -> Option<Status>
-    ensures { result ≡ refused_by header }
+/// The operation that a header asks for, or why it is refused: it has another version, or asks for an
+/// operation that isn't served.
+pub(crate) fn operation_of(header: Header) -> Result<Operation, Status>
+    ensures { result ≡ operation_of header }
 {
     if header.major != 1 && header.major != 2 {
-        return Some(Status::VersionNotSupported);
+        return Err(Status::VersionNotSupported);
     }
-    if header.operation != Operation::PrintJob.code() {
-        return Some(Status::OperationNotSupported);
+    match operation_in(header.operation) {
+        Some(operation) => Ok(operation),
+        None => Err(Status::OperationNotSupported),
     }
-    None
+}
+
+/// The operation of a code, if it is served.
+fn operation_in(code: u16) -> Option<Operation>
+    ensures { result ≡ operation_in code }
+{
+    if code == Operation::PrintJob.code() {
+        Some(Operation::PrintJob)
+    } else if code == Operation::ValidateJob.code() {
+        Some(Operation::ValidateJob)
+    } else {
+        None
+    }
 }

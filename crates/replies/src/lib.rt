@@ -10,6 +10,7 @@
 
 mod asked;
 mod attributes;
+mod event;
 mod header;
 mod law;
 mod print_job;

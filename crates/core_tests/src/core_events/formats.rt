@@ -31,7 +31,7 @@ const ASKED: [(&[u8], Status); 4] = [
 fn print_as(alloc: Global, format: &[u8]) -> Result<Event, AllocError> {
     let mut event = print_job(alloc, LETTER)?;
     if let Event::PrintJob(request) = &mut event {
-        request.format = Some(Text::copy_of(alloc, format)?);
+        request.form.format = Some(Text::copy_of(alloc, format)?);
     }
     Ok(event)
 }

@@ -1,7 +1,8 @@
 use Rattle.std.proofs.Common.{List, [], ◌∷◌, subst}
 use Rattle.ipp_codec.specs.Message.{IppGroup}
 use Rattle.dispatcher.specs.declared.status.Status.{Status}
-use Rattle.dispatcher.specs.PrintJob.{Replies, group_of}
+use Rattle.dispatcher.specs.Answers.{Replies}
+use Rattle.dispatcher.specs.PrintJob.{group_of}
 use Rattle.dispatcher.proofs.print_job.take.Goals as goal
 
 pub returns-in-Ok-clause-ok : goal.returns-in-Ok-clause-ok

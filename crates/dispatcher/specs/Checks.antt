@@ -1,0 +1,63 @@
+-- The checks of a request for a job, in their order (RFC 8011, sections 4.1.5 to 4.1.7, 4.2.1.1 and 4.2.1.2):
+-- its printer, its document's form, its template, and whether there is room for it. The first that fails
+-- decides. Which of them a request has to pass stands with its operation.
+use Rattle.std.specs.Prelude.{ℕ, ◌==◌, ◌&&◌, not, nat_lt, Bool, false, if◌then◌else◌, List, [], length, Option, Some, None, Result, Ok, Err, Unit, tt, codes}
+use Rattle.std.specs.Option.{option_map_or}
+use Rattle.std.specs.Str.{bytes_eq}
+use Rattle.base_types.specs.declared.limits.TheConstants.Limits.{JOB_OCTETS}
+use Rattle.settings_file.specs.Settings.{PrinterEntry}
+use Rattle.ipp_codec.specs.Message.{IppAttribute}
+use Rattle.printer_objects.specs.Offer.{OfferRecord, format_named}
+use Rattle.spool.specs.Calls.{is_full}
+use Rattle.job_template.specs.Unsupported.{unsupported_of}
+use Rattle.dispatcher.specs.declared.event.DocumentForm.{DocumentForm}
+use Rattle.dispatcher.specs.declared.event.Target.{Target}
+use Rattle.dispatcher.specs.declared.status.Status.{Status}
+use Rattle.dispatcher.specs.declared.status.Status.TheVariants as Went
+use Rattle.dispatcher.specs.declared.checks.NamedPrinter.{NamedPrinter}
+use Rattle.dispatcher.specs.declared.checks.Refusal.{Refusal}
+use Rattle.dispatcher.specs.Target.{printer_of}
+use Rattle.print_room.specs.State.{State}
+
+-- a status, and nothing that isn't supported
+abbrev pub refused : Status → Refusal
+refused status = record { status = status; unsupported = [] }
+
+-- what a printer offers, by what the devices are now
+abbrev pub offer_of : State → PrinterEntry → OfferRecord
+offer_of state printer = record { devices = state.devices; printer = printer }
+
+-- the printer is known
+abbrev pub named_printer : Target → State → Result NamedPrinter Refusal
+named_printer target state =
+    option_map_or (λ found. Ok (record { place = found.0; offer = offer_of state found.1 })) (printer_of target state.settings.printers) (Err (refused Went.NotFound))
+
+-- compression is given and is not `none` (section 4.2.1.1)
+abbrev pub is_compressed : Option (List ℕ) → Bool
+is_compressed compression = option_map_or (λ c. not (bytes_eq c (codes "none"))) compression false
+
+-- the settings' spelling of the format asked for (section 5.1.10), if the printer has it; without
+-- document-format its default
+abbrev pub format_of : OfferRecord → Option (List ℕ) → Option (List ℕ)
+format_of offer None = Some offer.printer.format_default
+format_of offer (Some asked) = format_named offer asked
+
+-- the document isn't compressed, and its format is supported: the format
+abbrev pub format_asked : DocumentForm → OfferRecord → Result (List ℕ) Refusal
+format_asked form offer =
+    if is_compressed form.compression then Err (refused Went.CompressionNotSupported)
+    else option_map_or Ok (format_of offer form.format) (Err (refused Went.FormatNotSupported))
+
+-- all of the job group is supported, or the request doesn't insist on it (section 4.1.7): what isn't
+-- supported
+abbrev pub unsupported_asked : Bool → List IppAttribute → OfferRecord → Result (List IppAttribute) Refusal
+unsupported_asked fidelity template offer =
+    if fidelity && not (length (unsupported_of offer template) == 0) then Err (record { status = Went.AttributesNotSupported; unsupported = unsupported_of offer template })
+    else Ok (unsupported_of offer template)
+
+-- a job may have so many octets, and a further job is taken
+abbrev pub room_for : ℕ → State → Result Unit Refusal
+room_for octets state =
+    if nat_lt JOB_OCTETS octets then Err (refused Went.TooLarge)
+    else if is_full state.spool then Err (refused Went.Busy)
+    else Ok tt

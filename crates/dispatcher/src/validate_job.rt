@@ -1,0 +1,63 @@
+//! What a Validate-Job does (RFC 8011, section 4.2.3): it is answered what a Print-Job would be, and
+//! makes no job.
+ghost use Rattle.std.specs.Prelude.{◌≡◌, ◌≤◌};
+ghost use Rattle.dispatcher.specs.ValidateJob.{Validates, ValidatesJob, validated_of, validated_of_printer};
+
+use crate::checks::{NamedPrinter, Refusal, format_asked, named_printer, unsupported_asked};
+use crate::event::ValidateJob;
+use crate::reply::{Reply, refuse, taken_with};
+use base_types::Moment;
+use job_template::RequestAttributes;
+use print_room::PrintRoom;
+use std::alloc::Global;
+
+/// Answers a Validate-Job request. It takes no memory.
+pub(crate) fn validate_job(
+    alloc: Global,
+    room: &mut PrintRoom,
+    request: ValidateJob,
+    now: Moment,
+) -> Reply
+    requires { room.old.last ≤ now }
+    ensures { ValidatesJob now request room.old result room.new }
+{
+    match validated(alloc, room, request) {
+        Ok(unsupported) => answer(alloc, room, unsupported, now),
+        Err(refusal) => refuse(alloc, room, refusal, now),
+    }
+}
+
+/// Answers what isn't supported.
+fn answer(alloc: Global, room: &mut PrintRoom, unsupported: RequestAttributes, now: Moment) -> Reply
+    requires { room.old.last ≤ now }
+    ensures { Validates now room.old unsupported result room.new }
+{
+    let status = taken_with(&unsupported);
+    room.advance(now);
+    Reply::answered(alloc, status, unsupported, Vec::new(alloc))
+}
+
+/// What of a request isn't supported, or the first reason against it.
+fn validated(
+    alloc: Global,
+    room: &PrintRoom,
+    request: ValidateJob,
+) -> Result<RequestAttributes, Refusal>
+    ensures { result ≡ validated_of request room.now }
+{
+    let printer = named_printer(alloc, room, &request.job.target)?;
+    validated_of_printer(alloc, &printer, request)
+}
+
+/// What a printer doesn't support of a request, or the first reason against it.
+fn validated_of_printer(
+    alloc: Global,
+    printer: &NamedPrinter<'_>,
+    request: ValidateJob,
+) -> Result<RequestAttributes, Refusal>
+    ensures { result ≡ validated_of_printer request printer.now }
+{
+    let _format = format_asked(alloc, &printer.offer, &request.form)?;
+    let job = request.job;
+    unsupported_asked(alloc, &printer.offer, job.fidelity, job.template)
+}
