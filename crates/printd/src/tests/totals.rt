@@ -78,18 +78,25 @@ plan 50:43200\n\
 
 /// Settings with 32 equal devices, each of which says that it is ready.
 fn many_devices(alloc: Global) -> Result<String, AllocError> {
-    let mut settings = String::from_str(alloc, "version = 1\nuri_base = \"ipp://localhost:631\"\n")?;
+    let mut settings = String::from_str(
+        alloc,
+        "version = 1\nuri_base = \"ipp://localhost:631\"\n",
+    )?;
     let mut names = String::new(alloc);
     let mut ready = String::new(alloc);
     for place in 0..32 {
-        let device = format!(in alloc; "[[device]]\nname = \"D{place}\"\nrate_one = 10\nmedia = [\"iso_a4_210x297mm\"]\nformats = [\"text/plain\"]\n")?;
+        let device = format!(in alloc;
+            "[[device]]\nname = \"D{place}\"\nrate_one = 10\nmedia = [\"iso_a4_210x297mm\"]\nformats = [\"text/plain\"]\n"
+        )?;
         settings.push_str(device.as_str())?;
         let name = format!(in alloc; "\"D{place}\",")?;
         names.push_str(name.as_str())?;
         let line = format!(in alloc; "dev D{place} READY\n")?;
         ready.push_str(line.as_str())?;
     }
-    let printer = format!(in alloc; "[[printer]]\nname = \"lab\"\ndevices = [{names}]\nmedia_default = \"iso_a4_210x297mm\"\nformat_default = \"text/plain\"\n.\nat 0\n")?;
+    let printer = format!(in alloc;
+        "[[printer]]\nname = \"lab\"\ndevices = [{names}]\nmedia_default = \"iso_a4_210x297mm\"\nformat_default = \"text/plain\"\n.\nat 0\n"
+    )?;
     settings.push_str(printer.as_str())?;
     settings.push_str(ready.as_str())?;
     Ok(settings)
