@@ -17,7 +17,7 @@ pub struct Example {
     pub status: ExitStatus,
 }
 
-pub const EXAMPLES: [Example; 16] = [
+pub const EXAMPLES: [Example; 19] = [
     Example {
         input: "two_devices.trace",
         output: "two_devices.out",
@@ -87,6 +87,24 @@ pub const EXAMPLES: [Example; 16] = [
     Example {
         input: "malformed_messages.trace",
         output: "malformed_messages.out",
+        program: Program::Replay,
+        status: ExitStatus::Done,
+    },
+    Example {
+        input: "validated.trace",
+        output: "validated.out",
+        program: Program::Replay,
+        status: ExitStatus::Done,
+    },
+    Example {
+        input: "not_before.trace",
+        output: "not_before.out",
+        program: Program::Replay,
+        status: ExitStatus::Done,
+    },
+    Example {
+        input: "free_early.trace",
+        output: "free_early.out",
         program: Program::Replay,
         status: ExitStatus::Done,
     },
