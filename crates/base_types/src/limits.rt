@@ -8,11 +8,11 @@ impl Limits {
     pub const LAST_MOMENT: u64 = 281_474_976_710_656;
 
     /// Devices in the settings.
-    pub const DEVICES: usize = 16;
+    pub const DEVICES: usize = 32;
     /// Printers in the settings.
     pub const PRINTERS: usize = 8;
     /// Jobs that are neither completed, canceled nor aborted.
-    pub const UNFINISHED_JOBS: usize = 128;
+    pub const UNFINISHED_JOBS: usize = 512;
     /// Finished jobs that are kept to be asked about.
     pub const FINISHED_JOBS_KEPT: usize = 256;
 
@@ -74,8 +74,8 @@ impl Limits {
     pub const SETUP: u32 = 3_600_000;
     /// Time of one job, in ms: `SETUP + IMPRESSIONS * COPIES * RATE`.
     pub const JOB_TIME: u64 = 599_403_600_000;
-    /// Time until a device is free, in ms: 2^56.
-    pub const WAIT: u64 = 72_057_594_037_927_936;
+    /// Time until a device is free, in ms: 2^54.
+    pub const WAIT: u64 = 18_014_398_509_481_984;
     /// A total or a price in the text of a plan, in ms: 2^62.
     pub const AMOUNT: u64 = 4_611_686_018_427_387_904;
 
