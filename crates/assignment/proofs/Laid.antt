@@ -13,7 +13,7 @@ use Rattle.assignment.specs.declared.costs.Place.{Place}
 use Rattle.assignment.specs.declared.costs.TheConstants.{UNABLE}
 use Rattle.assignment.specs.declared.seating.Seating.{Seating}
 use Rattle.assignment.specs.Costs.{cost_of, cost_at, cost_with, row_of, nowhere}
-use Rattle.assignment.specs.Seating.{IsFair, IsSeated}
+use Rattle.assignment.specs.Seating.{HasRoom, IsFair, IsSeated}
 use Rattle.assignment.specs.Layout.{taken, IsFilled, IsLaid, ShowsNext, place_before}
 
 abbrev before_of : ℕ → ℕ → Place
@@ -91,6 +91,19 @@ fair_later costs f jobs prices free free' fair lt ef = record {
   ];
 }
 
+-- the slacks, once one of the places is the one before it, and has its slack anew
+pub room_later : (costs : Costs) (f k : ℕ) (jobs prices : List ℕ) (free free' : List Place) (slacks slacks' : List ℕ) → HasRoom (cost_of costs) jobs prices free slacks → f < length slacks → length slacks ≡ length free → free' ≡ set free f (place_before (get_or free f nowhere)) → slacks' ≡ set slacks f k
+    → ((q : ℕ) → q < length jobs → get_or prices q 0 + k ≤ cost_of costs (get_or jobs q 0) (get_or free' f nowhere)) → HasRoom (cost_of costs) jobs prices free' slacks'
+room_later costs f k jobs prices free free' slacks slacks' room lt len ef ek now = record {
+  at = λ q d lq ld. elim (cases_eq d f) [
+    | inl e ↦ rw (ek, e, get_or-set_same slacks f k 0 lt) (now q lq)
+    | inr ne ↦ rw (ek, ef, get_or-set_other slacks f d k 0 ne, get_or-set_other free f d (place_before (get_or free f nowhere)) nowhere ne) (room.at q d lq (rw (← length-set slacks f k, ← ek) ld))
+  ];
+}
+
+pub room_none : (costs : Costs) (jobs prices : List ℕ) (free : List Place) (slacks : List ℕ) → jobs ≡ [] → HasRoom (cost_of costs) jobs prices free slacks
+room_none costs jobs prices free slacks e = record { at = λ q d lq ld. absurd (omega (arith, lq, ap length e)) }
+
 pub laid_none : (devices : ℕ) (seats : List Place) → seats ≡ [] → IsLaid devices seats
 laid_none devices seats e = record {
   known = λ c below. absurd (omega (arith, below, ap length e));
@@ -137,7 +150,7 @@ pub shown_low : (devices f : ℕ) (seats free : List Place) → ShowsNext device
 shown_low devices f seats free show lt small = rw (show.next f lt) (omega (arith, taken-le f seats))
 
 -- the whole of a list that was lent
-pub lent_whole : (n : ℕ) (new old : List Place) → length new ≡ n → take n (new ++ drop (length new) old) ≡ new
+pub lent_whole : {X : Type 0} (n : ℕ) (new old : List X) → length new ≡ n → take n (new ++ drop (length new) old) ≡ new
 lent_whole n new old e = rw (← e) (take-append-le (length new) new (drop (length new) old) (omega arith) ∙ take-length new)
 
 -- the seating is filled, once its free places are the next ones

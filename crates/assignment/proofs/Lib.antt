@@ -11,5 +11,6 @@ pub mod Proving
 pub mod Queues
 pub mod Raised
 pub mod Reading
+pub mod Room
 pub mod Spread
 pub mod Step
