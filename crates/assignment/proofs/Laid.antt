@@ -1,5 +1,5 @@
 -- The places of each device are its last ones.
-use Rattle.std.proofs.Common.{◌≡◌, ◌≢◌, ℕ, ◌+◌, ◌<◌, ◌≤◌, zero, suc, add-one, cond, eqb, List, [], ◌∷◌, ◌++◌, length, vec_len, get_or, set, take, drop, ◌^◌, Option, Some, None, ap, sym, inl, inr, ◌∙◌, refl, arith}
+use Rattle.std.proofs.Common.{◌≡◌, ◌≢◌, ℕ, ◌+◌, ◌<◌, ◌≤◌, zero, suc, ◌*◌, add-one, cond, eqb, List, [], ◌∷◌, ◌++◌, length, vec_len, get_or, set, take, drop, ◌^◌, min, ap, sym, inl, inr, ◌∙◌, refl, arith}
 use Rattle.std.proofs.lemmas.Bool.{cases_eq}
 use Rattle.std.proofs.lemmas.Bool.Decides.{nat_tests}
 use Rattle.std.proofs.Math.Nat.{mul-le-mul_left}
@@ -12,7 +12,7 @@ use Rattle.assignment.specs.declared.costs.Costs.{Costs}
 use Rattle.assignment.specs.declared.costs.Place.{Place}
 use Rattle.assignment.specs.declared.costs.TheConstants.{UNABLE}
 use Rattle.assignment.specs.declared.seating.Seating.{Seating}
-use Rattle.assignment.specs.Costs.{cost_of, cost_at, cost_with, row_of, nowhere}
+use Rattle.assignment.specs.Costs.{cost_of, cost_at, row_of, nowhere}
 use Rattle.assignment.specs.Seating.{HasRoom, IsFair, IsSeated}
 use Rattle.assignment.specs.Layout.{taken, IsFilled, IsLaid, ShowsNext, place_before}
 
@@ -75,13 +75,12 @@ shows_now devices f seats free seats' free' show lt es ef =
     }
 
 -- a place before another costs no less
-rises_with : (time : Option ℕ) (wait after : ℕ) → cost_with time wait after ≤ cost_with time wait (after + 1)
-rises_with None wait after = omega arith
-rises_with (Some time) wait after = omega (arith, mul-le-mul_left time (let more : suc after ≤ suc (after + 1) = omega arith in more))
+rises_with : (time wait after : ℕ) → min (wait + suc after * time) UNABLE ≤ min (wait + suc (after + 1) * time) UNABLE
+rises_with time wait after = omega (arith, mul-le-mul_left time (let more : suc after ≤ suc (after + 1) = omega arith in more))
 
 pub rises : (costs : Costs) (job : ℕ) (place : Place) → cost_of costs job place ≤ cost_of costs job (place_before place)
 unfolding cost_at
-rises costs job place = rises_with (get_or (row_of costs job) place.device None) (get_or costs.waits.items place.device UNABLE) place.after
+rises costs job place = rises_with (get_or (row_of costs job) place.device UNABLE) (get_or costs.waits.items place.device UNABLE) place.after
 
 pub fair_later : (costs : Costs) (f : ℕ) (jobs prices : List ℕ) (free free' : List Place) → IsFair (cost_of costs) jobs prices free [] → f < length free → free' ≡ set free f (place_before (get_or free f nowhere)) → IsFair (cost_of costs) jobs prices free' []
 fair_later costs f jobs prices free free' fair lt ef = record {
