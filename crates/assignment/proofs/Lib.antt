@@ -6,6 +6,7 @@ pub mod Fill
 pub mod Filled
 pub mod Gaps
 pub mod Laid
+pub mod Nearest
 pub mod Opening
 pub mod Proving
 pub mod Queues
