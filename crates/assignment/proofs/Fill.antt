@@ -10,9 +10,10 @@ use Rattle.cost_table.proofs.Places.{timed_device, timed_place}
 use Rattle.prices.proofs.Bounds.{wait_small}
 use Rattle.assignment.specs.declared.costs.TheConstants.{UNABLE}
 use Rattle.assignment.specs.declared.times.Entries.{Entries}
-use Rattle.assignment.specs.Costs.{cost_of, cost_with, row_of}
+use Rattle.assignment.specs.Costs.{cost_of, row_of}
 use Rattle.assignment.specs.Entries.{EachAble, IsRead}
 use Rattle.assignment.specs.AllPlaces.{CanFill, place_on}
+use Rattle.assignment.proofs.Charges.{cost_with}
 use Rattle.assignment.proofs.Filled.{some_time, timed_cost}
 
 read_cost : (c : Class) (e : Entries) → IsRead c e → (j d after : ℕ) → j < length c.ids → d < length c.waits → cost_of e.costs j (place_on d after) ≡ cost_with (time_in c (get_or c.ids j 0) d) (wait_of c d) after

@@ -1,6 +1,6 @@
 -- What a seating of all jobs of a class gives: who sits where, and what it costs there.
 use Rattle.std.proofs.Common.{◌≡◌, ◌≢◌, ℕ, zero, suc, add-one, ◌+◌, ◌*◌, ◌<◌, ◌≤◌, List, Option, Some, None, length, vec_len, min, get_or, take, sum, ap, ◌∙◌, refl, arith, inl, inr}
-use Rattle.std.specs.Option.{IsSome}
+use Rattle.std.specs.Option.{IsSome, unwrap_or}
 use Rattle.std.specs.List.{range_with_len}
 use Rattle.std.specs.List.Sorted.{IsPermutation}
 use Rattle.std.proofs.Math.Seq.{take-suc}
@@ -20,12 +20,13 @@ use Rattle.assignment.specs.declared.costs.Place.{Place}
 use Rattle.assignment.specs.declared.costs.TheConstants.{UNABLE}
 use Rattle.assignment.specs.declared.seating.Seating.{Seating}
 use Rattle.assignment.specs.declared.times.Entries.{Entries}
-use Rattle.assignment.specs.Costs.{cost_at, cost_of, cost_with, nowhere, row_of}
+use Rattle.assignment.specs.Costs.{cost_at, cost_of, nowhere, row_of}
 use Rattle.assignment.specs.Seating.{IsTight}
 use Rattle.assignment.specs.Layout.{IsFilled, taken}
 use Rattle.assignment.specs.Entries.{EachAble, IsRead}
 use Rattle.assignment.specs.Answer.{cost_of_seats}
 use Rattle.assignment.proofs.Apart.{jobs-below}
+use Rattle.assignment.proofs.Charges.{cost_with, unable}
 use Rattle.assignment.proofs.Laid.{on, on-other, on-same, taken-le, taken-none, taken-push}
 
 -- all jobs of a class are seated
@@ -60,9 +61,10 @@ seat_of_job c e s h j lt =
 wait_read : (c : Class) (e : Entries) (s : Seating) → Solves c e s → (d : ℕ) → d < length c.waits → get_or e.costs.waits.items d UNABLE ≡ wait_of c d
 wait_read c e s h d lt = ap (λ w. get_or w d UNABLE) h.read.waits ∙ get_or_default c.waits d UNABLE 0 lt
 
-pub timed_cost : (waits : List ℕ) (row : List (Option ℕ)) (d after wait : ℕ) (entry : Option ℕ) → get_or row d None ≡ entry → get_or waits d UNABLE ≡ wait → cost_at waits row (record { device = d; after = after }) ≡ cost_with entry wait after
+pub timed_cost : (waits : List ℕ) (row : List ℕ) (d after wait : ℕ) (entry : Option ℕ) → get_or row d UNABLE ≡ unwrap_or entry UNABLE → get_or waits d UNABLE ≡ wait → cost_at waits row (record { device = d; after = after }) ≡ cost_with entry wait after
 unfolding cost_at
-timed_cost waits row d after wait entry er ew = rw (er, ew) refl
+timed_cost waits row d after wait None er ew = rw (er, ew) (unable wait after)
+timed_cost waits row d after wait (Some time) er ew = rw (er, ew) refl
 
 pub cost_read : (c : Class) (e : Entries) (s : Seating) → Solves c e s → (j d after : ℕ) → j < length c.ids → d < length c.waits → cost_of e.costs j (record { device = d; after = after }) ≡ cost_with (time_in c (get_or c.ids j 0) d) (wait_of c d) after
 cost_read c e s h j d after lj ld = timed_cost e.costs.waits.items (row_of e.costs j) d after (wait_of c d) (time_in c (get_or c.ids j 0) d) (h.read.times j d lj ld) (wait_read c e s h d ld)

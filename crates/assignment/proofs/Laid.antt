@@ -1,5 +1,5 @@
 -- The places of each device are its last ones.
-use Rattle.std.proofs.Common.{◌≡◌, ◌≢◌, ℕ, ◌+◌, ◌<◌, ◌≤◌, zero, suc, add-one, cond, eqb, List, [], ◌∷◌, ◌++◌, length, vec_len, get_or, set, take, drop, ◌^◌, Option, Some, None, ap, sym, inl, inr, ◌∙◌, refl, arith}
+use Rattle.std.proofs.Common.{◌≡◌, ◌≢◌, ℕ, ◌+◌, ◌<◌, ◌≤◌, zero, suc, ◌*◌, add-one, cond, eqb, List, [], ◌∷◌, ◌++◌, length, vec_len, get_or, set, take, drop, ◌^◌, min, ap, sym, inl, inr, ◌∙◌, refl, arith}
 use Rattle.std.proofs.lemmas.Bool.{cases_eq}
 use Rattle.std.proofs.lemmas.Bool.Decides.{nat_tests}
 use Rattle.std.proofs.Math.Nat.{mul-le-mul_left}
@@ -12,8 +12,8 @@ use Rattle.assignment.specs.declared.costs.Costs.{Costs}
 use Rattle.assignment.specs.declared.costs.Place.{Place}
 use Rattle.assignment.specs.declared.costs.TheConstants.{UNABLE}
 use Rattle.assignment.specs.declared.seating.Seating.{Seating}
-use Rattle.assignment.specs.Costs.{cost_of, cost_at, cost_with, row_of, nowhere}
-use Rattle.assignment.specs.Seating.{IsFair, IsSeated}
+use Rattle.assignment.specs.Costs.{cost_of, cost_at, row_of, nowhere}
+use Rattle.assignment.specs.Seating.{HasRoom, IsFair, IsSeated}
 use Rattle.assignment.specs.Layout.{taken, IsFilled, IsLaid, ShowsNext, place_before}
 
 abbrev before_of : ℕ → ℕ → Place
@@ -75,13 +75,12 @@ shows_now devices f seats free seats' free' show lt es ef =
     }
 
 -- a place before another costs no less
-rises_with : (time : Option ℕ) (wait after : ℕ) → cost_with time wait after ≤ cost_with time wait (after + 1)
-rises_with None wait after = omega arith
-rises_with (Some time) wait after = omega (arith, mul-le-mul_left time (let more : suc after ≤ suc (after + 1) = omega arith in more))
+rises_with : (time wait after : ℕ) → min (wait + suc after * time) UNABLE ≤ min (wait + suc (after + 1) * time) UNABLE
+rises_with time wait after = omega (arith, mul-le-mul_left time (let more : suc after ≤ suc (after + 1) = omega arith in more))
 
 pub rises : (costs : Costs) (job : ℕ) (place : Place) → cost_of costs job place ≤ cost_of costs job (place_before place)
 unfolding cost_at
-rises costs job place = rises_with (get_or (row_of costs job) place.device None) (get_or costs.waits.items place.device UNABLE) place.after
+rises costs job place = rises_with (get_or (row_of costs job) place.device UNABLE) (get_or costs.waits.items place.device UNABLE) place.after
 
 pub fair_later : (costs : Costs) (f : ℕ) (jobs prices : List ℕ) (free free' : List Place) → IsFair (cost_of costs) jobs prices free [] → f < length free → free' ≡ set free f (place_before (get_or free f nowhere)) → IsFair (cost_of costs) jobs prices free' []
 fair_later costs f jobs prices free free' fair lt ef = record {
@@ -90,6 +89,19 @@ fair_later costs f jobs prices free free' fair lt ef = record {
     | inr ne ↦ rw (ef, get_or-set_other free f d (place_before (get_or free f nowhere)) nowhere ne) (fair.at q d lq (rw (← length-set free f (place_before (get_or free f nowhere)), ← ef) ld))
   ];
 }
+
+-- the slacks, once one of the places is the one before it, and has its slack anew
+pub room_later : (costs : Costs) (f k : ℕ) (jobs prices : List ℕ) (free free' : List Place) (slacks slacks' : List ℕ) → HasRoom (cost_of costs) jobs prices free slacks → f < length slacks → length slacks ≡ length free → free' ≡ set free f (place_before (get_or free f nowhere)) → slacks' ≡ set slacks f k
+    → ((q : ℕ) → q < length jobs → get_or prices q 0 + k ≤ cost_of costs (get_or jobs q 0) (get_or free' f nowhere)) → HasRoom (cost_of costs) jobs prices free' slacks'
+room_later costs f k jobs prices free free' slacks slacks' room lt len ef ek now = record {
+  at = λ q d lq ld. elim (cases_eq d f) [
+    | inl e ↦ rw (ek, e, get_or-set_same slacks f k 0 lt) (now q lq)
+    | inr ne ↦ rw (ek, ef, get_or-set_other slacks f d k 0 ne, get_or-set_other free f d (place_before (get_or free f nowhere)) nowhere ne) (room.at q d lq (rw (← length-set slacks f k, ← ek) ld))
+  ];
+}
+
+pub room_none : (costs : Costs) (jobs prices : List ℕ) (free : List Place) (slacks : List ℕ) → jobs ≡ [] → HasRoom (cost_of costs) jobs prices free slacks
+room_none costs jobs prices free slacks e = record { at = λ q d lq ld. absurd (omega (arith, lq, ap length e)) }
 
 pub laid_none : (devices : ℕ) (seats : List Place) → seats ≡ [] → IsLaid devices seats
 laid_none devices seats e = record {
@@ -137,7 +149,7 @@ pub shown_low : (devices f : ℕ) (seats free : List Place) → ShowsNext device
 shown_low devices f seats free show lt small = rw (show.next f lt) (omega (arith, taken-le f seats))
 
 -- the whole of a list that was lent
-pub lent_whole : (n : ℕ) (new old : List Place) → length new ≡ n → take n (new ++ drop (length new) old) ≡ new
+pub lent_whole : {X : Type 0} (n : ℕ) (new old : List X) → length new ≡ n → take n (new ++ drop (length new) old) ≡ new
 lent_whole n new old e = rw (← e) (take-append-le (length new) new (drop (length new) old) (omega arith) ∙ take-length new)
 
 -- the seating is filled, once its free places are the next ones

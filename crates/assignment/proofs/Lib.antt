@@ -6,10 +6,12 @@ pub mod Fill
 pub mod Filled
 pub mod Gaps
 pub mod Laid
+pub mod Nearest
 pub mod Opening
 pub mod Proving
 pub mod Queues
 pub mod Raised
 pub mod Reading
+pub mod Room
 pub mod Spread
 pub mod Step

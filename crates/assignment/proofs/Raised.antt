@@ -38,7 +38,7 @@ fair_up h q c le lt =
       | inr ne ↦ omega (arith, h.searched.onward q c le lt ne, h.searched.within q le ne)
     ]
 
-free_up : {cost : ℕ → Place → ℕ} {jobs P : List ℕ} {seats : List Place} {V : List ℕ} {free : List Place} {L F R P' V' : List ℕ} {E : Exit} {top n : ℕ} → Raises cost jobs P seats V free L F R P' V' E top n → (q f : ℕ) → q ≤ n → f < length free → get_or P' q 0 ≤ cost (get_or jobs q 0) (get_or free f nowhere)
+pub free_up : {cost : ℕ → Place → ℕ} {jobs P : List ℕ} {seats : List Place} {V : List ℕ} {free : List Place} {L F R P' V' : List ℕ} {E : Exit} {top n : ℕ} → Raises cost jobs P seats V free L F R P' V' E top n → (q f : ℕ) → q ≤ n → f < length free → get_or P' q 0 ≤ cost (get_or jobs q 0) (get_or free f nowhere)
 free_up h q f le lt =
     let p = h.price_up q le in
     elim (far_or_settled h q le) [

@@ -1,21 +1,17 @@
 -- What a job adds to the total at a place of a device, counted from the end of the device's list:
 -- the device's wait once, and the job's time for itself and for each job after it.
-use Rattle.std.specs.Prelude.{ℕ, ◌+◌, ◌*◌, List, [], Option, Some, None, min, slice_index_or, suc}
+use Rattle.std.specs.Prelude.{ℕ, ◌+◌, ◌*◌, List, [], min, slice_index_or, suc}
 use Rattle.assignment.specs.declared.costs.Costs.{Costs}
 use Rattle.assignment.specs.declared.costs.Place.{Place}
 use Rattle.assignment.specs.declared.costs.TheConstants.{UNABLE}
 
--- with a time, or without one
-abbrev pub cost_with : Option ℕ → ℕ → ℕ → ℕ
-cost_with None wait after = UNABLE
-cost_with (Some time) wait after = min (wait + suc after * time) UNABLE
-
--- at a place of one of the devices
-unfoldable pub cost_at : List ℕ → List (Option ℕ) → Place → ℕ
-cost_at waits row place = cost_with (slice_index_or row place.device None) (slice_index_or waits place.device UNABLE) place.after
+-- at a place of one of the devices; a device that is not able has the time UNABLE, and with it
+-- costs no more than that
+unfoldable pub cost_at : List ℕ → List ℕ → Place → ℕ
+cost_at waits row place = min (slice_index_or waits place.device UNABLE + suc place.after * slice_index_or row place.device UNABLE) UNABLE
 
 -- the times of a job
-abbrev pub row_of : Costs → ℕ → List (Option ℕ)
+abbrev pub row_of : Costs → ℕ → List ℕ
 row_of costs job = slice_index_or costs.rows.items job []
 
 -- what the job adds at the place

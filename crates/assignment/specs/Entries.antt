@@ -1,6 +1,7 @@
 -- The entries of a class problem, as they are read.
-use Rattle.std.specs.Prelude.{◌≡◌, ℕ, ◌<◌, List, Option, None, IsSome, All, length, slice_index, slice_index_or, vec_len}
+use Rattle.std.specs.Prelude.{◌≡◌, ℕ, ◌<◌, List, IsSome, All, length, slice_index, slice_index_or, unwrap_or, vec_len}
 use Rattle.cost_table.specs.Class.{Class, time_in}
+use Rattle.assignment.specs.declared.costs.TheConstants.{UNABLE}
 use Rattle.assignment.specs.declared.times.Entries.{Entries}
 use Rattle.assignment.specs.Costs.{row_of}
 
@@ -8,14 +9,14 @@ use Rattle.assignment.specs.Costs.{row_of}
 abbrev pub EachAble : Class → Type 0
 EachAble c = All (λ job. (device : ℕ) × IsSome (time_in c job device)) c.ids
 
--- the times of a job on so many devices
-pub record IsReadRow (c : Class) (job devices : ℕ) (row : List (Option ℕ)) : Type 0 where
+-- the times of a job on so many devices, UNABLE where one is not able
+pub record IsReadRow (c : Class) (job devices : ℕ) (row : List ℕ) : Type 0 where
   pub one_each : length row ≡ devices
-  pub times : (device : ℕ) → device < devices → slice_index_or row device None ≡ time_in c job device
+  pub times : (device : ℕ) → device < devices → slice_index_or row device UNABLE ≡ unwrap_or (time_in c job device) UNABLE
 
 -- these are the jobs, waits and times of the class
 pub record IsRead (c : Class) (e : Entries) : Type 0 where
   pub ids : e.ids.items ≡ c.ids
   pub waits : e.costs.waits.items ≡ c.waits
   pub rows : vec_len e.costs.rows ≡ length c.ids
-  pub times : (job device : ℕ) → job < length c.ids → device < length c.waits → slice_index_or (row_of e.costs job) device None ≡ time_in c (slice_index c.ids job) device
+  pub times : (job device : ℕ) → job < length c.ids → device < length c.waits → slice_index_or (row_of e.costs job) device UNABLE ≡ unwrap_or (time_in c (slice_index c.ids job) device) UNABLE

@@ -10,14 +10,11 @@ use Rattle.assignment.specs.declared.search.TheConstants.{UNSETTLED, FAR}
 use Rattle.assignment.specs.declared.seating.Seating.{Seating}
 use Rattle.assignment.specs.Costs.{cost_of, nowhere}
 
--- r is the place of the least length among the first n seats whose rank is `unsettled`
-abbrev pub IsNearestOf : List ℕ → List ℕ → ℕ → ℕ → Option ℕ → Type 0
-IsNearestOf lengths ranks unsettled n None = (k : ℕ) → k < n → slice_index ranks k ≢ unsettled
-IsNearestOf lengths ranks unsettled n (Some c) =
-    (c < n) × (slice_index ranks c ≡ unsettled) × ((k : ℕ) → k < n → slice_index ranks k ≡ unsettled → slice_index lengths c ≤ slice_index lengths k)
-
-abbrev pub IsNearest : List ℕ → List ℕ → ℕ → Option ℕ → Type 0
-IsNearest lengths ranks unsettled r = IsNearestOf lengths ranks unsettled (length ranks) r
+-- r is the place of the least length among the unsettled ones of the first n seats
+abbrev pub IsNearestOf : List ℕ → List ℕ → ℕ → Option ℕ → Type 0
+IsNearestOf lengths ranks n None = (k : ℕ) → k < n → slice_index ranks k ≢ UNSETTLED
+IsNearestOf lengths ranks n (Some c) =
+    (c < n) × (slice_index ranks c ≡ UNSETTLED) × ((k : ℕ) → k < n → slice_index ranks k ≡ UNSETTLED → slice_index lengths c ≤ slice_index lengths k)
 
 -- what a relaxed seat's length and origin become: `length` is the way over the seat `origin`
 abbrev pub IsRelaxed : (rank origin length old new from from' : ℕ) → Type 0
@@ -60,6 +57,10 @@ pub record IsSized (s : Seating) (x : Search) : Type 0 where
 
 abbrev pub SearchedFrom : Costs → Seating → List Place → Search → Type 0
 SearchedFrom t s free x = IsSearched (cost_of t) s.jobs.items s.prices.items s.seats.items s.rents.items free x.lengths.items x.froms.items x.ranks.items x.exit x.settled (vec_len s.seats)
+
+-- the search knows the nearest unsettled seat
+abbrev pub IsNearest : Seating → Search → Type 0
+IsNearest s x = IsNearestOf x.lengths.items x.ranks.items (vec_len s.seats) x.nearest
 
 -- 1 for the rank of an unsettled seat, 0 for another
 abbrev pub open_of : ℕ → ℕ

@@ -22,6 +22,11 @@ pub record IsSeated (cost : ℕ → Place → ℕ) (s : Seating) (free : List Pl
   pub fair_free : IsFair cost s.jobs.items s.prices.items free []
   pub tight : IsTight cost s.jobs.items s.prices.items s.seats.items s.rents.items
 
+-- each price may rise by the slack of a free place before it is above what that place costs; the
+-- slacks are those of the first places
+pub record HasRoom (cost : ℕ → Place → ℕ) (jobs prices : List ℕ) (free : List Place) (slacks : List ℕ) : Type 0 where
+  pub at : (q f : ℕ) → q < length jobs → f < length slacks → slice_index prices q + slice_index slacks f ≤ cost (slice_index jobs q) (slice_index_or free f nowhere)
+
 -- there is one job more than seats, the last one, which is charged nothing yet
 pub record HasNewJob (s : Seating) : Type 0 where
   pub jobs : vec_len s.jobs ≡ vec_len s.seats + 1

@@ -75,7 +75,7 @@ fn seat_among(
     ensures shows { IfOk result (λ left. ShowsAll costs.now seating.new.seats.items left.items) }
     ensures jobs { IfOk result (λ _. IsPermutation (seating.old.jobs.items ++ job ∷ []) seating.new.jobs.items) }
 {
-    let at = insert(alloc, costs, seating, free, job)?;
+    let at = insert(alloc, costs, seating, free, &mut [], job)?;
     let taken = free[at];
     let left = without(alloc, free, taken)?;
     Ok(left)

@@ -2,7 +2,7 @@
 ghost use Rattle.std.specs.Prelude.{◌≡◌, ◌≢◌, ℕ, ◌+◌, ◌-◌, ◌<◌, ◌≤◌, length, slice_index, slice_index_or, slice_set, vec_len, [], ◌∷◌, ◌++◌, IfOk, OnOk};
 ghost use Rattle.std.specs.List.Sorted.{IsPermutation};
 ghost use Rattle.assignment.specs.Costs.{cost_of, nowhere};
-ghost use Rattle.assignment.specs.Seating.{AreMoved, IsFair, IsSeated};
+ghost use Rattle.assignment.specs.Seating.{AreMoved, HasRoom, IsFair, IsSeated};
 ghost use Rattle.assignment.specs.Search.{IsSized};
 
 use crate::costs::{Costs, Place, UNABLE, cost};
@@ -19,17 +19,24 @@ pub(crate) struct Seating {
     pub(crate) prices: Vec<u64>,
 }
 
-/// Seats one job more, at one of the free places, and keeps prices and rents fair.
+/// Seats one job more, at one of the free places, and keeps prices and rents fair. A slack is by how
+/// much all prices may rise before one is above what a free place costs; those of the first places
+/// are kept, as many as are given.
 pub(crate) fn insert(
     alloc: Global,
     costs: &Costs,
     seating: &mut Seating,
     free: &[Place],
+    slacks: &mut [u64],
     job: usize,
 ) -> Result<usize, AllocError>
     requires seated { IsSeated (cost_of costs.now) seating.old free.now }
     requires some { 0 < length free.now }
+    requires few { length slacks.old ≤ length free.now }
+    requires room { HasRoom (cost_of costs.now) seating.old.jobs.items seating.old.prices.items free.now slacks.old }
     ensures seated { OnOk result (IsSeated (cost_of costs.now) seating.new free.now) }
+    ensures slacks { length slacks.new ≡ length slacks.old }
+    ensures room { OnOk result (HasRoom (cost_of costs.now) seating.new.jobs.items seating.new.prices.items free.now slacks.new) }
     ensures place { IfOk result (λ f. f < length free.now) }
     ensures seats { IfOk result (λ f. seating.new.seats.items ≡ seating.old.seats.items ++ slice_index_or free.now f nowhere ∷ []) }
     ensures jobs { OnOk result (IsPermutation (seating.old.jobs.items ++ job ∷ []) seating.new.jobs.items) }
@@ -39,6 +46,7 @@ pub(crate) fn insert(
     seating.prices.push(0)?;
     let mut search = search_exit(alloc, costs, seating, free)?;
     raise_all(seating, &search);
+    tighten(costs, seating, &search, free, slacks);
     let place = free[search.exit.place];
     add_seat(seating, &mut search, place)?;
     move_jobs(seating, &search, last);
@@ -73,6 +81,40 @@ fn raise(values: &mut [u64], lengths: &[u64], reach: u64)
 {
     for (c, value) in values.iter_mut().enumerate() {
         *value += reach.saturating_sub(lengths[c]);
+    }
+}
+
+/// Lowers the slacks to what the prices leave that may have risen: those of the jobs that are no
+/// farther than the exit.
+fn tighten(costs: &Costs, seating: &Seating, search: &Search, free: &[Place], slacks: &mut [u64])
+    requires sizes { IsSized seating.now search.now }
+    requires few { length slacks.old ≤ length free.now }
+    requires fair { (q f : ℕ) → q ≤ vec_len seating.now.seats → f < length free.now
+        → slice_index seating.now.prices.items q ≤ cost_of costs.now (slice_index seating.now.jobs.items q) (slice_index_or free.now f nowhere) }
+    ensures len { length slacks.new ≡ length slacks.old }
+    ensures less { (f : ℕ) → f < length slacks.old → slice_index slacks.new f ≤ slice_index slacks.old f }
+    ensures near { (q f : ℕ) → q ≤ vec_len seating.now.seats → slice_index search.now.lengths.items q ≤ search.now.exit.length → f < length slacks.old
+        → slice_index seating.now.prices.items q + slice_index slacks.new f ≤ cost_of costs.now (slice_index seating.now.jobs.items q) (slice_index_or free.now f nowhere) }
+{
+    for q in 0..seating.jobs.len() {
+        if search.lengths[q] <= search.exit.length {
+            tighten_by(costs, seating.jobs[q], seating.prices[q], free, slacks);
+        }
+    }
+}
+
+/// Lowers the slacks to what the price of one job leaves.
+fn tighten_by(costs: &Costs, job: usize, price: u64, free: &[Place], slacks: &mut [u64])
+    requires few { length slacks.old ≤ length free.now }
+    requires fair { (f : ℕ) → f < length free.now → price ≤ cost_of costs.now job (slice_index_or free.now f nowhere) }
+    ensures len { length slacks.new ≡ length slacks.old }
+    ensures less { (f : ℕ) → f < length slacks.old → slice_index slacks.new f ≤ slice_index slacks.old f }
+    ensures near { (f : ℕ) → f < length slacks.old
+        → price + slice_index slacks.new f ≤ cost_of costs.now job (slice_index_or free.now f nowhere) }
+{
+    let row = costs.row(job);
+    for (f, slack) in slacks.iter_mut().enumerate() {
+        *slack = (*slack).min(cost(&costs.waits, row, free[f]) - price);
     }
 }
 
@@ -149,16 +191,44 @@ fn shift(jobs: &mut [usize], prices: &mut [u64], froms: &[usize], ranks: &[usize
     }
 }
 
-/// Raises all prices and rents alike, as far as the free places allow: the next job then finds its
-/// place after fewer steps.
-pub(crate) fn lift(costs: &Costs, seating: &mut Seating, free: &[Place])
+/// Raises all prices and rents alike, as far as the slacks of the free places allow: the next job
+/// then finds its place after fewer steps.
+pub(crate) fn lift(costs: &Costs, seating: &mut Seating, free: &[Place], slacks: &mut [u64])
     requires seated { IsSeated (cost_of costs.now) seating.old free.now }
     requires some { 0 < length free.now }
+    requires one_each { length slacks.old ≡ length free.now }
+    requires room { HasRoom (cost_of costs.now) seating.old.jobs.items seating.old.prices.items free.now slacks.old }
     ensures seated { IsSeated (cost_of costs.now) seating.new free.now }
     ensures same { (seating.new.jobs ≡ seating.old.jobs) × (seating.new.seats ≡ seating.old.seats) }
+    ensures slacks { length slacks.new ≡ length slacks.old }
+    ensures room { HasRoom (cost_of costs.now) seating.new.jobs.items seating.new.prices.items free.now slacks.new }
 {
-    let more = slack(costs, seating, free);
+    let more = least(slacks);
     lift_by(seating, more);
+    take_from_each(slacks, more);
+}
+
+/// The least of the slacks, and no more than any cost.
+fn least(slacks: &[u64]) -> u64
+    ensures low { result ≤ UNABLE }
+    ensures least { (f : ℕ) → f < length slacks.now → result ≤ slice_index slacks.now f }
+{
+    let mut least = UNABLE;
+    for slack in slacks {
+        least = least.min(*slack);
+    }
+    least
+}
+
+/// Takes the same from each value.
+fn take_from_each(values: &mut [u64], less: u64)
+    requires high { (f : ℕ) → f < length values.old → less ≤ slice_index values.old f }
+    ensures len { length values.new ≡ length values.old }
+    ensures taken { (f : ℕ) → f < length values.old → slice_index values.new f + less ≡ slice_index values.old f }
+{
+    for value in values.iter_mut() {
+        *value -= less;
+    }
 }
 
 /// Adds the same to all prices and rents.
@@ -190,32 +260,19 @@ fn add_to_each(values: &mut [u64], more: u64)
     }
 }
 
-/// By how much all prices may rise before one is above what a free place costs.
-fn slack(costs: &Costs, seating: &Seating, free: &[Place]) -> u64
+/// By how much all prices may rise before one is above what a place costs.
+pub(crate) fn slack(costs: &Costs, seating: &Seating, place: Place) -> u64
     requires jobs { vec_len seating.now.jobs ≡ vec_len seating.now.seats }
     requires prices { vec_len seating.now.prices ≡ vec_len seating.now.seats }
-    requires fair { IsFair (cost_of costs.now) seating.now.jobs.items seating.now.prices.items free.now [] }
-    ensures low { result ≤ UNABLE }
-    ensures every { (q f : ℕ) → q < vec_len seating.now.seats → f < length free.now
-        → slice_index seating.now.prices.items q + result ≤ cost_of costs.now (slice_index seating.now.jobs.items q) (slice_index_or free.now f nowhere) }
+    requires fair { (q : ℕ) → q < vec_len seating.now.seats
+        → slice_index seating.now.prices.items q ≤ cost_of costs.now (slice_index seating.now.jobs.items q) place }
+    ensures every { (q : ℕ) → q < vec_len seating.now.seats
+        → slice_index seating.now.prices.items q + result ≤ cost_of costs.now (slice_index seating.now.jobs.items q) place }
 {
     let mut least = UNABLE;
     for q in 0..seating.seats.len() {
-        least = least.min(room(costs, seating.jobs[q], seating.prices[q], free));
-    }
-    least
-}
-
-/// By how much the price of a job may rise before it is above what a free place costs it.
-fn room(costs: &Costs, job: usize, price: u64, free: &[Place]) -> u64
-    requires fair { (f : ℕ) → f < length free.now → price ≤ cost_of costs.now job (slice_index_or free.now f nowhere) }
-    ensures every { (f : ℕ) → f < length free.now
-        → price + result ≤ cost_of costs.now job (slice_index_or free.now f nowhere) }
-{
-    let row = costs.row(job);
-    let mut least = UNABLE;
-    for place in free {
-        least = least.min(cost(&costs.waits, row, *place) - price);
+        let cost = cost(&costs.waits, costs.row(seating.jobs[q]), place);
+        least = least.min(cost - seating.prices[q]);
     }
     least
 }

@@ -3,12 +3,12 @@ ghost use Rattle.std.specs.Prelude.{◌≡◌, ℕ, ◌<◌, [], ◌∷◌, ◌+
 ghost use Rattle.std.specs.List.{range_with_len};
 ghost use Rattle.std.specs.List.Sorted.{IsPermutation};
 ghost use Rattle.assignment.specs.Costs.{cost_of, nowhere};
-ghost use Rattle.assignment.specs.Seating.{IsSeated};
+ghost use Rattle.assignment.specs.Seating.{HasRoom, IsSeated};
 ghost use Rattle.assignment.specs.Layout.{IsFilled, IsLaid, ShowsNext, place_before};
 
-use crate::costs::{Costs, Place};
+use crate::costs::{Costs, Place, UNABLE};
 use crate::order::longest_first;
-use crate::seating::{Seating, insert, lift};
+use crate::seating::{Seating, insert, lift, slack};
 use std::alloc::{AllocError, Global};
 
 /// Seats all jobs, one by one, where each device shows its next free place alone.
@@ -19,6 +19,7 @@ pub(crate) fn solve(alloc: Global, costs: &Costs) -> Result<Seating, AllocError>
 {
     let order = longest_first(alloc, costs)?;
     let mut free = last_places(alloc, costs.waits.len())?;
+    let mut slacks = vec![in alloc; UNABLE; costs.waits.len()]?;
     let mut seating = Seating {
         seats: Vec::new(alloc),
         rents: Vec::new(alloc),
@@ -26,7 +27,14 @@ pub(crate) fn solve(alloc: Global, costs: &Costs) -> Result<Seating, AllocError>
         prices: Vec::new(alloc),
     };
     for place in 0..order.len() {
-        seat(alloc, costs, &mut seating, &mut free, order[place])?;
+        seat(
+            alloc,
+            costs,
+            &mut seating,
+            &mut free,
+            &mut slacks,
+            order[place],
+        )?;
     }
     Ok(seating)
 }
@@ -37,20 +45,26 @@ fn seat(
     costs: &Costs,
     seating: &mut Seating,
     free: &mut [Place],
+    slacks: &mut [u64],
     job: usize,
 ) -> Result<(), AllocError>
     requires some { 0 < vec_len costs.now.waits }
     requires seated { IsSeated (cost_of costs.now) seating.old free.old }
     requires laid { IsLaid (vec_len costs.now.waits) seating.old.seats.items }
     requires shows { ShowsNext (vec_len costs.now.waits) seating.old.seats.items free.old }
+    requires one_each { length slacks.old ≡ vec_len costs.now.waits }
+    requires room { HasRoom (cost_of costs.now) seating.old.jobs.items seating.old.prices.items free.old slacks.old }
     ensures seated { OnOk result (IsSeated (cost_of costs.now) seating.new free.new) }
     ensures laid { OnOk result (IsLaid (vec_len costs.now.waits) seating.new.seats.items) }
     ensures shows { OnOk result (ShowsNext (vec_len costs.now.waits) seating.new.seats.items free.new) }
+    ensures one_each { OnOk result (length slacks.new ≡ vec_len costs.now.waits) }
+    ensures room { OnOk result (HasRoom (cost_of costs.now) seating.new.jobs.items seating.new.prices.items free.new slacks.new) }
     ensures jobs { OnOk result (IsPermutation (seating.old.jobs.items ++ job ∷ []) seating.new.jobs.items) }
 {
-    let device = insert(alloc, costs, seating, free, job)?;
+    let device = insert(alloc, costs, seating, free, slacks, job)?;
     advance(free, device);
-    lift(costs, seating, free);
+    slacks[device] = slack(costs, seating, free[device]);
+    lift(costs, seating, free, slacks);
     Ok(())
 }
 

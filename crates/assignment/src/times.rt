@@ -3,9 +3,9 @@ ghost use Rattle.std.specs.Prelude.{◌≡◌, ℕ, ◌+◌, ◌*◌, ◌^◌, �
 ghost use Rattle.cost_table.specs.Class.{Class, IsClass, time_in};
 ghost use Rattle.assignment.specs.Entries.{IsRead, IsReadRow};
 
-use crate::costs::Costs;
+use crate::costs::{Costs, TimeRow, UNABLE};
 use base_types::{DeviceId, JobId};
-use cost_table::{ClassProblem, Row};
+use cost_table::ClassProblem;
 use std::alloc::{AllocError, Global};
 
 /// A class problem whose time entries are read one at a time, and each look counted.
@@ -111,7 +111,7 @@ fn read_row<T: Times>(
     times: &mut T,
     job: JobId,
     devices: usize,
-) -> Result<Row, AllocError>
+) -> Result<TimeRow, AllocError>
     requires { T.looked times.old + devices < 2 ^ 63 }
     ensures read { IfOk result (λ row. IsReadRow (T.class times.old) job devices row) }
     ensures same { T.class times.new ≡ T.class times.old }
@@ -119,7 +119,7 @@ fn read_row<T: Times>(
 {
     let mut entries = Vec::new(alloc);
     for place in 0..devices {
-        entries.push(times.time(job, DeviceId::new(place)))?;
+        entries.push(times.time(job, DeviceId::new(place)).unwrap_or(UNABLE))?;
     }
-    Ok(Row::new(entries))
+    Ok(TimeRow::new(entries))
 }

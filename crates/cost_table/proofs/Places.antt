@@ -1,22 +1,15 @@
 -- Where the jobs of a class stand, and which pairs have a time.
-use Rattle.std.proofs.Common.{◌≡◌, ◌==◌, ℕ, ◌<◌, List, [], length, get_or, Option, None, Some, MatchOption, Contains, ltb, arith, refl, sym, ◌∙◌, not, eqb, inl, inr}
-use Rattle.std.specs.List.{position, position_or_len}
-use Rattle.std.specs.List.Sorted.{IsStrictlyIncreasing}
-use Rattle.std.proofs.lemmas.Bool.{cond_both, ltb-true, ltb-false, cases_lt, ne_eqb, eq-eqb, eqb-true, both_ways}
+use Rattle.std.proofs.Common.{◌≡◌, ◌==◌, ℕ, ◌<◌, ◌≤◌, List, [], length, get_or, None, Some, Result, Ok, Err, MatchOption, Contains, arith, refl, sym, ◌∙◌, not, eqb, inl, inr}
+use Rattle.std.specs.List.{position_or_len}
+use Rattle.std.specs.List.Sorted.{IsBinarySearchResult, IsStrictlyIncreasing}
+use Rattle.std.specs.Ordering.{nat_cmp}
+use Rattle.std.specs.Result.{result_ok}
+use Rattle.std.proofs.lemmas.Bool.{cases_lt, ne_eqb, eq-eqb, eqb-true, both_ways}
 use Rattle.std.proofs.lemmas.List.{get_or_past}
 use Rattle.std.proofs.lemmas.List.Sums.{prefix_len-le-length, position_or_len_is, passes_at_first, fails_before_first}
 use Rattle.std.proofs.lemmas.List.Kept.{AllPairs-from_increasing}
+use Rattle.std.proofs.lemmas.List.Sorted.{searched}
 use Rattle.cost_table.specs.Class.{Class, IsClass, place_of, time_in}
-
-at_position : (ids : List ℕ) (job : ℕ) → MatchOption (position (λ id. id == job) ids) (place_of ids job ≡ length ids) (λ place. (place_of ids job ≡ place) × (place < length ids))
-at_position ids job =
-    cond_both (ltb (place_of ids job) (length ids)) (Some (place_of ids job)) None (λ o. MatchOption o (place_of ids job ≡ length ids) (λ place. (place_of ids job ≡ place) × (place < length ids)))
-    (λ e. (refl, ltb-true _ _ e))
-    (λ e. omega (arith, ltb-false (place_of ids job) (length ids) e, prefix_len-le-length (λ id. not (id == job)) ids))
-
--- what a search among the class's jobs finds
-pub place_cases : (ids : List ℕ) (job : ℕ) (searched : List ℕ) (found : Option ℕ) → searched ≡ ids → found ≡ position (λ id. id == job) searched → MatchOption found (place_of ids job ≡ length ids) (λ place. (place_of ids job ≡ place) × (place < length ids))
-place_cases ids job searched found same e = rw (e, same) (at_position ids job)
 
 -- the job at a place stands at that place
 pub place_at : (ids : List ℕ) → IsStrictlyIncreasing ids → (place : ℕ) → place < length ids → place_of ids (get_or ids place 0) ≡ place
@@ -28,6 +21,31 @@ place_at ids up place below =
 -- at the place of a job of the class stands the job
 pub at_place : (ids : List ℕ) (job : ℕ) → place_of ids job < length ids → get_or ids (place_of ids job) 0 ≡ job
 at_place ids job below = eqb-true (get_or ids (place_of ids job) 0) job (passes_at_first (λ id. id == job) ids 0 below)
+
+-- what a search among jobs by rising id finds
+pub found_at : (ids : List ℕ) (job place : ℕ) → IsStrictlyIncreasing ids → place < length ids → get_or ids place 0 ≡ job → place_of ids job ≡ place
+found_at ids job place up below e = rw (← e) (place_at ids up place below)
+
+pub not_found : (ids : List ℕ) (job place : ℕ) → ((k : ℕ) → k < place → get_or ids k 0 < job) → ((k : ℕ) → place ≤ k → k < length ids → job < get_or ids k 0) → place_of ids job ≡ length ids
+not_found ids job place before after = elim (cases_lt (place_of ids job) (length ids)) [
+  | inr past ↦ omega (arith, past, prefix_len-le-length (λ id. not (id == job)) ids)
+  | inl below ↦
+      let at = at_place ids job below in
+      elim (cases_lt (place_of ids job) place) [
+        | inl low ↦ absurd (omega (arith, at, before (place_of ids job) low))
+        | inr high ↦ absurd (omega (arith, at, after (place_of ids job) high below))
+      ]
+]
+
+rises : (ids : List ℕ) → IsStrictlyIncreasing ids → (i j : ℕ) → i ≤ j → j < length ids → get_or ids i 0 ≤ get_or ids j 0
+rises ids up i j le below = elim (cases_lt i j) [
+  | inl before ↦ (let above : get_or ids i 0 < get_or ids j 0 = AllPairs-from_increasing ids up i j 0 before below in omega arith)
+  | inr same ↦ rw (let e : i ≡ j = omega arith in e) (omega arith)
+]
+
+pub place_found : (ids : List ℕ) (job : ℕ) (r : Result ℕ ℕ) → IsStrictlyIncreasing ids → IsBinarySearchResult (λ y. nat_cmp y job) ids r → MatchOption (result_ok r) (place_of ids job ≡ length ids) (λ place. (place_of ids job ≡ place) × (place < length ids))
+place_found ids job (Ok place) up found = let at = searched ids job (Ok place) found (rises ids up) in (found_at ids job place up at.0 at.1, at.0)
+place_found ids job (Err place) up found = let at = searched ids job (Err place) found (rises ids up) in not_found ids job place at.1 at.2
 
 -- a job of the class stands at a place below their number
 pub place_below : (ids : List ℕ) (job : ℕ) → Contains ids job → place_of ids job < length ids

@@ -65,7 +65,7 @@ impl ClassProblem {
         ensures { MatchOption result (place_of self.now.ids job ≡ length self.now.ids)
             (λ place. (place_of self.now.ids job ≡ place) × (place < length self.now.ids)) }
     {
-        place_in(self.ids(), job)
+        self.ids().binary_search(&job).ok()
     }
 
     /// The time of a job on a device, in ms; none where the device is not able, or one of the two

@@ -60,10 +60,10 @@ fn largest_totals(rt: HostRuntime) -> Result<(), Fail> {
     let alloc = rt.alloc();
     let job: &[Option<u64>] = &[Some(Limits::JOB_TIME)];
     let mut numbers = Vec::new(alloc);
-    for number in 1..=127 {
+    for number in 1..=511 {
         numbers.push(number)?;
     }
-    let class = class_of(alloc, &numbers, &[job; 127], &[Limits::JOB_TIME])?;
-    assert_eq!(rt; agreed(alloc, &class)?, 4_948_076_718_000_000);
+    let class = class_of(alloc, &numbers, &[job; 511], &[Limits::JOB_TIME])?;
+    assert_eq!(rt; agreed(alloc, &class)?, 78_717_876_577_200_000);
     Ok(())
 }

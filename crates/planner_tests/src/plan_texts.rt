@@ -99,7 +99,7 @@ fn refused_texts(rt: HostRuntime) -> Result<(), Fail> {
             Some(TextFault::NoEnd),
         ),
         (
-            "plan\ndevice A\nclass 50\nwait 72057594037927937\n",
+            "plan\ndevice A\nclass 50\nwait 18014398509481985\n",
             Some(TextFault::OutOfRange),
         ),
         (

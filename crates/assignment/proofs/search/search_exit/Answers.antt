@@ -1,15 +1,15 @@
-use Rattle.std.proofs.Common.{◌≡◌, ◌+◌, ◌<◌, length, get_or, set, ap, arith}
+use Rattle.std.proofs.Common.{◌≡◌, ◌+◌, ◌<◌, Some, length, vec_len, get_or, set, ap, arith, rules}
 use Rattle.assignment.specs.declared.search.TheConstants.{UNSETTLED}
-use Rattle.assignment.specs.Search.{open_count}
+use Rattle.assignment.specs.Search.{IsNearestOf, open_count}
 use Rattle.assignment.proofs.Count.{open_count-set}
 use Rattle.assignment.proofs.search.search_exit.Goals as goal
 
 settled_one : (c : goal.After-settle) → open_count (set c.settling.search.ranks.items c.in-Some.c c.settling.search.settled) + 1 ≡ open_count c.settling.search.ranks.items
 settled_one c =
     let was = c.settling.search in
-    let value = c.deref-in-settling.ensures.value in
-    let lt : c.in-Some.c < length was.ranks.items = rw (← value) (c.in-Some.ensures {u = tt}).0 in
-    let at : get_or was.ranks.items c.in-Some.c 0 ≡ UNSETTLED = rw (← value) (c.in-Some.ensures {u = tt}).1 in
+    let found : IsNearestOf was.lengths.items was.ranks.items (vec_len c.args.seating.now.seats) (Some c.in-Some.c) = search rules in
+    let lt : c.in-Some.c < length was.ranks.items = omega (arith, found.0, c.settling.invariant.sizes.ranks, was.ranks.ok.0) in
+    let at : get_or was.ranks.items c.in-Some.c 0 ≡ UNSETTLED = found.1 in
     open_count-set was.ranks.items c.in-Some.c was.settled lt at (λ e. omega (arith, e, c.settling.invariant.counted, was.ranks.small, was.ranks.ok.0))
 
 pub settling-smaller : goal.settling-smaller
@@ -19,5 +19,6 @@ pub settling-preserved : goal.settling-preserved
 settling-preserved c = record {
   sizes = c.settle.ensures.sizes;
   searched = c.settle.ensures.searched;
+  nearest = c.settle.ensures.nearest;
   counted = omega (arith, settled_one c, ap open_count c.settle.ensures.ranks, c.settle.ensures.settled, c.settling.invariant.counted, c.settle.ensures.sizes.ranks, c.settling.invariant.sizes.ranks);
 }

@@ -4,7 +4,8 @@ use Rattle.std.proofs.lemmas.Bool.{cases_eq}
 use Rattle.std.proofs.lemmas.List.{get_or_push, get_or_append_left, get_or-set_same, get_or-set_other}
 use Rattle.assignment.specs.declared.costs.Place.{Place}
 use Rattle.assignment.specs.Costs.{cost_of, nowhere}
-use Rattle.assignment.proofs.Raised.{Raises, Moves, raises_from, fair_now, free_now, tight_now, falls_along}
+use Rattle.assignment.proofs.Raised.{Raises, Moves, raises_from, fair_now, free_now, free_up, tight_now, falls_along}
+use Rattle.assignment.proofs.Room.{room_moved, room_up}
 use Rattle.assignment.proofs.Bounds.{price_low, rent_low}
 use Rattle.assignment.proofs.seating.insert.Goals as goal
 
@@ -36,6 +37,25 @@ seat_pushed xs ys n v e l = (λ k below. rw e (get_or_append_left xs (v ∷ []) 
 
 pushed : (xs ys : List ℕ) (n v : ℕ) → ys ≡ xs ++ v ∷ [] → length xs ≡ n → ((k : ℕ) → k < n → get_or ys k 0 ≡ get_or xs k 0) × (get_or ys n 0 ≡ v)
 pushed xs ys n v e l = (λ k below. rw e (get_or_append_left xs (v ∷ []) 0 k (omega arith)), rw e (get_or_push xs v 0 n l))
+
+pub tighten-requires-clause-fair : goal.tighten-requires-clause-fair
+tighten-requires-clause-fair c =
+    let s = c.args.seating.now in
+    let x = c.in_ok-search.search in
+    let y = c.raise_all.new.seating in
+    let n = vec_len s.seats in
+    let ej : c.push.new.self.items ≡ s.jobs.items ++ c.args.job ∷ [] = (c.in_ok-push.ensures {u = tt}).items in
+    let ep : c.push-2.new.self.items ≡ s.prices.items ++ 0 ∷ [] = (c.in_ok-push-2.ensures {u = tt}).items in
+    let found = c.in_ok-search.ensures {u = tt} in
+    let up = c.raise_all.ensures in
+    let len : vec_len c.push-2.new.self ≡ n + 1 = omega (arith, (c.in_ok-push-2.ensures {u = tt}).len, c.requires.seated.prices) in
+    let h : Raises (cost_of c.args.costs.now) c.push.new.self.items c.push-2.new.self.items s.seats.items s.rents.items c.args.free.now x.lengths.items x.froms.items x.ranks.items y.prices.items y.rents.items x.exit x.settled n =
+    raises_from _ s.jobs.items s.prices.items _ _ _ _ _ _ _ _ _ _ _ _ n c.args.job ej ep (omega (arith, s.jobs.ok.0, c.requires.seated.jobs)) (omega (arith, s.prices.ok.0, c.requires.seated.prices)) (omega (arith, s.seats.ok.0))
+    c.requires.seated.fair c.requires.seated.fair_free c.requires.seated.tight found.searched found.finished.far
+    (λ q le. up.prices q (omega arith)) (λ k lt. up.rents k (omega (arith, c.requires.seated.rents))) in
+    let jobs_is : y.jobs.items ≡ c.push.new.self.items = ap (λ (v : Vec ℕ). v.items) up.same.0 in
+    let es : vec_len y.seats ≡ n = ap (λ (v : Vec Place). vec_len v) up.same.1 in
+    λ q f le lt. rw jobs_is (free_up h q f (omega (arith, le, es)) lt)
 
 pub move_jobs-requires-clause-falling : goal.move_jobs-requires-clause-falling
 move_jobs-requires-clause-falling c =
@@ -121,3 +141,35 @@ returns-clause-seated c =
       fair_free = record { at = λ q f lq lf. omega (arith, free_now m q f (jobs_in q lq) lf) };
       tight = record { at = λ k lk. rw (seats_is, rents_is) (tight_now m k (seats_in k lk)) };
     }
+
+pub returns-clause-room : goal.returns-clause-room
+returns-clause-room c =
+    let s = c.args.seating.now in
+    let x = c.in_ok-search.search in
+    let y = c.raise_all.new.seating in
+    let t = c.add_seat.new.seating in
+    let w = c.add_seat.new.search in
+    let z = c.move_jobs.new.seating in
+    let n = vec_len s.seats in
+    let en : c.len-last.result ≡ n = c.len-last.ensures in
+    let ej : c.push.new.self.items ≡ s.jobs.items ++ c.args.job ∷ [] = (c.in_ok-push.ensures {u = tt}).items in
+    let ep : c.push-2.new.self.items ≡ s.prices.items ++ 0 ∷ [] = (c.in_ok-push-2.ensures {u = tt}).items in
+    let found = c.in_ok-search.ensures {u = tt} in
+    let added = c.in_ok-add_seat.ensures {u = tt} in
+    let up = c.raise_all.ensures in
+    let tight = c.tighten.ensures in
+    let last = c.move_jobs.ensures in
+    let len : vec_len c.push-2.new.self ≡ n + 1 = omega (arith, (c.in_ok-push-2.ensures {u = tt}).len, c.requires.seated.prices) in
+    let raised_is : y.jobs.items ≡ c.push.new.self.items = ap (λ (v : Vec ℕ). v.items) up.same.0 in
+    let jobs_is : t.jobs.items ≡ c.push.new.self.items = ap (λ (v : Vec ℕ). v.items) (added.same.0 ∙ up.same.0) in
+    let prices_is : t.prices.items ≡ y.prices.items = ap (λ (v : Vec ℕ). v.items) added.same.1 in
+    let es : vec_len y.seats ≡ n = ap (λ (v : Vec Place). vec_len v) up.same.1 in
+    let ef : w.froms.items ≡ set x.froms.items n x.exit.from = added.froms ∙ ap (λ k. set x.froms.items k x.exit.from) es in
+    let from = linked x.froms.items w.froms.items n x.exit.from ef (omega (arith, x.froms.ok.0, found.sizes.froms)) in
+    let inside : (k : ℕ) → k ≤ n → get_or w.froms.items k 0 ≤ n = λ k le. elim (cases_eq k n) [
+      | inl e ↦ rw (e, from.1) found.searched.exit_origin
+      | inr d ↦ let lt : k < n = omega arith in rw (from.0 k lt) (found.searched.origin k lt)
+    ] in
+    let room = room_up (cost_of c.args.costs.now) s.jobs.items s.prices.items c.push.new.self.items c.push-2.new.self.items y.prices.items x.lengths.items c.args.free.now c.args.slacks.now c.tighten.new.slacks x.exit.length n c.args.job ej ep (omega (arith, s.jobs.ok.0, c.requires.seated.jobs)) (omega (arith, s.prices.ok.0, c.requires.seated.prices))
+    c.requires.room found.searched.root (λ q le. up.prices q (omega arith)) tight.less (λ q f le reach lf. rw (← raised_is) (tight.near q f (omega (arith, le, es)) reach lf)) in
+    record { at = λ q f lq lf. room_moved (cost_of c.args.costs.now) c.push.new.self.items z.jobs.items y.prices.items z.prices.items w.froms.items w.ranks.items c.args.free.now c.tighten.new.slacks (length c.args.slacks.now) n inside (λ k le. rw (jobs_is, prices_is, en) at (last.moved k (omega (arith, en)))) room q f (omega (arith, lq, z.jobs.ok.0, last.jobs_len, en)) (omega (arith, lf, tight.len)) }

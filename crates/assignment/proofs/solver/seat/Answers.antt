@@ -1,7 +1,7 @@
-use Rattle.std.proofs.Common.{◌≡◌, ap, ◌∙◌, vec_len, arith}
+use Rattle.std.proofs.Common.{◌≡◌, ap, ◌∙◌, vec_len, arith, rules}
 use Rattle.std.specs.Global.{Vec}
 use Rattle.assignment.specs.declared.costs.Place.{Place}
-use Rattle.assignment.proofs.Laid.{fair_later, laid_now, seated_with, shown_low, shows_now}
+use Rattle.assignment.proofs.Laid.{fair_later, laid_now, room_later, seated_with, shown_low, shows_now}
 use Rattle.assignment.proofs.solver.seat.Goals as goal
 
 pub advance-requires-clause-room : goal.advance-requires-clause-room
@@ -15,6 +15,19 @@ lift-requires-clause-seated c =
     let s = c.in_ok-device.ensures {u = tt} in
     let now = c.insert.new.seating in
     seated_with c.args.costs.now now c.args.free.now _ s.seated (fair_later c.args.costs.now c.in_ok-device.device now.jobs.items now.prices.items c.args.free.now _ s.seated.fair_free s.place c.advance.ensures)
+
+pub slack-requires-clause-fair : goal.slack-requires-clause-fair
+slack-requires-clause-fair c = λ q lq.
+    let s = c.in_ok-device.ensures {u = tt} in
+    let now = c.insert.new.seating in
+    let fair = fair_later c.args.costs.now c.in_ok-device.device now.jobs.items now.prices.items c.args.free.now _ s.seated.fair_free s.place c.advance.ensures in
+    omega (arith, fair.at q c.in_ok-device.device (omega (arith, lq, s.seated.jobs, now.jobs.ok.0)) (search rules))
+
+pub lift-requires-clause-room : goal.lift-requires-clause-room
+lift-requires-clause-room c =
+    let s = c.in_ok-device.ensures {u = tt} in
+    let now = c.insert.new.seating in
+    room_later c.args.costs.now c.in_ok-device.device c.slack.result now.jobs.items now.prices.items c.args.free.now _ c.insert.new.slacks _ s.room (search rules) (search rules) c.advance.ensures (search rules) (λ q lq. search rules)
 
 pub returns-clause-laid : goal.returns-clause-laid
 returns-clause-laid c =
