@@ -1,6 +1,9 @@
 -- What a device's connection says: the reports of its whole lines, and then a fault or an unfinished line.
-use Rattle.std.specs.Prelude.{ℕ, ◌≡◌, Bool, true, false, if◌then◌else◌, List, [], ◌∷◌, ◌++◌, Option, Some, None, Result, Ok, Err}
+use Rattle.std.specs.Prelude.{ℕ, ◌≡◌, ◌+◌, Bool, true, false, if◌then◌else◌, List, [], ◌∷◌, ◌++◌, length, take, drop, Option, Some, None, Result, Ok, Err}
 use Rattle.text.specs.Parts.{texts_of}
+use Rattle.text.specs.FirstLine.{first_line_of}
+use Rattle.text.specs.declared.line.FirstLine.TheVariants.{Whole}
+use Rattle.base_types.specs.declared.limits.TheConstants.Limits.{DEVICE_LINE_BYTES}
 use Rattle.base_types.specs.declared.report.Report.{Report}
 use Rattle.base_types.specs.Report.{ReportRecord, report_of}
 use Rattle.device_link.specs.declared.fault.LinkFault.{LinkFault}
@@ -40,6 +43,24 @@ heard_in greeted (line ∷ next ∷ more) =
 abbrev pub device_reports : List ℕ → Heard
 device_reports stream = heard_in false (texts_of stream)
 
+-- a whole line stands at the front and says a report; this follows it
+pub record SaysAtFront (greeted : Bool) (bytes : List ℕ) (report : ReportRecord) (rest : List ℕ) : Type 0 where
+  pub count : ℕ
+  pub line : first_line_of DEVICE_LINE_BYTES bytes ≡ Whole count
+  pub says : report_in greeted (take count bytes) ≡ Some report
+  pub rest_is : rest ≡ drop (count + 1) bytes
+
+-- bytes say these reports; then these bytes are left, and the device has said its name or not
+abbrev pub Leads : Bool → List ℕ → List ReportRecord → Bool → List ℕ → Type 0
+Leads greeted bytes [] next left = (next ≡ greeted) × (left ≡ bytes)
+Leads greeted bytes (report ∷ reports) next left = (rest : List ℕ) × SaysAtFront greeted bytes report rest × Leads true rest reports next left
+
+-- a stream says these reports first, whatever follows
+pub record SaysFirst (stream : List ℕ) (reports : List ReportRecord) : Type 0 where
+  pub next : Bool
+  pub left : List ℕ
+  pub leads : Leads false stream reports next left
+
 -- a reader: the bytes that are no report yet, whether the device has said its name, and the fault, once there is one
 pub record LinkState : Type 0 where
   pub rest : List ℕ
@@ -54,9 +75,20 @@ heard_on None greeted bytes = heard_in greeted (texts_of bytes)
 abbrev pub ahead : LinkState → List ℕ → Heard
 ahead reader coming = heard_on reader.fault reader.greeted (reader.rest ++ coming)
 
--- The reader has been fed this stream and has given these reports: whatever comes yet, the whole says these and then what the reader will hear.
-abbrev pub Stands : List ℕ → List ReportRecord → LinkState → Type 0
-Stands stream given reader = (coming : List ℕ) → device_reports (stream ++ coming) ≡ with_front given (ahead reader coming)
+-- the bytes that are left of a stream: those that the reader hasn't read; after a fault, of which it keeps no more, those at whose front the fault stands
+abbrev pub IsLeft : Option LinkFault → Bool → List ℕ → List ℕ → Type 0
+IsLeft (Some fault) greeted rest left = heard_in greeted (texts_of left) ≡ silence (Faulty fault)
+IsLeft None greeted rest left = left ≡ rest
+
+-- The reader has been fed this stream and has given these reports: the stream says them first, and then what the reader awaits, of the bytes that are left.
+pub record Stands (stream : List ℕ) (given : List ReportRecord) (reader : LinkState) : Type 0 where
+  pub left : List ℕ
+  pub leads : Leads false stream given reader.greeted left
+  pub kept : IsLeft reader.fault reader.greeted reader.rest left
+
+-- how much a reader can say, at most
+abbrev pub work : LinkState → ℕ
+work reader = length reader.rest
 
 -- what an answer of the reader says of the stream that it was fed, and where the reader stands then
 abbrev pub Answers : LinkState → Result (Option Report) LinkError → LinkState → Type 0
@@ -68,3 +100,13 @@ Answers old (Err (Fault fault)) new =
     (new ≡ record old { fault = Some fault })
     × ((stream : List ℕ) (given : List ReportRecord) → Stands stream given old → (device_reports stream ≡ record { reports = given; ending = Faulty fault }) × Stands stream given new)
 Answers old (Err OutOfMemory) new = new ≡ old
+
+-- ---- laws
+
+-- what a stream says first stays in front where more comes
+abbrev pub FirstStays : Type 0
+FirstStays = (stream more : List ℕ) (first : List ReportRecord) → SaysFirst stream first → (later : Heard) × (device_reports (stream ++ more) ≡ with_front first later)
+
+-- whatever comes yet, the whole stream says what a reader has given, and then what it will hear
+abbrev pub HearsTheRest : Type 0
+HearsTheRest = (stream coming : List ℕ) (given : List ReportRecord) (reader : LinkState) → Stands stream given reader → device_reports (stream ++ coming) ≡ with_front given (ahead reader coming)

@@ -10,12 +10,14 @@
 #![tactic(auto)]
 
 mod fault;
+mod law;
 mod line;
 mod number;
 mod order;
 mod reader;
 
 pub use fault::{LinkError, LinkFault};
+pub use law::given_first;
 pub use line::read_report;
 pub use order::{write_cancel, write_job};
 pub use reader::LinkReader;

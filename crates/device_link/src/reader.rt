@@ -1,8 +1,8 @@
 //! The reader of a device's stream.
-ghost use Rattle.std.specs.Prelude.{◌≡◌, ◌<◌, ◌+◌, ◌++◌, [], List, ℕ, None, Some, Err, true, IfOk, IfSome, OnOk, OnErr, option_map, take, drop, length as length_of};
+ghost use Rattle.std.specs.Prelude.{◌≡◌, ◌<◌, ◌+◌, ◌++◌, [], List, ℕ, None, Some, Err, true, IsOk, IsSome, IfOk, IfSome, OnOk, OnErr, option_map, take, drop, length as length_of};
 ghost use Rattle.base_types.specs.Report.{ReportRecord, report_of};
 ghost use Rattle.device_link.specs.Line.{report_in};
-ghost use Rattle.device_link.specs.Stream.{Stands, Answers};
+ghost use Rattle.device_link.specs.Stream.{Stands, Answers, work};
 ghost use Rattle.text.specs.FirstLine.{first_line_of};
 ghost use Rattle.text.specs.declared.line.FirstLine.TheVariants.{Whole};
 
@@ -47,10 +47,10 @@ impl LinkReader {
     /// Takes the next bytes of the connection. After a fault they are dropped.
     ///
     /// Where there is no memory, none of them is taken.
-    #[tactic(auto, using(crate::proofs::Streams::stands_fed, crate::proofs::Streams::stands_still))]
     pub fn feed(&mut self, piece: &[u8]) -> Result<(), AllocError>
         ensures fed { OnOk result ((stream : List ℕ) (given : List ReportRecord) → Stands stream given self.old → Stands (stream ++ piece.now) given self.new) }
         ensures err { OnErr result (self.new ≡ self.old) }
+        ensures over { IsSome self.old.fault → IsOk result × (self.new ≡ self.old) }
     {
         if self.fault().is_some() {
             return Ok(());
@@ -65,6 +65,7 @@ impl LinkReader {
     #[tactic(auto, using(crate::proofs::Streams::answers_again, crate::proofs::Streams::answers_nothing, crate::proofs::Streams::answers_too_long))]
     pub fn next_report(&mut self) -> Result<Option<Report>, LinkError>
         ensures answer { Answers self.old result self.new }
+        ensures falls { IfOk result (λ report. IsSome report → work self.new < work self.old) }
         ensures kept { IfSome self.old.fault (λ fault. result ≡ Err (LinkError.Fault fault)) }
     {
         if let Some(fault) = self.fault() {
@@ -82,7 +83,8 @@ impl LinkReader {
     fn take_line(&mut self, length: usize) -> Result<Option<Report>, LinkError>
         requires line { first_line_of Limits.DEVICE_LINE_BYTES self.old.rest ≡ Whole length }
         requires faultless { self.old.fault ≡ None }
-        ensures { Answers self.old result self.new }
+        ensures answer { Answers self.old result self.new }
+        ensures falls { IfOk result (λ report. IsSome report → work self.new < work self.old) }
     {
         match self.read_front(length)? {
             None => Err(self.fail(LinkFault::BadLine)),

@@ -1,12 +1,12 @@
 -- What one step of a reader came to, by what stands at the front.
 use Rattle.std.specs.Prelude.{ℕ, ◌≡◌, ◌+◌, ◌-◌, ◌<◌, ◌≤◌, ◌==◌, nat_le, Bool, true, false, List, [], ◌∷◌, ◌++◌, length, take, drop, Option, Some, None, Result, Ok, Err}
 use Rattle.std.proofs.Common.{rules, arith, refl, subst, sym, ap, ◌∙◌}
-use Rattle.std.proofs.lemmas.List.{take-append-le, drop-append-le, length-drop}
+use Rattle.std.proofs.lemmas.List.{length-drop}
 use Rattle.std.proofs.lemmas.List.Quantifiers.{position-Some}
 use Rattle.text.specs.FirstLine.{first_line_of}
 use Rattle.text.specs.declared.line.FirstLine.TheVariants.{Whole, TooLong, Unfinished}
-use Rattle.base_types.specs.declared.limits.TheConstants.Limits.{HTTP_HEAD_BYTES, HTTP_CHUNK_LINE_BYTES, HTTP_TRAILER_BYTES}
-use Rattle.text.proofs.FirstLines.{whole_line, line_grown, too_long_grown}
+use Rattle.base_types.specs.declared.limits.TheConstants.Limits.{HTTP_HEAD_BYTES, HTTP_BODY_BYTES, HTTP_CHUNK_LINE_BYTES, HTTP_TRAILER_BYTES}
+use Rattle.text.proofs.FirstLines.{whole_line}
 use Rattle.http_front.specs.declared.refusal.Refusal.{Refusal}
 use Rattle.http_front.specs.declared.refusal.Refusal.TheVariants.{BadRequest, ContentTooLarge, HeadTooLarge}
 use Rattle.http_front.specs.declared.awaited.Request.{Request}
@@ -21,17 +21,16 @@ use Rattle.http_front.specs.declared.reader.Step.TheVariants as step
 use Rattle.http_front.specs.Section.{section_in}
 use Rattle.http_front.specs.Chunk.{IsSizeOf, chunk_end}
 use Rattle.http_front.specs.Head.{Asks}
-use Rattle.http_front.specs.Stream.{Said, HasHead, Invites, EndsBody, IsRefused, Front, Goes, Waits, FrontIs, AtHead, HeadIn, SizeIn, begun, body_by, after_head, after_body, begins_head, is_line_end, sized, chunk_front, trailer_front, HttpState, Advances, Steps, rank, work}
+use Rattle.http_front.specs.Stream.{Said, is_last, HasHead, Invites, EndsBody, IsRefused, Front, Goes, Waits, FrontIs, AtHead, HeadIn, SizeIn, begun, body_by, after_head, after_body, begins_head, is_line_end, sized, chunk_front, trailer_front, HttpState, Advances, Steps, rank, work}
 use Rattle.http_front.proofs.Steps.{advance}
-use Rattle.http_front.proofs.Sections.{section_whole, section_within, section_long, section_some}
+use Rattle.http_front.proofs.Sections.{section_within, section_some}
 
 -- the reader goes on behind so many bytes
 abbrev pub behind : HttpState → ℕ → Awaited → HttpState
 behind old count next = record { part = []; rest = drop count old.rest; awaited = next }
 
-goes : (old : HttpState) (awaited : Awaited) (said : List Said) (count : ℕ) (next : Awaited) → old.awaited ≡ awaited → ((coming : List ℕ) → FrontIs awaited (old.rest ++ coming) (Goes said (drop count old.rest ++ coming) next)) → Advances old said (behind old count next)
-goes old awaited said count next is front =
-    advance old said (behind old count next) (λ coming. subst (λ a. FrontIs a (old.rest ++ coming) (Goes said (drop count old.rest ++ coming) next)) (sym is) (front coming))
+goes : (old : HttpState) (awaited : Awaited) (said : List Said) (count : ℕ) (next : Awaited) → old.awaited ≡ awaited → FrontIs awaited old.rest (Goes said (drop count old.rest) next) → Advances old said (behind old count next)
+goes old awaited said count next is front = advance old said (behind old count next) (subst (λ a. FrontIs a old.rest (Goes said (drop count old.rest) next)) (sym is) front)
 
 shorter : (bytes : List ℕ) (count : ℕ) → 0 < count → count ≤ length bytes → length (drop count bytes) < length bytes
 shorter bytes count some within = omega (arith, some, within, length-drop count bytes)
@@ -58,7 +57,7 @@ rank_body : (framing : Framing) (closes : Bool) → rank (body_by framing closes
 rank_body (Length count) closes = omega arith
 rank_body Chunked closes = omega arith
 
-rank_after : (closes : Bool) → rank (after_body closes) < 2
+rank_after : (last : Bool) → rank (after_body last) < 2
 rank_after true = omega arith
 rank_after false = omega arith
 
@@ -76,19 +75,15 @@ at_lines (byte ∷ bytes) front begins is =
     let plain : is_line_end byte ≡ false = grind (arith, begins) in
     rw plain is
 
-begins_grown : (bytes coming : List ℕ) → begins_head bytes ≡ true → begins_head (bytes ++ coming) ≡ true
-begins_grown [] coming begins = absurd (let no : false ≡ true = begins in (cc))
-begins_grown (byte ∷ bytes) coming begins = begins
-
-blank_front : (bytes coming : List ℕ) → 0 < length bytes → begins_head bytes ≡ false → AtHead (bytes ++ coming) (Goes [] (drop 1 bytes ++ coming) Head)
-blank_front [] coming some blank = absurd (omega (arith, some))
-blank_front (byte ∷ bytes) coming some blank =
+blank_front : (bytes : List ℕ) → 0 < length bytes → begins_head bytes ≡ false → AtHead bytes (Goes [] (drop 1 bytes) Head)
+blank_front [] some blank = absurd (omega (arith, some))
+blank_front (byte ∷ bytes) some blank =
     let ends : is_line_end byte ≡ true = grind (arith, blank) in
     rw ends refl
 
 pub passes_blank : (old : HttpState) → old.awaited ≡ Head → 0 < length old.rest → begins_head old.rest ≡ false → Steps old step.Passes (behind old 1 Head)
 passes_blank old is some blank = (
-  goes old Head [] 1 Head is (λ coming. blank_front old.rest coming some blank),
+  goes old Head [] 1 Head is (blank_front old.rest some blank),
   shorter old.rest 1 (omega arith) (omega (arith, some)),
 )
 
@@ -101,29 +96,26 @@ waits_head old is begins lines = waits old Head is (at_lines old.rest Waits begi
 pub refuses_long : (old : HttpState) → old.awaited ≡ Head → begins_head old.rest ≡ true → section_in HTTP_HEAD_BYTES old.rest ≡ TooLong → Steps old (step.Gives (item.Refuse HeadTooLarge)) (behind old 0 Nothing)
 refuses_long old is begins lines = (
   goes old Head (IsRefused HeadTooLarge ∷ []) 0 Nothing is
-      (λ coming. at_lines (old.rest ++ coming) _ (begins_grown old.rest coming begins) (subst (λ s. HeadIn (old.rest ++ coming) s (Goes (IsRefused HeadTooLarge ∷ []) (old.rest ++ coming) Nothing)) (sym (section_long HTTP_HEAD_BYTES old.rest coming lines)) refl)),
+      (at_lines old.rest _ begins (subst (λ s. HeadIn old.rest s (Goes (IsRefused HeadTooLarge ∷ []) old.rest Nothing)) (sym lines) refl)),
   refl,
   lower old Head 0 Nothing is (omega arith),
 )
 
-head_whole : (bytes coming : List ℕ) (count : ℕ) (asked : Result Request Refusal) → begins_head bytes ≡ true → section_in HTTP_HEAD_BYTES bytes ≡ Whole count → Asks (take count bytes) asked → AtHead (bytes ++ coming) (begun asked (drop count bytes ++ coming))
-head_whole bytes coming count asked begins lines asks =
-    let within = section_within HTTP_HEAD_BYTES bytes count lines in
-    let first : take count (bytes ++ coming) ≡ take count bytes = take-append-le count bytes coming within in
-    let rest : drop count (bytes ++ coming) ≡ drop count bytes ++ coming = drop-append-le count bytes coming within in
-    let head : HeadIn (bytes ++ coming) (Whole count) (begun asked (drop count bytes ++ coming)) = (asked, subst (λ b. Asks b asked) (sym first) asks, ap (λ r. begun asked r) (sym rest)) in
-    at_lines (bytes ++ coming) _ (begins_grown bytes coming begins) (subst (λ s. HeadIn (bytes ++ coming) s (begun asked (drop count bytes ++ coming))) (sym (section_whole HTTP_HEAD_BYTES bytes coming count lines)) head)
+head_whole : (bytes : List ℕ) (count : ℕ) (asked : Result Request Refusal) → begins_head bytes ≡ true → section_in HTTP_HEAD_BYTES bytes ≡ Whole count → Asks (take count bytes) asked → AtHead bytes (begun asked (drop count bytes))
+head_whole bytes count asked begins lines asks =
+    let head : HeadIn bytes (Whole count) (begun asked (drop count bytes)) = (asked, asks, refl) in
+    at_lines bytes _ begins (subst (λ s. HeadIn bytes s (begun asked (drop count bytes))) (sym lines) head)
 
 pub refuses_head : (old : HttpState) (count : ℕ) (refusal : Refusal) → old.awaited ≡ Head → begins_head old.rest ≡ true → section_in HTTP_HEAD_BYTES old.rest ≡ Whole count → Asks (take count old.rest) (Err refusal) → Steps old (step.Gives (item.Refuse refusal)) (behind old count Nothing)
 refuses_head old count refusal is begins lines asks = (
-  goes old Head (IsRefused refusal ∷ []) count Nothing is (λ coming. head_whole old.rest coming count (Err refusal) begins lines asks),
+  goes old Head (IsRefused refusal ∷ []) count Nothing is (head_whole old.rest count (Err refusal) begins lines asks),
   refl,
   lower old Head count Nothing is (omega arith),
 )
 
 pub takes_head : (old : HttpState) (count : ℕ) (request : Request) → old.awaited ≡ Head → begins_head old.rest ≡ true → section_in HTTP_HEAD_BYTES old.rest ≡ Whole count → Asks (take count old.rest) (Ok request) → Steps old (step.Gives (item.Head request.closes)) (behind old count (after_head request))
 takes_head old count request is begins lines asks = (
-  goes old Head (HasHead request.closes ∷ []) count (after_head request) is (λ coming. head_whole old.rest coming count (Ok request) begins lines asks),
+  goes old Head (HasHead request.closes ∷ []) count (after_head request) is (head_whole old.rest count (Ok request) begins lines asks),
   tt,
   lower_read old count (after_head request) (section_some HTTP_HEAD_BYTES old.rest count lines) (section_within HTTP_HEAD_BYTES old.rest count lines) (rank_small (after_head request)),
 )
@@ -131,7 +123,7 @@ takes_head old count request is begins lines asks = (
 -- the client is told to go on
 pub invites : (old : HttpState) (framing : Framing) (closes : Bool) → old.awaited ≡ Invitation framing closes → Steps old (step.Gives item.Continue) (behind old 0 (body_by framing closes))
 invites old framing closes is = (
-  goes old (Invitation framing closes) (Invites ∷ []) 0 (body_by framing closes) is (λ coming. refl),
+  goes old (Invitation framing closes) (Invites ∷ []) 0 (body_by framing closes) is refl,
   tt,
   lower old (Invitation framing closes) 0 (body_by framing closes) is (rank_body framing closes),
 )
@@ -143,14 +135,10 @@ size_within bytes count line =
     let at = whole_line HTTP_CHUNK_LINE_BYTES bytes count line in
     search (rules, position-Some (λ byte. byte == 10) bytes count 0 at.0)
 
-size_front : (bytes coming : List ℕ) (count room : ℕ) (closes : Bool) (size : Option ℕ) → first_line_of HTTP_CHUNK_LINE_BYTES bytes ≡ Whole count → IsSizeOf (take (count + 1) bytes) size → FrontIs (Size room closes) (bytes ++ coming) (sized size room closes (drop (count + 1) bytes ++ coming))
-size_front bytes coming count room closes size line tells =
-    let inside = size_within bytes count line in
-    let within : count + 1 ≤ length bytes = omega (arith, inside) in
-    let first : take (count + 1) (bytes ++ coming) ≡ take (count + 1) bytes = take-append-le (count + 1) bytes coming within in
-    let rest : drop (count + 1) (bytes ++ coming) ≡ drop (count + 1) bytes ++ coming = drop-append-le (count + 1) bytes coming within in
-    let whole : SizeIn (bytes ++ coming) room closes (Whole count) (sized size room closes (drop (count + 1) bytes ++ coming)) = (size, subst (λ b. IsSizeOf b size) (sym first) tells, ap (λ r. sized size room closes r) (sym rest)) in
-    subst (λ l. SizeIn (bytes ++ coming) room closes l (sized size room closes (drop (count + 1) bytes ++ coming))) (sym (line_grown HTTP_CHUNK_LINE_BYTES bytes coming count line)) whole
+size_front : (bytes : List ℕ) (count room : ℕ) (closes : Bool) (size : Option ℕ) → first_line_of HTTP_CHUNK_LINE_BYTES bytes ≡ Whole count → IsSizeOf (take (count + 1) bytes) size → FrontIs (Size room closes) bytes (sized size room closes (drop (count + 1) bytes))
+size_front bytes count room closes size line tells =
+    let whole : SizeIn bytes room closes (Whole count) (sized size room closes (drop (count + 1) bytes)) = (size, tells, refl) in
+    subst (λ l. SizeIn bytes room closes l (sized size room closes (drop (count + 1) bytes))) (sym line) whole
 
 pub waits_size : (old : HttpState) (room : ℕ) (closes : Bool) → old.awaited ≡ Size room closes → first_line_of HTTP_CHUNK_LINE_BYTES old.rest ≡ Unfinished → Steps old step.Waits old
 waits_size old room closes is line = waits old (Size room closes) is (subst (λ l. SizeIn old.rest room closes l Waits) (sym line) refl)
@@ -158,7 +146,7 @@ waits_size old room closes is line = waits old (Size room closes) is (subst (λ 
 pub refuses_long_size : (old : HttpState) (room : ℕ) (closes : Bool) → old.awaited ≡ Size room closes → first_line_of HTTP_CHUNK_LINE_BYTES old.rest ≡ TooLong → Steps old (step.Gives (item.Refuse BadRequest)) (behind old 0 Nothing)
 refuses_long_size old room closes is line = (
   goes old (Size room closes) (IsRefused BadRequest ∷ []) 0 Nothing is
-      (λ coming. subst (λ l. SizeIn (old.rest ++ coming) room closes l (Goes (IsRefused BadRequest ∷ []) (old.rest ++ coming) Nothing)) (sym (too_long_grown HTTP_CHUNK_LINE_BYTES old.rest coming line)) refl),
+      (subst (λ l. SizeIn old.rest room closes l (Goes (IsRefused BadRequest ∷ []) old.rest Nothing)) (sym line) refl),
   refl,
   lower old (Size room closes) 0 Nothing is (omega arith),
 )
@@ -167,7 +155,7 @@ refuses_long_size old room closes is line = (
 sized_as : (old : HttpState) (count room : ℕ) (closes : Bool) (size : Option ℕ) (said : List Said) (next : Awaited) → old.awaited ≡ Size room closes → first_line_of HTTP_CHUNK_LINE_BYTES old.rest ≡ Whole count → IsSizeOf (take (count + 1) old.rest) size → ((rest : List ℕ) → sized size room closes rest ≡ Goes said rest next) → Advances old said (behind old (count + 1) next)
 sized_as old count room closes size said next is line tells same =
     goes old (Size room closes) said (count + 1) next is
-    (λ coming. subst (λ front. FrontIs (Size room closes) (old.rest ++ coming) front) (same (drop (count + 1) old.rest ++ coming)) (size_front old.rest coming count room closes size line tells))
+    (subst (λ front. FrontIs (Size room closes) old.rest front) (same (drop (count + 1) old.rest)) (size_front old.rest count room closes size line tells))
 
 pub refuses_size : (old : HttpState) (count room : ℕ) (closes : Bool) → old.awaited ≡ Size room closes → first_line_of HTTP_CHUNK_LINE_BYTES old.rest ≡ Whole count → IsSizeOf (take (count + 1) old.rest) None → Steps old (step.Gives (item.Refuse BadRequest)) (behind old (count + 1) Nothing)
 refuses_size old count room closes is line tells = (
@@ -176,10 +164,10 @@ refuses_size old count room closes is line tells = (
   lower old (Size room closes) (count + 1) Nothing is (omega arith),
 )
 
-pub last_size : (old : HttpState) (count room : ℕ) (closes : Bool) (size : ℕ) → old.awaited ≡ Size room closes → first_line_of HTTP_CHUNK_LINE_BYTES old.rest ≡ Whole count → IsSizeOf (take (count + 1) old.rest) (Some size) → size ≡ 0 → Steps old step.Passes (behind old (count + 1) (Trailer closes))
+pub last_size : (old : HttpState) (count room : ℕ) (closes : Bool) (size : ℕ) → old.awaited ≡ Size room closes → first_line_of HTTP_CHUNK_LINE_BYTES old.rest ≡ Whole count → IsSizeOf (take (count + 1) old.rest) (Some size) → size ≡ 0 → Steps old step.Passes (behind old (count + 1) (Trailer (is_last closes (HTTP_BODY_BYTES - room))))
 last_size old count room closes size is line tells none =
     let test : (size == 0) ≡ true = rw none refl in (
-      sized_as old count room closes (Some size) [] (Trailer closes) is line tells (λ rest. rw test refl),
+      sized_as old count room closes (Some size) [] (Trailer (is_last closes (HTTP_BODY_BYTES - room))) is line tells (λ rest. rw test refl),
       shorter old.rest (count + 1) (omega arith) (omega (arith, size_within old.rest count line)),
     )
 
@@ -228,7 +216,7 @@ waits_chunk old room closes is at = waits old (Body 0 (Chunk room closes)) is (a
 pub breaks_chunk : (old : HttpState) (room : ℕ) (closes : Bool) → old.awaited ≡ Body 0 (Chunk room closes) → chunk_end old.rest ≡ end.Broken → Steps old (step.Gives (item.Refuse BadRequest)) (behind old 0 Nothing)
 breaks_chunk old room closes is at = (
   goes old (Body 0 (Chunk room closes)) (IsRefused BadRequest ∷ []) 0 Nothing is
-      (λ coming. ap (λ e. chunk_front room closes (old.rest ++ coming) e) (sym (broken_grown old.rest coming at))),
+      (ap (λ e. chunk_front room closes old.rest e) (sym at)),
   refl,
   lower old (Body 0 (Chunk room closes)) 0 Nothing is (omega arith),
 )
@@ -237,38 +225,34 @@ pub ends_chunk : (old : HttpState) (room : ℕ) (closes : Bool) → old.awaited 
 ends_chunk old room closes is at =
     let within = chunk_within old.rest at in (
       goes old (Body 0 (Chunk room closes)) [] 2 (Size room closes) is
-          (λ coming.
-          let rest : drop 2 (old.rest ++ coming) ≡ drop 2 old.rest ++ coming = drop-append-le 2 old.rest coming within in
-          ap (λ r. Goes [] r (Size room closes)) (sym rest) ∙ ap (λ e. chunk_front room closes (old.rest ++ coming) e) (sym (whole_grown old.rest coming at).0)),
+          (ap (λ e. chunk_front room closes old.rest e) (sym at)),
       shorter old.rest 2 (omega arith) within,
     )
 
-pub ends_body : (old : HttpState) (closes : Bool) → old.awaited ≡ Body 0 (Close closes) → Steps old (step.Gives item.BodyEnd) (behind old 0 (after_body closes))
-ends_body old closes is = (
-  goes old (Body 0 (Close closes)) (EndsBody ∷ []) 0 (after_body closes) is (λ coming. refl),
+pub ends_body : (old : HttpState) (last : Bool) → old.awaited ≡ Body 0 (Close last) → Steps old (step.Gives item.BodyEnd) (behind old 0 (after_body last))
+ends_body old last is = (
+  goes old (Body 0 (Close last)) (EndsBody ∷ []) 0 (after_body last) is refl,
   tt,
-  lower old (Body 0 (Close closes)) 0 (after_body closes) is (rank_after closes),
+  lower old (Body 0 (Close last)) 0 (after_body last) is (rank_after last),
 )
 
 -- the trailer section
 
-pub waits_trailer : (old : HttpState) (closes : Bool) → old.awaited ≡ Trailer closes → section_in HTTP_TRAILER_BYTES old.rest ≡ Unfinished → Steps old step.Waits old
-waits_trailer old closes is lines = waits old (Trailer closes) is (ap (λ s. trailer_front closes old.rest s) (sym lines))
+pub waits_trailer : (old : HttpState) (last : Bool) → old.awaited ≡ Trailer last → section_in HTTP_TRAILER_BYTES old.rest ≡ Unfinished → Steps old step.Waits old
+waits_trailer old last is lines = waits old (Trailer last) is (ap (λ s. trailer_front last old.rest s) (sym lines))
 
-pub refuses_trailer : (old : HttpState) (closes : Bool) → old.awaited ≡ Trailer closes → section_in HTTP_TRAILER_BYTES old.rest ≡ TooLong → Steps old (step.Gives (item.Refuse BadRequest)) (behind old 0 Nothing)
-refuses_trailer old closes is lines = (
-  goes old (Trailer closes) (IsRefused BadRequest ∷ []) 0 Nothing is
-      (λ coming. ap (λ s. trailer_front closes (old.rest ++ coming) s) (sym (section_long HTTP_TRAILER_BYTES old.rest coming lines))),
+pub refuses_trailer : (old : HttpState) (last : Bool) → old.awaited ≡ Trailer last → section_in HTTP_TRAILER_BYTES old.rest ≡ TooLong → Steps old (step.Gives (item.Refuse BadRequest)) (behind old 0 Nothing)
+refuses_trailer old last is lines = (
+  goes old (Trailer last) (IsRefused BadRequest ∷ []) 0 Nothing is
+      (ap (λ s. trailer_front last old.rest s) (sym lines)),
   refl,
-  lower old (Trailer closes) 0 Nothing is (omega arith),
+  lower old (Trailer last) 0 Nothing is (omega arith),
 )
 
-pub ends_trailer : (old : HttpState) (closes : Bool) (count : ℕ) → old.awaited ≡ Trailer closes → section_in HTTP_TRAILER_BYTES old.rest ≡ Whole count → Steps old (step.Gives item.BodyEnd) (behind old count (after_body closes))
-ends_trailer old closes count is lines = (
-  goes old (Trailer closes) (EndsBody ∷ []) count (after_body closes) is
-      (λ coming.
-      let rest : drop count (old.rest ++ coming) ≡ drop count old.rest ++ coming = drop-append-le count old.rest coming (section_within HTTP_TRAILER_BYTES old.rest count lines) in
-      ap (λ r. Goes (EndsBody ∷ []) r (after_body closes)) (sym rest) ∙ ap (λ s. trailer_front closes (old.rest ++ coming) s) (sym (section_whole HTTP_TRAILER_BYTES old.rest coming count lines))),
+pub ends_trailer : (old : HttpState) (last : Bool) (count : ℕ) → old.awaited ≡ Trailer last → section_in HTTP_TRAILER_BYTES old.rest ≡ Whole count → Steps old (step.Gives item.BodyEnd) (behind old count (after_body last))
+ends_trailer old last count is lines = (
+  goes old (Trailer last) (EndsBody ∷ []) count (after_body last) is
+      (ap (λ s. trailer_front last old.rest s) (sym lines)),
   tt,
-  lower old (Trailer closes) count (after_body closes) is (rank_after closes),
+  lower old (Trailer last) count (after_body last) is (rank_after last),
 )

@@ -22,7 +22,7 @@ use Rattle.http_front.specs.declared.chunk.ChunkEnd.TheVariants as end
 use Rattle.http_front.specs.Section.{section_in}
 use Rattle.http_front.specs.Chunk.{IsSizeOf, chunk_end}
 use Rattle.http_front.specs.Head.{judged, Asks}
-use Rattle.http_front.specs.Stream.{Said, EndsBody, after_body, Front, Goes, Waits, FrontIs, HeadIn, SizeIn, begun, sized, chunk_front, following, byte_of, trailer_front, is_line_end, SaysIn}
+use Rattle.http_front.specs.Stream.{Said, EndsBody, after_body, Front, Goes, Waits, FrontIs, HeadIn, SizeIn, begun, sized, chunk_front, following, byte_of, trailer_front, is_line_end, SaysIn, LeadsIn, is_last}
 use Rattle.http_front.proofs.Sections.{section_whole, section_within, section_long}
 use Rattle.http_front.proofs.Fronts.{size_within, broken_grown, whole_grown}
 
@@ -168,17 +168,29 @@ front_more Nothing bytes more said rest next x = absurd (let no : Goes said rest
 
 -- whole streams
 
-pub stays_in : (n m : ℕ) (awaited : Awaited) (bytes more : List ℕ) (given said : List Said) → SaysIn n awaited bytes given → SaysIn m awaited (bytes ++ more) said → (later : List Said) × (said ≡ given ++ later)
-stays_in zero m awaited bytes more given said x y = (said, rw x.0 refl)
-stays_in (suc n) zero awaited bytes more given said x y = absurd (
+pub stays_in : (n m : ℕ) (awaited : Awaited) (bytes more : List ℕ) (given : List Said) (next : Awaited) (left : List ℕ) (said : List Said) → LeadsIn n awaited bytes given next left → SaysIn m awaited (bytes ++ more) said → (later : List Said) × (said ≡ given ++ later)
+stays_in zero m awaited bytes more given next left said x y = (said, rw x.0 refl)
+stays_in (suc n) zero awaited bytes more given next left said x y = absurd (
     let no : Goes x.0 (x.1 ++ more) x.2 ≡ Waits = front_one awaited (bytes ++ more) _ _ (front_more awaited bytes more x.0 x.1 x.2 x.4) y.1 in
     (cc)
     )
-stays_in (suc n) (suc m) awaited bytes more given said x y =
+stays_in (suc n) (suc m) awaited bytes more given next left said x y =
     let same = goes_is _ _ _ _ _ _ (front_one awaited (bytes ++ more) (Goes x.0 (x.1 ++ more) x.2) (Goes y.0 y.1 y.2) (front_more awaited bytes more x.0 x.1 x.2 x.4) y.4) in
     let tail : SaysIn m x.2 (x.1 ++ more) y.3 = subst (λ a. SaysIn m a (x.1 ++ more) y.3) (sym same.2) (subst (λ b. SaysIn m y.2 b y.3) (sym same.1) y.6) in
-    let later = stays_in n m x.2 x.1 more x.3 y.3 x.6 tail in
+    let later = stays_in n m x.2 x.1 more x.3 next left y.3 x.6 tail in
     (later.0, y.5 ∙ ap (λ s. s ++ y.3) (sym same.0) ∙ ap (λ s. x.0 ++ s) later.1 ∙ sym (append_assoc x.0 x.3 later.0) ∙ ap (λ s. s ++ later.0) (sym x.5))
+
+-- what all of the bytes say they say first
+pub said_first : (n : ℕ) (awaited : Awaited) (bytes : List ℕ) (said : List Said) → SaysIn n awaited bytes said → (next : Awaited) × (left : List ℕ) × LeadsIn n awaited bytes said next left
+said_first zero awaited bytes said x = (awaited, bytes, (x.0, refl, refl))
+said_first (suc n) awaited bytes said x =
+    let tail = said_first n x.2 x.1 x.3 x.6 in
+    (tail.0, tail.1, (x.0, x.1, x.2, x.3, x.4, x.5, tail.2))
+
+pub leads_more : (n : ℕ) (awaited : Awaited) (bytes more : List ℕ) (said : List Said) (next : Awaited) (left : List ℕ) → LeadsIn n awaited bytes said next left → LeadsIn n awaited (bytes ++ more) said next (left ++ more)
+leads_more zero awaited bytes more said next left x = (x.0, x.1, ap (λ l. l ++ more) x.2)
+leads_more (suc n) awaited bytes more said next left x =
+    (x.0, x.1 ++ more, x.2, x.3, front_more awaited bytes more x.0 x.1 x.2 x.4, x.5, leads_more n x.2 x.1 more x.3 next left x.6)
 
 pub says_one : (n m : ℕ) (awaited : Awaited) (bytes : List ℕ) (given said : List Said) → SaysIn n awaited bytes given → SaysIn m awaited bytes said → given ≡ said
 says_one zero zero awaited bytes given said x y = x.0 ∙ sym y.0

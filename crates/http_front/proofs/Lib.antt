@@ -3,5 +3,6 @@ pub mod Sections
 pub mod Steps
 pub mod Fronts
 pub mod Laws
+pub mod Feeding
 pub mod Orders
 pub mod Replies

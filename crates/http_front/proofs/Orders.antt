@@ -1,10 +1,10 @@
 -- What a stream says is in the order of exchanges.
-use Rattle.std.specs.Prelude.{ℕ, suc, zero, ◌≡◌, ◌+◌, ◌-◌, ◌==◌, nat_le, if◌then◌else◌, Bool, true, false, MatchBool, List, [], ◌∷◌, ◌++◌, drop, Option, Some, None, Result, Ok, Err}
-use Rattle.std.proofs.Common.{refl, subst, sym}
+use Rattle.std.specs.Prelude.{ℕ, suc, zero, ◌≡◌, ◌+◌, ◌-◌, ◌≤◌, ◌==◌, nat_le, if◌then◌else◌, Bool, true, false, MatchBool, List, [], ◌∷◌, ◌++◌, drop, Option, Some, None, Result, Ok, Err}
+use Rattle.std.proofs.Common.{arith, refl, subst, sym, ap, ◌∙◌, zero-add}
 use Rattle.text.specs.FirstLine.{first_line_of}
 use Rattle.text.specs.declared.line.FirstLine.{FirstLine}
 use Rattle.text.specs.declared.line.FirstLine.TheVariants.{Whole, TooLong, Unfinished}
-use Rattle.base_types.specs.declared.limits.TheConstants.Limits.{HTTP_HEAD_BYTES, HTTP_CHUNK_LINE_BYTES, HTTP_TRAILER_BYTES}
+use Rattle.base_types.specs.declared.limits.TheConstants.Limits.{HTTP_HEAD_BYTES, HTTP_BODY_BYTES, HTTP_CHUNK_LINE_BYTES, HTTP_TRAILER_BYTES}
 use Rattle.http_front.specs.declared.refusal.Refusal.{Refusal}
 use Rattle.http_front.specs.declared.refusal.Refusal.TheVariants.{BadRequest, ContentTooLarge, HeadTooLarge}
 use Rattle.http_front.specs.declared.awaited.Request.{Request}
@@ -18,26 +18,32 @@ use Rattle.http_front.specs.declared.chunk.ChunkEnd.{ChunkEnd}
 use Rattle.http_front.specs.declared.chunk.ChunkEnd.TheVariants as end
 use Rattle.http_front.specs.Section.{section_in}
 use Rattle.http_front.specs.Chunk.{chunk_end}
-use Rattle.http_front.specs.Stream.{Said, HasHead, Invites, HasByte, EndsBody, IsRefused, Front, Goes, Waits, FrontIs, AtHead, HeadIn, SizeIn, begun, refused, sized, chunk_front, following, byte_of, trailer_front, is_line_end, after_head, after_body, body_by, SaysIn}
-use Rattle.http_front.specs.Order.{Place, Between, Headed, Within, in_order}
+use Rattle.http_front.specs.Stream.{Said, HasHead, Invites, HasByte, EndsBody, IsRefused, Front, Goes, Waits, FrontIs, AtHead, HeadIn, SizeIn, begun, refused, sized, chunk_front, following, byte_of, trailer_front, is_line_end, is_last, after_head, after_body, body_by, SaysIn}
+use Rattle.http_front.specs.Order.{Place, Between, Headed, Within, in_order, is_none}
 use Rattle.http_front.proofs.Laws.{goes_is}
 
 -- what may be awaited at a place
-abbrev allows : Place → Awaited → Bool
-allows place Nothing = true
-allows Between Head = true
-allows Headed (Invitation framing closes) = true
-allows Headed (Body count after) = true
-allows Headed (Size room closes) = true
-allows Headed (Trailer closes) = true
-allows Within (Body count after) = true
-allows Within (Size room closes) = true
-allows Within (Trailer closes) = true
-allows place awaited = false
+
+-- so many bytes of a body were told, or will be before this follows
+abbrev BodyAllows : Bool → ℕ → Following → Type 0
+BodyAllows closes total (Close last) = last ≡ is_last closes total
+BodyAllows closes total (Chunk room also) = (also ≡ closes) × (total + room ≡ HTTP_BODY_BYTES)
+
+abbrev Allows : Place → Awaited → Type 0
+Allows place Nothing = Unit {0}
+Allows Between Head = Unit {0}
+Allows (Headed closes) (Invitation framing also) = also ≡ closes
+Allows (Headed closes) (Body count after) = BodyAllows closes (0 + count) after
+Allows (Headed closes) (Size room also) = (also ≡ closes) × (0 + room ≡ HTTP_BODY_BYTES)
+Allows (Headed closes) (Trailer last) = last ≡ is_last closes 0
+Allows (Within closes told) (Body count after) = BodyAllows closes (told + count) after
+Allows (Within closes told) (Size room also) = (also ≡ closes) × (told + room ≡ HTTP_BODY_BYTES)
+Allows (Within closes told) (Trailer last) = last ≡ is_last closes told
+Allows place awaited = ⊥
 
 -- what follows is in order wherever it may stand
 abbrev Later : Awaited → List Said → Type 0
-Later next later = ((place : Place) → allows place next ≡ true → in_order place later ≡ true) × (next ≡ Nothing → later ≡ [])
+Later next later = ((place : Place) → Allows place next → in_order place later ≡ true) × (next ≡ Nothing → later ≡ [])
 
 abbrev OrderOf : Place → Front → Type 0
 OrderOf place front = (said : List Said) (rest : List ℕ) (next : Awaited) → Goes said rest next ≡ front → (later : List Said) → Later next later → in_order place (said ++ later) ≡ true
@@ -53,30 +59,28 @@ waits_order place said rest next is later ok = absurd (let no : Goes said rest n
 
 last_order : (place : Place) (refusal : Refusal) (later : List Said) → later ≡ [] → in_order place (IsRefused refusal ∷ later) ≡ true
 last_order Between refusal later is = rw is refl
-last_order Headed refusal later is = rw is refl
-last_order Within refusal later is = rw is refl
+last_order (Headed closes) refusal later is = rw is refl
+last_order (Within closes told) refusal later is = rw is refl
 
 refused_order : (place : Place) (refusal : Refusal) (bytes : List ℕ) → OrderOf place (refused refusal bytes)
 refused_order place refusal bytes = goes_order place (IsRefused refusal ∷ []) bytes Nothing (λ later ok. last_order place refusal later (ok.1 refl))
 
-if_order : (place : Place) (t : Bool) (f g : Front) → OrderOf place f → OrderOf place g → OrderOf place (if t then f else g)
-if_order place true f g first second = first
-if_order place false f g first second = second
+if_order : (place : Place) (t : Bool) (f g : Front) → (t ≡ true → OrderOf place f) → (t ≡ false → OrderOf place g) → OrderOf place (if t then f else g)
+if_order place true f g first second = first refl
+if_order place false f g first second = second refl
 
-allows_body_by : (framing : Framing) (closes : Bool) → (allows Headed (body_by framing closes) ≡ true) × (allows Within (body_by framing closes) ≡ true)
-allows_body_by (Length count) closes = (refl, refl)
-allows_body_by Chunked closes = (refl, refl)
+-- a head
 
-allows_after : (invites : Bool) (framing : Framing) (closes : Bool) → allows Headed (if invites then Invitation framing closes else body_by framing closes) ≡ true
+allows_body_by : (framing : Framing) (closes : Bool) → Allows (Headed closes) (body_by framing closes) × Allows (Within closes 0) (body_by framing closes)
+allows_body_by (Length count) closes = (ap (λ (n : ℕ). is_last closes n) (sym (zero-add count)), ap (λ (n : ℕ). is_last closes n) (sym (zero-add count)))
+allows_body_by Chunked closes = ((refl, refl), (refl, refl))
+
+allows_after : (invites : Bool) (framing : Framing) (closes : Bool) → Allows (Headed closes) (if invites then Invitation framing closes else body_by framing closes)
 allows_after true framing closes = refl
 allows_after false framing closes = (allows_body_by framing closes).0
 
-allows_after_body : (closes : Bool) → allows Between (after_body closes) ≡ true
-allows_after_body true = refl
-allows_after_body false = refl
-
 begun_order : (asked : Result Request Refusal) (bytes : List ℕ) → OrderOf Between (begun asked bytes)
-begun_order (Ok request) bytes = goes_order Between (HasHead request.closes ∷ []) bytes (after_head request) (λ later ok. ok.0 Headed (allows_after request.invites request.framing request.closes))
+begun_order (Ok request) bytes = goes_order Between (HasHead request.closes ∷ []) bytes (after_head request) (λ later ok. ok.0 (Headed request.closes) (allows_after request.invites request.framing request.closes))
 begun_order (Err refusal) bytes = refused_order Between refusal bytes
 
 head_order : (bytes : List ℕ) (line : FirstLine) (said : List Said) (rest : List ℕ) (next : Awaited) → HeadIn bytes line (Goes said rest next) → (later : List Said) → Later next later → in_order Between (said ++ later) ≡ true
@@ -92,90 +96,140 @@ at_head_order : (bytes : List ℕ) (said : List Said) (rest : List ℕ) (next : 
 at_head_order [] said rest next x later ok = waits_order Between said rest next x later ok
 at_head_order (byte ∷ bytes) said rest next x later ok =
     by_case (is_line_end byte) (Goes said rest next ≡ Goes [] bytes Head) (HeadIn (byte ∷ bytes) (section_in HTTP_HEAD_BYTES (byte ∷ bytes)) (Goes said rest next)) (in_order Between (said ++ later) ≡ true)
-    (λ is. goes_order Between [] bytes Head (λ later ok. ok.0 Between refl) said rest next is later ok)
+    (λ is. goes_order Between [] bytes Head (λ later ok. ok.0 Between tt) said rest next is later ok)
     (λ is. head_order (byte ∷ bytes) (section_in HTTP_HEAD_BYTES (byte ∷ bytes)) said rest next is later ok) x
 
--- a place within an exchange
-record Inside (place : Place) : Type 0 where
-  size : (room : ℕ) (closes : Bool) → allows place (Size room closes) ≡ true
-  body : (count : ℕ) (after : Following) → allows place (Body count after) ≡ true
-  trailer : (closes : Bool) → allows place (Trailer closes) ≡ true
-  ends : (later : List Said) → in_order Between later ≡ true → in_order place (EndsBody ∷ later) ≡ true
-  byte : (byte : ℕ) (later : List Said) → in_order Within later ≡ true → in_order place (HasByte byte ∷ later) ≡ true
+-- a place within an exchange, of which so many bytes were told
+record Inside (place : Place) (closes : Bool) (told : ℕ) : Type 0 where
+  allows : (awaited : Awaited) → Allows (Within closes told) awaited → Allows place awaited
+  ends : (later : List Said) → (if is_last closes told then is_none later else in_order Between later) ≡ true → in_order place (EndsBody ∷ later) ≡ true
+  byte : (byte : ℕ) (later : List Said) → in_order (Within closes (told + 1)) later ≡ true → in_order place (HasByte byte ∷ later) ≡ true
 
-headed : Inside Headed
-headed = record { size = λ room closes. refl; body = λ count after. refl; trailer = λ closes. refl; ends = λ later ok. ok; byte = λ byte later ok. ok }
+headed_allows : (closes : Bool) (awaited : Awaited) → Allows (Within closes 0) awaited → Allows (Headed closes) awaited
+headed_allows closes Head ok = absurd ok
+headed_allows closes (Invitation framing also) ok = absurd ok
+headed_allows closes (Body count after) ok = ok
+headed_allows closes (Size room also) ok = ok
+headed_allows closes (Trailer last) ok = ok
+headed_allows closes Nothing ok = ok
 
-within : Inside Within
-within = record { size = λ room closes. refl; body = λ count after. refl; trailer = λ closes. refl; ends = λ later ok. ok; byte = λ byte later ok. ok }
+headed : (closes : Bool) → Inside (Headed closes) closes 0
+headed closes = record { allows = headed_allows closes; ends = λ later ok. ok; byte = λ byte later ok. ok }
 
-at_body : (place : Place) (count : ℕ) (after : Following) → allows place (Body count after) ≡ true → Inside place
-at_body Between count after ok = absurd (let no : false ≡ true = ok in (cc))
-at_body Headed count after ok = headed
-at_body Within count after ok = within
+within : (closes : Bool) (told : ℕ) → Inside (Within closes told) closes told
+within closes told = record { allows = λ awaited ok. ok; ends = λ later ok. ok; byte = λ byte later ok. ok }
 
-at_size : (place : Place) (room : ℕ) (closes : Bool) → allows place (Size room closes) ≡ true → Inside place
-at_size Between room closes ok = absurd (let no : false ≡ true = ok in (cc))
-at_size Headed room closes ok = headed
-at_size Within room closes ok = within
+record At (place : Place) (awaited : Awaited) : Type 0 where
+  closes : Bool
+  told : ℕ
+  inside : Inside place closes told
+  allowed : Allows (Within closes told) awaited
 
-at_trailer : (place : Place) (closes : Bool) → allows place (Trailer closes) ≡ true → Inside place
-at_trailer Between closes ok = absurd (let no : false ≡ true = ok in (cc))
-at_trailer Headed closes ok = headed
-at_trailer Within closes ok = within
+at_body : (place : Place) (count : ℕ) (after : Following) → Allows place (Body count after) → At place (Body count after)
+at_body Between count after ok = absurd ok
+at_body (Headed closes) count after ok = record { closes = closes; told = 0; inside = headed closes; allowed = ok }
+at_body (Within closes told) count after ok = record { closes = closes; told = told; inside = within closes told; allowed = ok }
 
-chunk_order : (place : Place) → Inside place → (bytes : List ℕ) (room : ℕ) (closes : Bool) (at : ChunkEnd) → OrderOf place (chunk_front room closes bytes at)
-chunk_order place inside bytes room closes end.Whole = goes_order place [] (drop 2 bytes) (Size room closes) (λ later ok. ok.0 place (inside.size room closes))
-chunk_order place inside bytes room closes end.Broken = refused_order place BadRequest bytes
-chunk_order place inside bytes room closes end.Unfinished = waits_order place
+at_size : (place : Place) (room : ℕ) (also : Bool) → Allows place (Size room also) → At place (Size room also)
+at_size Between room also ok = absurd ok
+at_size (Headed closes) room also ok = record { closes = closes; told = 0; inside = headed closes; allowed = ok }
+at_size (Within closes told) room also ok = record { closes = closes; told = told; inside = within closes told; allowed = ok }
 
-following_order : (place : Place) → Inside place → (after : Following) (bytes : List ℕ) → OrderOf place (following after bytes)
-following_order place inside (Close closes) bytes = goes_order place (EndsBody ∷ []) bytes (after_body closes) (λ later ok. inside.ends later (ok.0 Between (allows_after_body closes)))
-following_order place inside (Chunk room closes) bytes = chunk_order place inside bytes room closes (chunk_end bytes)
+at_trailer : (place : Place) (last : Bool) → Allows place (Trailer last) → At place (Trailer last)
+at_trailer Between last ok = absurd ok
+at_trailer (Headed closes) last ok = record { closes = closes; told = 0; inside = headed closes; allowed = ok }
+at_trailer (Within closes told) last ok = record { closes = closes; told = told; inside = within closes told; allowed = ok }
 
-byte_order : (place : Place) → Inside place → (count : ℕ) (after : Following) (bytes : List ℕ) → OrderOf place (byte_of count after bytes)
-byte_order place inside count after [] = waits_order place
-byte_order place inside count after (byte ∷ bytes) = goes_order place (HasByte byte ∷ []) bytes (Body (count - 1) after) (λ later ok. inside.byte byte later (ok.0 Within refl))
+-- nothing follows the last exchange
+after_order : (last : Bool) (later : List Said) → Later (after_body last) later → (if last then is_none later else in_order Between later) ≡ true
+after_order true later ok = rw (ok.1 refl) refl
+after_order false later ok = ok.0 Between tt
 
-sized_order : (place : Place) → Inside place → (size : Option ℕ) (room : ℕ) (closes : Bool) (bytes : List ℕ) → OrderOf place (sized size room closes bytes)
-sized_order place inside None room closes bytes = refused_order place BadRequest bytes
-sized_order place inside (Some size) room closes bytes =
-    if_order place (size == 0) _ _ (goes_order place [] bytes (Trailer closes) (λ later ok. ok.0 place (inside.trailer closes)))
-    (if_order place (nat_le size room) _ _ (goes_order place [] bytes (Body size (Chunk (room - size) closes)) (λ later ok. ok.0 place (inside.body size (Chunk (room - size) closes)))) (refused_order place ContentTooLarge bytes))
+ends_order : (place : Place) (closes : Bool) (told : ℕ) → Inside place closes told → (last : Bool) → last ≡ is_last closes told → (bytes : List ℕ) → OrderOf place (Goes (EndsBody ∷ []) bytes (after_body last))
+ends_order place closes told inside last is bytes =
+    goes_order place (EndsBody ∷ []) bytes (after_body last)
+    (λ later ok. inside.ends later (subst (λ (b : Bool). (if b then is_none later else in_order Between later) ≡ true) is (after_order last later ok)))
 
-size_order : (place : Place) → Inside place → (bytes : List ℕ) (room : ℕ) (closes : Bool) (line : FirstLine) (said : List Said) (rest : List ℕ) (next : Awaited) → SizeIn bytes room closes line (Goes said rest next) → (later : List Said) → Later next later → in_order place (said ++ later) ≡ true
-size_order place inside bytes room closes (Whole count) said rest next x later ok = sized_order place inside x.0 room closes (drop (count + 1) bytes) said rest next x.2 later ok
-size_order place inside bytes room closes TooLong said rest next x later ok = refused_order place BadRequest bytes said rest next x later ok
-size_order place inside bytes room closes Unfinished said rest next x later ok = waits_order place said rest next x later ok
+chunk_order : (place : Place) (closes : Bool) (told : ℕ) → Inside place closes told → (bytes : List ℕ) (room : ℕ) (also : Bool) → (also ≡ closes) × (told + room ≡ HTTP_BODY_BYTES) → (at : ChunkEnd) → OrderOf place (chunk_front room also bytes at)
+chunk_order place closes told inside bytes room also allowed end.Whole = goes_order place [] (drop 2 bytes) (Size room also) (λ later ok. ok.0 place (inside.allows (Size room also) allowed))
+chunk_order place closes told inside bytes room also allowed end.Broken = refused_order place BadRequest bytes
+chunk_order place closes told inside bytes room also allowed end.Unfinished = waits_order place
 
-trailer_order : (place : Place) → Inside place → (closes : Bool) (bytes : List ℕ) (line : FirstLine) → OrderOf place (trailer_front closes bytes line)
-trailer_order place inside closes bytes (Whole count) = goes_order place (EndsBody ∷ []) (drop count bytes) (after_body closes) (λ later ok. inside.ends later (ok.0 Between (allows_after_body closes)))
-trailer_order place inside closes bytes TooLong = refused_order place BadRequest bytes
-trailer_order place inside closes bytes Unfinished = waits_order place
+following_order : (place : Place) (closes : Bool) (told : ℕ) → Inside place closes told → (after : Following) → BodyAllows closes told after → (bytes : List ℕ) → OrderOf place (following after bytes)
+following_order place closes told inside (Close last) allowed bytes = ends_order place closes told inside last allowed bytes
+following_order place closes told inside (Chunk room also) allowed bytes = chunk_order place closes told inside bytes room also allowed (chunk_end bytes)
 
-head_place : (place : Place) → allows place Head ≡ true → place ≡ Between
+one_told : (told count : ℕ) → (count == 0) ≡ false → told + count ≡ (told + 1) + (count - 1)
+one_told told count some = grind (arith, some)
+
+byte_order : (place : Place) (closes : Bool) (told count : ℕ) → Inside place closes told → (after : Following) → BodyAllows closes (told + count) after → (count == 0) ≡ false → (bytes : List ℕ) → OrderOf place (byte_of count after bytes)
+byte_order place closes told count inside after allowed some [] = waits_order place
+byte_order place closes told count inside after allowed some (byte ∷ bytes) =
+    let more : Allows (Within closes (told + 1)) (Body (count - 1) after) = subst (λ (n : ℕ). BodyAllows closes n after) (one_told told count some) allowed in
+    goes_order place (HasByte byte ∷ []) bytes (Body (count - 1) after) (λ later ok. inside.byte byte later (ok.0 (Within closes (told + 1)) more))
+
+none_left : (told count : ℕ) → (count == 0) ≡ true → told + count ≡ told
+none_left told count none = grind (arith, none)
+
+body_order : (place : Place) (count : ℕ) (after : Following) → At place (Body count after) → (bytes : List ℕ) → OrderOf place (if count == 0 then following after bytes else byte_of count after bytes)
+body_order place count after at bytes =
+    if_order place (count == 0) _ _
+    (λ none. following_order place at.closes at.told at.inside after (subst (λ (n : ℕ). BodyAllows at.closes n after) (none_left at.told count none) at.allowed) bytes)
+    (λ some. byte_order place at.closes at.told count at.inside after at.allowed some bytes)
+
+-- the line before a chunk
+
+told_is : (told room most : ℕ) → told + room ≡ most → most - room ≡ told
+told_is told room most is = omega (arith, is)
+
+room_left : (told size room most : ℕ) → nat_le size room ≡ true → told + room ≡ most → (told + size) + (room - size) ≡ most
+room_left told size room most fits is =
+    let within : size ≤ room = grind (arith, fits) in
+    omega (arith, within, is)
+
+sized_order : (place : Place) (room : ℕ) (also : Bool) → At place (Size room also) → (size : Option ℕ) (bytes : List ℕ) → OrderOf place (sized size room also bytes)
+sized_order place room also at None bytes = refused_order place BadRequest bytes
+sized_order place room also at (Some size) bytes =
+    let all : is_last also (HTTP_BODY_BYTES - room) ≡ is_last at.closes at.told = ap (λ (b : Bool). is_last b (HTTP_BODY_BYTES - room)) at.allowed.0 ∙ ap (λ (n : ℕ). is_last at.closes n) (told_is at.told room HTTP_BODY_BYTES at.allowed.1) in
+    if_order place (size == 0) _ _
+    (λ none. goes_order place [] bytes (Trailer (is_last also (HTTP_BODY_BYTES - room))) (λ later ok. ok.0 place (at.inside.allows (Trailer (is_last also (HTTP_BODY_BYTES - room))) all)))
+    (λ some. if_order place (nat_le size room) _ _
+    (λ fits. goes_order place [] bytes (Body size (Chunk (room - size) also)) (λ later ok. ok.0 place (at.inside.allows (Body size (Chunk (room - size) also)) (at.allowed.0, room_left at.told size room HTTP_BODY_BYTES fits at.allowed.1))))
+    (λ large. refused_order place ContentTooLarge bytes))
+
+size_order : (place : Place) (bytes : List ℕ) (room : ℕ) (also : Bool) → At place (Size room also) → (line : FirstLine) (said : List Said) (rest : List ℕ) (next : Awaited) → SizeIn bytes room also line (Goes said rest next) → (later : List Said) → Later next later → in_order place (said ++ later) ≡ true
+size_order place bytes room also at (Whole count) said rest next x later ok = sized_order place room also at x.0 (drop (count + 1) bytes) said rest next x.2 later ok
+size_order place bytes room also at TooLong said rest next x later ok = refused_order place BadRequest bytes said rest next x later ok
+size_order place bytes room also at Unfinished said rest next x later ok = waits_order place said rest next x later ok
+
+trailer_order : (place : Place) (last : Bool) → At place (Trailer last) → (bytes : List ℕ) (line : FirstLine) → OrderOf place (trailer_front last bytes line)
+trailer_order place last at bytes (Whole count) = ends_order place at.closes at.told at.inside last at.allowed (drop count bytes)
+trailer_order place last at bytes TooLong = refused_order place BadRequest bytes
+trailer_order place last at bytes Unfinished = waits_order place
+
+-- any front
+
+head_place : (place : Place) → Allows place Head → place ≡ Between
 head_place Between ok = refl
-head_place Headed ok = absurd (let no : false ≡ true = ok in (cc))
-head_place Within ok = absurd (let no : false ≡ true = ok in (cc))
+head_place (Headed closes) ok = absurd ok
+head_place (Within closes told) ok = absurd ok
 
-invitation_place : (place : Place) (framing : Framing) (closes : Bool) → allows place (Invitation framing closes) ≡ true → place ≡ Headed
-invitation_place Between framing closes ok = absurd (let no : false ≡ true = ok in (cc))
-invitation_place Headed framing closes ok = refl
-invitation_place Within framing closes ok = absurd (let no : false ≡ true = ok in (cc))
+invited_order : (place : Place) (framing : Framing) (also : Bool) → Allows place (Invitation framing also) → (bytes : List ℕ) → OrderOf place (Goes (Invites ∷ []) bytes (body_by framing also))
+invited_order Between framing also ok bytes = absurd ok
+invited_order (Headed closes) framing also ok bytes =
+    goes_order (Headed closes) (Invites ∷ []) bytes (body_by framing also)
+    (λ later after. after.0 (Within closes 0) (subst (λ (b : Bool). Allows (Within b 0) (body_by framing also)) ok (allows_body_by framing also).1))
+invited_order (Within closes told) framing also ok bytes = absurd ok
 
-front_order : (place : Place) (awaited : Awaited) (bytes : List ℕ) (said : List Said) (rest : List ℕ) (next : Awaited) → allows place awaited ≡ true → FrontIs awaited bytes (Goes said rest next) → (later : List Said) → Later next later → in_order place (said ++ later) ≡ true
+front_order : (place : Place) (awaited : Awaited) (bytes : List ℕ) (said : List Said) (rest : List ℕ) (next : Awaited) → Allows place awaited → FrontIs awaited bytes (Goes said rest next) → (later : List Said) → Later next later → in_order place (said ++ later) ≡ true
 front_order place Head bytes said rest next allowed x later ok =
     subst (λ p. in_order p (said ++ later) ≡ true) (sym (head_place place allowed)) (at_head_order bytes said rest next x later ok)
-front_order place (Invitation framing closes) bytes said rest next allowed x later ok =
-    subst (λ p. in_order p (said ++ later) ≡ true) (sym (invitation_place place framing closes allowed))
-    (goes_order Headed (Invites ∷ []) bytes (body_by framing closes) (λ later ok. ok.0 Within (allows_body_by framing closes).1) said rest next x later ok)
-front_order place (Body count after) bytes said rest next allowed x later ok =
-    let inside = at_body place count after allowed in
-    if_order place (count == 0) _ _ (following_order place inside after bytes) (byte_order place inside count after bytes) said rest next x later ok
+front_order place (Invitation framing closes) bytes said rest next allowed x later ok = invited_order place framing closes allowed bytes said rest next x later ok
+front_order place (Body count after) bytes said rest next allowed x later ok = body_order place count after (at_body place count after allowed) bytes said rest next x later ok
 front_order place (Size room closes) bytes said rest next allowed x later ok =
-    size_order place (at_size place room closes allowed) bytes room closes (first_line_of HTTP_CHUNK_LINE_BYTES bytes) said rest next x later ok
-front_order place (Trailer closes) bytes said rest next allowed x later ok =
-    trailer_order place (at_trailer place closes allowed) closes bytes (section_in HTTP_TRAILER_BYTES bytes) said rest next x later ok
+    size_order place bytes room closes (at_size place room closes allowed) (first_line_of HTTP_CHUNK_LINE_BYTES bytes) said rest next x later ok
+front_order place (Trailer last) bytes said rest next allowed x later ok =
+    trailer_order place last (at_trailer place last allowed) bytes (section_in HTTP_TRAILER_BYTES bytes) said rest next x later ok
 front_order place Nothing bytes said rest next allowed x later ok = waits_order place said rest next x later ok
 
 nothing_said : (steps : ℕ) (bytes : List ℕ) (said : List Said) → SaysIn steps Nothing bytes said → said ≡ []
@@ -184,10 +238,10 @@ nothing_said (suc steps) bytes said x = absurd (let no : Goes x.0 x.1 x.2 ≡ Wa
 
 none_order : (place : Place) → in_order place [] ≡ true
 none_order Between = refl
-none_order Headed = refl
-none_order Within = refl
+none_order (Headed closes) = refl
+none_order (Within closes told) = refl
 
-pub order_in : (steps : ℕ) (place : Place) (awaited : Awaited) (bytes : List ℕ) (said : List Said) → allows place awaited ≡ true → SaysIn steps awaited bytes said → in_order place said ≡ true
+pub order_in : (steps : ℕ) (place : Place) (awaited : Awaited) (bytes : List ℕ) (said : List Said) → Allows place awaited → SaysIn steps awaited bytes said → in_order place said ≡ true
 order_in zero place awaited bytes said allowed x = rw x.0 (none_order place)
 order_in (suc steps) place awaited bytes said allowed x =
     let ok : Later x.2 x.3 = (λ p allowed. order_in steps p x.2 x.1 x.3 allowed x.6, λ over. nothing_said steps x.1 x.3 (subst (λ a. SaysIn steps a x.1 x.3) over x.6)) in

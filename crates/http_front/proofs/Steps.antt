@@ -1,16 +1,50 @@
--- Where a reader stands after a piece or a step.
-use Rattle.std.specs.Prelude.{ℕ, suc, zero, ◌≡◌, ◌+◌, ◌-◌, ◌<◌, ◌≤◌, ◌==◌, false, List, [], ◌∷◌, ◌++◌, length, map, take, drop}
-use Rattle.std.proofs.Common.{arith, refl, subst, sym, ap, ◌∙◌, zero-add}
+-- Where a reader stands after a step.
+use Rattle.std.specs.Prelude.{ℕ, suc, zero, ◌≡◌, ◌⊎◌, ◌+◌, ◌-◌, ◌<◌, ◌≤◌, ◌==◌, false, List, [], ◌∷◌, ◌++◌, length, map, take, drop}
+use Rattle.std.proofs.Common.{arith, refl, subst, sym, ap, ◌∙◌, zero-add, inl, inr}
 use Rattle.std.proofs.lemmas.List.{append_assoc, append-nil, take-append-drop, length-take-le, length-drop}
-use Rattle.http_front.specs.declared.awaited.Awaited.TheVariants.{Body, Nothing}
+use Rattle.http_front.specs.declared.awaited.Awaited.{Awaited}
+use Rattle.http_front.specs.declared.awaited.Awaited.TheVariants.{Head, Body, Nothing}
 use Rattle.http_front.specs.declared.awaited.Following.{Following}
-use Rattle.http_front.specs.Stream.{Said, HasByte, Goes, Waits, FrontIs, body_front, SaysIn, Says, Exchanges, HttpState, Stands, Advances, work}
+use Rattle.http_front.specs.Stream.{Said, HasByte, Goes, Waits, FrontIs, body_front, SaysIn, Says, Exchanges, LeadsIn, Leads, HttpState, IsOver, Stands, Advances, work}
 
--- a step that is there whatever comes
-pub advance : (old : HttpState) (said : List Said) (new : HttpState) → ((coming : List ℕ) → FrontIs old.awaited (old.rest ++ coming) (Goes said (new.rest ++ coming) new.awaited)) → Advances old said new
-advance old said new goes stream given stands coming later says =
-    let on : Says old.awaited (old.rest ++ coming) (said ++ later) = (suc says.0, (said, new.rest ++ coming, new.awaited, later, goes coming, refl, says.1)) in
-    rw (append_assoc given said later) (stands coming (said ++ later) on)
+-- one after the other
+
+pub leads_then : (n m : ℕ) (a : Awaited) (bytes : List ℕ) (first : List Said) (b : Awaited) (mid : List ℕ) (later : List Said) (c : Awaited) (left : List ℕ) → LeadsIn n a bytes first b mid → LeadsIn m b mid later c left → Leads a bytes (first ++ later) c left
+leads_then zero m a bytes first b mid later c left x y =
+    let on : LeadsIn m a bytes later c left = subst (λ q. LeadsIn m q bytes later c left) x.1 (subst (λ r. LeadsIn m b r later c left) x.2 y) in
+    subst (λ s. Leads a bytes (s ++ later) c left) (sym x.0) (m, on)
+leads_then (suc n) m a bytes first b mid later c left x y =
+    let r = leads_then n m x.2 x.1 x.3 b mid later c left x.6 y in
+    (suc r.0, (x.0, x.1, x.2, x.3 ++ later, x.4, ap (λ s. s ++ later) x.5 ∙ append_assoc x.0 x.3 later, r.1))
+
+pub says_then : (n m : ℕ) (a : Awaited) (bytes : List ℕ) (first : List Said) (b : Awaited) (mid : List ℕ) (later : List Said) → LeadsIn n a bytes first b mid → SaysIn m b mid later → Says a bytes (first ++ later)
+says_then zero m a bytes first b mid later x y =
+    let on : SaysIn m a bytes later = subst (λ q. SaysIn m q bytes later) x.1 (subst (λ r. SaysIn m b r later) x.2 y) in
+    subst (λ s. Says a bytes (s ++ later)) (sym x.0) (m, on)
+says_then (suc n) m a bytes first b mid later x y =
+    let r = says_then n m x.2 x.1 x.3 b mid later x.6 y in
+    (suc r.0, (x.0, x.1, x.2, x.3 ++ later, x.4, ap (λ s. s ++ later) x.5 ∙ append_assoc x.0 x.3 later, r.1))
+
+leads_one : (a : Awaited) (bytes : List ℕ) (said : List Said) (b : Awaited) (left : List ℕ) → FrontIs a bytes (Goes said left b) → Leads a bytes said b left
+leads_one a bytes said b left front = (suc zero, (said, left, b, [], front, sym (append-nil said), (refl, refl, refl)))
+
+-- a reader for which something counts goes on
+on_from : (stream : List ℕ) (given : List Said) (old : HttpState) (left : List ℕ) (said : List Said) (new : HttpState) → (IsOver old → ⊥) → Leads old.awaited old.rest said new.awaited new.rest → Leads Head stream given old.awaited left → (IsOver old ⊎ (left ≡ old.rest)) → Stands stream (given ++ said) new
+on_from stream given old left said new counts on leads (inl over) = absurd (counts over)
+on_from stream given old left said new counts on leads (inr same) =
+    let here : LeadsIn leads.0 Head stream given old.awaited old.rest = subst (λ l. LeadsIn leads.0 Head stream given old.awaited l) same leads.1 in
+    record { left = new.rest; leads = leads_then leads.0 on.0 Head stream given old.awaited old.rest said new.awaited new.rest here on.1; kept = inr refl }
+
+advance_by : (old : HttpState) (said : List Said) (new : HttpState) → (IsOver old → ⊥) → Leads old.awaited old.rest said new.awaited new.rest → Advances old said new
+advance_by old said new counts on stream given stands = on_from stream given old stands.left said new counts on stands.leads stands.kept
+
+not_over : (old : HttpState) (said : List Said) (rest : List ℕ) (next : Awaited) → FrontIs old.awaited old.rest (Goes said rest next) → IsOver old → ⊥
+not_over old said rest next front over =
+    let no : Goes said rest next ≡ Waits = subst (λ (a : Awaited). FrontIs a old.rest (Goes said rest next)) over front in
+    (cc)
+
+pub advance : (old : HttpState) (said : List Said) (new : HttpState) → FrontIs old.awaited old.rest (Goes said new.rest new.awaited) → Advances old said new
+advance old said new front = advance_by old said new (not_over old said new.rest new.awaited front) (leads_one old.awaited old.rest said new.awaited new.rest front)
 
 pub advances_nothing : (old : HttpState) → Advances old [] old
 advances_nothing old stream given stands = subst (λ g. Stands stream g old) (sym (append-nil given)) stands
@@ -20,26 +54,18 @@ advances_then old mid new said first second stream given stands =
     second stream given (subst (λ g. Stands stream g mid) (append-nil given) (first stream given stands))
 
 -- where it is not known yet what stands at the front
+
+waits_in : (old : HttpState) (left : List ℕ) → FrontIs old.awaited old.rest Waits → (IsOver old ⊎ (left ≡ old.rest)) → FrontIs old.awaited left Waits
+waits_in old left waits (inl over) = subst (λ (a : Awaited). FrontIs a left Waits) (sym over) refl
+waits_in old left waits (inr same) = subst (λ (bytes : List ℕ). FrontIs old.awaited bytes Waits) (sym same) waits
+
 pub tells_all : (old : HttpState) → FrontIs old.awaited old.rest Waits → (stream : List ℕ) (given : List Said) → Stands stream given old → Exchanges stream given
 tells_all old waits stream given stands =
-    let on : Says old.awaited (old.rest ++ []) [] = (0, (refl, subst (λ bytes. FrontIs old.awaited bytes Waits) (sym (append-nil old.rest)) waits)) in
-    subst (λ bytes. Exchanges bytes given) (append-nil stream) (subst (λ said. Exchanges (stream ++ []) said) (append-nil given) (stands [] [] on))
+    let here : FrontIs old.awaited stands.left Waits = waits_in old stands.left waits stands.kept in
+    let says : Says Head stream (given ++ []) = says_then stands.leads.0 zero Head stream given old.awaited stands.left [] stands.leads.1 (refl, here) in
+    subst (λ said. Says Head stream said) (append-nil given) says
 
--- a piece of which nothing is read yet
-pub stands_fed : (stream : List ℕ) (given : List Said) (piece : List ℕ) (reader : HttpState) → Stands stream given reader → Stands (stream ++ piece) given (record { part = []; rest = reader.rest ++ piece; awaited = reader.awaited })
-stands_fed stream given piece reader stands coming said says =
-    rw (append_assoc stream piece coming) (stands (piece ++ coming) said (subst (λ bytes. Says reader.awaited bytes said) (append_assoc reader.rest piece coming) says))
-
-nothing_in : (steps : ℕ) (bytes other : List ℕ) (said : List Said) → SaysIn steps Nothing bytes said → SaysIn steps Nothing other said
-nothing_in zero bytes other said says = says
-nothing_in (suc steps) bytes other said says = absurd (let no : Goes says.0 says.1 says.2 ≡ Waits = says.4 in (cc))
-
--- where nothing counts any more
-pub stands_still : (stream : List ℕ) (given : List Said) (piece : List ℕ) (reader : HttpState) → reader.awaited ≡ Nothing → Stands stream given reader → Stands (stream ++ piece) given reader
-stands_still stream given piece reader over stands coming said says =
-    let here : Says Nothing (reader.rest ++ coming) said = subst (λ awaited. Says awaited (reader.rest ++ coming) said) over says in
-    let there : Says reader.awaited (reader.rest ++ (piece ++ coming)) said = subst (λ awaited. Says awaited (reader.rest ++ (piece ++ coming)) said) (sym over) (here.0, nothing_in here.0 _ _ said here.1) in
-    rw (append_assoc stream piece coming) (stands (piece ++ coming) said there)
+-- a part of a body, byte by byte
 
 byte_front : (byte : ℕ) (bytes : List ℕ) (next : Following) (count more : ℕ) → count ≡ more + 1 → Goes (HasByte byte ∷ []) bytes (Body more next) ≡ body_front count next (byte ∷ bytes)
 byte_front byte bytes next count more is =
@@ -47,21 +73,25 @@ byte_front byte bytes next count more is =
     let one : count - 1 ≡ more = omega (arith, is) in
     rw (some, one) refl
 
--- a part of a body, byte by byte
-says_part : (part more : List ℕ) (count : ℕ) (next : Following) (later : List Said) → Says (Body count next) more later → Says (Body (length part + count) next) (part ++ more) (map HasByte part ++ later)
-says_part [] more count next later says = subst (λ n. Says (Body n next) more later) (sym (zero-add count)) says
-says_part (byte ∷ part) more count next later says =
-    let tail = says_part part more count next later says in
-    (suc tail.0, (HasByte byte ∷ [], part ++ more, Body (length part + count) next, map HasByte part ++ later, byte_front byte (part ++ more) next _ _ (omega arith), refl, tail.1))
+pub leads_part : (part more : List ℕ) (count : ℕ) (next : Following) → Leads (Body (length part + count) next) (part ++ more) (map HasByte part) (Body count next) more
+leads_part [] more count next = (zero, (refl, ap (λ n. Body n next) (sym (zero-add count)), refl))
+leads_part (byte ∷ part) more count next =
+    let tail = leads_part part more count next in
+    (suc tail.0, (HasByte byte ∷ [], part ++ more, Body (length part + count) next, map HasByte part, byte_front byte (part ++ more) next _ _ (omega arith), refl, tail.1))
+
+body_counts : (old : HttpState) (count : ℕ) (next : Following) → old.awaited ≡ Body count next → IsOver old → ⊥
+body_counts old count next is over = let no : Body count next ≡ Nothing = sym is ∙ over in (cc)
 
 pub lends : (old : HttpState) (count : ℕ) (next : Following) (size : ℕ) → old.awaited ≡ Body count next → size ≤ length old.rest → size ≤ count → Advances old (map HasByte (take size old.rest)) (record { part = take size old.rest; rest = drop size old.rest; awaited = Body (count - size) next })
-lends old count next size is within fits stream given stands coming later says =
-    let on = says_part (take size old.rest) (drop size old.rest ++ coming) (count - size) next later says in
+lends old count next size is within fits =
+    let said = map HasByte (take size old.rest) in
+    let left = drop size old.rest in
+    let after = Body (count - size) next in
+    let on : Leads (Body (length (take size old.rest) + (count - size)) next) (take size old.rest ++ left) said after left = leads_part (take size old.rest) left (count - size) next in
     let all : length (take size old.rest) + (count - size) ≡ count = rw (length-take-le size old.rest within) (omega (arith, fits)) in
-    let bytes : take size old.rest ++ (drop size old.rest ++ coming) ≡ old.rest ++ coming = sym (append_assoc (take size old.rest) (drop size old.rest) coming) ∙ ap (λ front. front ++ coming) (take-append-drop size old.rest) in
-    let said : Says (Body count next) (old.rest ++ coming) (map HasByte (take size old.rest) ++ later) = subst (λ n. Says (Body n next) (old.rest ++ coming) (map HasByte (take size old.rest) ++ later)) all (subst (λ b. Says (Body (length (take size old.rest) + (count - size)) next) b (map HasByte (take size old.rest) ++ later)) bytes on) in
-    let here : Says old.awaited (old.rest ++ coming) (map HasByte (take size old.rest) ++ later) = subst (λ awaited. Says awaited (old.rest ++ coming) (map HasByte (take size old.rest) ++ later)) (sym is) said in
-    rw (append_assoc given (map HasByte (take size old.rest)) later) (stands coming (map HasByte (take size old.rest) ++ later) here)
+    let bytes : Leads (Body (length (take size old.rest) + (count - size)) next) old.rest said after left = subst (λ (b : List ℕ). Leads (Body (length (take size old.rest) + (count - size)) next) b said after left) (take-append-drop size old.rest) on in
+    let here : Leads (Body count next) old.rest said after left = subst (λ (n : ℕ). Leads (Body n next) old.rest said after left) all bytes in
+    advance_by old said (record { part = take size old.rest; rest = left; awaited = after }) (body_counts old count next is) (subst (λ (a : Awaited). Leads a old.rest said after left) (sym is) here)
 
 -- a byte was lent
 pub lends_less : (old : HttpState) (count : ℕ) (next : Following) (size : ℕ) → 0 < size → size ≤ length old.rest → work (record { part = take size old.rest; rest = drop size old.rest; awaited = Body (count - size) next }) < work old

@@ -1,12 +1,12 @@
--- The order of what a stream says: exchange by exchange, of each the head, the invitation where it is due, the body and its end. A refusal is the last.
-use Rattle.std.specs.Prelude.{ℕ, ◌≡◌, Bool, true, false, List, [], ◌∷◌}
-use Rattle.http_front.specs.Stream.{Said, HasHead, Invites, HasByte, EndsBody, IsRefused, Exchanges}
+-- The order of what a stream says: exchange by exchange, of each the head, the invitation where it is due, the body and its end. A refusal is the last, and so is an exchange that closes the connection or has too short a body.
+use Rattle.std.specs.Prelude.{ℕ, ◌≡◌, ◌+◌, Bool, true, false, if◌then◌else◌, List, [], ◌∷◌}
+use Rattle.http_front.specs.Stream.{Said, HasHead, Invites, HasByte, EndsBody, IsRefused, Exchanges, is_last}
 
--- between exchanges, after a head, or within a body
+-- between exchanges; after a head; or after it was invited, or has so many bytes of its body. Whether it closes the connection is told by the head
 pub data Place : Type 0 where
   Between : Place
-  Headed : Place
-  Within : Place
+  Headed : (closes : Bool) → Place
+  Within : (closes : Bool) (count : ℕ) → Place
 
 abbrev pub is_none : List Said → Bool
 is_none [] = true
@@ -14,12 +14,12 @@ is_none (said ∷ later) = false
 
 abbrev pub in_order : Place → List Said → Bool
 in_order place [] = true
-in_order Between (HasHead closes ∷ later) = in_order Headed later
-in_order Headed (Invites ∷ later) = in_order Within later
-in_order Headed (HasByte byte ∷ later) = in_order Within later
-in_order Headed (EndsBody ∷ later) = in_order Between later
-in_order Within (HasByte byte ∷ later) = in_order Within later
-in_order Within (EndsBody ∷ later) = in_order Between later
+in_order Between (HasHead closes ∷ later) = in_order (Headed closes) later
+in_order (Headed closes) (Invites ∷ later) = in_order (Within closes 0) later
+in_order (Headed closes) (HasByte byte ∷ later) = in_order (Within closes 1) later
+in_order (Headed closes) (EndsBody ∷ later) = if is_last closes 0 then is_none later else in_order Between later
+in_order (Within closes count) (HasByte byte ∷ later) = in_order (Within closes (count + 1)) later
+in_order (Within closes count) (EndsBody ∷ later) = if is_last closes count then is_none later else in_order Between later
 in_order place (IsRefused refusal ∷ later) = is_none later
 in_order place (said ∷ later) = false
 

@@ -1,5 +1,5 @@
 -- What an HTTP client's stream of bytes gives (RFC 9112): its exchanges in order, up to the first request that is refused. The bytes of a body are told one by one, so that it does not matter in which parts they come.
-use Rattle.std.specs.Prelude.{ℕ, ◌≡◌, ◌==◌, ◌<◌, ◌+◌, ◌-◌, ◌*◌, ◌||◌, nat_le, Bool, false, suc, zero, if◌then◌else◌, List, [], ◌∷◌, ◌++◌, map, take, drop, MatchBool, length, not, Option, Some, None, Result, Ok, Err, ⊤}
+use Rattle.std.specs.Prelude.{ℕ, ◌≡◌, ◌==◌, ◌<◌, ◌+◌, ◌-◌, ◌*◌, ◌||◌, ◌⊎◌, nat_le, nat_lt, Bool, false, suc, zero, if◌then◌else◌, List, [], ◌∷◌, ◌++◌, map, take, drop, MatchBool, length, not, Option, Some, None, Result, Ok, Err, ⊤}
 use Rattle.text.specs.FirstLine.{first_line_of}
 use Rattle.text.specs.declared.line.FirstLine.{FirstLine}
 use Rattle.text.specs.declared.line.FirstLine.TheVariants.{Whole, TooLong, Unfinished}
@@ -47,8 +47,12 @@ pub data Front : Type 0 where
 abbrev pub refused : Refusal → List ℕ → Front
 refused refusal rest = Goes (IsRefused refusal ∷ []) rest Nothing
 
+-- nothing counts after an exchange that closes the connection, and after a body too short for an IPP message, which has 8 bytes at least (RFC 8010, section 3.1.1)
+abbrev pub is_last : Bool → ℕ → Bool
+is_last closes count = closes || nat_lt count 8
+
 abbrev pub body_by : Framing → Bool → Awaited
-body_by (Length count) closes = Body count (Close closes)
+body_by (Length count) closes = Body count (Close (is_last closes count))
 body_by Chunked closes = Size HTTP_BODY_BYTES closes
 
 abbrev pub after_head : Request → Awaited
@@ -58,9 +62,9 @@ abbrev pub begun : Result Request Refusal → List ℕ → Front
 begun (Ok request) rest = Goes (HasHead request.closes ∷ []) rest (after_head request)
 begun (Err refusal) rest = refused refusal rest
 
--- what follows a connection's last reply is dropped
+-- what follows the last exchange is dropped
 abbrev pub after_body : Bool → Awaited
-after_body closes = if closes then Nothing else Head
+after_body last = if last then Nothing else Head
 
 -- a head of at most so many bytes
 abbrev pub HeadIn : List ℕ → FirstLine → Front → Type 0
@@ -88,7 +92,7 @@ chunk_front room closes bytes end.Broken = refused BadRequest bytes
 chunk_front room closes bytes end.Unfinished = Waits
 
 abbrev pub following : Following → List ℕ → Front
-following (Close closes) bytes = Goes (EndsBody ∷ []) bytes (after_body closes)
+following (Close last) bytes = Goes (EndsBody ∷ []) bytes (after_body last)
 following (Chunk room closes) bytes = chunk_front room closes bytes (chunk_end bytes)
 
 abbrev pub byte_of : ℕ → Following → List ℕ → Front
@@ -103,7 +107,7 @@ body_front count next bytes = if count == 0 then following next bytes else byte_
 abbrev pub sized : Option ℕ → ℕ → Bool → List ℕ → Front
 sized None room closes rest = refused BadRequest rest
 sized (Some size) room closes rest =
-    if size == 0 then Goes [] rest (Trailer closes)
+    if size == 0 then Goes [] rest (Trailer (is_last closes (HTTP_BODY_BYTES - room)))
     else if nat_le size room then Goes [] rest (Body size (Chunk (room - size) closes))
     else refused ContentTooLarge rest
 
@@ -114,9 +118,9 @@ SizeIn bytes room closes Unfinished front = front ≡ Waits
 
 -- the trailer section isn't looked at (RFC 9112, section 7.1.2)
 abbrev pub trailer_front : Bool → List ℕ → FirstLine → Front
-trailer_front closes bytes (Whole count) = Goes (EndsBody ∷ []) (drop count bytes) (after_body closes)
-trailer_front closes bytes TooLong = refused BadRequest bytes
-trailer_front closes bytes Unfinished = Waits
+trailer_front last bytes (Whole count) = Goes (EndsBody ∷ []) (drop count bytes) (after_body last)
+trailer_front last bytes TooLong = refused BadRequest bytes
+trailer_front last bytes Unfinished = Waits
 
 -- what stands at the front of bytes
 abbrev pub FrontIs : Awaited → List ℕ → Front → Type 0
@@ -124,7 +128,7 @@ FrontIs Head bytes front = AtHead bytes front
 FrontIs (Invitation framing closes) bytes front = front ≡ Goes (Invites ∷ []) bytes (body_by framing closes)
 FrontIs (Body count next) bytes front = front ≡ body_front count next bytes
 FrontIs (Size room closes) bytes front = SizeIn bytes room closes (first_line_of HTTP_CHUNK_LINE_BYTES bytes) front
-FrontIs (Trailer closes) bytes front = front ≡ trailer_front closes bytes (section_in HTTP_TRAILER_BYTES bytes)
+FrontIs (Trailer last) bytes front = front ≡ trailer_front last bytes (section_in HTTP_TRAILER_BYTES bytes)
 FrontIs Nothing bytes front = front ≡ Waits
 
 -- bytes say this in so many steps, and then there is too little to tell, or nothing counts any more
@@ -149,24 +153,51 @@ SaysOne = (stream : List ℕ) (given said : List Said) → Exchanges stream give
 abbrev pub StaysInFront : Type 0
 StaysInFront = (stream more : List ℕ) (given said : List Said) → Exchanges stream given → Exchanges (stream ++ more) said → (later : List Said) × (said ≡ given ++ later)
 
+-- bytes say this in so many steps; then this is awaited, with these bytes left
+abbrev pub LeadsIn : ℕ → Awaited → List ℕ → List Said → Awaited → List ℕ → Type 0
+LeadsIn zero awaited bytes said next left = (said ≡ []) × (next ≡ awaited) × (left ≡ bytes)
+LeadsIn (suc steps) awaited bytes said next left =
+    (first : List Said) × (rest : List ℕ) × (after : Awaited) × (later : List Said)
+    × FrontIs awaited bytes (Goes first rest after) × (said ≡ first ++ later) × LeadsIn steps after rest later next left
+
+abbrev pub Leads : Awaited → List ℕ → List Said → Awaited → List ℕ → Type 0
+Leads awaited bytes said next left = (steps : ℕ) × LeadsIn steps awaited bytes said next left
+
+-- a stream says this first, whatever follows
+pub record SaysFirst (stream : List ℕ) (said : List Said) : Type 0 where
+  pub next : Awaited
+  pub left : List ℕ
+  pub leads : Leads Head stream said next left
+
+-- what a stream says first stays at the front where more comes
+abbrev pub FirstStays : Type 0
+FirstStays = (stream more : List ℕ) (first said : List Said) → SaysFirst stream first → Exchanges (stream ++ more) said → (later : List Said) × (said ≡ first ++ later)
+
 -- a reader: the part of a body that it lends, the bytes that it hasn't read, and what it awaits
 pub record HttpState : Type 0 where
   pub part : List ℕ
   pub rest : List ℕ
   pub awaited : Awaited
 
--- The reader was fed this stream and has given this: whatever comes yet, the whole says this and then what the reader will hear.
-abbrev pub Stands : List ℕ → List Said → HttpState → Type 0
-Stands stream given reader =
-    (coming : List ℕ) (said : List Said) → Says reader.awaited (reader.rest ++ coming) said → Exchanges (stream ++ coming) (given ++ said)
+-- nothing counts any more: the reader gives nothing, and drops what it is fed
+abbrev pub IsOver : HttpState → Type 0
+IsOver reader = reader.awaited ≡ Nothing
+
+-- The reader was fed this stream and has given this: the stream says it first, and then what the reader awaits, of the bytes that the reader has left. Once nothing counts any more the reader needn't have them.
+pub record Stands (stream : List ℕ) (given : List Said) (reader : HttpState) : Type 0 where
+  pub left : List ℕ
+  pub leads : Leads Head stream given reader.awaited left
+  pub kept : IsOver reader ⊎ (left ≡ reader.rest)
+
+-- whatever comes yet, the whole stream says what a reader has given, and then what it will hear
+abbrev pub HearsTheRest : Type 0
+HearsTheRest =
+    (stream coming : List ℕ) (given said : List Said) (reader : HttpState)
+    → Stands stream given reader → Says reader.awaited (reader.rest ++ coming) said → Exchanges (stream ++ coming) (given ++ said)
 
 -- from one state the reader came to another and said this, of the same stream
 abbrev pub Advances : HttpState → List Said → HttpState → Type 0
 Advances old said new = (stream : List ℕ) (given : List Said) → Stands stream given old → Stands stream (given ++ said) new
-
--- nothing counts any more: the reader gives nothing, and drops what it is fed
-abbrev pub IsOver : HttpState → Type 0
-IsOver reader = reader.awaited ≡ Nothing
 
 -- nothing counts after a refusal
 abbrev pub Stops : HttpItem → HttpState → Type 0

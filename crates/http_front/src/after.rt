@@ -1,6 +1,6 @@
 //! What the reader awaits after a head or a body.
 ghost use Rattle.std.specs.Prelude.{◌≡◌};
-ghost use Rattle.http_front.specs.Stream.{after_head, body_by, after_body, begins_head};
+ghost use Rattle.http_front.specs.Stream.{after_head, body_by, after_body, begins_head, is_last};
 
 use crate::awaited::{Awaited, Following, Framing, Request};
 use base_types::Limits;
@@ -15,21 +15,32 @@ pub(crate) fn after_head(request: Request) -> Awaited
     body_by(request.framing, request.closes)
 }
 
+/// The bytes that an IPP message has at least: its version, operation and request-id (RFC 8010,
+/// section 3.1.1).
+const SHORTEST_BODY: u32 = 8;
+
+/// Whether nothing counts after an exchange: it closes the connection, or its body has too few bytes.
+pub(crate) fn is_last(closes: bool, length: u32) -> bool
+    ensures { result ≡ is_last closes length }
+{
+    closes || length < SHORTEST_BODY
+}
+
 /// How a body is read.
 pub(crate) fn body_by(framing: Framing, closes: bool) -> Awaited
     ensures { result ≡ body_by framing closes }
 {
     match framing {
-        Framing::Length(count) => Awaited::Body(count, Following::Close(closes)),
+        Framing::Length(count) => Awaited::Body(count, Following::Close(is_last(closes, count))),
         Framing::Chunked => Awaited::Size(Limits::HTTP_BODY_BYTES as u32, closes),
     }
 }
 
-/// What is read after a body.
-pub(crate) fn after_body(closes: bool) -> Awaited
-    ensures { result ≡ after_body closes }
+/// What is read after a body; `last` says whether nothing counts any more.
+pub(crate) fn after_body(last: bool) -> Awaited
+    ensures { result ≡ after_body last }
 {
-    if closes {
+    if last {
         return Awaited::Nothing;
     }
     Awaited::Head

@@ -20,13 +20,14 @@ pub(crate) struct Request {
 /// What stands after bytes of a body.
 #[derive(Clone, Copy, Debug, PartialEq, Eq)]
 pub(crate) enum Following {
-    /// Nothing more of the body.
+    /// Nothing more of the body; and nothing that counts after it, or the next head.
     Close(bool),
     /// The end of a chunk; the chunks after it have so many bytes at most.
     Chunk(u32, bool),
 }
 
-/// What a reader reads next. A truth value says whether the connection closes after the reply.
+/// What a reader reads next. A truth value says whether the connection closes after the reply, and
+/// at a trailer whether nothing counts after it.
 #[derive(Clone, Copy, Debug, PartialEq, Eq)]
 pub(crate) enum Awaited {
     Head,

@@ -2,8 +2,9 @@
 //! its stream of bytes, and the heads of the replies.
 //!
 //! It promises that an [`HttpReader`] gives exactly the exchanges of the whole stream that it was
-//! fed, in order, up to the first request that is refused. It knows nothing of what the bodies say,
-//! and answers nothing by itself.
+//! fed, in order, up to the last that counts: one that is refused, that closes the connection, or
+//! whose body is too short for an IPP message. It knows nothing else of what the bodies say, and
+//! answers nothing by itself.
 //!
 //! Tests stand in `reader_tests`.
 #![tactic(auto)]
@@ -14,6 +15,7 @@ mod chunk;
 mod fields;
 mod head;
 mod item;
+mod law;
 mod reader;
 mod refusal;
 mod reply;
@@ -21,6 +23,7 @@ mod section;
 mod words;
 
 pub use item::HttpItem;
+pub use law::{exchanges_in_order, given_first, one_saying};
 pub use reader::HttpReader;
 pub use refusal::Refusal;
 pub use reply::{continue_head, write_head};

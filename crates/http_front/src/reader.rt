@@ -1,12 +1,11 @@
 //! The reader of a client's stream.
-ghost use Rattle.std.specs.Prelude.{◌≡◌, ◌≤◌, ◌<◌, ◌+◌, ◌++◌, [], List, ℕ, OnOk, OnErr, IsSome, None, true, take, drop, length as length_of};
-ghost use Rattle.http_front.specs.Stream.{Said, SaysOne, StaysInFront, Stands, Answers, Steps, IsOver, work, after_body, body_by, after_head, begins_head};
+ghost use Rattle.std.specs.Prelude.{◌≡◌, ◌≤◌, ◌<◌, ◌+◌, ◌++◌, [], List, ℕ, OnOk, OnErr, IsOk, IsSome, None, true, take, drop, length as length_of};
+ghost use Rattle.http_front.specs.Stream.{Said, Stands, Answers, Steps, IsOver, work, after_body, body_by, after_head, begins_head};
 ghost use Rattle.text.specs.FirstLine.{first_line_of};
 ghost use Rattle.text.specs.declared.line.FirstLine.TheVariants.{Whole};
 ghost use Rattle.http_front.specs.Section.{section_in};
-ghost use Rattle.http_front.specs.Order.{SaysInOrder};
 
-use crate::after::{after_body, after_head, begins_head, body_by};
+use crate::after::{after_body, after_head, begins_head, body_by, is_last};
 use crate::awaited::{Awaited, Following};
 use crate::chunk::{ChunkEnd, chunk_end, size_in};
 use crate::head::read_head;
@@ -21,8 +20,8 @@ use text::{FirstLine, Unread, first_line};
 /// A reader of what an HTTP client sends, in pieces of any length. In clauses it is a record of the
 /// part of a body that it lends, what it still has to read, and what it awaits.
 ///
-/// After a request that is refused, and after one whose connection closes, it gives nothing more,
-/// and what it is fed is dropped.
+/// After a request that is refused, after one whose connection closes, and after one whose body is
+/// too short for an IPP message, it gives nothing more, and what it is fed is dropped.
 #[derive(Debug, Drop)]
 pub struct HttpReader {
     unread: Unread,
@@ -55,12 +54,7 @@ pub(crate) enum Step {
 impl HttpReader {
     /// A reader of a new connection.
     pub fn new(alloc: Global) -> HttpReader
-        ensures stands { Stands [] [] result }
-
-        // Three laws, of any stream.
-        ensures one { SaysOne }
-        ensures order { SaysInOrder }
-        ensures front { StaysInFront }
+        ensures { Stands [] [] result }
     {
         HttpReader {
             unread: Unread::new(alloc),
@@ -71,11 +65,11 @@ impl HttpReader {
 
     /// Takes the next bytes of the connection. The part that was lent is given back.
     ///
-    /// Where there is no memory, none of them is taken.
+    /// Where there is no memory, none of them is taken, and the part stays lent.
     pub fn feed(&mut self, piece: &[u8]) -> Result<(), AllocError>
         ensures fed { OnOk result ((stream : List ℕ) (given : List Said) → Stands stream given self.old → Stands (stream ++ piece.now) given self.new) }
-        ensures err { OnErr result (self.new ≡ record self.old { part = [] }) }
-        ensures over { IsOver self.old → self.new ≡ self.old }
+        ensures err { OnErr result (self.new ≡ self.old) }
+        ensures over { IsOver self.old → IsOk result × (self.new ≡ self.old) }
     {
         if let Awaited::Nothing = self.awaited() {
             return Ok(());
@@ -120,7 +114,7 @@ impl HttpReader {
             }
             Awaited::Body(count, next) => self.step_body(count, next),
             Awaited::Size(room, closes) => self.step_size(room, closes),
-            Awaited::Trailer(closes) => self.step_trailer(closes),
+            Awaited::Trailer(last) => self.step_trailer(last),
             Awaited::Nothing => Step::Waits,
         }
     }
@@ -194,8 +188,8 @@ impl HttpReader {
         ensures { Steps self.old result self.new }
     {
         match next {
-            Following::Close(closes) => {
-                self.pass(0, after_body(closes));
+            Following::Close(last) => {
+                self.pass(0, after_body(last));
                 Step::Gives(HttpItem::BodyEnd)
             }
             Following::Chunk(room, closes) => self.end_chunk(room, closes),
@@ -240,7 +234,8 @@ impl HttpReader {
             return self.refuse(count + 1, Refusal::BadRequest);
         };
         if size == 0 {
-            self.pass(count + 1, Awaited::Trailer(closes));
+            let length = (Limits::HTTP_BODY_BYTES as u32).saturating_sub(room);
+            self.pass(count + 1, Awaited::Trailer(is_last(closes, length)));
             return Step::Passes;
         }
         if size > u64::from(room) {
@@ -255,15 +250,15 @@ impl HttpReader {
     }
 
     /// Drops the fields after the last chunk.
-    fn step_trailer(&mut self, closes: bool) -> Step
-        requires { self.old.awaited ≡ Awaited.Trailer closes }
+    fn step_trailer(&mut self, last: bool) -> Step
+        requires { self.old.awaited ≡ Awaited.Trailer last }
         ensures { Steps self.old result self.new }
     {
         match section_in(self.rest(), Limits::HTTP_TRAILER_BYTES) {
             FirstLine::Unfinished => Step::Waits,
             FirstLine::TooLong => self.refuse(0, Refusal::BadRequest),
             FirstLine::Whole(count) => {
-                self.pass(count, after_body(closes));
+                self.pass(count, after_body(last));
                 Step::Gives(HttpItem::BodyEnd)
             }
         }
@@ -317,10 +312,11 @@ impl HttpReader {
     /// Keeps these bytes to be read.
     fn append(&mut self, piece: &[u8]) -> Result<(), AllocError>
         ensures ok { OnOk result (self.new ≡ record { part = []; rest = self.old.rest ++ piece.now; awaited = self.old.awaited }) }
-        ensures err { OnErr result (self.new ≡ record self.old { part = [] }) }
+        ensures err { OnErr result (self.new ≡ self.old) }
     {
+        self.unread.append(piece)?;
         self.unread.pass(self.lent);
         self.lent = 0;
-        self.unread.append(piece)
+        Ok(())
     }
 }

@@ -1,2 +1,3 @@
 mod Drafts
-mod Streams
+pub mod Streams
+pub mod Standing

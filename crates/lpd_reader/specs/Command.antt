@@ -84,8 +84,10 @@ abbrev pub meaning_of : Awaited → List ℕ → Result ItemRecord LpdFault
 meaning_of await.Command line = command_line line
 meaning_of await.Subcommand line = subcommand_line line
 meaning_of (await.File length) line = subcommand_line line
+meaning_of await.Nothing line = subcommand_line line
 
 abbrev pub awaits_line : Awaited → Bool
 awaits_line await.Command = true
 awaits_line await.Subcommand = true
 awaits_line (await.File length) = false
+awaits_line await.Nothing = false

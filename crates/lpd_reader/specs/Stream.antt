@@ -1,5 +1,5 @@
--- What an LPD client's stream of bytes says: its items in order, and then a fault or an unfinished part.
-use Rattle.std.specs.Prelude.{ℕ, ◌≡◌, ◌==◌, ◌+◌, nat_le, if◌then◌else◌, List, [], ◌∷◌, ◌++◌, length, take, drop, slice_index_or, Option, Some, None, Result, Ok, Err}
+-- What an LPD client's stream of bytes says: its items in order, and then a fault, an unfinished part, or bytes that don't count.
+use Rattle.std.specs.Prelude.{ℕ, ◌≡◌, ◌==◌, ◌+◌, ◌⊎◌, ◌||◌, nat_le, is_some, Bool, true, false, if◌then◌else◌, List, [], ◌∷◌, ◌++◌, length, take, drop, slice_index_or, Option, Some, None, Result, Ok, Err}
 use Rattle.text.specs.FirstLine.{first_line_of}
 use Rattle.text.specs.declared.line.FirstLine.{FirstLine}
 use Rattle.text.specs.declared.line.FirstLine.TheVariants.{Whole, TooLong, Unfinished}
@@ -10,11 +10,11 @@ use Rattle.lpd_reader.specs.declared.fault.LpdError.{LpdError}
 use Rattle.lpd_reader.specs.declared.fault.LpdError.TheVariants.{Fault, OutOfMemory}
 use Rattle.lpd_reader.specs.declared.item.LpdItem.{LpdItem}
 use Rattle.lpd_reader.specs.declared.reader.Awaited.{Awaited}
-use Rattle.lpd_reader.specs.declared.reader.Awaited.TheVariants.{Command, Subcommand, File}
+use Rattle.lpd_reader.specs.declared.reader.Awaited.TheVariants.{Command, Subcommand, File, Nothing}
 use Rattle.lpd_reader.specs.Session.{ItemRecord, HasFile, item_record, awaited_after}
-use Rattle.lpd_reader.specs.Command.{command_line, subcommand_line}
+use Rattle.lpd_reader.specs.Command.{command_line, subcommand_line, awaits_line}
 
--- what stands at the front of bytes: an item and what follows it, a fault, or too little to tell
+-- what stands at the front of bytes: an item and what follows it, a fault, or nothing that can be told yet
 pub data Front : Type 0 where
   Gives : (said : ItemRecord) (rest : List ℕ) → Front
   Fails : LpdFault → Front
@@ -41,6 +41,7 @@ abbrev pub front_of : Awaited → List ℕ → Front
 front_of Command bytes = by_line command_line bytes (first_line_of LPD_LINE_BYTES bytes)
 front_of Subcommand bytes = by_line subcommand_line bytes (first_line_of LPD_LINE_BYTES bytes)
 front_of (File count) bytes = by_file count bytes
+front_of Nothing bytes = Waits
 
 -- how a stream ends
 pub data Ending : Type 0 where
@@ -60,30 +61,88 @@ Hears awaited bytes (said ∷ items) ending = (rest : List ℕ) × (front_of awa
 abbrev pub LpdItems : List ℕ → List ItemRecord → Ending → Type 0
 LpdItems stream items ending = Hears Command stream items ending
 
--- a reader: the bytes that are no item yet, what is awaited, and the fault, once there is one
+-- bytes say these items; then this is awaited, with these bytes left
+abbrev pub Leads : Awaited → List ℕ → List ItemRecord → Awaited → List ℕ → Type 0
+Leads awaited bytes [] next left = (next ≡ awaited) × (left ≡ bytes)
+Leads awaited bytes (said ∷ items) next left = (rest : List ℕ) × (front_of awaited bytes ≡ Gives said rest) × Leads (awaited_after said) rest items next left
+
+-- a stream says these items first, whatever follows
+pub record SaysFirst (stream : List ℕ) (items : List ItemRecord) : Type 0 where
+  pub next : Awaited
+  pub left : List ℕ
+  pub leads : Leads Command stream items next left
+
+-- a reader: the file that it lends, the bytes that it hasn't read, what is awaited, and the fault, once there is one
 pub record LpdState : Type 0 where
+  pub file : List ℕ
   pub rest : List ℕ
   pub awaited : Awaited
   pub fault : Option LpdFault
+
+abbrev pub is_nothing : Awaited → Bool
+is_nothing Command = false
+is_nothing Subcommand = false
+is_nothing (File count) = false
+is_nothing Nothing = true
+
+-- nothing counts any more: the reader gives nothing, and drops what it is fed
+abbrev pub is_over : LpdState → Bool
+is_over reader = is_some reader.fault || is_nothing reader.awaited
+
+-- the bytes that are left of a stream: those that the reader hasn't read. After a fault they stand at that fault; where nothing counts any more the reader needn't have them
+abbrev pub IsLeft : Option LpdFault → Awaited → List ℕ → List ℕ → Type 0
+IsLeft (Some fault) awaited rest left = front_of awaited left ≡ Fails fault
+IsLeft None awaited rest left = (awaited ≡ Nothing) ⊎ (left ≡ rest)
+
+-- The reader has been fed this stream and has given these items: the stream says them first, and then what the reader awaits, of the bytes that are left.
+pub record Stands (stream : List ℕ) (given : List ItemRecord) (reader : LpdState) : Type 0 where
+  pub left : List ℕ
+  pub leads : Leads Command stream given reader.awaited left
+  pub kept : IsLeft reader.fault reader.awaited reader.rest left
 
 -- what a reader will hear, where these bytes are still to come
 abbrev pub HearsOn : Option LpdFault → Awaited → List ℕ → List ItemRecord → Ending → Type 0
 HearsOn (Some fault) awaited bytes items ending = (items ≡ []) × (ending ≡ Faulty fault)
 HearsOn None awaited bytes items ending = Hears awaited bytes items ending
 
--- The reader has been fed this stream and has given these items: whatever comes yet, the whole says these and then what the reader will hear.
-abbrev pub Stands : List ℕ → List ItemRecord → LpdState → Type 0
-Stands stream given reader =
-    (coming : List ℕ) (items : List ItemRecord) (ending : Ending)
-    → HearsOn reader.fault reader.awaited (reader.rest ++ coming) items ending → LpdItems (stream ++ coming) (given ++ items) ending
+-- how much a reader can say, at most
+abbrev pub work : LpdState → ℕ
+work reader = length reader.rest
 
--- what an answer of the reader says of the stream that it was fed, and where the reader stands then
+-- what an answer of the reader says of the stream that it was fed, and where the reader stands then; a file takes no memory
 abbrev pub Answers : LpdState → Result (Option LpdItem) LpdError → LpdState → Type 0
 Answers old (Ok (Some said)) new =
-    (stream : List ℕ) (given : List ItemRecord) → Stands stream given old → Stands stream (given ++ item_record said ∷ []) new
+    (stream : List ℕ) (given : List ItemRecord) → Stands stream given old → Stands stream (given ++ item_record said new.file ∷ []) new
 Answers old (Ok None) new =
     (new ≡ old) × ((stream : List ℕ) (given : List ItemRecord) → Stands stream given old → LpdItems stream given Open)
 Answers old (Err (Fault fault)) new =
     (new ≡ record old { fault = Some fault })
     × ((stream : List ℕ) (given : List ItemRecord) → Stands stream given old → LpdItems stream given (Faulty fault) × Stands stream given new)
-Answers old (Err OutOfMemory) new = new ≡ old
+Answers old (Err OutOfMemory) new = (new ≡ old) × (awaits_line old.awaited ≡ true)
+
+-- ---- laws
+
+-- a stream says one thing
+abbrev pub SaysOne : Type 0
+SaysOne = (stream : List ℕ) (given items : List ItemRecord) (end ending : Ending) → LpdItems stream given end → LpdItems stream items ending → (given ≡ items) × (end ≡ ending)
+
+-- a stream says something
+abbrev pub SaysSome : Type 0
+SaysSome = (stream : List ℕ) → (items : List ItemRecord) × (ending : Ending) × LpdItems stream items ending
+
+-- what a stream says stays in front where more comes; after a fault no more does
+abbrev pub StaysInFront : Type 0
+StaysInFront = (stream more : List ℕ) (given items : List ItemRecord) (end ending : Ending) → LpdItems stream given end → LpdItems (stream ++ more) items ending → (later : List ItemRecord) × (items ≡ given ++ later)
+
+abbrev pub FaultStays : Type 0
+FaultStays = (stream more : List ℕ) (given : List ItemRecord) (fault : LpdFault) → LpdItems stream given (Faulty fault) → LpdItems (stream ++ more) given (Faulty fault)
+
+-- so does what it says first
+abbrev pub FirstStays : Type 0
+FirstStays = (stream more : List ℕ) (first items : List ItemRecord) (ending : Ending) → SaysFirst stream first → LpdItems (stream ++ more) items ending → (later : List ItemRecord) × (items ≡ first ++ later)
+
+-- whatever comes yet, the whole stream says what a reader has given, and then what it will hear
+abbrev pub HearsTheRest : Type 0
+HearsTheRest =
+    (stream coming : List ℕ) (given items : List ItemRecord) (ending : Ending) (reader : LpdState)
+    → Stands stream given reader → HearsOn reader.fault reader.awaited (reader.rest ++ coming) items ending → LpdItems (stream ++ coming) (given ++ items) ending

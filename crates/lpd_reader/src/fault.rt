@@ -30,7 +30,7 @@ pub enum LpdError {
     /// The client's first fault. From now on there is no other answer.
     #[error("{0}")]
     Fault(LpdFault),
-    /// There is no memory for the item. It stays to be read.
+    /// There is no memory for what a line says. It stays to be read. A file needs none.
     #[error("out of memory")]
     OutOfMemory,
 }

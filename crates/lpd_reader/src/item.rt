@@ -58,6 +58,6 @@ pub enum LpdItem {
     Abort,
     /// A file will come (RFC 1179, sections 6.2 and 6.3).
     Announced(FileHead),
-    /// The whole file that was announced.
-    File(Vec<u8>),
+    /// The whole file that was announced: the one that the reader lends.
+    File,
 }

@@ -1,10 +1,10 @@
 //! The reader of an LPD client's stream.
-ghost use Rattle.std.specs.Prelude.{◌≡◌, ◌<◌, ◌+◌, ◌++◌, [], List, ℕ, None, Some, Err, IfOk, IfSome, OnOk, OnErr, take, drop, length as length_of, true};
+ghost use Rattle.std.specs.Prelude.{◌≡◌, ◌<◌, ◌+◌, ◌++◌, [], List, ℕ, None, Some, Err, IsOk, IsSome, IfOk, IfSome, OnOk, OnErr, take, drop, length as length_of, true};
 ghost use Rattle.text.specs.FirstLine.{first_line_of};
 ghost use Rattle.text.specs.declared.line.FirstLine.TheVariants.{Whole};
 ghost use Rattle.lpd_reader.specs.Session.{ItemRecord, item_record, awaited_after, told};
 ghost use Rattle.lpd_reader.specs.Command.{meaning_of, awaits_line};
-ghost use Rattle.lpd_reader.specs.Stream.{Stands, Answers};
+ghost use Rattle.lpd_reader.specs.Stream.{Stands, Answers, is_over, work};
 
 use crate::command::{read_command, read_subcommand};
 use crate::fault::{LpdError, LpdFault};
@@ -21,27 +21,37 @@ enum Awaited {
     Subcommand,
     /// A file of so many bytes, and the zero byte after it.
     File(u32),
+    /// Nothing any more.
+    Nothing,
 }
 
-/// A reader of what an LPD client sends, in pieces of any length. In clauses it is a record of what
-/// it still has to read, what it awaits, and its fault.
+/// A reader of what an LPD client sends, in pieces of any length. In clauses it is a record of the
+/// file that it lends, what it still has to read, what it awaits, and its fault.
 ///
-/// After a command that is no command to receive a job another command is awaited, though a server
-/// closes the connection there.
+/// After a fault, and after a command other than that to receive a job, it gives nothing more, and
+/// what it is fed is dropped.
 #[derive(Debug, Drop)]
 pub struct LpdReader {
     alloc: Global,
     unread: Unread,
+    /// How many of the unread bytes are read already: those of the file that is lent, and the zero
+    /// byte after it.
+    read: usize,
+    /// How many of them are lent as a file.
+    lent: usize,
     awaited: Awaited,
     fault: Option<LpdFault>,
 }
 
 impl Model for LpdReader {
+    ghost use Rattle.std.specs.Prelude.{◌≤◌, take, drop, length};
     ghost use Rattle.lpd_reader.specs.Stream.{LpdState};
 
     ghost Value = { LpdState };
 
-    ghost view = { λ r. record { rest = r.unread; awaited = r.awaited; fault = r.fault } };
+    ghost view = { λ r. record { file = take r.lent r.unread; rest = drop r.read r.unread; awaited = r.awaited; fault = r.fault } };
+
+    ghost invariant = { λ r. (r.lent ≤ r.read) × (r.read ≤ length r.unread) };
 }
 
 impl LpdReader {
@@ -52,32 +62,35 @@ impl LpdReader {
         LpdReader {
             alloc,
             unread: Unread::new(alloc),
+            read: 0,
+            lent: 0,
             awaited: Awaited::Command,
             fault: None,
         }
     }
 
-    /// Takes the next bytes of the connection. After a fault they are dropped.
+    /// Takes the next bytes of the connection. The file that was lent is given back.
     ///
-    /// Where there is no memory, none of them is taken.
-    #[tactic(auto, using(crate::proofs::Streams::stands_fed, crate::proofs::Streams::stands_still))]
+    /// Where there is no memory, none of them is taken, and the file stays lent.
     pub fn feed(&mut self, piece: &[u8]) -> Result<(), AllocError>
         ensures fed { OnOk result ((stream : List ℕ) (given : List ItemRecord) → Stands stream given self.old → Stands (stream ++ piece.now) given self.new) }
         ensures err { OnErr result (self.new ≡ self.old) }
+        ensures over { is_over self.old ≡ true → IsOk result × (self.new ≡ self.old) }
     {
-        if self.fault().is_some() {
+        if self.is_over() {
             return Ok(());
         }
         self.append(piece)
     }
 
-    /// The next item, if it is whole.
+    /// The next item, if it is whole. Where it is a file, `file` lends the bytes.
     ///
-    /// After a fault it answers that fault, whatever it is fed. Where there is no memory for an
-    /// item, the item stays to be read.
-    #[tactic(auto, using(crate::proofs::Streams::answers_again))]
+    /// After a fault it answers that fault, whatever it is fed. Where there is no memory for what a
+    /// line says, the line stays to be read.
+    #[tactic(auto, using(crate::proofs::Standing::answers_again))]
     pub fn next_item(&mut self) -> Result<Option<LpdItem>, LpdError>
         ensures answer { Answers self.old result self.new }
+        ensures falls { IfOk result (λ said. IsSome said → work self.new < work self.old) }
         ensures kept { IfSome self.old.fault (λ fault. result ≡ Err (LpdError.Fault fault)) }
     {
         if let Some(fault) = self.fault() {
@@ -86,14 +99,23 @@ impl LpdReader {
         match self.awaited() {
             Awaited::File(length) => self.next_file(length),
             Awaited::Command | Awaited::Subcommand => self.next_line(),
+            Awaited::Nothing => Ok(None),
         }
+    }
+
+    /// The bytes of the file that the last item was.
+    pub fn file(&self) -> &[u8]
+        ensures { result.now ≡ self.now.file }
+    {
+        &self.unread.bytes()[..self.lent]
     }
 
     /// The next command or subcommand.
     fn next_line(&mut self) -> Result<Option<LpdItem>, LpdError>
         requires line { awaits_line self.old.awaited ≡ true }
         requires faultless { self.old.fault ≡ None }
-        ensures { Answers self.old result self.new }
+        ensures answer { Answers self.old result self.new }
+        ensures falls { IfOk result (λ said. IsSome said → work self.new < work self.old) }
     {
         match first_line(self.rest(), Limits::LPD_LINE_BYTES) {
             FirstLine::Unfinished => Ok(None),
@@ -107,7 +129,8 @@ impl LpdReader {
         requires whole { first_line_of Limits.LPD_LINE_BYTES self.old.rest ≡ Whole length }
         requires line { awaits_line self.old.awaited ≡ true }
         requires faultless { self.old.fault ≡ None }
-        ensures { Answers self.old result self.new }
+        ensures answer { Answers self.old result self.new }
+        ensures falls { IfOk result (λ said. IsSome said → work self.new < work self.old) }
     {
         match self.read_front(length)? {
             Err(fault) => Err(self.fail(fault)),
@@ -122,7 +145,8 @@ impl LpdReader {
     fn next_file(&mut self, length: u32) -> Result<Option<LpdItem>, LpdError>
         requires file { self.old.awaited ≡ Awaited.File length }
         requires faultless { self.old.fault ≡ None }
-        ensures { Answers self.old result self.new }
+        ensures answer { Answers self.old result self.new }
+        ensures falls { IfOk result (λ said. IsSome said → work self.new < work self.old) }
     {
         let length = length as usize;
         let rest = self.rest();
@@ -132,28 +156,15 @@ impl LpdReader {
         if rest[length] != 0 {
             return Err(self.fail(LpdFault::MissingZero));
         }
-        let contents = self.take_file(length)?;
-        Ok(Some(LpdItem::File(contents)))
-    }
-
-    /// Takes the bytes of the file at the front, without a copy, and passes the byte after them.
-    fn take_file(&mut self, length: usize) -> Result<Vec<u8>, AllocError>
-        requires { length < length_of self.old.rest }
-        ensures file { IfOk result (λ contents. contents.items ≡ take length self.old.rest) }
-        ensures ok { OnOk result (self.new ≡ record { rest = drop (length + 1) self.old.rest; awaited = Awaited.Subcommand; fault = self.old.fault }) }
-        ensures err { OnErr result (self.new ≡ self.old) }
-    {
-        let contents = self.unread.take_front(length)?;
-        self.unread.pass(1);
-        self.awaited = Awaited::Subcommand;
-        Ok(contents)
+        self.lend(length);
+        Ok(Some(LpdItem::File))
     }
 
     /// The bytes that are not read yet.
     fn rest(&self) -> &[u8]
         ensures { result.now ≡ self.now.rest }
     {
-        self.unread.bytes()
+        &self.unread.bytes()[self.read..]
     }
 
     /// The fault, once there is one.
@@ -170,6 +181,13 @@ impl LpdReader {
         self.awaited
     }
 
+    /// Whether nothing counts any more.
+    fn is_over(&self) -> bool
+        ensures { result ≡ is_over self.now }
+    {
+        self.fault.is_some() || matches!(self.awaited, Awaited::Nothing)
+    }
+
     /// What the line of so many bytes at the front says.
     fn read_front(&self, length: usize) -> Result<Result<LpdItem, LpdFault>, AllocError>
         requires { length < length_of self.now.rest }
@@ -178,17 +196,34 @@ impl LpdReader {
         let line = &self.rest()[..length];
         match self.awaited() {
             Awaited::Command => read_command(self.alloc, line),
-            Awaited::Subcommand | Awaited::File(_) => read_subcommand(self.alloc, line),
+            Awaited::Subcommand | Awaited::File(_) | Awaited::Nothing => {
+                read_subcommand(self.alloc, line)
+            }
         }
     }
 
     /// Goes past the line of so many bytes at the front.
     fn pass_line(&mut self, length: usize, awaited: Awaited)
         requires { length < length_of self.old.rest }
-        ensures { self.new ≡ record { rest = drop (length + 1) self.old.rest; awaited = awaited; fault = self.old.fault } }
+        ensures { self.new ≡ record { file = []; rest = drop (length + 1) self.old.rest; awaited = awaited; fault = self.old.fault } }
     {
+        self.unread.pass(self.read);
         self.unread.pass_line(length);
+        self.read = 0;
+        self.lent = 0;
         self.awaited = awaited;
+    }
+
+    /// Goes past the file of so many bytes at the front and the byte after it, and lends the file.
+    fn lend(&mut self, length: usize)
+        requires { length < length_of self.old.rest }
+        ensures { self.new ≡ record { file = take length self.old.rest; rest = drop (length + 1) self.old.rest; awaited = Awaited.Subcommand; fault = self.old.fault } }
+    {
+        self.unread.pass(self.read);
+        let file_and_zero = &self.unread.bytes()[..length + 1];
+        self.read = file_and_zero.len();
+        self.lent = length;
+        self.awaited = Awaited::Subcommand;
     }
 
     /// Keeps a fault.
@@ -202,21 +237,25 @@ impl LpdReader {
 
     /// Keeps these bytes to be read.
     fn append(&mut self, piece: &[u8]) -> Result<(), AllocError>
-        ensures ok { OnOk result (self.new ≡ record self.old { rest = self.old.rest ++ piece.now }) }
+        ensures ok { OnOk result (self.new ≡ record self.old { file = []; rest = self.old.rest ++ piece.now }) }
         ensures err { OnErr result (self.new ≡ self.old) }
     {
-        self.unread.append(piece)
+        self.unread.append(piece)?;
+        self.unread.pass(self.read);
+        self.read = 0;
+        self.lent = 0;
+        Ok(())
     }
 }
 
 /// What is read after an item.
 fn after(item: &LpdItem) -> Awaited
-    ensures { result ≡ awaited_after (item_record item.now) }
+    ensures { result ≡ awaited_after (item_record item.now []) }
 {
     match item {
         LpdItem::Command(LpdCommand::ReceiveJob { .. }) => Awaited::Subcommand,
-        LpdItem::Command(_) => Awaited::Command,
-        LpdItem::Abort | LpdItem::File(_) => Awaited::Subcommand,
+        LpdItem::Command(_) => Awaited::Nothing,
+        LpdItem::Abort | LpdItem::File => Awaited::Subcommand,
         LpdItem::Announced(head) => Awaited::File(head.length),
     }
 }

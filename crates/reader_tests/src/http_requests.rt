@@ -84,8 +84,8 @@ const EXCHANGES: &[(&[u8], &[u8])] = &[
         b"head continue \x01\x01\x00\x02\x00\x00\x00\x01\x01G\x00\x12attributes-charset\x00\x05utf-8H\x00\x1battributes-natural-language\x00\x02enE\x00\x0bprinter-uri\x00 ipp://localhost:631/printers/lab\x03hello end ",
     ),
     (
-        b"POST /printers/lab HTTP/1.1\r\nHost: localhost\r\nContent-Type: application/ipp\r\nContent-Length: 5\r\n\r\nhello\r\nPOST / HTTP/1.1\nHOST: b\nCONTENT-TYPE: Application/IPP ; a=b\n\n",
-        b"head hello end head  end ",
+        b"POST /printers/lab HTTP/1.1\r\nHost: localhost\r\nContent-Type: application/ipp\r\nContent-Length: 8\r\n\r\nhello123\r\nPOST / HTTP/1.1\nHOST: b\nCONTENT-TYPE: Application/IPP ; a=b\n\n",
+        b"head hello123 end head  end ",
     ),
     (
         b"POST /printers/lab HTTP/1.1\r\nHost: localhost\r\nContent-Type: application/ipp\r\nTransfer-Encoding: chunked\r\nExpect: 100-continue\r\n\r\n5\r\nhello\r\n0\r\n\r\n",
@@ -149,9 +149,31 @@ const REFUSED_HEADS: &[(&[u8], &[u8])] = &[
     ),
 ];
 
+/// A body under 8 bytes is the last, by length and in chunks: the whole request after it doesn't
+/// count.
+const SHORT_BODIES: &[(&[u8], &[u8])] = &[
+    (
+        b"POST / HTTP/1.1\r\nHost: a\r\nContent-Type: application/ipp\r\nContent-Length: 3\r\n\r\nabcPOST / HTTP/1.1\r\nHost: a\r\nContent-Type: application/ipp\r\nContent-Length: 8\r\n\r\nabcdefgh",
+        b"head abc end ",
+    ),
+    (
+        b"POST / HTTP/1.1\r\nHost: a\r\nContent-Type: application/ipp\r\nContent-Length: 8\r\n\r\nabcdefghPOST / HTTP/1.1\r\nHost: a\r\nContent-Type: application/ipp\r\nContent-Length: 3\r\n\r\nabc",
+        b"head abcdefgh end head abc end ",
+    ),
+    (
+        b"POST / HTTP/1.1\r\nHost: a\r\nContent-Type: application/ipp\r\nTransfer-Encoding: chunked\r\n\r\n4\r\nabcd\r\n3\r\nefg\r\n0\r\n\r\nPOST / HTTP/1.1\r\nHost: a\r\nContent-Type: application/ipp\r\nContent-Length: 3\r\n\r\nabc",
+        b"head abcdefg end ",
+    ),
+    (
+        b"POST / HTTP/1.1\r\nHost: a\r\nContent-Type: application/ipp\r\nTransfer-Encoding: chunked\r\n\r\n4\r\nabcd\r\n4\r\nefgh\r\n0\r\n\r\nPOST / HTTP/1.1\r\nHost: a\r\nContent-Type: application/ipp\r\nContent-Length: 3\r\n\r\nabc",
+        b"head abcdefgh end head abc end ",
+    ),
+];
+
 #[test]
 fn http_exchange(rt: HostRuntime) -> Result<(), Fail> {
     assert_eq!(rt; miss(rt.alloc(), EXCHANGES)?, None);
+    assert_eq!(rt; miss(rt.alloc(), SHORT_BODIES)?, None);
     assert_eq!(rt; miss(rt.alloc(), REFUSED_HEADS)?, None);
     Ok(())
 }

@@ -3,13 +3,13 @@ use lpd_reader::{ControlError, LpdCommand, LpdError, LpdItem, LpdReader, read_co
 use std::alloc::{AllocError, Global};
 use std::test::Fail;
 
-/// Adds what an item says, in a few words.
-fn tell(text: &mut Vec<u8>, item: &LpdItem) -> Result<(), AllocError> {
+/// Adds what an item says, in a few words; a file as its bytes.
+fn tell(text: &mut Vec<u8>, item: &LpdItem, file: &[u8]) -> Result<(), AllocError> {
     match item {
         LpdItem::Command(command) => tell_command(text, command),
         LpdItem::Abort => text.extend_from_slice(b"abort"),
         LpdItem::Announced(head) => text.extend_from_slice(head.name.as_bytes()),
-        LpdItem::File(contents) => text.extend_from_slice(contents),
+        LpdItem::File => text.extend_from_slice(file),
     }
 }
 
@@ -34,7 +34,7 @@ fn tell_command(text: &mut Vec<u8>, command: &LpdCommand) -> Result<(), AllocErr
 fn listen(alloc: Global, reader: &mut LpdReader, text: &mut Vec<u8>) -> Result<(), AllocError> {
     for _ in 0..16 {
         match reader.next_item() {
-            Ok(Some(item)) => tell(text, &item)?,
+            Ok(Some(item)) => tell(text, &item, reader.file())?,
             Ok(None) => return Ok(()),
             Err(LpdError::Fault(fault)) => {
                 let words = format!(in alloc; "{fault:?}")?;
@@ -62,7 +62,7 @@ fn heard(alloc: Global, bytes: &[u8], cut: usize) -> Result<Vec<u8>, AllocError>
 #[test]
 fn items_from_any_cutting(rt: HostRuntime) -> Result<(), Fail> {
     let alloc = rt.alloc();
-    let rows: [(&[u8], &[u8]); 4] = [
+    let rows: [(&[u8], &[u8]); 5] = [
         (
             b"\x02lab\n\x0223 cfA001host\nHhost\nPann\nfdfA001host\n\0\x035 dfA001host\nhello\0",
             b"lab, cfA001host, Hhost\nPann\nfdfA001host\n, dfA001host, hello, ",
@@ -71,8 +71,9 @@ fn items_from_any_cutting(rt: HostRuntime) -> Result<(), Fail> {
             b"\x02lab\n\x01\n\x03005 dfA001h\nhel",
             b"lab, abort, dfA001h, ",
         ),
-        (b"\x04lab  bob 12\n\x05lab ann 1\n", b"long bob 12, ann, "),
-        (b"\x01lab\n\x03lab\n", b"print, short, "),
+        (b"\x04lab  bob 12\n\x05lab ann 1\n", b"long bob 12, "),
+        (b"\x03lab\n\x09\n", b"short, "),
+        (b"\x01lab\n\x02lab\n", b"print, "),
     ];
     for (bytes, wanted) in rows {
         for cut in 0..bytes.len() + 1 {

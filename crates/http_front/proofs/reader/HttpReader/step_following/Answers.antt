@@ -10,6 +10,6 @@ use Rattle.http_front.proofs.reader.HttpReader.step_following.Goals as goal
 pub returns-in-Close : goal.returns-in-Close
 returns-in-Close c =
     let old = c.args.self.now in
-    let is : old.awaited ≡ await.Body 0 (next.Close c.in-Close.closes) = search (rules, c.requires, c.in-Close.is) in
-    let new : c.pass.new.self ≡ behind old 0 (after_body c.in-Close.closes) = search (rules, c.pass.ensures, c.after_body.ensures) in
-    subst (λ new. Steps old (step.Gives item.BodyEnd) new) (sym new) (ends_body old c.in-Close.closes is)
+    let is : old.awaited ≡ await.Body 0 (next.Close c.in-Close.last) = search (rules, c.requires, c.in-Close.is) in
+    let new : c.pass.new.self ≡ behind old 0 (after_body c.in-Close.last) = search (rules, c.pass.ensures, c.after_body.ensures) in
+    subst (λ new. Steps old (step.Gives item.BodyEnd) new) (sym new) (ends_body old c.in-Close.last is)

@@ -17,11 +17,11 @@ pass-requires c =
 pub returns-in-TooLong : goal.returns-in-TooLong
 returns-in-TooLong c =
     let lines : section_in HTTP_TRAILER_BYTES c.args.self.now.rest ≡ TooLong = rw (sym c.rest.ensures) (sym c.section_in.ensures ∙ c.in-TooLong.is) in
-    rw (c.refuse.ensures.state, c.refuse.ensures.answer) (refuses_trailer c.args.self.now c.args.closes c.requires lines)
+    rw (c.refuse.ensures.state, c.refuse.ensures.answer) (refuses_trailer c.args.self.now c.args.last c.requires lines)
 
 pub returns-in-Whole : goal.returns-in-Whole
 returns-in-Whole c =
     let old = c.args.self.now in
     let lines : section_in HTTP_TRAILER_BYTES c.args.self.now.rest ≡ Whole c.in-Whole.count = rw (sym c.rest.ensures) (sym c.section_in.ensures ∙ c.in-Whole.is) in
-    let new : c.pass.new.self ≡ behind old c.in-Whole.count (after_body c.args.closes) = search (rules, c.pass.ensures, c.after_body.ensures) in
-    subst (λ new. Steps old (step.Gives item.BodyEnd) new) (sym new) (ends_trailer old c.args.closes c.in-Whole.count c.requires lines)
+    let new : c.pass.new.self ≡ behind old c.in-Whole.count (after_body c.args.last) = search (rules, c.pass.ensures, c.after_body.ensures) in
+    subst (λ new. Steps old (step.Gives item.BodyEnd) new) (sym new) (ends_trailer old c.args.last c.in-Whole.count c.requires lines)

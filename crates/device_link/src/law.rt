@@ -1,0 +1,10 @@
+//! Laws of what a device's stream says. Their functions do nothing: their contracts are what they are
+//! for.
+ghost use Rattle.device_link.specs.Stream.{FirstStays, HearsTheRest};
+
+/// What a reader has given is what the whole stream says first, whatever comes yet; what follows it
+/// there is what the reader will hear.
+pub fn given_first()
+    ensures first { FirstStays }
+    ensures rest { HearsTheRest }
+{}

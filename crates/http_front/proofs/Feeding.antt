@@ -1,0 +1,58 @@
+-- Where a reader stands after a piece, and what it will hear.
+use Rattle.std.specs.Prelude.{ℕ, suc, zero, ◌≡◌, ◌⊎◌, List, [], ◌++◌, Result, Ok, Err, OnOk}
+use Rattle.std.proofs.Common.{refl, subst, sym, ap, inl, inr}
+use Rattle.std.specs.declared.alloc.AllocError.{AllocError}
+use Rattle.http_front.specs.declared.awaited.Awaited.{Awaited}
+use Rattle.http_front.specs.declared.awaited.Awaited.TheVariants.{Head, Nothing}
+use Rattle.http_front.specs.Stream.{Said, Goes, Waits, SaysIn, Says, Exchanges, LeadsIn, Leads, SaysFirst, HttpState, IsOver, Stands}
+use Rattle.http_front.proofs.Steps.{says_then}
+use Rattle.http_front.proofs.Laws.{stays_in, said_first, leads_more}
+
+kept_fed : (reader : HttpState) (left piece : List ℕ) → (IsOver reader ⊎ (left ≡ reader.rest)) → IsOver reader ⊎ (left ++ piece ≡ reader.rest ++ piece)
+kept_fed reader left piece (inl over) = inl over
+kept_fed reader left piece (inr same) = inr (ap (λ l. l ++ piece) same)
+
+-- a piece of which nothing is read yet
+pub stands_fed : (stream : List ℕ) (given : List Said) (piece : List ℕ) (reader : HttpState) → Stands stream given reader → Stands (stream ++ piece) given (record { part = []; rest = reader.rest ++ piece; awaited = reader.awaited })
+stands_fed stream given piece reader stands = record {
+  left = stands.left ++ piece;
+  leads = (stands.leads.0, leads_more stands.leads.0 Head stream piece given reader.awaited stands.left stands.leads.1);
+  kept = kept_fed reader stands.left piece stands.kept;
+}
+
+-- where nothing counts any more
+pub stands_still : (stream : List ℕ) (given : List Said) (piece : List ℕ) (reader : HttpState) → IsOver reader → Stands stream given reader → Stands (stream ++ piece) given reader
+stands_still stream given piece reader over stands = record {
+  left = stands.left ++ piece;
+  leads = (stands.leads.0, leads_more stands.leads.0 Head stream piece given reader.awaited stands.left stands.leads.1);
+  kept = inl over;
+}
+
+pub fed_by : (old new : HttpState) (piece : List ℕ) (answer : Result (Unit {0}) AllocError) → OnOk answer (new ≡ record { part = []; rest = old.rest ++ piece; awaited = old.awaited }) → OnOk answer ((stream : List ℕ) (given : List Said) → Stands stream given old → Stands (stream ++ piece) given new)
+fed_by old new piece (Ok done) is = λ stream given stands. subst (λ n. Stands (stream ++ piece) given n) (sym is) (stands_fed stream given piece old stands)
+fed_by old new piece (Err error) is = tt
+
+-- laws of what was given
+
+nothing_in : (steps : ℕ) (bytes other : List ℕ) (said : List Said) → SaysIn steps Nothing bytes said → SaysIn steps Nothing other said
+nothing_in zero bytes other said says = says
+nothing_in (suc steps) bytes other said says = absurd (let no : Goes says.0 says.1 says.2 ≡ Waits = says.4 in (cc))
+
+says_of : (reader : HttpState) (left coming : List ℕ) (said : List Said) → (IsOver reader ⊎ (left ≡ reader.rest)) → (steps : ℕ) → SaysIn steps reader.awaited (reader.rest ++ coming) said → SaysIn steps reader.awaited (left ++ coming) said
+says_of reader left coming said (inl over) steps says =
+    let here : SaysIn steps Nothing (reader.rest ++ coming) said = subst (λ (a : Awaited). SaysIn steps a (reader.rest ++ coming) said) over says in
+    subst (λ (a : Awaited). SaysIn steps a (left ++ coming) said) (sym over) (nothing_in steps (reader.rest ++ coming) (left ++ coming) said here)
+says_of reader left coming said (inr same) steps says = subst (λ (l : List ℕ). SaysIn steps reader.awaited (l ++ coming) said) (sym same) says
+
+pub hears_rest : (stream coming : List ℕ) (given said : List Said) (reader : HttpState) → Stands stream given reader → Says reader.awaited (reader.rest ++ coming) said → Exchanges (stream ++ coming) (given ++ said)
+hears_rest stream coming given said reader stands says =
+    let first = leads_more stands.leads.0 Head stream coming given reader.awaited stands.left stands.leads.1 in
+    says_then stands.leads.0 says.0 Head (stream ++ coming) given reader.awaited (stands.left ++ coming) said first (says_of reader stands.left coming said stands.kept says.0 says.1)
+
+pub first_stays : (stream more : List ℕ) (first said : List Said) → SaysFirst stream first → Exchanges (stream ++ more) said → (later : List Said) × (said ≡ first ++ later)
+first_stays stream more first said x y = stays_in x.leads.0 y.0 Head stream more first x.next x.left said x.leads.1 y.1
+
+pub all_stays : (stream more : List ℕ) (given said : List Said) → Exchanges stream given → Exchanges (stream ++ more) said → (later : List Said) × (said ≡ given ++ later)
+all_stays stream more given said x y =
+    let first = said_first x.0 Head stream given x.1 in
+    stays_in x.0 y.0 Head stream more given first.0 first.1 said first.2 y.1
