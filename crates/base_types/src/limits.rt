@@ -92,7 +92,7 @@ impl Limits {
     pub const FORMAT_BYTES: usize = 64;
     /// Bytes of the settings' base of URIs.
     pub const URI_BASE_BYTES: usize = 128;
-    /// Entries of a list in the settings.
+    /// Entries of a list in the settings; a printer's list of devices may have [`Limits::DEVICES`].
     pub const LIST_ENTRIES: usize = 16;
 
     /// Bytes that a program reads of its input.

@@ -24,6 +24,8 @@ pub enum Cause {
     Format,
     /// None of those prints two-sided, and the job is.
     Sides,
+    /// None of those has every finishing of the job.
+    Finishings,
     /// None of those has the job's media loaded.
     Media,
     /// None of those runs.

@@ -6,7 +6,7 @@ use Rattle.std.proofs.lemmas.List.{drop_all}
 use Rattle.base_types.specs.Needs.{JobNeeds}
 use Rattle.base_types.specs.Device.{Device}
 use Rattle.base_types.specs.declared.needs.Cause.{Cause}
-use Rattle.base_types.specs.declared.needs.Cause.TheVariants.{NoDevice, Format, Sides, Media, Running}
+use Rattle.base_types.specs.declared.needs.Cause.TheVariants.{NoDevice, Format, Sides, Finishings, Media, Running}
 use Rattle.capabilities.specs.Cause.{Filter, filters_of, first_failed, first_cause, cause_unless_some, devices_of, order_of, HasAbleDevice}
 use Rattle.capabilities.specs.Able.{IsAble}
 use Rattle.capabilities.proofs.Filters.{able_from_tests, tests_from_able}
@@ -69,49 +69,52 @@ first_failed_at (f ∷ filters) device =
     failed_at (f.test device) f.cause (map (λ f. f.cause) filters) (first_failed filters device) (passed_by filters device) (first_failed_at filters device)
 
 causes : List Cause
-causes = NoDevice ∷ Format ∷ Sides ∷ Media ∷ Running ∷ []
+causes = NoDevice ∷ Format ∷ Sides ∷ Finishings ∷ Media ∷ Running ∷ []
 
 cause_at_order : (cause : Cause) → slice_get causes (order_of cause) ≡ Some cause
 unfolding causes
 cause_at_order NoDevice = refl
 cause_at_order Format = refl
 cause_at_order Sides = refl
+cause_at_order Finishings = refl
 cause_at_order Media = refl
 cause_at_order Running = refl
 
-order_or_five : Option Cause → ℕ
-order_or_five None = 5
-order_or_five (Some cause) = order_of cause
+order_or_six : Option Cause → ℕ
+order_or_six None = 6
+order_or_six (Some cause) = order_of cause
 
-at_most_five : (n : ℕ) → order_or_five (slice_get causes n) ≡ min n 5
-unfolding causes order_or_five
-at_most_five zero = refl
-at_most_five (suc zero) = refl
-at_most_five (suc (suc zero)) = refl
-at_most_five (suc (suc (suc zero))) = refl
-at_most_five (suc (suc (suc (suc zero)))) = refl
-at_most_five (suc (suc (suc (suc (suc n))))) = omega arith
+at_most_six : (n : ℕ) → order_or_six (slice_get causes n) ≡ min n 6
+unfolding causes order_or_six
+at_most_six zero = refl
+at_most_six (suc zero) = refl
+at_most_six (suc (suc zero)) = refl
+at_most_six (suc (suc (suc zero))) = refl
+at_most_six (suc (suc (suc (suc zero)))) = refl
+at_most_six (suc (suc (suc (suc (suc zero))))) = refl
+at_most_six (suc (suc (suc (suc (suc (suc n)))))) = omega arith
 
--- a cause is one of five
-pub order_at_most_four : (cause : Cause) → order_of cause ≤ 4
-order_at_most_four NoDevice = omega arith
-order_at_most_four Format = omega arith
-order_at_most_four Sides = omega arith
-order_at_most_four Media = omega arith
-order_at_most_four Running = omega arith
+-- a cause is one of six
+pub order_at_most_five : (cause : Cause) → order_of cause ≤ 5
+order_at_most_five NoDevice = omega arith
+order_at_most_five Format = omega arith
+order_at_most_five Sides = omega arith
+order_at_most_five Finishings = omega arith
+order_at_most_five Media = omega arith
+order_at_most_five Running = omega arith
 
 -- the order of the filter that one device fails
 pub passed_if_failed : (needs : JobNeeds) (device : Device) (failed : Cause) → Some failed ≡ first_failed (filters_of needs) device → passed_by (filters_of needs) device ≡ order_of failed
-unfolding order_or_five causes
+unfolding order_or_six causes
 passed_if_failed needs device failed e =
-    let at : order_or_five (Some failed) ≡ min (passed_by (filters_of needs) device) 5 = ap order_or_five (e ∙ first_failed_at (filters_of needs) device) ∙ at_most_five (passed_by (filters_of needs) device) in
-    omega (arith, at, order_at_most_four failed)
+    let at : order_or_six (Some failed) ≡ min (passed_by (filters_of needs) device) 6 = ap order_or_six (e ∙ first_failed_at (filters_of needs) device) ∙ at_most_six (passed_by (filters_of needs) device) in
+    omega (arith, at, order_at_most_five failed)
 
 -- a device that fails no filter passes all
-pub passed_if_none : (needs : JobNeeds) (device : Device) → None ≡ first_failed (filters_of needs) device → 5 ≤ passed_by (filters_of needs) device
-unfolding order_or_five causes
+pub passed_if_none : (needs : JobNeeds) (device : Device) → None ≡ first_failed (filters_of needs) device → 6 ≤ passed_by (filters_of needs) device
+unfolding order_or_six causes
 passed_if_none needs device e =
-    let at : order_or_five None ≡ min (passed_by (filters_of needs) device) 5 = ap order_or_five (e ∙ first_failed_at (filters_of needs) device) ∙ at_most_five (passed_by (filters_of needs) device) in
+    let at : order_or_six None ≡ min (passed_by (filters_of needs) device) 6 = ap order_or_six (e ∙ first_failed_at (filters_of needs) device) ∙ at_most_six (passed_by (filters_of needs) device) in
     omega (arith, at)
 
 -- the cause at a stage
@@ -119,17 +122,18 @@ pub cause_at_stage : (needs : JobNeeds) (devices : List Device) (cause : Cause) 
 unfolding causes
 cause_at_stage needs devices cause e = sym (first_cause_at (filters_of needs) devices ∙ ap (slice_get causes) (sym e) ∙ cause_at_order cause)
 
-past_causes : (n : ℕ) → 5 ≤ n → slice_get causes n ≡ None
+past_causes : (n : ℕ) → 6 ≤ n → slice_get causes n ≡ None
 unfolding causes
 past_causes zero h = absurd (omega arith)
 past_causes (suc zero) h = absurd (omega arith)
 past_causes (suc (suc zero)) h = absurd (omega arith)
 past_causes (suc (suc (suc zero))) h = absurd (omega arith)
 past_causes (suc (suc (suc (suc zero)))) h = absurd (omega arith)
-past_causes (suc (suc (suc (suc (suc n))))) h = refl
+past_causes (suc (suc (suc (suc (suc zero))))) h = absurd (omega arith)
+past_causes (suc (suc (suc (suc (suc (suc n)))))) h = refl
 
 -- behind the last stage there is no cause
-pub none_past_stages : (needs : JobNeeds) (devices : List Device) → 5 ≤ stage_of (filters_of needs) devices → None ≡ first_cause (filters_of needs) devices
+pub none_past_stages : (needs : JobNeeds) (devices : List Device) → 6 ≤ stage_of (filters_of needs) devices → None ≡ first_cause (filters_of needs) devices
 unfolding causes
 none_past_stages needs devices h = sym (first_cause_at (filters_of needs) devices ∙ past_causes (stage_of (filters_of needs) devices) h)
 
@@ -167,12 +171,12 @@ stage_of_printer filters (p ∷ printer) devices (suc k) place device below at f
     omega (arith, e, stage_with_at_least filters (slice_get devices p) (stage_of filters (devices_of printer devices)), stage_of_printer filters printer devices k place device (omega arith) at found)
 
 -- where a device is able the printer passes all filters
-pub past_if_able : (needs : JobNeeds) (printer : List ℕ) (devices : List Device) → HasAbleDevice needs printer devices → 5 ≤ stage_of (filters_of needs) (devices_of printer devices)
+pub past_if_able : (needs : JobNeeds) (printer : List ℕ) (devices : List Device) → HasAbleDevice needs printer devices → 6 ≤ stage_of (filters_of needs) (devices_of printer devices)
 past_if_able needs printer devices (place, able) = at_found (slice_get devices place) refl able where
-  at_found : (found : Option Device) → found ≡ slice_get devices place → IsSomeAnd found (λ device. IsAble needs place device printer) → 5 ≤ stage_of (filters_of needs) (devices_of printer devices)
+  at_found : (found : Option Device) → found ≡ slice_get devices place → IsSomeAnd found (λ device. IsAble needs place device printer) → 6 ≤ stage_of (filters_of needs) (devices_of printer devices)
   at_found None e able = absurd able
   at_found (Some device) e able =
-      let passed : 5 ≤ passed_by (filters_of needs) device = passed_if_none needs device (sym (tests_from_able needs place device printer able)) in
+      let passed : 6 ≤ passed_by (filters_of needs) device = passed_if_none needs device (sym (tests_from_able needs place device printer able)) in
       let served : Contains printer place = able.of_printer in
       omega (arith, passed, stage_of_printer (filters_of needs) printer devices served.0 place device served.1 served.2 (sym e))
 
@@ -200,13 +204,13 @@ order_at_end needs printer devices i order past h =
     omega (arith, e, h)
 
 -- a device that passes all filters fails none
-pub none_failed : (needs : JobNeeds) (device : Device) → 5 ≤ passed_by (filters_of needs) device → first_failed (filters_of needs) device ≡ None
+pub none_failed : (needs : JobNeeds) (device : Device) → 6 ≤ passed_by (filters_of needs) device → first_failed (filters_of needs) device ≡ None
 unfolding causes
 none_failed needs device h = first_failed_at (filters_of needs) device ∙ past_causes (passed_by (filters_of needs) device) h
 
 -- where there is no cause the devices pass all filters
-pub past_if_none : (needs : JobNeeds) (devices : List Device) → first_cause (filters_of needs) devices ≡ None → 5 ≤ stage_of (filters_of needs) devices
-unfolding order_or_five causes
+pub past_if_none : (needs : JobNeeds) (devices : List Device) → first_cause (filters_of needs) devices ≡ None → 6 ≤ stage_of (filters_of needs) devices
+unfolding order_or_six causes
 past_if_none needs devices e =
-    let at : order_or_five None ≡ min (stage_of (filters_of needs) devices) 5 = ap order_or_five (sym e ∙ first_cause_at (filters_of needs) devices) ∙ at_most_five (stage_of (filters_of needs) devices) in
+    let at : order_or_six None ≡ min (stage_of (filters_of needs) devices) 6 = ap order_or_six (sym e ∙ first_cause_at (filters_of needs) devices) ∙ at_most_six (stage_of (filters_of needs) devices) in
     omega (arith, at)

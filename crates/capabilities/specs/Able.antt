@@ -1,5 +1,6 @@
 -- Which devices can print a job.
 use Rattle.std.specs.Prelude.{ℕ, List, Bool, true, false, All, Contains, IsTrue, IsSome}
+use Rattle.base_types.specs.Finishings.{HasFinishings}
 use Rattle.base_types.specs.Needs.{JobNeeds}
 use Rattle.base_types.specs.Device.{Device, loaded_media}
 use Rattle.base_types.specs.declared.needs.Sides.{Sides}
@@ -26,6 +27,10 @@ PrintsFormats needs device = All (Contains device.formats) needs.formats
 abbrev pub PrintsSides : JobNeeds → Device → Type 0
 PrintsSides needs device = IsTrue (is_two_sided needs.sides) → IsSome device.rate_two
 
+-- it has every finishing of the job (RFC 8011, section 5.2.6)
+abbrev pub Finishes : JobNeeds → Device → Type 0
+Finishes needs device = HasFinishings device.finishings needs.finishings
+
 -- it has the job's media loaded
 abbrev pub HasMedia : JobNeeds → Device → Type 0
 HasMedia needs device = Contains (loaded_media device) needs.media
@@ -35,5 +40,6 @@ pub record IsAble (needs : JobNeeds) (place : ℕ) (device : Device) (printer : 
   pub of_printer : Contains printer place
   pub formats : PrintsFormats needs device
   pub sides : PrintsSides needs device
+  pub finishings : Finishes needs device
   pub media : HasMedia needs device
   pub runs : IsTrue (is_running device.activity)

@@ -2,10 +2,11 @@
 use Rattle.std.specs.Prelude.{ℕ, List, [], ◌∷◌, Bool, true, not, ◌||◌, Option, Some, None, filter, is_some, IsSomeAnd, slice_get, if◌then◌else◌}
 use Rattle.std.specs.List.{filter_map, list_all, list_any}
 use Rattle.std.specs.Str.{bytes_eq}
+use Rattle.base_types.specs.Finishings.{has_finishings}
 use Rattle.base_types.specs.Needs.{JobNeeds}
 use Rattle.base_types.specs.Device.{Device, loaded_media}
 use Rattle.base_types.specs.declared.needs.Cause.{Cause}
-use Rattle.base_types.specs.declared.needs.Cause.TheVariants.{NoDevice, Format, Sides, Media, Running}
+use Rattle.base_types.specs.declared.needs.Cause.TheVariants.{NoDevice, Format, Sides, Finishings, Media, Running}
 use Rattle.capabilities.specs.Able.{is_two_sided, is_running, IsAble}
 
 -- whether a device prints each document format of the job
@@ -15,6 +16,10 @@ prints_formats needs device = list_all (λ format. list_any (bytes_eq format) de
 -- whether it prints two-sided, where the job is
 abbrev pub prints_sides : JobNeeds → Device → Bool
 prints_sides needs device = not (is_two_sided needs.sides) || is_some device.rate_two
+
+-- whether it has every finishing of the job
+abbrev pub finishes : JobNeeds → Device → Bool
+finishes needs device = has_finishings device.finishings needs.finishings
 
 -- whether it has the job's media loaded
 abbrev pub has_media : JobNeeds → Device → Bool
@@ -31,6 +36,7 @@ filters_of needs =
     record { test = λ device. true; cause = NoDevice }
     ∷ record { test = prints_formats needs; cause = Format }
     ∷ record { test = prints_sides needs; cause = Sides }
+    ∷ record { test = finishes needs; cause = Finishings }
     ∷ record { test = has_media needs; cause = Media }
     ∷ record { test = λ device. is_running device.activity; cause = Running }
     ∷ []
@@ -69,5 +75,6 @@ abbrev pub order_of : Cause → ℕ
 order_of NoDevice = 0
 order_of Format = 1
 order_of Sides = 2
-order_of Media = 3
-order_of Running = 4
+order_of Finishings = 3
+order_of Media = 4
+order_of Running = 5

@@ -3,13 +3,13 @@ ghost use Rattle.std.specs.Prelude.{◌≡◌, ◌↔◌, ◌&&◌, IsTrue};
 ghost use Rattle.std.specs.List.{list_any};
 ghost use Rattle.std.specs.Str.{bytes_eq};
 ghost use Rattle.capabilities.specs.Able.{IsAble, is_running};
-ghost use Rattle.capabilities.specs.Cause.{prints_formats, prints_sides, has_media, filters_of, first_failed};
+ghost use Rattle.capabilities.specs.Cause.{prints_formats, prints_sides, finishes, has_media, filters_of, first_failed};
 
 use base_types::{Activity, Cause, DeviceId, DeviceNow, Medium, Needs, PrinterSet, Sides, Text};
 
 /// Whether the device at this place of the settings, which now is `now`, can print the job on this
 /// printer: it is one of the printer's, prints each document format of the job, prints two-sided
-/// where the job is, has the job's media loaded, and runs.
+/// where the job is, has every finishing of the job and its media loaded, and runs.
 pub fn able(needs: &Needs, device: DeviceId, now: &DeviceNow, printer: &PrinterSet) -> bool
     ensures { IsTrue result ↔ IsAble needs.now device now.now printer.now }
 {
@@ -24,6 +24,8 @@ pub(crate) fn first_failed(needs: &Needs, now: &DeviceNow) -> Option<Cause>
         Some(Cause::Format)
     } else if !prints_sides(needs, now) {
         Some(Cause::Sides)
+    } else if !finishes(needs, now) {
+        Some(Cause::Finishings)
     } else if !has_media(needs, now) {
         Some(Cause::Media)
     } else if !is_running(now) {
@@ -49,6 +51,13 @@ fn prints_sides(needs: &Needs, now: &DeviceNow) -> bool
         Sides::One => true,
         Sides::LongEdge | Sides::ShortEdge => now.rate_two.is_some(),
     }
+}
+
+/// Whether the device has every finishing of the job.
+fn finishes(needs: &Needs, now: &DeviceNow) -> bool
+    ensures { result ≡ finishes needs.now now.now }
+{
+    now.finishings.has(needs.finishings)
 }
 
 /// Whether the device has the job's media loaded.

@@ -1,6 +1,7 @@
 -- The lines that a device is sent.
-use Rattle.std.specs.Prelude.{ℕ, List, ◌++◌, codes}
+use Rattle.std.specs.Prelude.{ℕ, Bool, List, [], ◌++◌, ◌||◌, if◌then◌else◌, codes}
 use Rattle.std.specs.Fmt.{decimal}
+use Rattle.base_types.specs.declared.finishings.Finishings.{Finishings}
 use Rattle.base_types.specs.Needs.{JobNeeds}
 use Rattle.base_types.specs.declared.needs.Sides.{Sides}
 use Rattle.base_types.specs.declared.needs.Sides.TheVariants.{One, LongEdge, ShortEdge}
@@ -10,10 +11,25 @@ sides_word One = codes "1"
 sides_word LongEdge = codes "L"
 sides_word ShortEdge = codes "S"
 
--- a job, before its documents: its id, their octets together, copies, sides, media
+-- a letter for a finishing that the job has
+abbrev pub letter_if : Bool → List ℕ → List ℕ
+letter_if wanted letter = if wanted then letter else []
+
+-- the letters of a job's finishings, in this order
+abbrev pub finishings_letters : Finishings → List ℕ
+finishings_letters finishings =
+    letter_if finishings.staple (codes "S") ++ (letter_if finishings.punch (codes "P") ++ letter_if finishings.bind (codes "B"))
+
+-- the word of a job's finishings, after a space; a job without finishings has none
+abbrev pub finishings_word : Finishings → List ℕ
+finishings_word finishings =
+    if finishings.staple || (finishings.punch || finishings.bind) then codes " " ++ finishings_letters finishings
+    else []
+
+-- a job, before its documents: its id, their octets together, copies, sides, media, finishings
 abbrev pub job_line : ℕ → ℕ → JobNeeds → List ℕ
 job_line id octets needs =
-    codes "JOB " ++ (decimal id ++ (codes " " ++ (decimal octets ++ (codes " " ++ (decimal needs.copies ++ (codes " " ++ (sides_word needs.sides ++ (codes " " ++ (needs.media ++ codes "\n")))))))))
+    codes "JOB " ++ (decimal id ++ (codes " " ++ (decimal octets ++ (codes " " ++ (decimal needs.copies ++ (codes " " ++ (sides_word needs.sides ++ (codes " " ++ (needs.media ++ (finishings_word needs.finishings ++ codes "\n"))))))))))
 
 -- the job is canceled
 abbrev pub cancel_line : ℕ → List ℕ

@@ -1,8 +1,8 @@
 //! The lines that the server sends to a device.
 ghost use Rattle.std.specs.Prelude.{◌≡◌, ◌++◌, IfOk, OnOk, OnErr};
-ghost use Rattle.device_link.specs.Orders.{sides_word, job_line, cancel_line};
+ghost use Rattle.device_link.specs.Orders.{sides_word, letter_if, finishings_letters, finishings_word, job_line, cancel_line};
 
-use base_types::{JobId, Needs, Sides};
+use base_types::{Finishings, JobId, Needs, Sides};
 use std::alloc::{AllocError, Global};
 
 /// Appends the line that brings a job, of so many octets, to a device; its documents follow. Where
@@ -31,6 +31,8 @@ fn job_text(alloc: Global, job: JobId, octets: usize, needs: &Needs) -> Result<V
     let head = format!(in alloc; "JOB {number} {octets} {copies} {sides} ")?;
     let mut line = Vec::from_slice(alloc, head.as_bytes())?;
     line.extend_from_slice(needs.media.as_bytes())?;
+    let finishings = finishings_word(alloc, needs.finishings)?;
+    line.extend_from_slice(&finishings)?;
     line.extend_from_slice(b"\n")?;
     Ok(line)
 }
@@ -44,6 +46,27 @@ fn sides_word(sides: Sides) -> &'static str
         Sides::LongEdge => "L",
         Sides::ShortEdge => "S",
     }
+}
+
+/// How a line names the finishings of a job, with a space before; nothing where it has none.
+fn finishings_word(alloc: Global, finishings: Finishings) -> Result<Vec<u8>, AllocError>
+    ensures { IfOk result (λ word. word.items ≡ finishings_word finishings) }
+{
+    let mut word = Vec::new(alloc);
+    if finishings.staple || finishings.punch || finishings.bind {
+        word.extend_from_slice(b" ")?;
+        word.extend_from_slice(letter_if(finishings.staple, "S").as_bytes())?;
+        word.extend_from_slice(letter_if(finishings.punch, "P").as_bytes())?;
+        word.extend_from_slice(letter_if(finishings.bind, "B").as_bytes())?;
+    }
+    Ok(word)
+}
+
+/// A letter for a finishing that the job has.
+fn letter_if(wanted: bool, letter: &str) -> &str
+    ensures { result.now ≡ letter_if wanted letter.now }
+{
+    if wanted { letter } else { "" }
 }
 
 /// Appends the line that tells a device that its job is canceled. Where there is no memory, nothing

@@ -1,14 +1,19 @@
 -- What of a request's job group a printer supports, and what the job becomes by it (RFC 8011, section 5.2).
 use Rattle.std.specs.Prelude.{ℕ, ◌==◌, ◌||◌, nat_lt, Bool, true, false, if◌then◌else◌, List, [], ◌∷◌, find, Option, Some, None, is_some, unwrap_or, codes}
-use Rattle.std.specs.Option.{option_and_then}
+use Rattle.std.specs.Option.{option_and_then, option_map_or}
 use Rattle.std.specs.Str.{bytes_eq}
 use Rattle.base_types.specs.declared.limits.TheConstants.Limits.{COPIES, HIGHEST_PRIORITY, DEFAULT_PRIORITY}
+use Rattle.base_types.specs.Finishings.{no_finishings}
+use Rattle.base_types.specs.declared.finishings.Finishings.{Finishings}
 use Rattle.base_types.specs.declared.needs.Sides.{Sides}
 use Rattle.base_types.specs.declared.needs.Sides.TheVariants.{One}
 use Rattle.ipp_codec.specs.Message.{IppValue, tag_of, bytes_in, IppAttribute}
 use Rattle.ipp_codec.specs.Typed.{integer_in, unsigned}
 use Rattle.ipp_codec.specs.Tag as tags
-use Rattle.printer_objects.specs.Offer.{OfferRecord, sides_named, medium_named}
+use Rattle.printer_objects.specs.Offer.{OfferRecord, sides_named, medium_named, finishing_named}
+use Rattle.printer_objects.specs.Finishing.{has_finishing, with_finishing}
+use Rattle.printer_objects.specs.declared.finishing.Finishing.{Finishing}
+use Rattle.printer_objects.specs.declared.finishing.TheConstants.{NO_FINISHING}
 use Rattle.job_template.specs.declared.template_name.TemplateName.{TemplateName}
 use Rattle.job_template.specs.declared.template_name.TemplateName.TheVariants as Is
 use Rattle.job_template.specs.TemplateName.{name_of, template_name}
@@ -25,6 +30,10 @@ only_value attribute = alone attribute.first attribute.others
 -- an integer that isn't negative
 abbrev pub number_of : IppValue → Option ℕ
 number_of value = if tag_of value == tags.integer then option_and_then unsigned (integer_in value) else None
+
+-- a number of an enumeration that isn't negative
+abbrev pub enumerated_of : IppValue → Option ℕ
+enumerated_of value = if tag_of value == tags.enumeration then option_and_then unsigned (integer_in value) else None
 
 -- a keyword
 abbrev pub keyword_of : IppValue → Option (List ℕ)
@@ -75,13 +84,40 @@ sides_in offer attribute = option_and_then (sides_named offer) (keyword attribut
 abbrev pub medium_in : OfferRecord → IppAttribute → Option (List ℕ)
 medium_in offer attribute = option_and_then (medium_named offer) (word attribute)
 
+-- ---- finishings (section 5.2.6), the one attribute of several values
+
+-- the finishing of the printer that a value names
+abbrev pub finishing_in : OfferRecord → IppValue → Option Finishing
+finishing_in offer value = option_and_then (finishing_named offer) (enumerated_of value)
+
+-- a finishing more, which isn't there yet
+abbrev pub unless_there : Finishings → Finishing → Option Finishings
+unless_there found finishing = if has_finishing found finishing then None else Some (with_finishing found finishing)
+
+-- those found, and one for each of the values, which name one of the printer's each and no finishing twice
+abbrev pub finishings_from : OfferRecord → Finishings → List IppValue → Option Finishings
+finishings_from offer found [] = Some found
+finishings_from offer found (value ∷ values) =
+    option_and_then (λ more. finishings_from offer more values) (option_and_then (unless_there found) (finishing_in offer value))
+
+-- the one value is the number of none
+abbrev pub wants_none : IppAttribute → Bool
+wants_none attribute = option_map_or (λ number. number == NO_FINISHING) (option_and_then enumerated_of (only_value attribute)) false
+
+-- none, or those of the values
+abbrev pub finishings_in : OfferRecord → IppAttribute → Option Finishings
+finishings_in offer attribute =
+    if wants_none attribute then Some no_finishings
+    else finishings_from offer no_finishings (attribute.first ∷ attribute.others)
+
 -- ---- which attributes are supported
 
--- by its name, whether its value is supported
+-- by its name, whether its values are supported
 abbrev pub supports : OfferRecord → IppAttribute → Option TemplateName → Bool
 supports offer attribute (Some Is.Copies) = is_some (copies_in attribute)
 supports offer attribute (Some Is.Media) = is_some (medium_in offer attribute)
 supports offer attribute (Some Is.Sides) = is_some (sides_in offer attribute)
+supports offer attribute (Some Is.Finishings) = is_some (finishings_in offer attribute)
 supports offer attribute (Some Is.JobPriority) = is_some (priority_in attribute)
 supports offer attribute (Some Is.JobHoldUntil) = is_some (hold_in attribute)
 supports offer attribute None = false
@@ -103,6 +139,7 @@ asked_by which value attributes = option_and_then value (named which attributes)
 pub record TemplateRecord : Type 0 where
   pub priority : ℕ
   pub sides : Sides
+  pub finishings : Finishings
   pub copies : ℕ
   pub held : Bool
 
@@ -111,6 +148,7 @@ unfoldable pub template_of : OfferRecord → List IppAttribute → TemplateRecor
 template_of offer attributes = record {
   priority = unwrap_or (asked_by Is.JobPriority priority_in attributes) DEFAULT_PRIORITY;
   sides = unwrap_or (asked_by Is.Sides (sides_in offer) attributes) One;
+  finishings = unwrap_or (asked_by Is.Finishings (finishings_in offer) attributes) no_finishings;
   copies = unwrap_or (asked_by Is.Copies copies_in attributes) 1;
   held = unwrap_or (asked_by Is.JobHoldUntil hold_in attributes) false;
 }

@@ -5,16 +5,17 @@ use Rattle.printer_objects.specs.declared.job_attribute.JobAttribute.{JobAttribu
 use Rattle.printer_objects.specs.declared.job_attribute.JobAttribute.TheVariants as shown
 use Rattle.printer_objects.specs.JobAttribute.{job_attribute_name}
 use Rattle.job_template.specs.declared.template_name.TemplateName.{TemplateName}
-use Rattle.job_template.specs.declared.template_name.TemplateName.TheVariants.{Copies, Media, Sides, JobPriority, JobHoldUntil}
+use Rattle.job_template.specs.declared.template_name.TemplateName.TheVariants.{Copies, Media, Sides, Finishings, JobPriority, JobHoldUntil}
 
 abbrev pub template_table : List TemplateName
-template_table = Copies ∷ Media ∷ Sides ∷ JobPriority ∷ JobHoldUntil ∷ []
+template_table = Copies ∷ Media ∷ Sides ∷ Finishings ∷ JobPriority ∷ JobHoldUntil ∷ []
 
 -- the attribute by which a job shows it
 abbrev pub shown_as : TemplateName → JobAttribute
 shown_as Copies = shown.Copies
 shown_as Media = shown.Media
 shown_as Sides = shown.Sides
+shown_as Finishings = shown.Finishings
 shown_as JobPriority = shown.Priority
 shown_as JobHoldUntil = shown.HoldUntil
 

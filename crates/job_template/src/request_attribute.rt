@@ -3,11 +3,12 @@ ghost use Rattle.std.specs.Prelude.{◌≡◌, [], option_map};
 ghost use Rattle.ipp_codec.specs.Message.{plain};
 ghost use Rattle.ipp_codec.specs.Owned.{value_owned};
 ghost use Rattle.ipp_codec.specs.Tag as tags;
-ghost use Rattle.job_template.specs.Template.{only_value, number, keyword, word};
+ghost use Rattle.job_template.specs.Template.{only_value, number, enumerated_of, wants_none, keyword, word};
 ghost use Rattle.job_template.specs.Unsupported.{returned};
 
 use crate::template_name::template_name;
 use ipp_codec::{Attribute, Value, ValueTag};
+use printer_objects::NO_FINISHING;
 use std::alloc::Global;
 
 /// Its value, if it has just one.
@@ -31,6 +32,27 @@ pub(crate) fn number(attribute: &Attribute) -> Option<u32>
     }
     let number = value.as_integer()?;
     u32::try_from(number).ok()
+}
+
+/// The number of an enumeration that a value is, if it is one and isn't negative.
+pub(crate) fn enumerated(value: &Value) -> Option<u32>
+    ensures { result ≡ enumerated_of (value_owned value.now) }
+{
+    if value.tag() != ValueTag::ENUM {
+        return None;
+    }
+    let number = value.as_integer()?;
+    u32::try_from(number).ok()
+}
+
+/// Whether its one value is the number of no finishing.
+pub(crate) fn wants_none(attribute: &Attribute) -> bool
+    ensures { result ≡ wants_none attribute.now }
+{
+    match only_value(attribute) {
+        Some(value) => enumerated(value) == Some(NO_FINISHING),
+        None => false,
+    }
 }
 
 /// Its one value, if that is a keyword.

@@ -1,16 +1,18 @@
 //! What a printer supports of a job's template, and what the job becomes by it (RFC 8011, section
 //! 5.2).
-ghost use Rattle.std.specs.Prelude.{◌≡◌, not, false, unwrap_or};
+ghost use Rattle.std.specs.Prelude.{◌≡◌, not, false, map, unwrap_or};
 ghost use Rattle.std.specs.Option.{option_copied};
-ghost use Rattle.job_template.specs.Template.{up_to, copies_in, priority_in, hold_named, hold_in, sides_in, medium_in, supports, is_supported, asked_by, template_of, medium_of};
+ghost use Rattle.job_template.specs.Template.{up_to, copies_in, priority_in, hold_named, hold_in, sides_in, medium_in, finishing_in, unless_there, finishings_from, finishings_in, supports, is_supported, asked_by, template_of, medium_of};
+ghost use Rattle.base_types.specs.Finishings.{no_finishings};
 ghost use Rattle.base_types.specs.Ranges.{IsCopies};
+ghost use Rattle.ipp_codec.specs.Owned.{value_owned};
 
-use crate::request_attribute::{keyword, number, word};
+use crate::request_attribute::{enumerated, keyword, number, wants_none, word};
 use crate::request_attributes::RequestAttributes;
 use crate::template_name::{TemplateName, template_name};
-use base_types::{Limits, Priority, Sides, Text};
-use ipp_codec::Attribute;
-use printer_objects::Offer;
+use base_types::{Finishings, Limits, Priority, Sides, Text};
+use ipp_codec::{Attribute, Value};
+use printer_objects::{Finishing, Offer};
 use std::marker::Model;
 
 /// What the job template asks for, but its medium; what isn't there or isn't supported has its
@@ -19,6 +21,7 @@ use std::marker::Model;
 pub struct JobTemplate {
     pub priority: Priority,
     pub sides: Sides,
+    pub finishings: Finishings,
     /// 1 to [`base_types::Limits::COPIES`].
     pub copies: u32,
     /// Whether job-hold-until is indefinite.
@@ -34,6 +37,7 @@ impl Model for JobTemplate {
     ghost view = { λ t. record {
       priority = t.priority;
       sides = t.sides;
+      finishings = t.finishings;
       copies = t.copies;
       held = t.held;
     } };
@@ -110,6 +114,49 @@ fn medium_in<'a>(offer: &Offer<'a>, attribute: &Attribute) -> Option<&'a Text>
     offer.medium_named(word(attribute)?)
 }
 
+/// The finishing of the printer that a value names.
+fn finishing_in(offer: &Offer<'_>, value: &Value) -> Option<Finishing>
+    ensures { result ≡ finishing_in offer.now (value_owned value.now) }
+{
+    offer.finishing_named(enumerated(value)?)
+}
+
+/// Those found and one more, which isn't there yet.
+fn unless_there(found: Finishings, finishing: Finishing) -> Option<Finishings>
+    ensures { result ≡ unless_there found finishing }
+{
+    if finishing.is_in(found) {
+        None
+    } else {
+        Some(finishing.with(found))
+    }
+}
+
+/// Those found, and one for each of the values, if each names one of the printer's and none is named
+/// twice.
+fn finishings_from(offer: &Offer<'_>, found: Finishings, values: &[Value]) -> Option<Finishings>
+    ensures { result ≡ finishings_from offer.now found (map value_owned values.now) }
+{
+    let mut found = found;
+    for value in values {
+        let finishing = finishing_in(offer, value)?;
+        found = unless_there(found, finishing)?;
+    }
+    Some(found)
+}
+
+/// The finishings that an attribute asks for, if they are supported.
+fn finishings_in(offer: &Offer<'_>, attribute: &Attribute) -> Option<Finishings>
+    ensures { result ≡ finishings_in offer.now attribute.now }
+{
+    if wants_none(attribute) {
+        return Some(Finishings::none());
+    }
+    let first = finishing_in(offer, &attribute.first)?;
+    let found = unless_there(Finishings::none(), first)?;
+    finishings_from(offer, found, &attribute.others)
+}
+
 /// Whether a printer doesn't support an attribute.
 pub(crate) fn is_unsupported(offer: &Offer<'_>, attribute: &Attribute) -> bool
     ensures { result ≡ not (is_supported offer.now attribute.now) }
@@ -133,6 +180,7 @@ fn supports(offer: &Offer<'_>, attribute: &Attribute, name: Option<TemplateName>
         Some(TemplateName::Copies) => copies_in(attribute).is_some(),
         Some(TemplateName::Media) => medium_in(offer, attribute).is_some(),
         Some(TemplateName::Sides) => sides_in(offer, attribute).is_some(),
+        Some(TemplateName::Finishings) => finishings_in(offer, attribute).is_some(),
         Some(TemplateName::JobPriority) => priority_in(attribute).is_some(),
         Some(TemplateName::JobHoldUntil) => hold_in(attribute).is_some(),
         None => false,
@@ -147,6 +195,7 @@ pub fn template_of(offer: &Offer<'_>, attributes: &RequestAttributes) -> JobTemp
     JobTemplate {
         priority: priority_of(attributes),
         sides: sides_of(offer, attributes),
+        finishings: finishings_of(offer, attributes),
         copies: copies_of(attributes),
         held: is_held(attributes),
     }
@@ -169,6 +218,16 @@ fn sides_of(offer: &Offer<'_>, attributes: &RequestAttributes) -> Sides
     match attributes.named(TemplateName::Sides) {
         Some(attribute) => sides_in(offer, attribute).unwrap_or(Sides::One),
         None => Sides::One,
+    }
+}
+
+/// The finishings of a job.
+fn finishings_of(offer: &Offer<'_>, attributes: &RequestAttributes) -> Finishings
+    ensures { result ≡ unwrap_or (asked_by TemplateName.Finishings (finishings_in offer.now) attributes.now) no_finishings }
+{
+    match attributes.named(TemplateName::Finishings) {
+        Some(attribute) => finishings_in(offer, attribute).unwrap_or(Finishings::none()),
+        None => Finishings::none(),
     }
 }
 

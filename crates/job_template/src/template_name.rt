@@ -12,19 +12,21 @@ pub(crate) enum TemplateName {
     Copies,
     Media,
     Sides,
+    Finishings,
     JobPriority,
     JobHoldUntil,
 }
 
 impl TemplateName {
     /// All of them.
-    fn all() -> [TemplateName; 5]
+    fn all() -> [TemplateName; 6]
         ensures { result ≡ template_table }
     {
         [
             TemplateName::Copies,
             TemplateName::Media,
             TemplateName::Sides,
+            TemplateName::Finishings,
             TemplateName::JobPriority,
             TemplateName::JobHoldUntil,
         ]
@@ -38,6 +40,7 @@ impl TemplateName {
             TemplateName::Copies => JobAttribute::Copies,
             TemplateName::Media => JobAttribute::Media,
             TemplateName::Sides => JobAttribute::Sides,
+            TemplateName::Finishings => JobAttribute::Finishings,
             TemplateName::JobPriority => JobAttribute::Priority,
             TemplateName::JobHoldUntil => JobAttribute::HoldUntil,
         };

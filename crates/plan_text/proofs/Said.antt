@@ -112,6 +112,7 @@ cause_lacks : (cause : Cause) → (lacks 32 (cause_word cause) ≡ true) × (lac
 cause_lacks causes.NoDevice = (refl, refl)
 cause_lacks causes.Format = (refl, refl)
 cause_lacks causes.Sides = (refl, refl)
+cause_lacks causes.Finishings = (refl, refl)
 cause_lacks causes.Media = (refl, refl)
 cause_lacks causes.Running = (refl, refl)
 
@@ -170,6 +171,7 @@ unfolding cause_at
 cause_again causes.NoDevice = refl
 cause_again causes.Format = refl
 cause_again causes.Sides = refl
+cause_again causes.Finishings = refl
 cause_again causes.Media = refl
 cause_again causes.Running = refl
 

@@ -58,6 +58,7 @@ cause_at word =
     if bytes_eq word (codes "NoDevice") then Ok causes.NoDevice
     else if bytes_eq word (codes "Format") then Ok causes.Format
     else if bytes_eq word (codes "Sides") then Ok causes.Sides
+    else if bytes_eq word (codes "Finishings") then Ok causes.Finishings
     else if bytes_eq word (codes "Media") then Ok causes.Media
     else if bytes_eq word (codes "Running") then Ok causes.Running
     else Err BadLine

@@ -12,6 +12,7 @@ abbrev pub cause_word : Cause → List ℕ
 cause_word causes.NoDevice = codes "NoDevice"
 cause_word causes.Format = codes "Format"
 cause_word causes.Sides = codes "Sides"
+cause_word causes.Finishings = codes "Finishings"
 cause_word causes.Media = codes "Media"
 cause_word causes.Running = codes "Running"
 

@@ -109,6 +109,8 @@ pub(crate) fn read_cause(word: &[u8]) -> Result<Cause, TextFault>
         Ok(Cause::Format)
     } else if word == b"Sides".as_slice() {
         Ok(Cause::Sides)
+    } else if word == b"Finishings".as_slice() {
+        Ok(Cause::Finishings)
     } else if word == b"Media".as_slice() {
         Ok(Cause::Media)
     } else if word == b"Running".as_slice() {

@@ -101,6 +101,7 @@ pub fn cause_word(cause: Cause) -> &'static str
         Cause::NoDevice => "NoDevice",
         Cause::Format => "Format",
         Cause::Sides => "Sides",
+        Cause::Finishings => "Finishings",
         Cause::Media => "Media",
         Cause::Running => "Running",
     }

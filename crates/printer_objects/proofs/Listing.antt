@@ -65,7 +65,7 @@ none_offered p listed default none fails =
 
 -- ---- an entry that passes its own test is found
 
-is_some_found : (p : List ℕ → Bool) (entries : List (List ℕ)) → is_some (find p entries) ≡ list_any p entries
+is_some_found : {X : Type 0} (p : X → Bool) (entries : List X) → is_some (find p entries) ≡ list_any p entries
 is_some_found p [] = refl
 is_some_found p (entry ∷ entries) =
     elim (p entry) as (λ b. is_some (cond b (Some entry) (find p entries)) ≡ (b || list_any p entries)) [
@@ -73,6 +73,6 @@ is_some_found p (entry ∷ entries) =
       | false ↦ is_some_found p entries
     ]
 
-pub found_of : (p : List ℕ → Bool) (entries : List (List ℕ)) (entry : List ℕ) → p entry ≡ true → Contains entries entry → is_some (find p entries) ≡ true
+pub found_of : {X : Type 0} (p : X → Bool) (entries : List X) (entry : X) → p entry ≡ true → Contains entries entry → is_some (find p entries) ≡ true
 found_of p entries entry passes (k, inside, is) =
     is_some_found p entries ∙ list_any_at p entries k entry inside (ap p is ∙ passes)

@@ -1,5 +1,5 @@
 -- The first that passes, among what each entry of a list has.
-use Rattle.std.proofs.Common.{◌≡◌, ◌∙◌, ℕ, suc, ◌+◌, ◌<◌, Bool, List, [], ◌∷◌, ◌++◌, length, get_or, drop, find, map, cond, true, false, Some, None, option_map, refl, sym, ap, drop-cons, add-one}
+use Rattle.std.proofs.Common.{◌≡◌, ◌∙◌, ℕ, suc, ◌+◌, ◌<◌, Bool, ◌&&◌, List, [], ◌∷◌, ◌++◌, length, get_or, drop, find, filter, map, cond, true, false, Some, None, option_map, refl, sym, ap, drop-cons, add-one}
 use Rattle.std.specs.List.{flat_map}
 use Rattle.std.specs.Option.{option_or}
 use Rattle.std.proofs.lemmas.List.Folds.{find-append}
@@ -29,4 +29,13 @@ find_mapped p f (x ∷ xs) =
     elim (p (f x)) as (λ b. cond b (Some (f x)) (find p (map f xs)) ≡ option_map f (cond b (Some x) (find (λ y. p (f y)) xs))) [
       | true ↦ refl
       | false ↦ find_mapped p f xs
+    ]
+
+-- a search among those that are kept
+pub find_kept : {X : Type 0} (p q : X → Bool) (xs : List X) → find p (filter q xs) ≡ find (λ x. q x && p x) xs
+find_kept p q [] = refl
+find_kept p q (x ∷ xs) =
+    elim (q x) as (λ b. find p (cond b (x ∷ filter q xs) (filter q xs)) ≡ cond (b && p x) (Some x) (find (λ y. q y && p y) xs)) [
+      | true ↦ ap (λ o. cond (p x) (Some x) o) (find_kept p q xs)
+      | false ↦ find_kept p q xs
     ]

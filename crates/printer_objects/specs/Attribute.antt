@@ -39,6 +39,11 @@ second_reason None = []
 abbrev pub reasons_attribute : List ℕ → JobReasons → IppAttribute
 reasons_attribute name reasons = record { name = name; first = keyword (keyword_of reasons.first); others = second_reason reasons.second }
 
+-- numbers of an enumeration, in order, or no value where there is none
+abbrev pub enumerations : List ℕ → List ℕ → IppAttribute
+enumerations name [] = alone name no_value
+enumerations name (code ∷ codes) = record { name = name; first = enumerated code; others = map enumerated codes }
+
 -- texts of a kind, or no value where there is none
 abbrev pub texts_attribute : List ℕ → ℕ → List (List ℕ) → IppAttribute
 texts_attribute name tag [] = alone name no_value

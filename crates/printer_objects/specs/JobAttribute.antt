@@ -1,12 +1,12 @@
 -- The attributes of a job: their order, names and groups (RFC 8011, sections 5.3 and 5.2).
 use Rattle.std.specs.Prelude.{ℕ, Bool, List, [], ◌∷◌, codes}
 use Rattle.printer_objects.specs.declared.job_attribute.JobAttribute.{JobAttribute}
-use Rattle.printer_objects.specs.declared.job_attribute.JobAttribute.TheVariants.{Uri, Id, PrinterUri, Name, OriginatingUserName, State, StateReasons, NumberOfDocuments, KOctets, Impressions, TimeAtCreation, TimeAtProcessing, TimeAtCompleted, PrinterUpTime, Copies, HoldUntil, Priority, Media, Sides}
+use Rattle.printer_objects.specs.declared.job_attribute.JobAttribute.TheVariants.{Uri, Id, PrinterUri, Name, OriginatingUserName, State, StateReasons, NumberOfDocuments, KOctets, Impressions, TimeAtCreation, TimeAtProcessing, TimeAtCompleted, PrinterUpTime, Copies, HoldUntil, Priority, Media, Sides, Finishings}
 use Rattle.printer_objects.specs.Requested.{is_requested}
 
 -- the table's order: job description, then job template
 abbrev pub job_table : List JobAttribute
-job_table = Uri ∷ Id ∷ PrinterUri ∷ Name ∷ OriginatingUserName ∷ State ∷ StateReasons ∷ NumberOfDocuments ∷ KOctets ∷ Impressions ∷ TimeAtCreation ∷ TimeAtProcessing ∷ TimeAtCompleted ∷ PrinterUpTime ∷ Copies ∷ HoldUntil ∷ Priority ∷ Media ∷ Sides ∷ []
+job_table = Uri ∷ Id ∷ PrinterUri ∷ Name ∷ OriginatingUserName ∷ State ∷ StateReasons ∷ NumberOfDocuments ∷ KOctets ∷ Impressions ∷ TimeAtCreation ∷ TimeAtProcessing ∷ TimeAtCompleted ∷ PrinterUpTime ∷ Copies ∷ HoldUntil ∷ Priority ∷ Media ∷ Sides ∷ Finishings ∷ []
 
 abbrev pub job_attribute_name : JobAttribute → List ℕ
 job_attribute_name Uri = codes "job-uri"
@@ -28,6 +28,7 @@ job_attribute_name HoldUntil = codes "job-hold-until"
 job_attribute_name Priority = codes "job-priority"
 job_attribute_name Media = codes "media"
 job_attribute_name Sides = codes "sides"
+job_attribute_name Finishings = codes "finishings"
 
 -- the name of its group in requested-attributes
 abbrev pub job_attribute_group : JobAttribute → List ℕ
@@ -50,6 +51,7 @@ job_attribute_group HoldUntil = codes "job-template"
 job_attribute_group Priority = codes "job-template"
 job_attribute_group Media = codes "job-template"
 job_attribute_group Sides = codes "job-template"
+job_attribute_group Finishings = codes "job-template"
 
 -- whether requested-attributes asks for it
 abbrev pub is_wanted : List (List ℕ) → JobAttribute → Bool

@@ -11,8 +11,9 @@ use Rattle.job_objects.specs.Reasons.{reasons_of}
 use Rattle.printer_objects.specs.declared.job_shown.JobShown.{JobShown}
 use Rattle.printer_objects.specs.declared.job_shown.TheConstants.{OCTETS_PER_K}
 use Rattle.printer_objects.specs.declared.job_attribute.JobAttribute.{JobAttribute}
-use Rattle.printer_objects.specs.declared.job_attribute.JobAttribute.TheVariants.{Uri, Id, PrinterUri, Name, OriginatingUserName, State, StateReasons, NumberOfDocuments, KOctets, Impressions, TimeAtCreation, TimeAtProcessing, TimeAtCompleted, PrinterUpTime, Copies, HoldUntil, Priority, Media, Sides as SidesOf}
+use Rattle.printer_objects.specs.declared.job_attribute.JobAttribute.TheVariants.{Uri, Id, PrinterUri, Name, OriginatingUserName, State, StateReasons, NumberOfDocuments, KOctets, Impressions, TimeAtCreation, TimeAtProcessing, TimeAtCompleted, PrinterUpTime, Copies, HoldUntil, Priority, Media, Sides as SidesOf, Finishings}
 use Rattle.printer_objects.specs.Attribute.{alone, number, enumerated, keyword, time, reasons_attribute}
+use Rattle.printer_objects.specs.Finishing.{each_finishing, finishings_attribute}
 use Rattle.printer_objects.specs.JobAttribute.{job_attribute_name}
 
 -- the base of URIs, `/jobs/` and the id
@@ -65,6 +66,7 @@ valued name shown HoldUntil = alone name (keyword (hold_until shown.job.now.held
 valued name shown Priority = alone name (number shown.job.now.priority)
 valued name shown Media = alone name (keyword shown.job.now.needs.media)
 valued name shown SidesOf = alone name (keyword (sides_keyword shown.job.now.needs.sides))
+valued name shown Finishings = finishings_attribute name (each_finishing shown.job.now.needs.finishings)
 
 -- an attribute of a job
 abbrev pub job_shown : JobShown → JobAttribute → IppAttribute

@@ -1,6 +1,7 @@
 pub mod PrinterState
 pub mod Requested
 pub mod Attribute
+pub mod Finishing
 pub mod JobAttribute
 pub mod JobShown
 pub mod DocumentFormat

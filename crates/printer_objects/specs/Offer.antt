@@ -1,6 +1,6 @@
 -- What a printer offers (RFC 8011, sections 5.2 and 5.4). What is shown as supported is a list, and what a
 -- request asks for is looked up in that very list.
-use Rattle.std.specs.Prelude.{ℕ, Bool, false, if◌then◌else◌, List, [], ◌∷◌, ◌++◌, find, Option, Some, None, is_some}
+use Rattle.std.specs.Prelude.{ℕ, ◌==◌, Bool, false, if◌then◌else◌, List, [], ◌∷◌, ◌++◌, filter, find, Option, Some, None, is_some}
 use Rattle.std.specs.List.{flat_map, list_any, slice_get}
 use Rattle.std.specs.Option.{option_map_or}
 use Rattle.std.specs.Str.{bytes_eq}
@@ -10,6 +10,8 @@ use Rattle.base_types.specs.declared.needs.Sides.TheVariants.{One, LongEdge, Sho
 use Rattle.settings_file.specs.Settings.{PrinterEntry}
 use Rattle.printer_objects.specs.declared.together.Listed.{Listed}
 use Rattle.printer_objects.specs.declared.together.Listed.TheVariants.{Formats, Media, LoadedMedia}
+use Rattle.printer_objects.specs.declared.finishing.Finishing.{Finishing}
+use Rattle.printer_objects.specs.Finishing.{finishing_table, finishing_code, has_finishing}
 use Rattle.printer_objects.specs.DocumentFormat.{is_same_format}
 use Rattle.printer_objects.specs.JobShown.{sides_keyword}
 use Rattle.printer_objects.specs.Together.{listed_by, distinct}
@@ -53,6 +55,18 @@ prints_two_sided offer = list_any (λ place. is_two_sided (slice_get offer.devic
 unfoldable pub sides_of : OfferRecord → List Sides
 sides_of offer = if prints_two_sided offer then One ∷ LongEdge ∷ ShortEdge ∷ [] else One ∷ []
 
+abbrev pub finishes_so : Finishing → Option Device → Bool
+finishes_so finishing (Some device) = has_finishing device.finishings finishing
+finishes_so finishing None = false
+
+-- some device of the printer has the finishing
+abbrev pub offers_finishing : OfferRecord → Finishing → Bool
+offers_finishing offer finishing = list_any (λ place. finishes_so finishing (slice_get offer.devices place)) offer.printer.devices
+
+-- the finishings (section 5.2.6): those that some device of it has
+unfoldable pub finishings_of : OfferRecord → List Finishing
+finishings_of offer = filter (offers_finishing offer) finishing_table
+
 -- ---- what a request may ask for
 
 -- the first of its formats that is the one asked for
@@ -66,3 +80,7 @@ medium_named offer name = find (bytes_eq name) (media_of offer)
 -- the sides of a keyword
 unfoldable pub sides_named : OfferRecord → List ℕ → Option Sides
 sides_named offer keyword = find (λ sides. bytes_eq keyword (sides_keyword sides)) (sides_of offer)
+
+-- the finishing of a number
+unfoldable pub finishing_named : OfferRecord → ℕ → Option Finishing
+finishing_named offer number = find (λ finishing. number == finishing_code finishing) (finishings_of offer)

@@ -4,15 +4,10 @@ use Rattle.std.specs.Int.{w32, to_be_bytes}
 use Rattle.base_types.specs.declared.needs.Sides.{Sides}
 use Rattle.ipp_codec.specs.Message.{IppValue, plain, IppAttribute}
 use Rattle.ipp_codec.specs.Tag as tags
-use Rattle.printer_objects.specs.Attribute.{alone, enumerated, keyword, no_value, texts_attribute}
+use Rattle.printer_objects.specs.Attribute.{enumerations, keyword, texts_attribute}
 use Rattle.printer_objects.specs.JobShown.{sides_keyword}
 use Rattle.printer_objects.specs.declared.operation.Operation.{Operation}
 use Rattle.printer_objects.specs.Operation.{operation_code}
-
--- numbers of an enumeration, in order, or no value where there is none
-abbrev pub enumerations : List ℕ → List ℕ → IppAttribute
-enumerations name [] = alone name no_value
-enumerations name (code ∷ codes) = record { name = name; first = enumerated code; others = map enumerated codes }
 
 -- operations by their codes, in order (RFC 8011, section 5.4.15)
 abbrev pub operations_attribute : List ℕ → List Operation → IppAttribute

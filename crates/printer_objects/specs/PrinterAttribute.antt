@@ -1,12 +1,12 @@
 -- The attributes of a printer: their order, names and groups (RFC 8011, sections 5.4 and 5.2).
 use Rattle.std.specs.Prelude.{ℕ, Bool, List, [], ◌∷◌, codes}
 use Rattle.printer_objects.specs.declared.printer_attribute.PrinterAttribute.{PrinterAttribute}
-use Rattle.printer_objects.specs.declared.printer_attribute.PrinterAttribute.TheVariants.{UriSupported, UriSecuritySupported, UriAuthenticationSupported, Name, State, StateReasons, IppVersionsSupported, OperationsSupported, MultipleDocumentJobsSupported, MultipleOperationTimeOut, CharsetConfigured, CharsetSupported, NaturalLanguageConfigured, GeneratedNaturalLanguageSupported, DocumentFormatDefault, DocumentFormatSupported, IsAcceptingJobs, QueuedJobCount, PdlOverrideSupported, UpTime, CompressionSupported, CopiesDefault, CopiesSupported, HoldUntilDefault, HoldUntilSupported, PriorityDefault, PrioritySupported, MediaDefault, MediaSupported, MediaReady, SidesDefault, SidesSupported}
+use Rattle.printer_objects.specs.declared.printer_attribute.PrinterAttribute.TheVariants.{UriSupported, UriSecuritySupported, UriAuthenticationSupported, Name, State, StateReasons, IppVersionsSupported, OperationsSupported, MultipleDocumentJobsSupported, MultipleOperationTimeOut, CharsetConfigured, CharsetSupported, NaturalLanguageConfigured, GeneratedNaturalLanguageSupported, DocumentFormatDefault, DocumentFormatSupported, IsAcceptingJobs, QueuedJobCount, PdlOverrideSupported, UpTime, CompressionSupported, CopiesDefault, CopiesSupported, HoldUntilDefault, HoldUntilSupported, PriorityDefault, PrioritySupported, MediaDefault, MediaSupported, MediaReady, SidesDefault, SidesSupported, FinishingsDefault, FinishingsSupported}
 use Rattle.printer_objects.specs.Requested.{is_requested}
 
 -- the table's order: printer description, then job template
 abbrev pub printer_table : List PrinterAttribute
-printer_table = UriSupported ∷ UriSecuritySupported ∷ UriAuthenticationSupported ∷ Name ∷ State ∷ StateReasons ∷ IppVersionsSupported ∷ OperationsSupported ∷ MultipleDocumentJobsSupported ∷ MultipleOperationTimeOut ∷ CharsetConfigured ∷ CharsetSupported ∷ NaturalLanguageConfigured ∷ GeneratedNaturalLanguageSupported ∷ DocumentFormatDefault ∷ DocumentFormatSupported ∷ IsAcceptingJobs ∷ QueuedJobCount ∷ PdlOverrideSupported ∷ UpTime ∷ CompressionSupported ∷ CopiesDefault ∷ CopiesSupported ∷ HoldUntilDefault ∷ HoldUntilSupported ∷ PriorityDefault ∷ PrioritySupported ∷ MediaDefault ∷ MediaSupported ∷ MediaReady ∷ SidesDefault ∷ SidesSupported ∷ []
+printer_table = UriSupported ∷ UriSecuritySupported ∷ UriAuthenticationSupported ∷ Name ∷ State ∷ StateReasons ∷ IppVersionsSupported ∷ OperationsSupported ∷ MultipleDocumentJobsSupported ∷ MultipleOperationTimeOut ∷ CharsetConfigured ∷ CharsetSupported ∷ NaturalLanguageConfigured ∷ GeneratedNaturalLanguageSupported ∷ DocumentFormatDefault ∷ DocumentFormatSupported ∷ IsAcceptingJobs ∷ QueuedJobCount ∷ PdlOverrideSupported ∷ UpTime ∷ CompressionSupported ∷ CopiesDefault ∷ CopiesSupported ∷ HoldUntilDefault ∷ HoldUntilSupported ∷ PriorityDefault ∷ PrioritySupported ∷ MediaDefault ∷ MediaSupported ∷ MediaReady ∷ SidesDefault ∷ SidesSupported ∷ FinishingsDefault ∷ FinishingsSupported ∷ []
 
 abbrev pub printer_attribute_name : PrinterAttribute → List ℕ
 printer_attribute_name UriSupported = codes "printer-uri-supported"
@@ -41,6 +41,8 @@ printer_attribute_name MediaSupported = codes "media-supported"
 printer_attribute_name MediaReady = codes "media-ready"
 printer_attribute_name SidesDefault = codes "sides-default"
 printer_attribute_name SidesSupported = codes "sides-supported"
+printer_attribute_name FinishingsDefault = codes "finishings-default"
+printer_attribute_name FinishingsSupported = codes "finishings-supported"
 
 -- the name of its group in requested-attributes
 abbrev pub printer_attribute_group : PrinterAttribute → List ℕ
@@ -76,6 +78,8 @@ printer_attribute_group MediaSupported = codes "job-template"
 printer_attribute_group MediaReady = codes "job-template"
 printer_attribute_group SidesDefault = codes "job-template"
 printer_attribute_group SidesSupported = codes "job-template"
+printer_attribute_group FinishingsDefault = codes "job-template"
+printer_attribute_group FinishingsSupported = codes "job-template"
 
 -- whether requested-attributes asks for it
 abbrev pub is_wanted_of_printer : List (List ℕ) → PrinterAttribute → Bool

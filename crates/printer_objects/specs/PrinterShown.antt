@@ -6,13 +6,15 @@ use Rattle.ipp_codec.specs.Tag as tags
 use Rattle.printer_objects.specs.declared.attribute.TheConstants.{MILLIS_PER_SECOND}
 use Rattle.printer_objects.specs.declared.printer_shown.PrinterShown.{PrinterShown}
 use Rattle.printer_objects.specs.declared.printer_attribute.PrinterAttribute.{PrinterAttribute}
-use Rattle.printer_objects.specs.declared.printer_attribute.PrinterAttribute.TheVariants.{UriSupported, UriSecuritySupported, UriAuthenticationSupported, Name, State, StateReasons, IppVersionsSupported, OperationsSupported, MultipleDocumentJobsSupported, MultipleOperationTimeOut, CharsetConfigured, CharsetSupported, NaturalLanguageConfigured, GeneratedNaturalLanguageSupported, DocumentFormatDefault, DocumentFormatSupported, IsAcceptingJobs, QueuedJobCount, PdlOverrideSupported, UpTime, CompressionSupported, CopiesDefault, CopiesSupported, HoldUntilDefault, HoldUntilSupported, PriorityDefault, PrioritySupported, MediaDefault, MediaSupported, MediaReady, SidesDefault, SidesSupported}
+use Rattle.printer_objects.specs.declared.printer_attribute.PrinterAttribute.TheVariants.{UriSupported, UriSecuritySupported, UriAuthenticationSupported, Name, State, StateReasons, IppVersionsSupported, OperationsSupported, MultipleDocumentJobsSupported, MultipleOperationTimeOut, CharsetConfigured, CharsetSupported, NaturalLanguageConfigured, GeneratedNaturalLanguageSupported, DocumentFormatDefault, DocumentFormatSupported, IsAcceptingJobs, QueuedJobCount, PdlOverrideSupported, UpTime, CompressionSupported, CopiesDefault, CopiesSupported, HoldUntilDefault, HoldUntilSupported, PriorityDefault, PrioritySupported, MediaDefault, MediaSupported, MediaReady, SidesDefault, SidesSupported, FinishingsDefault, FinishingsSupported}
 use Rattle.printer_objects.specs.PrinterState.{printer_state_code, printer_state_of, printer_reason_of, printer_keyword}
 use Rattle.printer_objects.specs.Attribute.{alone, number, enumerated, keyword, time, texts_attribute}
 use Rattle.printer_objects.specs.JobShown.{printer_uri}
 use Rattle.printer_objects.specs.PrinterAttribute.{printer_attribute_name}
 use Rattle.printer_objects.specs.Operation.{operation_table}
-use Rattle.printer_objects.specs.Offer.{formats_of, media_of, ready_media_of, sides_of}
+use Rattle.printer_objects.specs.declared.finishing.TheConstants.{NO_FINISHING}
+use Rattle.printer_objects.specs.Finishing.{finishings_supported}
+use Rattle.printer_objects.specs.Offer.{formats_of, media_of, ready_media_of, sides_of, finishings_of}
 use Rattle.printer_objects.specs.Offered.{operations_attribute, range, hold_untils_attribute, sides_attribute}
 
 -- the values of an attribute under its name
@@ -49,6 +51,8 @@ valued_of_printer name shown MediaSupported = texts_attribute name tags.keyword 
 valued_of_printer name shown MediaReady = texts_attribute name tags.keyword (ready_media_of shown.offer.now)
 valued_of_printer name shown SidesDefault = alone name (keyword (codes "one-sided"))
 valued_of_printer name shown SidesSupported = sides_attribute name (sides_of shown.offer.now)
+valued_of_printer name shown FinishingsDefault = alone name (enumerated NO_FINISHING)
+valued_of_printer name shown FinishingsSupported = finishings_supported name (finishings_of shown.offer.now)
 
 -- an attribute of a printer
 abbrev pub printer_shown : PrinterShown → PrinterAttribute → IppAttribute

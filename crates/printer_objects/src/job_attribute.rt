@@ -27,11 +27,12 @@ pub enum JobAttribute {
     Priority,
     Media,
     Sides,
+    Finishings,
 }
 
 impl JobAttribute {
     /// How many there are.
-    pub const COUNT: usize = 19;
+    pub const COUNT: usize = 20;
 
     /// All of them, in the table's order.
     pub fn all() -> [JobAttribute; JobAttribute::COUNT]
@@ -57,6 +58,7 @@ impl JobAttribute {
             JobAttribute::Priority,
             JobAttribute::Media,
             JobAttribute::Sides,
+            JobAttribute::Finishings,
         ]
     }
 
@@ -84,6 +86,7 @@ impl JobAttribute {
             JobAttribute::Priority => "job-priority",
             JobAttribute::Media => "media",
             JobAttribute::Sides => "sides",
+            JobAttribute::Finishings => "finishings",
         }
     }
 
@@ -94,7 +97,7 @@ impl JobAttribute {
         match self {
             JobAttribute::Copies | JobAttribute::HoldUntil | JobAttribute::Priority =>
                 "job-template",
-            JobAttribute::Media | JobAttribute::Sides => "job-template",
+            JobAttribute::Media | JobAttribute::Sides | JobAttribute::Finishings => "job-template",
             _ => "job-description",
         }
     }

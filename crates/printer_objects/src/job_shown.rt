@@ -5,6 +5,7 @@ ghost use Rattle.printer_objects.specs.JobAttribute.{job_table, is_wanted};
 ghost use Rattle.printer_objects.specs.JobShown.{job_uri, printer_uri, hold_until, sides_keyword, k_octets, impressions_shown, job_shown};
 
 use crate::attribute::{bytes, enumerated, keyword, number, reasons, time};
+use crate::finishing::{each_finishing, finishings};
 use crate::job_attribute::JobAttribute;
 use base_types::{JobId, Moment, Sides, Text};
 use ipp_codec::{Attribute, Group, GroupTag, ValueTag};
@@ -85,6 +86,10 @@ impl JobAttribute {
             JobAttribute::Sides => {
                 let sides = sides_keyword(job.needs.sides);
                 keyword(alloc, name, sides.as_bytes())
+            }
+            JobAttribute::Finishings => {
+                let each = each_finishing(alloc, job.needs.finishings)?;
+                finishings(alloc, name, &each)
             }
         }
     }

@@ -13,6 +13,7 @@
 mod attribute;
 mod created;
 mod document_format;
+mod finishing;
 mod job_attribute;
 mod job_shown;
 mod offer;
@@ -25,6 +26,7 @@ mod state;
 mod together;
 
 pub use created::created_job_attributes;
+pub use finishing::{Finishing, NO_FINISHING};
 pub use job_attribute::JobAttribute;
 pub use job_shown::{JobShown, job_attributes, job_uri, printer_uri};
 pub use offer::Offer;

@@ -1,15 +1,17 @@
-//! What a printer offers (RFC 8011, sections 5.2 and 5.4): its devices' formats, media and sides, and
-//! its defaults. What is shown as supported is what a request may ask for.
-ghost use Rattle.std.specs.Prelude.{◌≡◌, find, map, IfOk, IsSome, OnOk, Contains};
+//! What a printer offers (RFC 8011, sections 5.2 and 5.4): its devices' formats, media, sides and
+//! finishings, and its defaults. What is shown as supported is what a request may ask for.
+ghost use Rattle.std.specs.Prelude.{◌≡◌, ◌==◌, ◌&&◌, find, map, IfOk, IsSome, OnOk, Contains};
 ghost use Rattle.std.specs.Option.{option_copied};
 ghost use Rattle.std.specs.List.{slice_get};
 ghost use Rattle.std.specs.Str.{bytes_eq};
 ghost use Rattle.printer_objects.specs.DocumentFormat.{is_same_format};
 ghost use Rattle.printer_objects.specs.JobShown.{sides_keyword};
 ghost use Rattle.printer_objects.specs.Together.{with_entries, distinct};
-ghost use Rattle.printer_objects.specs.Offer.{listed_at, listed_of, formats_of, media_of, ready_media_of, is_two_sided, prints_two_sided, sides_of, format_named, medium_named, sides_named};
+ghost use Rattle.printer_objects.specs.Offer.{listed_at, listed_of, formats_of, media_of, ready_media_of, is_two_sided, prints_two_sided, sides_of, finishes_so, offers_finishing, finishings_of, format_named, medium_named, sides_named, finishing_named};
+ghost use Rattle.printer_objects.specs.Finishing.{finishing_code};
 
 use crate::document_format::is_same_format;
+use crate::finishing::Finishing;
 use crate::job_shown::sides_keyword;
 use crate::together::{Listed, add_listed, add_once};
 use base_types::{DeviceId, DeviceNow, Medium, Sides, Text};
@@ -87,6 +89,20 @@ impl<'a> Offer<'a> {
         }
     }
 
+    /// The finishings that some device of it has, by rising numbers.
+    #[tactic(auto, unfolding(crate::specs::Offer::finishings_of))]
+    pub fn finishings(&self, alloc: Global) -> Result<Vec<Finishing>, AllocError>
+        ensures { IfOk result (λ finishings. finishings.items ≡ finishings_of self.now) }
+    {
+        let mut found = Vec::new(alloc);
+        for finishing in Finishing::all() {
+            if self.has_finishing(finishing) {
+                found.push(finishing)?;
+            }
+        }
+        Ok(found)
+    }
+
     /// The first of its formats that is the one asked for. Each that it shows is found.
     #[tactic(auto, using(crate::proofs::Listing::find_offered, crate::proofs::Taken::format_taken), unfolding(crate::specs::Offer::format_named, crate::specs::Offer::formats_of))]
     pub fn format_named(&self, asked: &[u8]) -> Option<&'a Text>
@@ -121,6 +137,15 @@ impl<'a> Offer<'a> {
         ensures { result ≡ sides_named self.now keyword.now }
     {
         sides_among(self.sides(), keyword).copied()
+    }
+
+    /// The finishing of this number. Each that it shows is found.
+    #[tactic(auto, using(crate::proofs::Searches::find_kept, crate::proofs::Taken::finishing_taken), unfolding(crate::specs::Offer::finishing_named, crate::specs::Offer::finishings_of))]
+    pub fn finishing_named(&self, number: u32) -> Option<Finishing>
+        ensures found { result ≡ finishing_named self.now number }
+        ensures taken { Contains (map finishing_code (finishings_of self.now)) number → IsSome result }
+    {
+        self.finishing_among(&Finishing::all(), number).copied()
     }
 
     /// The format of a document that names none.
@@ -197,6 +222,32 @@ impl<'a> Offer<'a> {
             Some(device) => device.rate_two.is_some(),
             None => false,
         }
+    }
+
+    /// Whether some device of it has the finishing.
+    fn has_finishing(&self, finishing: Finishing) -> bool
+        ensures { result ≡ offers_finishing self.now finishing }
+    {
+        self.places()
+            .iter()
+            .any(|place| self.finishes_so(finishing, *place))
+    }
+
+    /// Whether the device at a place has the finishing.
+    fn finishes_so(&self, finishing: Finishing, place: DeviceId) -> bool
+        ensures { result ≡ finishes_so finishing (slice_get self.now.devices place) }
+    {
+        match self.device(place) {
+            Some(device) => finishing.is_in(device.finishings),
+            None => false,
+        }
+    }
+
+    /// The first of these finishings that it has and that has this number.
+    fn finishing_among<'b>(&self, all: &'b [Finishing], number: u32) -> Option<&'b Finishing>
+        ensures { option_copied result ≡ find (λ f. offers_finishing self.now f && (number == finishing_code f)) all.now }
+    {
+        all.iter().find(|finishing| self.has_finishing(**finishing) && number == finishing.code())
     }
 
     /// The first format of its devices that is the one asked for.

@@ -40,11 +40,13 @@ pub enum PrinterAttribute {
     MediaReady,
     SidesDefault,
     SidesSupported,
+    FinishingsDefault,
+    FinishingsSupported,
 }
 
 impl PrinterAttribute {
     /// How many there are.
-    pub const COUNT: usize = 32;
+    pub const COUNT: usize = 34;
 
     /// All of them, in the table's order.
     pub fn all() -> [PrinterAttribute; PrinterAttribute::COUNT]
@@ -83,6 +85,8 @@ impl PrinterAttribute {
             PrinterAttribute::MediaReady,
             PrinterAttribute::SidesDefault,
             PrinterAttribute::SidesSupported,
+            PrinterAttribute::FinishingsDefault,
+            PrinterAttribute::FinishingsSupported,
         ]
     }
 
@@ -124,6 +128,8 @@ impl PrinterAttribute {
             PrinterAttribute::MediaReady => "media-ready",
             PrinterAttribute::SidesDefault => "sides-default",
             PrinterAttribute::SidesSupported => "sides-supported",
+            PrinterAttribute::FinishingsDefault => "finishings-default",
+            PrinterAttribute::FinishingsSupported => "finishings-supported",
         }
     }
 
@@ -140,6 +146,8 @@ impl PrinterAttribute {
             PrinterAttribute::MediaDefault | PrinterAttribute::MediaSupported => "job-template",
             PrinterAttribute::MediaReady => "job-template",
             PrinterAttribute::SidesDefault | PrinterAttribute::SidesSupported => "job-template",
+            PrinterAttribute::FinishingsDefault | PrinterAttribute::FinishingsSupported =>
+                "job-template",
             _ => "printer-description",
         }
     }

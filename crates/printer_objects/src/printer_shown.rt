@@ -7,6 +7,7 @@ ghost use Rattle.printer_objects.specs.PrinterShown.{printer_shown};
 use crate::attribute::{
     MILLIS_PER_SECOND, bytes, english, enumerated, keyword, number, texts, time, yes,
 };
+use crate::finishing::{NO_FINISHING, supported_finishings};
 use crate::job_shown::printer_uri;
 use crate::offer::Offer;
 use crate::offered::{copies, hold_untils, operations, sides};
@@ -135,6 +136,11 @@ impl PrinterAttribute {
             }
             PrinterAttribute::SidesDefault => keyword(alloc, name, b"one-sided"),
             PrinterAttribute::SidesSupported => sides(alloc, name, offer.sides()),
+            PrinterAttribute::FinishingsDefault => enumerated(alloc, name, NO_FINISHING),
+            PrinterAttribute::FinishingsSupported => {
+                let finishings = offer.finishings(alloc)?;
+                supported_finishings(alloc, name, &finishings)
+            }
         }
     }
 }

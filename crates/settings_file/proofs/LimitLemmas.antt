@@ -16,13 +16,13 @@ use Rattle.toml.specs.Parse.{parse_document}
 use Rattle.base_types.specs.Ranges.{IsSetup}
 use Rattle.base_types.specs.declared.limits.TheConstants.Limits.{NAME_BYTES, MEDIA_BYTES, FORMAT_BYTES, URI_BASE_BYTES, RATE, SETUP, DEVICES, PRINTERS, LIST_ENTRIES}
 use Rattle.settings_file.specs.declared.key.Key.{Key}
-use Rattle.settings_file.specs.declared.key.Key.TheVariants.{Version, UriBase, Operators, Device, Printer, Name, RateOne, RateTwo, Setup, Media, Formats, Devices, MediaDefault, FormatDefault}
+use Rattle.settings_file.specs.declared.key.Key.TheVariants.{Version, UriBase, Operators, Device, Printer, Name, RateOne, RateTwo, Setup, Media, Formats, Finishings, Devices, MediaDefault, FormatDefault}
 use Rattle.settings_file.specs.declared.fault.SettingsFault.{SettingsFault}
 use Rattle.settings_file.specs.Fault.{Fault, Gives}
 use Rattle.settings_file.specs.Settings.{DeviceEntry, PrinterEntry, ServerSettings, IsShort, IsDeviceEntry, IsPrinterEntry, MeetsLimits}
 use Rattle.text.proofs.Chains.{went_on}
-use Rattle.settings_file.specs.Entry.{required, number_in, number_of, number, takes, text_in, text_of, text, new_texts, list_in, list_of, optional_list, list, tables_in, tables_of, tables, item_texts, item_tables, value_at, other_key, unless_unknown, unless_twice}
-use Rattle.settings_file.specs.Device.{has_device, place_of, device_of, devices_of}
+use Rattle.settings_file.specs.Entry.{required, number_in, number_of, number, takes, text_in, text_of, text, new_texts, most_entries, list_in, list_of, optional_list, list, tables_in, tables_of, tables, item_texts, item_tables, value_at, other_key, unless_unknown, unless_twice}
+use Rattle.settings_file.specs.Device.{finishings_of, has_device, place_of, device_of, devices_of}
 use Rattle.settings_file.specs.Printer.{has_printer, known_place, places_of, printer_of, printers_of}
 use Rattle.settings_file.specs.Reading.{root_keys, settings_in, settings_read, settings_of}
 
@@ -121,22 +121,22 @@ text_of_ok : (key : Key) (d : Option Data) (t : List ℕ) → text_of key d ≡ 
 text_of_ok key None t h = cc
 text_of_ok key (Some d) t h = text_in_ok key (as_str d) t h
 
-list_in_ok : (key : Key) (o : Option (List (List ℕ))) (ts : List (List ℕ)) → list_in key o ≡ Ok ts → IsShort ts × All (λ t. IsTrue (takes key t)) ts
+list_in_ok : (key : Key) (o : Option (List (List ℕ))) (ts : List (List ℕ)) → list_in key o ≡ Ok ts → (length ts ≤ most_entries key) × All (λ t. IsTrue (takes key t)) ts
 list_in_ok key None ts h = cc
 list_in_ok key (Some all) ts h =
     let (test, same) = passed _ (new_texts [] all) ts _ h in
-    let (few, each) = and_parts (leb (length (new_texts [] all)) LIST_ENTRIES) (list_all (takes key) (new_texts [] all)) test in
-    let short : length (new_texts [] all) ≤ LIST_ENTRIES = leb-true _ _ few in
+    let (few, each) = and_parts (leb (length (new_texts [] all)) (most_entries key)) (list_all (takes key) (new_texts [] all)) test in
+    let short : length (new_texts [] all) ≤ most_entries key = leb-true _ _ few in
     rw (← same) (short, AllPass-from_list_all (takes key) (new_texts [] all) each)
 
-list_of_ok : (key : Key) (d : Option Data) (o : Option (List (List ℕ))) → list_of key d ≡ Ok o → ForSome o (λ ts. IsShort ts × All (λ t. IsTrue (takes key t)) ts)
+list_of_ok : (key : Key) (d : Option Data) (o : Option (List (List ℕ))) → list_of key d ≡ Ok o → ForSome o (λ ts. (length ts ≤ most_entries key) × All (λ t. IsTrue (takes key t)) ts)
 list_of_ok key None o h = λ ts e. cc
 list_of_ok key (Some d) o h = λ ts e.
     let (read, found, same) = went_on _ _ o h in
     let is : read ≡ ts = cc in
     rw (← is) (list_in_ok key (option_and_then item_texts (as_array d)) read found)
 
-list_ok : (key : Key) (table : Members) (ts : List (List ℕ)) → list key table ≡ Ok ts → IsShort ts × All (λ t. IsTrue (takes key t)) ts
+list_ok : (key : Key) (table : Members) (ts : List (List ℕ)) → list key table ≡ Ok ts → (length ts ≤ most_entries key) × All (λ t. IsTrue (takes key t)) ts
 list_ok key table ts h =
     let (o, read, given) = went_on _ _ ts h in
     list_of_ok key (value_at key table) o read ts (required_ok key o ts given)
@@ -156,18 +156,19 @@ setup_ok : (o : Option ℕ) → ForSome o (λ n. (0 ≤ n) × (n ≤ SETUP)) →
 setup_ok None h = omega arith
 setup_ok (Some n) h = (h n refl).1
 
-device_of_ok : (earlier : List DeviceEntry) (table : Members) (device : DeviceEntry) → device_of earlier table ≡ Ok device → IsDeviceEntry device × (has_device earlier device.name ≡ false)
-device_of_ok earlier table device h =
+device_of_ok : (version : ℕ) (earlier : List DeviceEntry) (table : Members) (device : DeviceEntry) → device_of version earlier table ≡ Ok device → IsDeviceEntry device × (has_device earlier device.name ≡ false)
+device_of_ok version earlier table device h =
     let (name, name_read, h1) = went_on _ _ device h in
     let (rate_one, rate_one_read, h2) = went_on _ _ device h1 in
     let (rate_two, rate_two_read, h3) = went_on _ _ device h2 in
     let (setup, setup_read, h4) = went_on _ _ device h3 in
     let (media, media_read, h5) = went_on _ _ device h4 in
     let (formats, formats_read, h6) = went_on _ _ device h5 in
-    let h7 = known_ok _ _ device h6 in
-    let (new, h8) = new_ok (has_device earlier name) name _ device h7 in
-    let made : DeviceEntry = record { name = name; rate_one = rate_one; rate_two = rate_two; setup = unwrap_or setup 0; media = media; formats = formats } in
-    let same : made ≡ device = same_value made device h8 in
+    let (finishings, finishings_read, h7) = went_on (finishings_of version table) _ device h6 in
+    let h8 = known_ok _ _ device h7 in
+    let (new, h9) = new_ok (has_device earlier name) name _ device h8 in
+    let made : DeviceEntry = record { name = name; rate_one = rate_one; rate_two = rate_two; setup = unwrap_or setup 0; media = media; formats = formats; finishings = finishings } in
+    let same : made ≡ device = same_value made device h9 in
     let (few_media, each_media) = list_ok Media table media media_read in
     let (few_formats, each_format) = list_ok Formats table formats formats_read in
     subst (λ (d : DeviceEntry). IsDeviceEntry d × (has_device earlier d.name ≡ false)) same (
@@ -184,18 +185,18 @@ device_of_ok earlier table device h =
       new,
     )
 
-devices_of_ok : (earlier : List DeviceEntry) (tables : List Members) (devices : List DeviceEntry)
-    → All IsDeviceEntry earlier → AllPairs (λ a b. a.name ≢ b.name) earlier → devices_of earlier tables ≡ Ok devices
+devices_of_ok : (version : ℕ) (earlier : List DeviceEntry) (tables : List Members) (devices : List DeviceEntry)
+    → All IsDeviceEntry earlier → AllPairs (λ a b. a.name ≢ b.name) earlier → devices_of version earlier tables ≡ Ok devices
     → All IsDeviceEntry devices × AllPairs (λ a b. a.name ≢ b.name) devices × (length devices ≡ length earlier + length tables)
-devices_of_ok earlier [] devices before differ h =
+devices_of_ok version earlier [] devices before differ h =
     let same : earlier ≡ devices = cc in
     rw (← same) (before, differ, omega arith)
-devices_of_ok earlier (t ∷ ts) devices before differ h =
-    let (device, read, h1) = went_on (device_of earlier t) _ devices h in
-    let (here, new) = device_of_ok earlier t device read in
+devices_of_ok version earlier (t ∷ ts) devices before differ h =
+    let (device, read, h1) = went_on (device_of version earlier t) _ devices h in
+    let (here, new) = device_of_ok version earlier t device read in
     let all_before = All-push IsDeviceEntry earlier device before here in
     let all_differ = all_pairs_push (λ (a : DeviceEntry) (b : DeviceEntry). a.name ≢ b.name) earlier device differ (device_differs earlier device.name new) in
-    let (each, pairs, count) = devices_of_ok (earlier ++ device ∷ []) ts devices all_before all_differ h1 in
+    let (each, pairs, count) = devices_of_ok version (earlier ++ device ∷ []) ts devices all_before all_differ h1 in
     (each, pairs, omega (arith, count, length-append earlier (device ∷ [])))
 
 place_below : (devices : List DeviceEntry) (name : List ℕ) (place : ℕ) → place_of devices name ≡ Some place → place < length devices
@@ -253,7 +254,7 @@ printer_of_ok devices earlier table printer h =
       new,
     )
   where
-    as_few : (n m : ℕ) → n ≡ m → m ≤ LIST_ENTRIES → n ≤ LIST_ENTRIES
+    as_few : (n m : ℕ) → n ≡ m → m ≤ DEVICES → n ≤ DEVICES
     as_few n m e h = omega arith
 
 printers_of_ok : (devices : List DeviceEntry) (earlier : List PrinterEntry) (tables : List Members) (printers : List PrinterEntry)
@@ -282,17 +283,17 @@ none_differ R i j d before within = absurd (omega arith)
 
 settings_in_ok : (root : Members) (settings : ServerSettings) → settings_in root ≡ Ok settings → MeetsLimits settings
 settings_in_ok root settings h =
-    let (version, version_read, h1) = went_on (number Version 1 1 root) _ settings h in
+    let (version, version_read, h1) = went_on (number Version 1 2 root) _ settings h in
     let (base, base_read, h2) = went_on (text UriBase root) _ settings h1 in
     let (operators, operators_read, h3) = went_on (optional_list Operators root) _ settings h2 in
     let (device_tables, device_tables_read, h4) = went_on (tables Device DEVICES root) _ settings h3 in
     let (printer_tables, printer_tables_read, h5) = went_on (tables Printer PRINTERS root) _ settings h4 in
     let h6 = known_ok (other_key root_keys root) _ settings h5 in
-    let (devices, devices_read, h7) = went_on (devices_of [] device_tables) _ settings h6 in
+    let (devices, devices_read, h7) = went_on (devices_of version [] device_tables) _ settings h6 in
     let (printers, printers_read, h8) = went_on (printers_of devices [] printer_tables) _ settings h7 in
     let made : ServerSettings = record { uri_base = base; operators = unwrap_or operators []; devices = devices; printers = printers } in
     let same : made ≡ settings = same_value made settings h8 in
-    let (each_device, devices_differ, count_devices) = devices_of_ok [] device_tables devices (All-nil IsDeviceEntry) (none_differ (λ (a : DeviceEntry) (b : DeviceEntry). a.name ≢ b.name)) devices_read in
+    let (each_device, devices_differ, count_devices) = devices_of_ok version [] device_tables devices (All-nil IsDeviceEntry) (none_differ (λ (a : DeviceEntry) (b : DeviceEntry). a.name ≢ b.name)) devices_read in
     let (each_printer, printers_differ, count_printers) = printers_of_ok devices [] printer_tables printers (All-nil (IsPrinterEntry (length devices))) (none_differ (λ (a : PrinterEntry) (b : PrinterEntry). a.name ≢ b.name)) printers_read in
     let (some_device, few_devices) = as_many (length devices) (length device_tables) 1 DEVICES count_devices (tables_of_ok Device DEVICES (value_at Device root) device_tables device_tables_read) in
     let (some_printer, few_printers) = as_many (length printers) (length printer_tables) 1 PRINTERS count_printers (tables_of_ok Printer PRINTERS (value_at Printer root) printer_tables printer_tables_read) in

@@ -1,18 +1,19 @@
 -- Only a text that is no TOML has the fault of no TOML.
-use Rattle.std.proofs.Common.{◌≡◌, ℕ, ℤ, pos, negsuc, Bool, true, false, ◌&&◌, cond, leb, List, [], ◌∷◌, ◌++◌, length, Option, Some, None, option_and_then, Result, Ok, Err, refl}
+use Rattle.std.proofs.Common.{◌≡◌, ◌==◌, ℕ, ℤ, pos, negsuc, Bool, true, false, ◌&&◌, cond, leb, List, [], ◌∷◌, ◌++◌, length, Option, Some, None, option_and_then, unwrap_or, Result, Ok, Err, refl}
 use Rattle.std.specs.List.{list_all}
 use Rattle.toml.specs.Data.{Data, Members, as_integer, as_str, as_array}
 use Rattle.toml.specs.Parse.{parse_document}
-use Rattle.base_types.specs.declared.limits.TheConstants.Limits.{RATE, SETUP, DEVICES, PRINTERS, LIST_ENTRIES}
+use Rattle.base_types.specs.declared.limits.TheConstants.Limits.{RATE, SETUP, DEVICES, PRINTERS}
 use Rattle.settings_file.specs.declared.key.Key.{Key}
-use Rattle.settings_file.specs.declared.key.Key.TheVariants.{Version, UriBase, Operators, Device, Printer, Name, RateOne, RateTwo, Setup, Media, Formats, Devices, MediaDefault, FormatDefault}
+use Rattle.settings_file.specs.declared.key.Key.TheVariants.{Version, UriBase, Operators, Device, Printer, Name, RateOne, RateTwo, Setup, Media, Formats, Finishings, Devices, MediaDefault, FormatDefault}
 use Rattle.settings_file.specs.declared.fault.SettingsFault.{SettingsFault}
 use Rattle.settings_file.specs.declared.fault.SettingsFault.TheVariants.{NotToml}
 use Rattle.settings_file.specs.Fault.{Fault, Gives, not_toml, missing, wrong_kind, out_of_range, unknown, twice}
 use Rattle.settings_file.specs.Settings.{DeviceEntry, PrinterEntry, ServerSettings}
 use Rattle.text.specs.Steps.{◌>>=◌}
-use Rattle.settings_file.specs.Entry.{required, number_in, number_of, number, optional_number, takes, text_in, text_of, text, new_texts, list_in, list_of, optional_list, list, tables_in, tables_of, tables, item_texts, item_tables, value_at, other_key, unless_unknown, unless_twice}
-use Rattle.settings_file.specs.Device.{device_keys, has_device, place_of, device_of, devices_of}
+use Rattle.settings_file.specs.Entry.{required, number_in, number_of, number, optional_number, takes, text_in, text_of, text, new_texts, most_entries, list_in, list_of, optional_list, list, tables_in, tables_of, tables, item_texts, item_tables, value_at, other_key, unless_unknown, unless_twice}
+use Rattle.base_types.specs.Finishings.{no_finishings}
+use Rattle.settings_file.specs.Device.{device_keys, finishings_named, finishings_of, has_device, place_of, device_of, devices_of}
 use Rattle.settings_file.specs.Printer.{printer_keys, has_printer, known_place, places_of, printer_of, printers_of}
 use Rattle.settings_file.specs.Reading.{root_keys, settings_in, settings_read, settings_of}
 
@@ -76,7 +77,7 @@ of_text_of key (Some d) = of_text_in key (as_str d)
 of_list_in : (key : Key) (o : Option (List (List ℕ))) → IsOfTable (list_in key o)
 of_list_in key None = is_wrong_kind key
 of_list_in key (Some ts) =
-    either (leb (length (new_texts [] ts)) LIST_ENTRIES && list_all (takes key) (new_texts [] ts)) _ _ (given (new_texts [] ts)) (is_out_of_range key)
+    either (leb (length (new_texts [] ts)) (most_entries key) && list_all (takes key) (new_texts [] ts)) _ _ (given (new_texts [] ts)) (is_out_of_range key)
 
 of_list_of : (key : Key) (d : Option Data) → IsOfTable (list_of key d)
 of_list_of key None = given None
@@ -102,20 +103,26 @@ of_known (Some name) rest h = is_unknown name
 of_new : {A : Type 0} (b : Bool) (name : List ℕ) (rest : Result A Fault) → IsOfTable rest → IsOfTable (unless_twice b name rest)
 of_new b name rest h = either b _ _ (is_twice name) h
 
-of_device : (earlier : List DeviceEntry) (table : Members) → IsOfTable (device_of earlier table)
-of_device earlier table =
+of_finishings : (version : ℕ) (table : Members) → IsOfTable (finishings_of version table)
+of_finishings version table =
+    either (version == 1) _ _ (given no_finishings)
+    (chain (optional_list Finishings table) _ (of_list_of Finishings (value_at Finishings table)) (λ entries. given (finishings_named (unwrap_or entries []))))
+
+of_device : (version : ℕ) (earlier : List DeviceEntry) (table : Members) → IsOfTable (device_of version earlier table)
+of_device version earlier table =
     chain (text Name table) _ (of_text_of Name (value_at Name table)) (λ name.
     chain (number RateOne 1 RATE table) _ (of_number RateOne 1 RATE table) (λ rate_one.
     chain (optional_number RateTwo 1 RATE table) _ (of_number_of RateTwo 1 RATE (value_at RateTwo table)) (λ rate_two.
     chain (optional_number Setup 0 SETUP table) _ (of_number_of Setup 0 SETUP (value_at Setup table)) (λ setup.
     chain (list Media table) _ (of_list Media table) (λ media.
     chain (list Formats table) _ (of_list Formats table) (λ formats.
-    of_known (other_key device_keys table) _ (of_new (has_device earlier name) name _ (given _))))))))
+    chain (finishings_of version table) _ (of_finishings version table) (λ finishings.
+    of_known (other_key (device_keys version) table) _ (of_new (has_device earlier name) name _ (given _)))))))))
 
-of_devices : (earlier : List DeviceEntry) (ts : List Members) → IsOfTable (devices_of earlier ts)
-of_devices earlier [] = given earlier
-of_devices earlier (t ∷ ts) =
-    chain (device_of earlier t) _ (of_device earlier t) (λ device. of_devices (earlier ++ device ∷ []) ts)
+of_devices : (version : ℕ) (earlier : List DeviceEntry) (ts : List Members) → IsOfTable (devices_of version earlier ts)
+of_devices version earlier [] = given earlier
+of_devices version earlier (t ∷ ts) =
+    chain (device_of version earlier t) _ (of_device version earlier t) (λ device. of_devices version (earlier ++ device ∷ []) ts)
 
 of_place : (name : List ℕ) (o : Option ℕ) → IsOfTable (known_place name o)
 of_place name None = is_unknown name
@@ -144,13 +151,13 @@ of_printers devices earlier (t ∷ ts) =
 
 of_root : (root : Members) → IsOfTable (settings_in root)
 of_root root =
-    chain (number Version 1 1 root) _ (of_number Version 1 1 root) (λ version.
+    chain (number Version 1 2 root) _ (of_number Version 1 2 root) (λ version.
     chain (text UriBase root) _ (of_text_of UriBase (value_at UriBase root)) (λ base.
     chain (optional_list Operators root) _ (of_list_of Operators (value_at Operators root)) (λ operators.
     chain (tables Device DEVICES root) _ (of_tables_of Device DEVICES (value_at Device root)) (λ device_tables.
     chain (tables Printer PRINTERS root) _ (of_tables_of Printer PRINTERS (value_at Printer root)) (λ printer_tables.
     of_known (other_key root_keys root) _
-    (chain (devices_of [] device_tables) _ (of_devices [] device_tables) (λ devices.
+    (chain (devices_of version [] device_tables) _ (of_devices version [] device_tables) (λ devices.
     chain (printers_of devices [] printer_tables) _ (of_printers devices [] printer_tables) (λ printers.
     given _))))))))
 

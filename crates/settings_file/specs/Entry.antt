@@ -1,11 +1,11 @@
 -- What a table of the settings has at a key, or the fault there.
-use Rattle.std.specs.Prelude.{ℕ, ℤ, pos, negsuc, List, [], ◌∷◌, ◌++◌, Bool, true, ◌&&◌, if◌then◌else◌, nat_le, Option, Some, None, option_map, option_and_then, Result, Ok, Err, length}
+use Rattle.std.specs.Prelude.{ℕ, ℤ, pos, negsuc, List, [], ◌∷◌, ◌++◌, Bool, true, ◌&&◌, ◌||◌, if◌then◌else◌, nat_le, Option, Some, None, option_map, option_and_then, Result, Ok, Err, length, codes}
 use Rattle.std.specs.List.{list_all, list_any}
 use Rattle.std.specs.Str.{bytes_eq}
 use Rattle.toml.specs.Data.{Data, Members, no_members, member, Items, no_items, item, get_member, as_integer, as_str, as_array, as_table}
-use Rattle.base_types.specs.declared.limits.TheConstants.Limits.{LIST_ENTRIES}
+use Rattle.base_types.specs.declared.limits.TheConstants.Limits.{LIST_ENTRIES, DEVICES}
 use Rattle.settings_file.specs.declared.key.Key.{Key}
-use Rattle.settings_file.specs.declared.key.Key.TheVariants.{UriBase, Name, Media, Formats, MediaDefault, FormatDefault}
+use Rattle.settings_file.specs.declared.key.Key.TheVariants.{UriBase, Name, Media, Formats, Finishings, Devices, MediaDefault, FormatDefault}
 use Rattle.text.specs.Steps.{◌>>=◌}
 use Rattle.base_types.specs.Forms.{is_name, is_media, is_format, is_uri_base}
 use Rattle.settings_file.specs.Fault.{Fault, missing, wrong_kind, out_of_range, unknown, twice, key_name}
@@ -37,6 +37,10 @@ optional_number key low high table = number_of key low high (value_at key table)
 abbrev pub number : Key → ℕ → ℕ → Members → Result ℕ Fault
 number key low high table = optional_number key low high table >>= required key
 
+-- the text names a finishing
+abbrev pub is_finishing : List ℕ → Bool
+is_finishing bytes = (bytes_eq bytes (codes "staple") || bytes_eq bytes (codes "punch")) || bytes_eq bytes (codes "bind")
+
 -- the text is one that the key takes; an operator, and a printer's device, may be any text
 abbrev pub takes : Key → List ℕ → Bool
 takes UriBase bytes = is_uri_base bytes
@@ -44,6 +48,7 @@ takes Name bytes = is_name bytes
 takes Media bytes = is_media bytes
 takes MediaDefault bytes = is_media bytes
 takes Formats bytes = is_format bytes
+takes Finishings bytes = is_finishing bytes
 takes FormatDefault bytes = is_format bytes
 takes _ bytes = true
 
@@ -82,12 +87,17 @@ abbrev pub new_texts : List (List ℕ) → List (List ℕ) → List (List ℕ)
 new_texts found [] = []
 new_texts found (t ∷ ts) = if is_among found t then new_texts found ts else (t ∷ new_texts (found ++ t ∷ []) ts)
 
+-- how many entries a list may have: a printer may have each device, other lists are shorter
+abbrev pub most_entries : Key → ℕ
+most_entries Devices = DEVICES
+most_entries _ = LIST_ENTRIES
+
 -- a list of texts that the key takes, each once
 abbrev pub list_in : Key → Option (List (List ℕ)) → Result (List (List ℕ)) Fault
 list_in key None = Err (wrong_kind key)
 list_in key (Some texts) =
     let entries = new_texts [] texts in
-    if nat_le (length entries) LIST_ENTRIES && list_all (takes key) entries then Ok entries else Err (out_of_range key)
+    if nat_le (length entries) (most_entries key) && list_all (takes key) entries then Ok entries else Err (out_of_range key)
 
 abbrev pub list_of : Key → Option Data → Result (Option (List (List ℕ))) Fault
 list_of key None = Ok None

@@ -1,7 +1,7 @@
 -- Why settings are refused, and the words that say so.
 use Rattle.std.specs.Prelude.{◌≡◌, ℕ, List, ◌++◌, Option, Some, None, IfSome, Result, Ok, Err, codes}
 use Rattle.settings_file.specs.declared.key.Key.{Key}
-use Rattle.settings_file.specs.declared.key.Key.TheVariants.{Version, UriBase, Operators, Device, Printer, Name, RateOne, RateTwo, Setup, Media, Formats, Devices, MediaDefault, FormatDefault}
+use Rattle.settings_file.specs.declared.key.Key.TheVariants.{Version, UriBase, Operators, Device, Printer, Name, RateOne, RateTwo, Setup, Media, Formats, Finishings, Devices, MediaDefault, FormatDefault}
 use Rattle.settings_file.specs.declared.fault.SettingsFault.{SettingsFault}
 use Rattle.settings_file.specs.declared.fault.SettingsFault.TheVariants as code
 
@@ -27,6 +27,7 @@ key_name RateTwo = codes "rate_two"
 key_name Setup = codes "setup"
 key_name Media = codes "media"
 key_name Formats = codes "formats"
+key_name Finishings = codes "finishings"
 key_name Devices = codes "devices"
 key_name MediaDefault = codes "media_default"
 key_name FormatDefault = codes "format_default"

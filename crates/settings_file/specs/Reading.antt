@@ -21,13 +21,13 @@ root_keys = Version ∷ UriBase ∷ Operators ∷ Device ∷ Printer ∷ []
 -- the settings of the root table
 abbrev pub settings_in : Members → Result ServerSettings Fault
 settings_in root =
-    number Version 1 1 root >>= (λ version.
+    number Version 1 2 root >>= (λ version.
     text UriBase root >>= (λ uri_base.
     optional_list Operators root >>= (λ operators.
     tables Device DEVICES root >>= (λ device_tables.
     tables Printer PRINTERS root >>= (λ printer_tables.
     unless_unknown (other_key root_keys root) (
-    devices_of [] device_tables >>= (λ devices.
+    devices_of version [] device_tables >>= (λ devices.
     printers_of devices [] printer_tables >>= (λ printers.
     Ok (record { uri_base = uri_base; operators = unwrap_or operators []; devices = devices; printers = printers })))))))))
 

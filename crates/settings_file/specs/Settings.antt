@@ -2,6 +2,7 @@
 use Rattle.std.specs.Prelude.{ℕ, List, Option, ◌≤◌, ◌<◌, ◌≢◌, All, AllPairs, length}
 use Rattle.std.specs.Option.{ForSome}
 use Rattle.base_types.specs.Ranges.{IsRate, IsSetup}
+use Rattle.base_types.specs.declared.finishings.Finishings.{Finishings}
 use Rattle.base_types.specs.declared.limits.TheConstants.Limits.{DEVICES, PRINTERS, LIST_ENTRIES}
 use Rattle.base_types.specs.Forms.{IsName, IsMedia, IsFormat, IsUriBase}
 
@@ -13,6 +14,7 @@ pub record DeviceEntry : Type 0 where
   pub setup : ℕ
   pub media : List (List ℕ)
   pub formats : List (List ℕ)
+  pub finishings : Finishings
 
 -- what the settings say of a printer; its devices are places in the list of devices
 pub record PrinterEntry : Type 0 where
@@ -27,7 +29,7 @@ pub record ServerSettings : Type 0 where
   pub devices : List DeviceEntry
   pub printers : List PrinterEntry
 
--- a list within the bound on lists
+-- a list within the bound on lists but that of a printer's devices
 abbrev pub IsShort : {A : Type 0} → List A → Type 0
 IsShort entries = length entries ≤ LIST_ENTRIES
 
@@ -45,7 +47,7 @@ pub record IsDeviceEntry (device : DeviceEntry) : Type 0 where
 -- a printer's entry is within the limits, and names devices among so many
 pub record IsPrinterEntry (devices : ℕ) (printer : PrinterEntry) : Type 0 where
   pub name : IsName printer.name
-  pub few_devices : IsShort printer.devices
+  pub few_devices : length printer.devices ≤ DEVICES
   pub each_device : All (λ place. place < devices) printer.devices
   pub media_default : IsMedia printer.media_default
   pub format_default : IsFormat printer.format_default

@@ -3,23 +3,35 @@ ghost use Rattle.std.specs.Prelude.{◌≡◌, [], map};
 ghost use Rattle.std.specs.Str.{bytes_eq};
 ghost use Rattle.toml.specs.View.{table_view};
 ghost use Rattle.settings_file.specs.Fault.{Gives};
-ghost use Rattle.settings_file.specs.Device.{device_of, devices_of, has_device, place_of};
+ghost use Rattle.settings_file.specs.Device.{device_keys, finishings_named, finishings_of, device_of, devices_of, has_device, place_of};
 
-use crate::entry::{know_keys, list, number, optional_number, text};
+use crate::entry::{is_among, know_keys, list, number, optional_list, optional_number, text};
 use crate::fault::SettingsFault;
 use crate::key::Key;
 use crate::settings::DeviceSettings;
-use base_types::Limits;
+use base_types::{Finishings, Limits, Text};
 use std::alloc::Global;
 use toml::Table;
 
-const DEVICE_KEYS: [Key; 6] = [
+// The keys of a device in settings of version 1.
+const FIRST_DEVICE_KEYS: [Key; 6] = [
     Key::Name,
     Key::RateOne,
     Key::RateTwo,
     Key::Setup,
     Key::Media,
     Key::Formats,
+];
+
+// Those in settings of version 2.
+const DEVICE_KEYS: [Key; 7] = [
+    Key::Name,
+    Key::RateOne,
+    Key::RateTwo,
+    Key::Setup,
+    Key::Media,
+    Key::Formats,
+    Key::Finishings,
 ];
 
 // Whether the device has the name.
@@ -45,13 +57,48 @@ pub(crate) fn place_of(devices: &[DeviceSettings], name: &[u8]) -> Option<usize>
     devices.iter().position(|device| is_named(device, name))
 }
 
+// The finishings that a list names.
+fn finishings_named(entries: &[Text]) -> Finishings
+    ensures { result ≡ finishings_named entries.now }
+{
+    Finishings {
+        staple: is_among(entries, b"staple"),
+        punch: is_among(entries, b"punch"),
+        bind: is_among(entries, b"bind"),
+    }
+}
+
+// The finishings of a device.
+fn read_finishings(alloc: Global, version: u32, table: &Table) -> Result<Finishings, SettingsFault>
+    ensures { Gives (λ f. f) result (finishings_of version (table_view table.now)) }
+{
+    if version == 1 {
+        return Ok(Finishings::none());
+    }
+    let entries = optional_list(alloc, table, Key::Finishings)?;
+    let entries = entries.unwrap_or(Vec::new(alloc));
+    Ok(finishings_named(&entries))
+}
+
+// The keys of a device.
+fn device_keys(version: u32) -> &'static [Key]
+    ensures { result.now ≡ device_keys version }
+{
+    if version == 1 {
+        &FIRST_DEVICE_KEYS
+    } else {
+        &DEVICE_KEYS
+    }
+}
+
 // The device of a table, after those of earlier tables.
 fn read_device(
     alloc: Global,
+    version: u32,
     earlier: &[DeviceSettings],
     table: &Table,
 ) -> Result<DeviceSettings, SettingsFault>
-    ensures { Gives (λ d. d) result (device_of earlier.now (table_view table.now)) }
+    ensures { Gives (λ d. d) result (device_of version earlier.now (table_view table.now)) }
 {
     let name = text(alloc, table, Key::Name)?;
     let rate_one = number(table, Key::RateOne, 1, Limits::RATE)?;
@@ -59,7 +106,8 @@ fn read_device(
     let setup = optional_number(table, Key::Setup, 0, Limits::SETUP)?;
     let media = list(alloc, table, Key::Media)?;
     let formats = list(alloc, table, Key::Formats)?;
-    know_keys(alloc, table, &DEVICE_KEYS)?;
+    let finishings = read_finishings(alloc, version, table)?;
+    know_keys(alloc, table, device_keys(version))?;
     if has_device(earlier, name.as_bytes()) {
         return Err(SettingsFault::Twice(name));
     }
@@ -70,19 +118,21 @@ fn read_device(
         setup: setup.unwrap_or(0),
         media,
         formats,
+        finishings,
     })
 }
 
-/// The devices of these tables.
+/// The devices of these tables, in settings of a version.
 pub(crate) fn read_devices(
     alloc: Global,
+    version: u32,
     tables: &[&Table],
 ) -> Result<Vec<DeviceSettings>, SettingsFault>
-    ensures { Gives (λ v. v.items) result (devices_of [] (map (λ t. table_view t.now) tables.now)) }
+    ensures { Gives (λ v. v.items) result (devices_of version [] (map (λ t. table_view t.now) tables.now)) }
 {
     let mut devices = Vec::new(alloc);
     for table in tables {
-        let device = read_device(alloc, &devices, table)?;
+        let device = read_device(alloc, version, &devices, table)?;
         devices.push(device)?;
     }
     Ok(devices)

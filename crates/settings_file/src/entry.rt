@@ -3,7 +3,7 @@ ghost use Rattle.std.specs.Prelude.{◌≡◌, ◌≤◌, ◌<◌, [], vec_len, 
 ghost use Rattle.std.specs.List.{list_all};
 ghost use Rattle.toml.specs.View.{view, array_view, table_view};
 ghost use Rattle.settings_file.specs.Fault.{Gives, fault_of, unknown};
-ghost use Rattle.settings_file.specs.Entry.{value_at, number_in, optional_number, number, takes, text, item_texts, item_tables, is_among, new_texts, list_in, optional_list, list, tables_in, tables, is_one_of, other_key};
+ghost use Rattle.settings_file.specs.Entry.{value_at, number_in, optional_number, number, takes, is_finishing, text, item_texts, item_tables, is_among, new_texts, most_entries, list_in, optional_list, list, tables_in, tables, is_one_of, other_key};
 
 use crate::fault::SettingsFault;
 use crate::key::Key;
@@ -64,6 +64,13 @@ pub(crate) fn number(table: &Table, key: Key, low: u32, high: u32) -> Result<u32
     number.ok_or(SettingsFault::Missing(key))
 }
 
+// Whether a text names a finishing.
+fn is_finishing(text: &[u8]) -> bool
+    ensures { result ≡ is_finishing text.now }
+{
+    text == b"staple".as_slice() || text == b"punch".as_slice() || text == b"bind".as_slice()
+}
+
 // Whether a text is one that the key takes.
 fn takes(key: Key, text: &[u8]) -> bool
     ensures { result ≡ takes key text.now }
@@ -73,6 +80,7 @@ fn takes(key: Key, text: &[u8]) -> bool
         Key::Name => is_name(text),
         Key::Media | Key::MediaDefault => is_media(text),
         Key::Formats | Key::FormatDefault => is_format(text),
+        Key::Finishings => is_finishing(text),
         _ => true,
     }
 }
@@ -122,9 +130,9 @@ fn item_tables<'a>(alloc: Global, array: &'a Array) -> Result<Option<Vec<&'a Tab
     Ok(Some(tables))
 }
 
-// Whether a text is among those found.
+/// Whether a text is among those found.
 #[tactic(auto, unfolding(crate::specs::Entry::is_among))]
-fn is_among(found: &[Text], text: &[u8]) -> bool
+pub(crate) fn is_among(found: &[Text], text: &[u8]) -> bool
     ensures { result ≡ is_among found.now text.now }
 {
     found.iter().any(|entry| entry.as_bytes() == text)
@@ -137,16 +145,26 @@ fn takes_all(key: Key, texts: &[Text]) -> bool
     texts.iter().all(|text| takes(key, text.as_bytes()))
 }
 
-// Each of the texts once, if they are few enough for a list.
-fn new_texts(alloc: Global, texts: &[&str]) -> Result<Option<Vec<Text>>, AllocError>
+// How many entries a list may have.
+fn most_entries(key: Key) -> usize
+    ensures { result ≡ most_entries key }
+{
+    match key {
+        Key::Devices => Limits::DEVICES,
+        _ => Limits::LIST_ENTRIES,
+    }
+}
+
+// Each of the texts once, if they are at most so many.
+fn new_texts(alloc: Global, most: usize, texts: &[&str]) -> Result<Option<Vec<Text>>, AllocError>
     ensures each_once { IfOk result (λ r. IfSome r (λ v. v.items ≡ new_texts [] (map (λ t. t.now) texts.now))) }
-    ensures few { IfOk result (λ r. IfSome r (λ v. vec_len v ≤ Limits.LIST_ENTRIES)) }
-    ensures many { IfOk result (λ r. IfNone r (Limits.LIST_ENTRIES < length (new_texts [] (map (λ t. t.now) texts.now)))) }
+    ensures few { IfOk result (λ r. IfSome r (λ v. vec_len v ≤ most)) }
+    ensures many { IfOk result (λ r. IfNone r (most < length (new_texts [] (map (λ t. t.now) texts.now)))) }
 {
     let mut found: Vec<Text> = Vec::new(alloc);
     for text in texts {
         if !is_among(&found, text.as_bytes()) {
-            if found.len() == Limits::LIST_ENTRIES {
+            if found.len() == most {
                 return Ok(None);
             }
             let entry = Text::copy_of(alloc, text.as_bytes())?;
@@ -166,7 +184,7 @@ fn list_in(alloc: Global, key: Key, array: Option<&Array>) -> Result<Vec<Text>, 
     let Some(texts) = item_texts(alloc, array)? else {
         return Err(SettingsFault::WrongKind(key));
     };
-    match new_texts(alloc, &texts)? {
+    match new_texts(alloc, most_entries(key), &texts)? {
         Some(entries) if takes_all(key, &entries) => Ok(entries),
         _ => Err(SettingsFault::OutOfRange(key)),
     }

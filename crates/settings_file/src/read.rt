@@ -73,13 +73,13 @@ fn read_text(alloc: Global, text: &str) -> Result<Settings, SettingsFault>
 fn read_root(alloc: Global, root: &Table) -> Result<Settings, SettingsFault>
     ensures { Gives (λ s. s) result (settings_in (table_view root.now)) }
 {
-    number(root, Key::Version, 1, 1)?;
+    let version = number(root, Key::Version, 1, 2)?;
     let uri_base = text(alloc, root, Key::UriBase)?;
     let operators = optional_list(alloc, root, Key::Operators)?;
     let device_tables = tables(alloc, root, Key::Device, Limits::DEVICES)?;
     let printer_tables = tables(alloc, root, Key::Printer, Limits::PRINTERS)?;
     know_keys(alloc, root, &ROOT_KEYS)?;
-    let devices = read_devices(alloc, &device_tables)?;
+    let devices = read_devices(alloc, version, &device_tables)?;
     let printers = read_printers(alloc, &devices, &printer_tables)?;
     Ok(Settings {
         uri_base,

@@ -1,4 +1,4 @@
-use base_types::{PrinterSet, Text};
+use base_types::{Finishings, PrinterSet, Text};
 use std::marker::Model;
 
 /// The settings of a server. In clauses they are a record of the same fields.
@@ -42,6 +42,8 @@ pub struct DeviceSettings {
     pub media: Vec<Text>,
     /// The document formats that it prints.
     pub formats: Vec<Text>,
+    /// The finishings that it has.
+    pub finishings: Finishings,
 }
 
 impl Model for DeviceSettings {
@@ -58,6 +60,7 @@ impl Model for DeviceSettings {
       setup = d.setup;
       media = d.media.items;
       formats = d.formats.items;
+      finishings = d.finishings;
     } };
 
     ghost invariant = { λ d. IsRate d.rate_one × ForSome d.rate_two IsRate × IsSetup d.setup };
@@ -67,7 +70,7 @@ impl Model for DeviceSettings {
 #[derive(Debug, Drop)]
 pub struct PrinterSettings {
     pub name: Text,
-    /// Its devices, in the order in which it names them.
+    /// Its devices, in the order in which it names them: at most [`base_types::Limits::DEVICES`].
     pub devices: PrinterSet,
     /// The medium of a job that names none.
     pub media_default: Text,

@@ -2,7 +2,7 @@ use Rattle.std.proofs.Common.{◌≡◌, ◌<◌, ◌+◌, length, get_or, max, 
 use Rattle.std.specs.Prelude.{slice_get}
 use Rattle.std.specs.Option.{option_copied}
 use Rattle.capabilities.specs.Cause.{devices_of, filters_of, order_of}
-use Rattle.capabilities.proofs.Stages.{stage_of, stage_with, stage_more, order_more, order_at_end, passed_if_failed, passed_if_none, passed_by, cause_at_stage, none_past_stages, past_if_able, has_able, order_at_most_four}
+use Rattle.capabilities.proofs.Stages.{stage_of, stage_with, stage_more, order_more, order_at_end, passed_if_failed, passed_if_none, passed_by, cause_at_stage, none_past_stages, past_if_able, has_able, order_at_most_five}
 use Rattle.capabilities.proofs.cause.stranded_cause.Goals.{in-Some+in-Some-first_failed, in_default}
 use Rattle.capabilities.proofs.cause.stranded_cause.Goals as goal
 
@@ -41,4 +41,4 @@ returns-clause-cause c = cause_at_stage c.args.needs.now (devices_of c.args.prin
 pub returns-clause-none : goal.returns-clause-none
 returns-clause-none c =
     let order = order_at_end c.args.needs.now c.args.printer.now c.args.devices.now c.loop-device.device-index (order_of c.loop-device.cause) (search rules) c.loop-device.invariant in
-    (λ e. absurd (cc), λ able. absurd (omega (arith, order, order_at_most_four c.loop-device.cause, past_if_able c.args.needs.now c.args.printer.now c.args.devices.now able)))
+    (λ e. absurd (cc), λ able. absurd (omega (arith, order, order_at_most_five c.loop-device.cause, past_if_able c.args.needs.now c.args.printer.now c.args.devices.now able)))

@@ -5,4 +5,4 @@ use Rattle.settings_file.proofs.device.read_devices.Given as goal
 
 abbrev pub invariant-loop-table : goal.invariant-loop-table
 invariant-loop-table l =
-    devices_of [] (map (λ t. table_view t.now) l.tables) ≡ devices_of l.devices.items (map (λ t. table_view t.now) (drop l.table-index l.tables))
+    devices_of l.version [] (map (λ t. table_view t.now) l.tables) ≡ devices_of l.version l.devices.items (map (λ t. table_view t.now) (drop l.table-index l.tables))
