@@ -2,7 +2,6 @@
 -- makes, and what it is answered.
 use Rattle.std.specs.Prelude.{ℕ, ◌≡◌, false, List, [], ◌∷◌, length, Result, Ok, MatchResult}
 use Rattle.text.specs.Steps.{◌>>=◌}
-use Rattle.base_types.specs.Finishings.{no_finishings}
 use Rattle.ipp_codec.specs.Message.{IppGroup}
 use Rattle.printer_objects.specs.Created.{created_group}
 use Rattle.spool.specs.Submission.{Submission, spooled_of}
@@ -30,7 +29,7 @@ submission_of request now printer format =
       name = request.job.name;
       priority = template.priority;
       sides = template.sides;
-      finishings = no_finishings;
+      finishings = template.finishings;
       media = medium_of printer.offer request.job.template;
       copies = template.copies;
       held = template.held;

@@ -9,7 +9,7 @@ use crate::checks::{
 };
 use crate::event::{AskedJob, PrintJob};
 use crate::reply::{Reply, refuse, taken_with};
-use base_types::{Finishings, Moment, PrinterId, Text};
+use base_types::{Moment, PrinterId, Text};
 use ipp_codec::Group;
 use job_objects::{JobState, waiting_reasons};
 use job_template::{RequestAttributes, medium_of, template_of};
@@ -154,7 +154,7 @@ fn asked_of_format(
         name,
         priority: template.priority,
         sides: template.sides,
-        finishings: Finishings::none(),
+        finishings: template.finishings,
         media,
         copies: template.copies,
         held: template.held,
