@@ -1,5 +1,5 @@
 //! What a job costs at a place from the end of a device's list.
-ghost use Rattle.std.specs.Prelude.{◌≡◌, ◌≤◌};
+ghost use Rattle.std.specs.Prelude.{◌≡◌, ◌+◌, ◌*◌, ◌≤◌, min, suc};
 ghost use Rattle.assignment.specs.Costs.{cost_at, cost_of, row_of};
 
 use base_types::Limits;
@@ -7,7 +7,9 @@ use std::marker::Model;
 
 /// What a place costs a job that its device can't print: more than any other place. So each place
 /// has a cost, and a search has no pairs to leave out. It is also the job's time there.
-pub(crate) const UNABLE: u64 = 4 * Limits::WAIT;
+/// No cost on a device that is able reaches it, and as many such times as there may be jobs fit 64
+/// bits.
+pub(crate) const UNABLE: u64 = Limits::WAIT / 2 * 3;
 
 /// A place of a device: how many places come after it. The last place of a list has none.
 #[derive(Clone, Copy, Debug, PartialEq, Eq)]
@@ -73,12 +75,19 @@ pub(crate) fn cost(waits: &[u64], row: &[u64], place: Place) -> u64
     ensures low { result ≤ UNABLE }
 {
     match (row.get(place.device), waits.get(place.device)) {
-        (Some(time), Some(wait)) => {
-            let behind = time.saturating_mul(place.after);
-            wait.saturating_add(*time)
-                .saturating_add(behind)
-                .min(UNABLE)
-        }
+        (Some(time), Some(wait)) => cost_with(*time, *wait, place.after),
         _ => UNABLE,
     }
+}
+
+/// The cost with a time and a wait. Where they are in the range of a class, and so is the number of
+/// places after it, 64 bits are enough, and faster.
+fn cost_with(time: u64, wait: u64, after: u64) -> u64
+    ensures { result ≡ min (wait + suc after * time) UNABLE }
+{
+    if after < Limits::UNFINISHED_JOBS as u64 && time <= UNABLE && wait <= UNABLE {
+        return (wait + time * (after + 1)).min(UNABLE);
+    }
+    let work = u128::from(time) * (u128::from(after) + 1);
+    (u128::from(wait) + work).min(u128::from(UNABLE)) as u64
 }

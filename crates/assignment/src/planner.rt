@@ -1,5 +1,6 @@
 //! What each planner promises.
 ghost use Rattle.std.specs.Prelude.{◌≡◌, ◌+◌, ◌*◌, ◌^◌, ◌<◌, ◌≤◌, IfOk, length};
+ghost use Rattle.cost_table.specs.Class.{IsClass};
 ghost use Rattle.prices.specs.Total.{IsBest};
 ghost use Rattle.prices.specs.Prices.{IsProved};
 ghost use Rattle.assignment.specs.Entries.{EachAble};
@@ -39,6 +40,7 @@ impl Lazy {
         requires able { EachAble (T.class times.old) }
         requires room { T.looked times.old < 2 ^ 62 }
         ensures proved { IfOk result (λ p. IsProved (T.class times.old) p.way p.prices p.total) }
+        ensures best { IfOk result (λ p. IsBest (T.class times.old) p.way) }
         ensures same { T.class times.new ≡ T.class times.old }
         ensures looked { let jobs = length (T.class times.old).ids in let devices = length (T.class times.old).waits in
             T.looked times.new ≤ T.looked times.old + jobs * jobs * (jobs + devices) }
@@ -50,9 +52,7 @@ impl Lazy {
 impl Planner for Lazy {
     fn plan_class(&self, class: &ClassProblem) -> Result<PricedWay, AllocError> {
         let mut counted = Counted::new(class);
-        let priced = self.plan_counted(&mut counted)?;
-        fair_is_best(class, &priced);
-        Ok(priced)
+        self.plan_counted(&mut counted)
     }
 }
 
@@ -83,6 +83,7 @@ fn plan<T: Times>(alloc: Global, times: &mut T, shown: Shown) -> Result<PricedWa
     requires able { EachAble (T.class times.old) }
     requires room { T.looked times.old < 2 ^ 62 }
     ensures proved { IfOk result (λ p. IsProved (T.class times.old) p.way p.prices p.total) }
+    ensures class { IsClass (T.class times.old) }
     ensures same { T.class times.new ≡ T.class times.old }
     ensures looked { let jobs = length (T.class times.old).ids in let devices = length (T.class times.old).waits in
         T.looked times.new ≤ T.looked times.old + jobs * jobs * (jobs + devices) }

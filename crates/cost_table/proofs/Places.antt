@@ -1,5 +1,5 @@
 -- Where the jobs of a class stand, and which pairs have a time.
-use Rattle.std.proofs.Common.{◌≡◌, ◌==◌, ℕ, ◌<◌, ◌≤◌, List, [], length, get_or, None, Some, Result, Ok, Err, MatchOption, Contains, arith, refl, sym, ◌∙◌, not, eqb, inl, inr}
+use Rattle.std.proofs.Common.{◌≡◌, ◌==◌, ℕ, ◌<◌, ◌≤◌, List, [], length, get_or, Option, None, Some, Result, Ok, Err, MatchOption, Contains, arith, refl, sym, ◌∙◌, not, eqb, inl, inr}
 use Rattle.std.specs.List.{position_or_len}
 use Rattle.std.specs.List.Sorted.{IsBinarySearchResult, IsStrictlyIncreasing}
 use Rattle.std.specs.Ordering.{nat_cmp}
@@ -75,3 +75,11 @@ timed_device c class job device time e = elim (cases_lt device (length c.waits))
       let no_entry : get_or (get_or c.rows (place_of c.ids job) []) device None ≡ None = get_or_past (get_or c.rows (place_of c.ids job) []) device None (omega (arith, width)) in
       absurd (let none : None ≡ Some time = sym no_entry ∙ e in cc)
 ]
+
+none_or : (entry : Option ℕ) → ((time : ℕ) → entry ≡ Some time → ⊥) → entry ≡ None
+none_or None none = refl
+none_or (Some time) none = absurd (none time refl)
+
+-- beyond the devices there are no times
+pub untimed : (c : Class) → IsClass c → (job device : ℕ) → length c.waits ≤ device → time_in c job device ≡ None
+untimed c class job device past = none_or (time_in c job device) (λ time e. omega (arith, timed_device c class job device time e, past))

@@ -11,7 +11,7 @@ use Rattle.base_types.specs.Device.{Device}
 use Rattle.cost_table.specs.Time.{IsTime}
 use Rattle.cost_table.specs.Class.{IsClass, place_of}
 use Rattle.cost_table.specs.ClassJob.{JobOfClass, printer_of, IsPairTime, IsRowOf, CanBuild, IsClassOf}
-use Rattle.cost_table.proofs.Places.{place_at}
+use Rattle.cost_table.proofs.Places.{place_at, untimed}
 
 -- the first times of a job's row
 pub record RowSoFar (needs : JobNeeds) (devices : List Device) (printer : List ℕ) (count : ℕ) (times : List (Option ℕ)) : Type 0 where
@@ -122,4 +122,5 @@ built_is_class_of jobs devices printers waits count ids rows can so_far all =
           let at : slice_get jobs k ≡ Some job = slice_get-get_or jobs k job known.1 ∙ ap Some known.2 in
           let row = so_far.rows_so_far k job (omega (arith, known.1)) at in
           rw here (row.pairs place device found);
+      beyond = λ job place past. untimed (record { ids = ids; rows = rows; waits = waits }) (built_is_class jobs devices printers waits count ids rows can so_far all) job place (omega (arith, can.one_wait_each, past));
     }

@@ -31,11 +31,13 @@ pub record CanBuild (jobs : List JobOfClass) (devices : List Device) (printers :
   pub few_jobs : length jobs ≤ UNFINISHED_JOBS
   pub few_devices : length devices ≤ DEVICES
 
--- the class has just these jobs and waits, and exactly the able pairs with their times
+-- the class has just these jobs and waits, and exactly the able pairs with their times; there are no
+-- times beyond the devices
 pub record IsClassOf (jobs : List JobOfClass) (devices : List Device) (printers : List (List ℕ)) (waits : List ℕ) (c : Class) : Type 0 where
   pub ids : c.ids ≡ map (λ job. job.id) jobs
   pub waits_given : c.waits ≡ waits
   pub pairs : (job : JobOfClass) (place : ℕ) (device : Device) → Contains jobs job → slice_get devices place ≡ Some device → IsPairTime job.needs place device (printer_of job.needs printers) (time_in c job.id place)
+  pub beyond : (job place : ℕ) → length devices ≤ place → time_in c job place ≡ None
 
 -- a row of a job: a time for each device
 pub record IsRowOf (needs : JobNeeds) (devices : List Device) (printer : List ℕ) (row : List (Option ℕ)) : Type 0 where
