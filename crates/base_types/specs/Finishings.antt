@@ -15,11 +15,3 @@ pub record HasFinishings (there wanted : Finishings) : Type 0 where
 abbrev pub has_finishings : Finishings → Finishings → Bool
 has_finishings there wanted =
     (not wanted.staple || there.staple) && ((not wanted.punch || there.punch) && (not wanted.bind || there.bind))
-
--- the finishings of both
-abbrev pub finishings_of_both : Finishings → Finishings → Finishings
-finishings_of_both one other = record {
-  staple = one.staple || other.staple;
-  punch = one.punch || other.punch;
-  bind = one.bind || other.bind;
-}

@@ -1,6 +1,6 @@
 //! What is done to the sheets of a job once they are printed.
 ghost use Rattle.std.specs.Prelude.{◌≡◌};
-ghost use Rattle.base_types.specs.Finishings.{no_finishings, has_finishings, finishings_of_both};
+ghost use Rattle.base_types.specs.Finishings.{no_finishings, has_finishings};
 
 /// The finishings that a job wants, or that a device has (RFC 8011, section 5.2.6).
 #[derive(Clone, Copy, Debug, PartialEq, Eq)]
@@ -32,16 +32,5 @@ impl Finishings {
         (!wanted.staple || self.staple)
             && (!wanted.punch || self.punch)
             && (!wanted.bind || self.bind)
-    }
-
-    /// These finishings, and the others.
-    pub fn and(self, others: Finishings) -> Finishings
-        ensures { result ≡ finishings_of_both self others }
-    {
-        Finishings {
-            staple: self.staple || others.staple,
-            punch: self.punch || others.punch,
-            bind: self.bind || others.bind,
-        }
     }
 }
