@@ -1,7 +1,7 @@
 -- The checks of a request for a job, in their order (RFC 8011, sections 4.1.5 to 4.1.7, 4.2.1.1 and 4.2.1.2):
 -- its printer, its document's form, its template, and whether there is room for it. The first that fails
 -- decides. Which of them a request has to pass stands with its operation.
-use Rattle.std.specs.Prelude.{ℕ, ◌==◌, ◌&&◌, not, nat_lt, Bool, false, if◌then◌else◌, List, [], length, Option, Some, None, Result, Ok, Err, Unit, tt, codes}
+use Rattle.std.specs.Prelude.{ℕ, ◌==◌, ◌&&◌, not, nat_lt, Bool, false, if◌then◌else◌, List, [], length, Option, Some, None, Result, Ok, Err, codes}
 use Rattle.std.specs.Option.{option_map_or}
 use Rattle.std.specs.Str.{bytes_eq}
 use Rattle.base_types.specs.declared.limits.TheConstants.Limits.{JOB_OCTETS}
@@ -56,7 +56,7 @@ unsupported_asked fidelity template offer =
     else Ok (unsupported_of offer template)
 
 -- a job may have so many octets, and a further job is taken
-abbrev pub room_for : ℕ → State → Result Unit Refusal
+abbrev pub room_for : ℕ → State → Result (Unit {0}) Refusal
 room_for octets state =
     if nat_lt JOB_OCTETS octets then Err (refused Went.TooLarge)
     else if is_full state.spool then Err (refused Went.Busy)
