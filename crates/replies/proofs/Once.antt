@@ -16,7 +16,7 @@ use Rattle.dispatcher.specs.declared.status.Status.{Status}
 use Rattle.replies.specs.declared.header.Header.{Header}
 use Rattle.replies.specs.declared.asked.Asked.{Asked}
 use Rattle.replies.specs.declared.asked.Asked.TheVariants.{TooShort, Refused}
-use Rattle.replies.specs.Asked.{header_of, operation_of, status_of, Requests, answered, AsksUnder, Asks}
+use Rattle.replies.specs.Asked.{header_of, operation_of, status_of, Requests, answered, AsksBy, AsksUnder, Asks}
 use Rattle.replies.specs.Event.{event_of}
 
 -- the codec's three laws
@@ -90,7 +90,7 @@ same_request laws asked body given said (inr a) (inr b) =
 
 abbrev Under : Result Operation Status → ℕ → List ℕ → Asked → Type 0
 Under operation id body asked =
-    MatchResult operation (λ o. (event : Result Event Status) × Requests o body event × (asked ≡ answered id event)) (λ status. asked ≡ Refused status id)
+    MatchResult operation (λ o. AsksBy o id body asked) (λ status. asked ≡ Refused status id)
 
 same_under : Laws → (operation : Result Operation Status) (id : ℕ) (body : List ℕ) (given said : Asked) → Under operation id body given → Under operation id body said → given ≡ said
 same_under laws (Ok o) id body given said a b = a.2 ∙ ap (λ r. answered id r) (same_request laws o body a.0 b.0 a.1 b.1) ∙ sym b.2

@@ -60,11 +60,15 @@ abbrev pub answered : ℕ → Result Event Status → Asked
 answered id (Ok event) = Comes id event
 answered id (Err status) = Refused status id
 
+-- what a body asks that is sent as an operation
+abbrev pub AsksBy : Operation → ℕ → List ℕ → Asked → Type 0
+AsksBy operation id body asked = (event : Result Event Status) × Requests operation body event × (asked ≡ answered id event)
+
 -- what a body with this header asks
 abbrev pub AsksUnder : Header → List ℕ → Asked → Type 0
 AsksUnder header body asked =
     MatchResult (operation_of header)
-    (λ operation. (event : Result Event Status) × Requests operation body event × (asked ≡ answered header.request_id event))
+    (λ operation. AsksBy operation header.request_id body asked)
     (λ status. asked ≡ Refused status header.request_id)
 
 abbrev pub Asks : List ℕ → Asked → Type 0

@@ -1,9 +1,9 @@
 //! What a body asks.
 ghost use Rattle.std.specs.Prelude.{◌≡◌, IfOk};
-ghost use Rattle.replies.specs.Asked.{Asks, Requests, status_of};
+ghost use Rattle.replies.specs.Asked.{Asks, AsksBy, AsksUnder, Requests, status_of};
 
 use crate::event::event_of;
-use crate::header::{header_of, operation_of};
+use crate::header::{Header, header_of, operation_of};
 use dispatcher::{Event, Status};
 use ipp_codec::{CodecFault, decode};
 use printer_objects::Operation;
@@ -25,16 +25,34 @@ pub enum Asked {
 pub fn ipp_event(alloc: Global, body: &[u8]) -> Result<Asked, AllocError>
     ensures { IfOk result (λ asked. Asks body.now asked) }
 {
-    let Some(header) = header_of(body) else {
-        return Ok(Asked::TooShort);
-    };
-    let operation = match operation_of(header) {
-        Ok(operation) => operation,
-        Err(status) => return Ok(Asked::Refused(status, header.request_id)),
-    };
-    match event_by(alloc, operation, body)? {
-        Ok(event) => Ok(Asked::Event(header.request_id, event)),
+    match header_of(body) {
+        Some(header) => asked_under(alloc, header, body),
+        None => Ok(Asked::TooShort),
+    }
+}
+
+/// What a body with this header asks.
+fn asked_under(alloc: Global, header: Header, body: &[u8]) -> Result<Asked, AllocError>
+    ensures { IfOk result (λ asked. AsksUnder header body.now asked) }
+{
+    match operation_of(header) {
+        Ok(operation) => asked_by(alloc, header.request_id, operation, body),
         Err(status) => Ok(Asked::Refused(status, header.request_id)),
+    }
+}
+
+/// What a body asks that is sent as an operation, under this request-id.
+fn asked_by(
+    alloc: Global,
+    request_id: u32,
+    operation: Operation,
+    body: &[u8],
+) -> Result<Asked, AllocError>
+    ensures { IfOk result (λ asked. AsksBy operation request_id body.now asked) }
+{
+    match event_by(alloc, operation, body)? {
+        Ok(event) => Ok(Asked::Event(request_id, event)),
+        Err(status) => Ok(Asked::Refused(status, request_id)),
     }
 }
 
