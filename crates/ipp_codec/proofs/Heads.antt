@@ -3,7 +3,7 @@ use Rattle.std.proofs.Common.{◌≡◌, ℕ, suc, ◌+◌, ◌-◌, ◌*◌, �
 use Rattle.std.specs.List.{AllByRecursion}
 use Rattle.std.specs.Int.{w16, w32, to_be_bytes, from_be_bytes}
 use Rattle.std.proofs.lemmas.Nat.{be_bytes_2, be_bytes_4}
-use Rattle.std.proofs.lemmas.List.{length-append, take_at, take_rest}
+use Rattle.std.proofs.lemmas.List.{length-append, length-take-le, take_rest}
 use Rattle.ipp_codec.specs.declared.fault.CodecFault.{CodecFault}
 use Rattle.ipp_codec.specs.declared.place.Place.TheVariants.{Outside}
 use Rattle.ipp_codec.specs.Message.{IppMessage, IppGroup}
@@ -12,11 +12,9 @@ use Rattle.ipp_codec.specs.Grammar.{IsGroup, IsMessage}
 use Rattle.ipp_codec.specs.Place.{Follows}
 use Rattle.ipp_codec.specs.FirstFault.{FirstFault}
 use Rattle.ipp_codec.specs.Reading.{Walks}
-use Rattle.ipp_codec.specs.Shown.{levels_of, top}
-use Rattle.ipp_codec.specs.Views.{level}
+use Rattle.ipp_codec.specs.Decoding.{Lengths}
 use Rattle.ipp_codec.proofs.Fields.{IsBytes, IsBytes-take}
 use Rattle.ipp_codec.proofs.Fitting.{groups_of, groups_only, can_end}
-use Rattle.ipp_codec.proofs.Showing.{elements_in-bytes_of}
 
 -- the four numbers of a view
 abbrev pub front : ℕ → ℕ → ℕ → ℕ → List ℕ
@@ -28,9 +26,6 @@ pub record AreNumbers (a b c d : ℕ) : Type 0 where
   pub code : c < 2 ^ 16
   pub request_id : d < 2 ^ 32
 
-shown_groups : (es : List Element) → Follows Outside es → (level (bytes_of es)).groups ≡ groups_of es
-shown_groups es follows = ap (λ (xs : List Element). (top (levels_of xs)).groups) (elements_in-bytes_of Outside es (length (bytes_of es)) follows (omega arith))
-
 -- the message of these numbers and groups
 abbrev pub message_of : ℕ → ℕ → ℕ → ℕ → List IppGroup → IppMessage
 message_of major minor code id groups = record { major = major; minor = minor; code = code; request_id = id; groups = groups }
@@ -38,21 +33,17 @@ message_of major minor code id groups = record { major = major; minor = minor; c
 is_message : (major minor code id : ℕ) (groups : List IppGroup) → AreNumbers major minor code id → AllByRecursion IsGroup groups → IsMessage (message_of major minor code id groups)
 is_message major minor code id groups numbers fit = record { major = numbers.major; minor = numbers.minor; code = numbers.code; request_id = numbers.request_id; groups = fit }
 
-pub head_found : (bytes body seen : List ℕ) (major minor code id len : ℕ) → AreNumbers major minor code id → bytes ≡ front major minor code id ++ body → seen ≡ take len body → Walks body (Ok len)
-    → (tail : List ℕ) × IsMessage (message_of major minor code id (level seen).groups) × (bytes ≡ spelling (message_of major minor code id (level seen).groups) ++ tail) × (8 + len + 1 ≡ length (spelling (message_of major minor code id (level seen).groups)))
-head_found bytes body seen major minor code id len numbers split cut walks =
+head_found : (bytes body : List ℕ) (major minor code id len : ℕ) → AreNumbers major minor code id → bytes ≡ front major minor code id ++ body → Walks body (Ok len) → Lengths bytes (Ok (8 + len + 1))
+head_found bytes body major minor code id len numbers split walks =
     let es = walks.0 in
-    let body-is : seen ≡ bytes_of es = cut ∙ ap (λ (n : ℕ). take n body) walks.4 ∙ ap (λ (b : List ℕ). take (length (bytes_of es)) b) walks.3 ∙ take_at (bytes_of es) (3 ∷ walks.1) (length (bytes_of es)) refl in
-    let groups-are : (level seen).groups ≡ groups_of es = ap (λ (b : List ℕ). (level b).groups) body-is ∙ shown_groups es walks.2 in
     let spelled = groups_only es walks.2 walks.5 in
-    let m = message_of major minor code id (level seen).groups in
-    let elements-are : elements m.groups ≡ es = ap elements groups-are ∙ spelled.0 in
-    let spelling-is : spelling m ≡ front major minor code id ++ (bytes_of es ++ 3 ∷ []) = ap (λ (xs : List Element). front major minor code id ++ (bytes_of xs ++ 3 ∷ [])) elements-are in
+    let m = message_of major minor code id (groups_of es) in
+    let spelling-is : spelling m ≡ front major minor code id ++ (bytes_of es ++ 3 ∷ []) = ap (λ (xs : List Element). front major minor code id ++ (bytes_of xs ++ 3 ∷ [])) spelled.0 in
     let parts : bytes ≡ spelling m ++ walks.1 = split ∙ ap (λ (b : List ℕ). front major minor code id ++ b) (walks.3 ∙ sym (append_assoc (bytes_of es) (3 ∷ []) walks.1)) ∙ sym (append_assoc (front major minor code id) (bytes_of es ++ 3 ∷ []) walks.1) ∙ ap (λ (b : List ℕ). b ++ walks.1) (sym spelling-is) in
     let long : length (spelling m) ≡ 8 + len + 1 = ap length spelling-is ∙ omega (arith, length-append (bytes_of es) (3 ∷ []), walks.4) in
-    (walks.1, is_message major minor code id (level seen).groups numbers (subst (λ (gs : List IppGroup). AllByRecursion IsGroup gs) (sym groups-are) spelled.1), parts, sym long)
+    (m, walks.1, is_message major minor code id (groups_of es) numbers spelled.1, parts, sym long)
 
-pub head_fails : (bytes body : List ℕ) (major minor code id : ℕ) (f : CodecFault) → AreNumbers major minor code id → bytes ≡ front major minor code id ++ body → Walks body (Err f) → FirstFault bytes f
+head_fails : (bytes body : List ℕ) (major minor code id : ℕ) (f : CodecFault) → AreNumbers major minor code id → bytes ≡ front major minor code id ++ body → Walks body (Err f) → FirstFault bytes f
 head_fails bytes body major minor code id f numbers split walks =
     let es = walks.0 in
     let rest = can_end es walks.2 in
@@ -73,7 +64,7 @@ numbers_fit : (a b c0 c1 r0 r1 r2 r3 code id : ℕ) → a < 256 → b < 256 → 
 numbers_fit a b c0 c1 r0 r1 r2 r3 code id ha hb hc0 hc1 hr0 hr1 hr2 hr3 code-is id-is = record { major = ha; minor = hb; code = omega arith; request_id = omega arith }
 
 -- the first eight bytes
-pub split_header : (bytes : List ℕ) (code id : ℕ) → IsBytes bytes → 8 ≤ length bytes
+split_header : (bytes : List ℕ) (code id : ℕ) → IsBytes bytes → 8 ≤ length bytes
     → code ≡ from_be_bytes w16 (get_or bytes 2 0 ∷ get_or bytes 3 0 ∷ [])
     → id ≡ from_be_bytes w32 (get_or bytes 4 0 ∷ get_or bytes 5 0 ∷ get_or bytes 6 0 ∷ get_or bytes 7 0 ∷ [])
     → AreNumbers (get_or bytes 0 0) (get_or bytes 1 0) code id × (bytes ≡ front (get_or bytes 0 0) (get_or bytes 1 0) code id ++ drop 8 bytes)
@@ -89,8 +80,19 @@ split_header bytes code id fits long code-is id-is = absurd (omega (arith, long)
 pub behind : (bytes : List ℕ) → take (length bytes - 8) (drop 8 bytes) ≡ drop 8 bytes
 behind bytes = take_rest bytes 8
 
+-- what a walk behind the header comes to
+pub lengths : (bytes : List ℕ) (len : ℕ) → IsBytes bytes → 8 ≤ length bytes → Walks (drop 8 bytes) (Ok len) → Lengths bytes (Ok (8 + len + 1))
+lengths bytes len fits long walks =
+    let split = split_header bytes _ _ fits long refl refl in
+    head_found bytes (drop 8 bytes) _ _ _ _ len split.0 split.1 walks
+
 -- the same for a fault
 pub failed : (bytes : List ℕ) (f : CodecFault) → IsBytes bytes → 8 ≤ length bytes → Walks (drop 8 bytes) (Err f) → FirstFault bytes f
 failed bytes f fits long walks =
     let split = split_header bytes _ _ fits long refl refl in
     head_fails bytes (drop 8 bytes) _ _ _ _ f split.0 split.1 walks
+
+-- a walk ends within the bytes
+pub walked : (body : List ℕ) (len : ℕ) → Walks body (Ok len) → length (take len body) ≡ len
+walked body len walks =
+    length-take-le len body (omega (arith, walks.4, ap length walks.3, length-append (bytes_of walks.0) (3 ∷ walks.1)))

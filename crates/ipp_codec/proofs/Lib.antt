@@ -9,4 +9,6 @@ pub mod OneFault
 pub mod Steps
 pub mod Heads
 pub mod Once
+pub mod Staying
+pub mod Viewing
 pub mod Writing

@@ -11,15 +11,13 @@ use Rattle.ipp_codec.specs.declared.fault.CodecFault.{CodecFault}
 use Rattle.ipp_codec.specs.declared.fault.CodecFault.TheVariants.{Short, BadTag, BadLength, BadValue, LooseValue, BadCollection, TooDeep, TooLarge}
 use Rattle.ipp_codec.specs.declared.place.Place.{Place}
 use Rattle.ipp_codec.specs.declared.place.Place.TheVariants.{Outside}
-use Rattle.ipp_codec.specs.declared.view.MessageView.{MessageView}
 use Rattle.ipp_codec.specs.Message.{IppMessage, IppGroup}
 use Rattle.ipp_codec.specs.Spelling.{Element, bytes_of, elements, header, spelling}
 use Rattle.ipp_codec.specs.Grammar.{IsGroup, IsMessage, Spells}
 use Rattle.ipp_codec.specs.Place.{depth, place_from, Follows}
 use Rattle.ipp_codec.specs.FirstFault.{First, FirstFault, HeadFault, AtPart, AtField, AtValue, IsCut, IsTooLong}
 use Rattle.ipp_codec.specs.Shown.{Level, levels_of, top}
-use Rattle.ipp_codec.specs.Views.{message_shown}
-use Rattle.ipp_codec.specs.Decoding.{Heads, fault_within}
+use Rattle.ipp_codec.specs.Decoding.{Lengths, fault_within}
 use Rattle.ipp_codec.proofs.Tree.{Closed, read_groups, groups_follow, groups_closed}
 use Rattle.ipp_codec.proofs.Fitting.{Follows-front}
 use Rattle.ipp_codec.proofs.Unique.{unique, end_stops, first_stops}
@@ -108,15 +106,14 @@ fault_excludes bytes f m y (inr at) p is =
     let closed : Closed Outside at.before = subst (λ (es : List Element). Closed Outside es) (sym body.0) (groups_closed m.groups Outside refl) in
     not_end _ at.part f y closed at.first body.1
 
-pub heads_only : (bytes : List ℕ) (r : Result (MessageView × ℕ) CodecFault) → Heads bytes r → (n : ℕ) (m : IppMessage) → Spells (take n bytes) m
-    → IsOkAnd r (λ x. (x.1 ≡ length (spelling m)) × (message_shown x.0 ≡ m))
-heads_only bytes (Ok x) heads n m spells =
+lengths_only : (bytes : List ℕ) (r : Result ℕ CodecFault) → Lengths bytes r → (n : ℕ) (m : IppMessage) → Spells (take n bytes) m → IsOkAnd r (λ x. x ≡ length (spelling m))
+lengths_only bytes (Ok x) at n m spells =
     let whole : bytes ≡ spelling m ++ drop n bytes = sym (take-append-drop n bytes) ∙ ap (λ (l : List ℕ). l ++ drop n bytes) spells.1 in
-    let one = one_spelling (message_shown x.0) m heads.0 (drop n bytes) heads.1 spells.0 (sym heads.2 ∙ whole) in
-    (heads.3 ∙ ap (λ (k : IppMessage). length (spelling k)) one.0, one.0)
-heads_only bytes (Err f) heads n m spells =
+    let one = one_spelling at.0 m at.1 (drop n bytes) at.2 spells.0 (sym at.3 ∙ whole) in
+    at.4 ∙ ap (λ (k : IppMessage). length (spelling k)) one.0
+lengths_only bytes (Err f) at n m spells =
     let whole : bytes ≡ spelling m ++ drop n bytes = sym (take-append-drop n bytes) ∙ ap (λ (l : List ℕ). l ++ drop n bytes) spells.1 in
-    absurd (fault_excludes bytes f m (drop n bytes) heads spells.0 whole)
+    absurd (fault_excludes bytes f m (drop n bytes) at spells.0 whole)
 
 -- ---- the limit
 
@@ -126,21 +123,19 @@ within bytes k is = elim (cases_lt (length bytes) IPP_HEAD_BYTES) [
   | inr le ↦ let same : k ≡ IPP_HEAD_BYTES = omega (arith, is) in ap (λ (n : ℕ). take n bytes) same
 ]
 
-pub limited_only : (bytes : List ℕ) (k : ℕ) (r : Result (MessageView × ℕ) CodecFault) → k ≡ min (length bytes) IPP_HEAD_BYTES → Heads (take k bytes) r → (n : ℕ) (m : IppMessage) → n ≤ IPP_HEAD_BYTES → Spells (take n bytes) m
-    → IsOkAnd r (λ x. (x.1 ≡ length (spelling m)) × (message_shown x.0 ≡ m))
-limited_only bytes k r is heads n m le spells =
+pub limited_only : (bytes : List ℕ) (k : ℕ) (r : Result ℕ CodecFault) → k ≡ min (length bytes) IPP_HEAD_BYTES → Lengths (take k bytes) r → (n : ℕ) (m : IppMessage) → n ≤ IPP_HEAD_BYTES → Spells (take n bytes) m → IsOkAnd r (λ x. x ≡ length (spelling m))
+limited_only bytes k r is at n m le spells =
     let same : take n (take k bytes) ≡ take n bytes = ap (λ (l : List ℕ). take n l) (within bytes k is) ∙ take-take n IPP_HEAD_BYTES bytes le in
-    heads_only (take k bytes) r heads n m (subst (λ (l : List ℕ). Spells l m) (sym same) spells)
+    lengths_only (take k bytes) r at n m (subst (λ (l : List ℕ). Spells l m) (sym same) spells)
 
 omega_len : (bytes : List ℕ) (k n t : ℕ) → k ≡ min (length bytes) IPP_HEAD_BYTES → n + t ≡ length (take k bytes) → (n ≤ IPP_HEAD_BYTES) × (n ≤ length bytes) × (n ≤ k)
 omega_len bytes k n t is len = (omega (arith, is, len, length-take k bytes), omega (arith, is, len, length-take k bytes), omega (arith, is, len, length-take k bytes))
 
-pub limited_found : (bytes : List ℕ) (k : ℕ) (x : MessageView × ℕ) → k ≡ min (length bytes) IPP_HEAD_BYTES → Heads (take k bytes) (Ok x)
-    → (x.1 ≤ IPP_HEAD_BYTES) × (x.1 ≤ length bytes) × Spells (take x.1 bytes) (message_shown x.0)
-limited_found bytes k x is heads =
-    let len : x.1 + length heads.0 ≡ length (take k bytes) = sym (ap length heads.2 ∙ omega (arith, length-append (spelling (message_shown x.0)) heads.0, heads.3)) in
-    let short = omega_len bytes k x.1 (length heads.0) is len in
-    (short.0, short.1, (heads.1, sym (take-take x.1 k bytes short.2) ∙ ap (λ (l : List ℕ). take x.1 l) heads.2 ∙ take_at (spelling (message_shown x.0)) heads.0 x.1 (sym heads.3)))
+pub limited_found : (bytes : List ℕ) (k n : ℕ) → k ≡ min (length bytes) IPP_HEAD_BYTES → Lengths (take k bytes) (Ok n) → (n ≤ IPP_HEAD_BYTES) × (n ≤ length bytes) × ((m : IppMessage) × Spells (take n bytes) m)
+limited_found bytes k n is at =
+    let len : n + length at.1 ≡ length (take k bytes) = sym (ap length at.3 ∙ omega (arith, length-append (spelling at.0) at.1, at.4)) in
+    let short = omega_len bytes k n (length at.1) is len in
+    (short.0, short.1, (at.0, (at.2, sym (take-take n k bytes short.2) ∙ ap (λ (l : List ℕ). take n l) at.3 ∙ take_at (spelling at.0) at.1 n (sym at.4))))
 
 no_large : (bytes : List ℕ) → FirstFault bytes TooLarge → ⊥
 no_large bytes (inl h) = let e = h.1 in cc

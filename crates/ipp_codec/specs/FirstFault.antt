@@ -108,3 +108,11 @@ abbrev pub HeadFault : List ℕ → CodecFault → Type 0
 HeadFault bytes Short = (length bytes < IPP_HEAD_BYTES) × FirstFault bytes Short
 HeadFault bytes TooLarge = (IPP_HEAD_BYTES ≤ length bytes) × FirstFault (take IPP_HEAD_BYTES bytes) Short
 HeadFault bytes fault = FirstFault (take IPP_HEAD_BYTES bytes) fault
+
+-- Where more bytes follow, the first fault of a part stays its fault, unless bytes were missing.
+abbrev pub PartFaultStays : Type 0
+PartFaultStays = (place : Place) (part more : List ℕ) (fault : CodecFault) → fault ≢ Short → First place part fault → First place (part ++ more) fault
+
+-- So does the first fault of bytes.
+abbrev pub FaultStays : Type 0
+FaultStays = (bytes more : List ℕ) (fault : CodecFault) → fault ≢ Short → FirstFault bytes fault → FirstFault (bytes ++ more) fault

@@ -4,7 +4,7 @@ ghost use Rattle.ipp_codec.specs.Message.{IppMessage};
 ghost use Rattle.ipp_codec.specs.Spelling.{spelling};
 ghost use Rattle.ipp_codec.specs.Grammar.{Spells};
 ghost use Rattle.ipp_codec.specs.FirstFault.{HeadFault};
-ghost use Rattle.ipp_codec.specs.Decoding.{Heads, fault_within};
+ghost use Rattle.ipp_codec.specs.Decoding.{Lengths, fault_within};
 ghost use Rattle.ipp_codec.specs.Views.{message_shown};
 
 use crate::fault::CodecFault;
@@ -19,42 +19,51 @@ pub fn decode(bytes: &[u8]) -> Result<(MessageView<'_>, usize), CodecFault>
         → IsOkAnd result (λ x. (x.1 ≡ length (spelling m)) × (message_shown x.0 ≡ m)) }
     ensures fault { IfErr result (HeadFault bytes.now) }
 {
+    match head_length(bytes) {
+        Ok(length) => Ok((view_of(&bytes[..length]), length)),
+        Err(fault) => Err(fault),
+    }
+}
+
+/// How many bytes spell the message at the front of the bytes: what `decode` answers, without the
+/// message. Of a body that comes in pieces, `view_of` shows the message once its head is there.
+pub fn head_length(bytes: &[u8]) -> Result<usize, CodecFault>
+    ensures found { IfOk result (λ n. (n ≤ Limits.IPP_HEAD_BYTES) × (n ≤ length bytes.now) × ((m : IppMessage) × Spells (take n bytes.now) m)) }
+    ensures only { (n : ℕ) (m : IppMessage) → n ≤ Limits.IPP_HEAD_BYTES → Spells (take n bytes.now) m → IsOkAnd result (λ x. x ≡ length (spelling m)) }
+    ensures fault { IfErr result (HeadFault bytes.now) }
+{
     let limited = &bytes[..bytes.len().min(Limits::IPP_HEAD_BYTES)];
-    match head(limited) {
-        Ok(found) => Ok(found),
+    match any_length(limited) {
+        Ok(length) => Ok(length),
         Err(fault) => Err(limited_fault(fault, bytes.len() >= Limits::IPP_HEAD_BYTES)),
     }
 }
 
-/// The message at the front of the bytes, of any length.
-fn head(bytes: &[u8]) -> Result<(MessageView<'_>, usize), CodecFault>
-    ensures { Heads bytes.now result }
+/// The message that these bytes spell.
+pub fn view_of(head: &[u8]) -> MessageView<'_>
+    requires { 9 ≤ length head.now }
+    ensures { (m : IppMessage) → Spells head.now m → message_shown result ≡ m }
 {
-    let [
-        major,
-        minor,
-        code_high,
-        code_low,
-        id_3,
-        id_2,
-        id_1,
-        id_0,
-        body @ ..,
-    ] = bytes
-    else {
+    MessageView {
+        version: Version {
+            major: head[0],
+            minor: head[1],
+        },
+        code: u16::from_be_bytes([head[2], head[3]]),
+        request_id: u32::from_be_bytes([head[4], head[5], head[6], head[7]]),
+        body: &head[8..head.len() - 1],
+    }
+}
+
+/// How many bytes spell the message at the front of the bytes, which may be as long as it likes.
+fn any_length(bytes: &[u8]) -> Result<usize, CodecFault>
+    ensures { Lengths bytes.now result }
+{
+    let [_, _, _, _, _, _, _, _, body @ ..] = bytes else {
         return Err(CodecFault::Short);
     };
-    let len = body_len(body)?;
-    let view = MessageView {
-        version: Version {
-            major: *major,
-            minor: *minor,
-        },
-        code: u16::from_be_bytes([*code_high, *code_low]),
-        request_id: u32::from_be_bytes([*id_3, *id_2, *id_1, *id_0]),
-        body: &body[..len],
-    };
-    Ok((view, 8 + len + 1))
+    let groups = &body[..body_len(body)?];
+    Ok(8 + groups.len() + 1)
 }
 
 /// The fault of bytes that may go on behind the limit.

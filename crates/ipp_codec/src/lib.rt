@@ -25,8 +25,8 @@ mod view;
 mod walk;
 
 pub use fault::{CodecFault, EncodeFault};
-pub use head::decode;
-pub use law::{one_first_fault, one_spelling};
+pub use head::{decode, head_length, view_of};
+pub use law::{fault_stays, one_first_fault, one_spelling};
 pub use member_view::{MemberView, Members};
 pub use message::{Attribute, Group, Message};
 pub use spelling::encode;

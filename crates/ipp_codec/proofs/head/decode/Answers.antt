@@ -1,15 +1,13 @@
-use Rattle.std.proofs.Common.{Ok, Err, refl}
-use Rattle.ipp_codec.proofs.Once.{limited_only, limited_found, limited_fault}
+use Rattle.ipp_codec.specs.Views.{message_shown}
+use Rattle.ipp_codec.proofs.Viewing.{decoded_found, decoded_only, long_found}
 use Rattle.ipp_codec.proofs.head.decode.Goals as goal
 
+pub view_of-requires : goal.view_of-requires
+view_of-requires c = long_found c.args.bytes.now c.in-Ok.length ((c.in-Ok.ensures {u = tt}).found)
+
 pub returns-in-Ok-clause-found : goal.returns-in-Ok-clause-found
-returns-in-Ok-clause-found c = limited_found c.args.bytes.now c.min.result c.in-Ok.found c.min.ensures c.in-Ok.ensures
+returns-in-Ok-clause-found c = decoded_found c.args.bytes.now c.in-Ok.length (message_shown c.view_of.result) ((c.in-Ok.ensures {u = tt}).found) c.view_of.ensures
 
 pub returns-in-Ok-clause-only : goal.returns-in-Ok-clause-only
-returns-in-Ok-clause-only c = limited_only c.args.bytes.now c.min.result (Ok c.in-Ok.found) c.min.ensures c.in-Ok.ensures
-
-pub returns-in-Err-clause-only : goal.returns-in-Err-clause-only
-returns-in-Err-clause-only c = limited_only c.args.bytes.now c.min.result (Err c.in-Err.fault) c.min.ensures c.in-Err.ensures
-
-pub returns-in-Err-clause-fault : goal.returns-in-Err-clause-fault
-returns-in-Err-clause-fault c = rw c.limited_fault.ensures (limited_fault c.args.bytes.now c.min.result c.in-Err.fault _ c.min.ensures refl c.in-Err.ensures)
+returns-in-Ok-clause-only c = λ n m le spells.
+    decoded_only c.args.bytes.now c.in-Ok.length (message_shown c.view_of.result) ((c.in-Ok.ensures {u = tt}).found) c.view_of.ensures n m ((c.in-Ok.ensures {u = tt}).only n m le spells) spells
