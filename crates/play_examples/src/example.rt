@@ -17,7 +17,7 @@ pub struct Example {
     pub status: ExitStatus,
 }
 
-pub const EXAMPLES: [Example; 19] = [
+pub const EXAMPLES: [Example; 25] = [
     Example {
         input: "two_devices.trace",
         output: "two_devices.out",
@@ -71,6 +71,42 @@ pub const EXAMPLES: [Example; 19] = [
         output: "unsupported_template.out",
         program: Program::Replay,
         status: ExitStatus::Done,
+    },
+    Example {
+        input: "stapled_without_stapler.trace",
+        output: "stapled_without_stapler.out",
+        program: Program::Replay,
+        status: ExitStatus::Done,
+    },
+    Example {
+        input: "stapled_and_bound.trace",
+        output: "stapled_and_bound.out",
+        program: Program::Replay,
+        status: ExitStatus::Done,
+    },
+    Example {
+        input: "finishings_of_two_devices.trace",
+        output: "finishings_of_two_devices.out",
+        program: Program::Replay,
+        status: ExitStatus::Done,
+    },
+    Example {
+        input: "finishings_before_media.trace",
+        output: "finishings_before_media.out",
+        program: Program::Replay,
+        status: ExitStatus::Done,
+    },
+    Example {
+        input: "finishings_refused.trace",
+        output: "finishings_refused.out",
+        program: Program::Replay,
+        status: ExitStatus::Done,
+    },
+    Example {
+        input: "third_version.trace",
+        output: "third_version.out",
+        program: Program::Replay,
+        status: ExitStatus::Refused,
     },
     Example {
         input: "collection.trace",

@@ -1,7 +1,6 @@
 -- The state of a server that starts.
 use Rattle.std.specs.Prelude.{ℕ, true, false, List, [], length, map, replicate, None}
 use Rattle.base_types.specs.Device.{Device}
-use Rattle.base_types.specs.Finishings.{no_finishings}
 use Rattle.base_types.specs.declared.device.Medium.{Medium}
 use Rattle.base_types.specs.declared.device.Activity.TheVariants.{Stopped}
 use Rattle.settings_file.specs.Settings.{ServerSettings, DeviceEntry}
@@ -17,7 +16,7 @@ opening_device entry = record {
   rate_two = entry.rate_two;
   setup = entry.setup;
   formats = entry.formats;
-  finishings = no_finishings;
+  finishings = entry.finishings;
   media = map loaded_medium entry.media;
   activity = Stopped None;
   not_before = 0;

@@ -7,9 +7,7 @@ ghost use Rattle.print_room.specs.State.{sets_of};
 ghost use Rattle.print_room.specs.Opening.{opening, opening_device, loaded_medium};
 
 use crate::room::PrintRoom;
-use base_types::{
-    Activity, DeviceId, DeviceNow, Finishings, JobId, Medium, Moment, PrinterSet, Text,
-};
+use base_types::{Activity, DeviceId, DeviceNow, JobId, Medium, Moment, PrinterSet, Text};
 use job_objects::Printer;
 use settings_file::{DeviceSettings, PrinterSettings, Settings};
 use spool::Spool;
@@ -85,7 +83,7 @@ fn opening_device(alloc: Global, settings: &DeviceSettings) -> Result<DeviceNow,
         rate_two: settings.rate_two,
         setup: settings.setup,
         formats,
-        finishings: Finishings::none(),
+        finishings: settings.finishings,
         media,
         activity: Activity::Stopped(None),
         not_before: 0,

@@ -153,22 +153,42 @@ fn lines_by_themselves(rt: HostRuntime) -> Result<(), Fail> {
     Ok(())
 }
 
-#[test]
-fn lines_to_a_device(rt: HostRuntime) -> Result<(), Fail> {
-    let alloc = rt.alloc();
+/// The line that brings the first job, of five octets.
+fn job_line(alloc: Global, finishings: Finishings) -> Result<Vec<u8>, Fail> {
     let needs = Needs {
         printer: PrinterId::new(0),
         formats: Vec::new(alloc),
         sides: Sides::One,
-        finishings: Finishings::none(),
+        finishings,
         media: Text::copy_of(alloc, b"iso_a4_210x297mm")?,
         impressions: 1,
         copies: 1,
     };
     let mut output = Vec::new(alloc);
-    let job = JobId::new(1).expect(&rt, "an id");
+    let job = JobId::new(1).ok_or("an id")?;
     write_job(alloc, job, 5, &needs, &mut output)?;
-    write_cancel(alloc, job, &mut output)?;
-    assert!(rt; output.as_slice() == b"JOB 1 5 1 1 iso_a4_210x297mm\nCANCEL 1\n".as_slice());
+    Ok(output)
+}
+
+#[test]
+fn lines_to_a_device(rt: HostRuntime) -> Result<(), Fail> {
+    let plain = job_line(rt.alloc(), Finishings::none())?;
+    assert!(rt; plain.as_slice() == b"JOB 1 5 1 1 iso_a4_210x297mm\n".as_slice());
+    let stapled_and_bound = Finishings {
+        staple: true,
+        punch: false,
+        bind: true,
+    };
+    let line = job_line(rt.alloc(), stapled_and_bound)?;
+    assert!(rt; line.as_slice() == b"JOB 1 5 1 1 iso_a4_210x297mm SB\n".as_slice());
+    Ok(())
+}
+
+#[test]
+fn line_of_a_canceled_job(rt: HostRuntime) -> Result<(), Fail> {
+    let mut output = Vec::new(rt.alloc());
+    let job = JobId::new(1).expect(&rt, "an id");
+    write_cancel(rt.alloc(), job, &mut output)?;
+    assert!(rt; output.as_slice() == b"CANCEL 1\n".as_slice());
     Ok(())
 }

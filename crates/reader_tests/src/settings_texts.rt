@@ -1,5 +1,5 @@
 //! Settings, and the first fault of a text that isn't any.
-use base_types::Text;
+use base_types::{Finishings, Text};
 use settings_file::{DeviceSettings, PrinterSettings, SettingsFault, read_settings, write_fault};
 use std::alloc::Global;
 use std::test::Fail;
@@ -11,6 +11,18 @@ const DEVICE: &str = "[[device]]\nname = \"A\"\nrate_one = 10\n\
 
 const PRINTER: &str = "[[printer]]\nname = \"lab\"\ndevices = [\"A\"]\n\
     media_default = \"iso_a4_210x297mm\"\nformat_default = \"text/plain\"\n";
+
+/// The root of settings in which devices may have finishings.
+const SECOND: &str = "version = 2\nuri_base = \"ipp://localhost:631\"\noperators = [\"root\"]\n";
+
+/// Names of so many devices.
+const SEVENTEEN: &str =
+    "'B', 'C', 'D', 'E', 'F', 'G', 'H', 'I', 'J', 'K', 'L', 'M', 'N', 'O', 'P', \
+    'Q', 'R'";
+
+/// Names of so many others, behind those.
+const SIXTEEN: &str =
+    ", 'b', 'c', 'd', 'e', 'f', 'g', 'h', 'i', 'j', 'k', 'l', 'm', 'n', 'o', 'p', 'q'";
 
 fn joined(alloc: Global, parts: &[&str]) -> Result<String, Fail> {
     let mut text = String::new(alloc);
@@ -34,7 +46,7 @@ fn words_of(alloc: Global, text: &str) -> Result<Vec<u8>, Fail> {
 }
 
 /// Texts that are no settings, each with its first fault in words.
-const FAULTY: [(&[&str], &str); 8] = [
+const FAULTY: [(&[&str], &str); 13] = [
     (&["version = 1"], "settings Missing uri_base"),
     (&[ROOT, DEVICE, PRINTER, PRINTER], "settings Twice lab"),
     (
@@ -76,6 +88,40 @@ const FAULTY: [(&[&str], &str); 8] = [
         ],
         "settings OutOfRange version",
     ),
+    (
+        &[ROOT, DEVICE, "finishings = [\"staple\"]\n", PRINTER],
+        "settings Unknown finishings",
+    ),
+    (
+        &[SECOND, DEVICE, "finishings = [\"glue\"]\n", PRINTER],
+        "settings OutOfRange finishings",
+    ),
+    (
+        &[SECOND, DEVICE, "finishings = \"staple\"\n", PRINTER],
+        "settings WrongKind finishings",
+    ),
+    // More devices than another list may have entries, and more than there can be.
+    (
+        &[
+            ROOT,
+            DEVICE,
+            "[[printer]]\nname = \"lab\"\ndevices = [",
+            SEVENTEEN,
+            "]\nmedia_default = \"iso_a4_210x297mm\"\nformat_default = \"text/plain\"\n",
+        ],
+        "settings Unknown B",
+    ),
+    (
+        &[
+            ROOT,
+            DEVICE,
+            "[[printer]]\nname = \"lab\"\ndevices = [",
+            SEVENTEEN,
+            SIXTEEN,
+            "]\nmedia_default = \"iso_a4_210x297mm\"\nformat_default = \"text/plain\"\n",
+        ],
+        "settings OutOfRange devices",
+    ),
 ];
 
 #[test]
@@ -103,6 +149,7 @@ fn is_device(devices: &[DeviceSettings]) -> bool {
         && device.setup == 0
         && is_text(&device.media, b"iso_a4_210x297mm")
         && is_text(&device.formats, b"text/plain")
+        && device.finishings == Finishings::none()
 }
 
 fn is_printer(printers: &[PrinterSettings]) -> bool {
@@ -113,6 +160,26 @@ fn is_printer(printers: &[PrinterSettings]) -> bool {
         && matches!(printer.devices.devices(), [device] if device.place() == 0)
         && printer.media_default.is(b"iso_a4_210x297mm")
         && printer.format_default.is(b"text/plain")
+}
+
+/// The finishings of a device; a list may say one twice.
+#[test]
+fn finishings_of_a_device(rt: HostRuntime) -> Result<(), Fail> {
+    let list = "finishings = [\"bind\", \"staple\", \"bind\"]\n";
+    let text = joined(rt.alloc(), &[SECOND, DEVICE, list, PRINTER])?;
+    let settings = read_settings(rt.alloc(), text.as_str())?;
+    let wanted = Finishings {
+        staple: true,
+        punch: false,
+        bind: true,
+    };
+    assert!(rt;
+        settings
+            .devices
+            .iter()
+            .all(|device| device.finishings == wanted)
+    );
+    Ok(())
 }
 
 #[test]

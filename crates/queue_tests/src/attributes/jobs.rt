@@ -9,6 +9,12 @@ use std::test::Fail;
 /// The tag of a job group.
 const JOB: u8 = 0x02;
 
+const PUNCHED_AND_BOUND: Finishings = Finishings {
+    staple: false,
+    punch: true,
+    bind: true,
+};
+
 /// A job of five octets as it is once it was taken at the server's start.
 fn new_job(alloc: Global) -> Result<Job, Fail> {
     Ok(Job {
@@ -16,7 +22,7 @@ fn new_job(alloc: Global) -> Result<Job, Fail> {
         owner: Text::copy_of(alloc, b"anonymous")?,
         name: Text::copy_of(alloc, b"untitled")?,
         priority: Priority::normal(),
-        needs: needs(alloc, Sides::One)?,
+        needs: needs(alloc, Sides::One, Finishings::none())?,
         impressions: None,
         state: JobState::Pending,
         incoming: false,
@@ -38,7 +44,7 @@ fn printed_job(alloc: Global) -> Result<Job, Fail> {
         owner: Text::copy_of(alloc, b"anna")?,
         name: Text::copy_of(alloc, b"letter")?,
         priority: Priority::normal(),
-        needs: needs(alloc, Sides::ShortEdge)?,
+        needs: needs(alloc, Sides::ShortEdge, PUNCHED_AND_BOUND)?,
         impressions: Some(0),
         state: JobState::Completed,
         incoming: false,
@@ -53,12 +59,12 @@ fn printed_job(alloc: Global) -> Result<Job, Fail> {
     })
 }
 
-fn needs(alloc: Global, sides: Sides) -> Result<Needs, AllocError> {
+fn needs(alloc: Global, sides: Sides, finishings: Finishings) -> Result<Needs, AllocError> {
     Ok(Needs {
         printer: PrinterId::new(0),
         formats: Vec::new(alloc),
         sides,
-        finishings: Finishings::none(),
+        finishings,
         media: Text::copy_of(alloc, b"iso_a4_210x297mm")?,
         impressions: 1,
         copies: 1,

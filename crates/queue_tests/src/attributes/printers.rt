@@ -20,6 +20,24 @@ const PDF: &[u8] = b"application/pdf";
 
 const ANY: &[u8] = b"application/octet-stream";
 
+const NONE: Finishings = Finishings {
+    staple: false,
+    punch: false,
+    bind: false,
+};
+
+const STAPLES: Finishings = Finishings {
+    staple: true,
+    ..NONE
+};
+
+const PUNCHES: Finishings = Finishings {
+    punch: true,
+    ..NONE
+};
+
+const BINDS: Finishings = Finishings { bind: true, ..NONE };
+
 /// A device that runs and has one of its media loaded.
 #[derive(Clone, Copy)]
 struct DeviceRow {
@@ -27,6 +45,7 @@ struct DeviceRow {
     media: &'static [&'static [u8]],
     loaded: &'static [u8],
     two_sided: bool,
+    finishings: Finishings,
 }
 
 /// The one device of the small settings.
@@ -35,27 +54,31 @@ const SMALL: &[DeviceRow] = &[DeviceRow {
     media: &[A4],
     loaded: A4,
     two_sided: false,
+    finishings: NONE,
 }];
 
-/// Three devices: the first has no medium loaded, the second prints two-sided.
+/// Three devices: the first has no medium loaded and binds, the second prints two-sided and staples.
 const THREE: &[DeviceRow] = &[
     DeviceRow {
         formats: &[PLAIN],
         media: &[A4],
         loaded: b"",
         two_sided: false,
+        finishings: BINDS,
     },
     DeviceRow {
         formats: &[PDF, PLAIN],
         media: &[LETTER, A4],
         loaded: LETTER,
         two_sided: true,
+        finishings: STAPLES,
     },
     DeviceRow {
         formats: &[b"image/jpeg"],
         media: &[b"iso_a3_297x420mm"],
         loaded: A4,
         two_sided: true,
+        finishings: PUNCHES,
     },
 ];
 
@@ -109,6 +132,7 @@ const ROWS: [Row; 6] = [
         own: 2,
         format: ANY,
         asked: &[
+            b"finishings-supported",
             b"sides-supported",
             b"media-supported",
             b"media-ready",
@@ -136,7 +160,7 @@ fn device(alloc: Global, row: DeviceRow) -> Result<DeviceNow, AllocError> {
         rate_two: if row.two_sided { Some(20) } else { None },
         setup: 0,
         formats: texts(alloc, row.formats)?,
-        finishings: Finishings::none(),
+        finishings: row.finishings,
         media: media_of(alloc, row.media, row.loaded)?,
         activity: Activity::Running(None),
         not_before: 0,

@@ -61,6 +61,8 @@ pub(super) const TEMPLATE: &[&[u8]] = &[
     b"\x44\x00\x0Bmedia-ready\x00\x10iso_a4_210x297mm",
     b"\x44\x00\x0Dsides-default\x00\x09one-sided",
     b"\x44\x00\x0Fsides-supported\x00\x09one-sided",
+    b"\x23\x00\x12finishings-default\x00\x04\x00\x00\x00\x03",
+    b"\x23\x00\x14finishings-supported\x00\x04\x00\x00\x00\x03",
 ];
 
 /// Two attributes in the table's order.
@@ -80,6 +82,9 @@ pub(super) const TOGETHER: &[&[u8]] = &[
     b"\x44\x00\x0Fsides-supported\x00\x09one-sided",
     b"\x44\x00\x00\x00\x13two-sided-long-edge",
     b"\x44\x00\x00\x00\x14two-sided-short-edge",
+    b"\x23\x00\x14finishings-supported\x00\x04\x00\x00\x00\x03",
+    b"\x23\x00\x00\x00\x04\x00\x00\x00\x04",
+    b"\x23\x00\x00\x00\x04\x00\x00\x00\x07",
 ];
 
 /// What is offered without devices.
@@ -110,6 +115,7 @@ pub(super) const NEW_JOB: &[&[u8]] = &[
     b"\x21\x00\x0Cjob-priority\x00\x04\x00\x00\x00\x32",
     b"\x44\x00\x05media\x00\x10iso_a4_210x297mm",
     b"\x44\x00\x05sides\x00\x09one-sided",
+    b"\x23\x00\x0Afinishings\x00\x04\x00\x00\x00\x03",
 ];
 
 /// The state of a job that is held and comes in.
@@ -131,10 +137,13 @@ pub(super) const PRINTED_JOB: &[&[u8]] = &[
     b"\x21\x00\x12time-at-processing\x00\x04\x00\x00\x00\x02",
     b"\x21\x00\x11time-at-completed\x00\x04\x7F\xFF\xFF\xFF",
     b"\x44\x00\x05sides\x00\x14two-sided-short-edge",
+    b"\x23\x00\x0Afinishings\x00\x04\x00\x00\x00\x05",
+    b"\x23\x00\x00\x00\x04\x00\x00\x00\x07",
 ];
 
 /// The names of those attributes, in another order.
 pub(super) const ASKED_OF_PRINTED: &[&[u8]] = &[
+    b"finishings",
     b"sides",
     b"time-at-completed",
     b"time-at-processing",
