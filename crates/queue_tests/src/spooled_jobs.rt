@@ -136,7 +136,10 @@ fn spool_with_open(alloc: Global, id: JobId) -> Result<Spool, Fail> {
 fn given_up(rt: HostRuntime) -> Result<(), Fail> {
     let id = JobId::new(1).ok_or("id")?;
     let mut spool = spool_with_open(rt.alloc(), id)?;
-    for (millis, state) in [(299_999, JobState::PendingHeld), (300_000, JobState::Aborted)] {
+    for (millis, state) in [
+        (299_999, JobState::PendingHeld),
+        (300_000, JobState::Aborted),
+    ] {
         spool.expire(at(millis));
         assert_eq!(rt; standing(&spool, id), Some((state, false, 0)));
     }

@@ -1,5 +1,5 @@
 -- A request is answered.
-use Rattle.std.proofs.Common.{◌≡◌, ℕ, Bool, true, false, cond, List, Option, Some, None, MatchOption, Result, Ok, Err, MatchResult, subst, inl, inr, max, sym, tt}
+use Rattle.std.proofs.Common.{◌≡◌, ℕ, Bool, true, false, cond, List, Option, Some, None, MatchOption, Result, Ok, Err, MatchResult, subst, inl, inr, max, sym}
 use Rattle.std.specs.Option.{option_map_or}
 use Rattle.ipp_codec.specs.Message.{IppAttribute, IppGroup, IppMessage}
 use Rattle.printer_objects.specs.declared.operation.Operation.{Operation}
@@ -51,7 +51,7 @@ request_is_answered texts names event old reply text new is happens nothing = el
 -- ---- the event of a body
 
 -- an event that is given, if any, is a request
-GivesRequest : Result Event Status → Type 0
+abbrev GivesRequest : Result Event Status → Type 0
 GivesRequest result = MatchResult result IsRequest (λ status. Unit {0})
 
 gives_in : (asked : Operation) (group : IppGroup) (template : List IppAttribute) (document : List ℕ) (uri : _) → GivesRequest (event_in asked group template document uri)
