@@ -1,7 +1,9 @@
 -- A request is answered.
-use Rattle.std.proofs.Common.{◌≡◌, ℕ, Bool, true, false, cond, List, Option, Some, None, MatchOption, Result, Ok, Err, MatchResult, subst, inl, inr, max, sym}
+use Rattle.std.proofs.Common.{◌≡◌, ℕ, Bool, true, false, cond, not, List, Option, Some, None, MatchOption, Result, Ok, Err, MatchResult, subst, inl, inr, max, sym}
+use Rattle.std.specs.Prelude.{codes}
+use Rattle.std.specs.List.{list_all}
 use Rattle.std.specs.Option.{option_map_or}
-use Rattle.ipp_codec.specs.Message.{IppAttribute, IppGroup, IppMessage}
+use Rattle.ipp_codec.specs.Message.{IppValue, IppAttribute, IppGroup, IppMessage}
 use Rattle.printer_objects.specs.declared.operation.Operation.{Operation}
 use Rattle.printer_objects.specs.declared.operation.Operation.TheVariants as operation
 use Rattle.dispatcher.specs.declared.event.Event.{Event}
@@ -9,6 +11,7 @@ use Rattle.dispatcher.specs.declared.event.Event.TheVariants as Is
 use Rattle.dispatcher.specs.declared.reply.Answer.TheVariants as Says
 use Rattle.dispatcher.specs.declared.reply.Reply.{Reply}
 use Rattle.dispatcher.specs.declared.status.Status.{Status}
+use Rattle.dispatcher.specs.declared.status.Status.TheVariants as Went
 use Rattle.dispatcher.specs.Answers.{IsAnswer, Replies, Refuses}
 use Rattle.dispatcher.specs.PrintJob.{TakesJob, asked_of}
 use Rattle.dispatcher.specs.ValidateJob.{Validates, validated_of}
@@ -17,7 +20,9 @@ use Rattle.dispatcher.specs.Step.{Step, StepAt}
 use Rattle.replies.specs.declared.asked.Asked.TheVariants as Body
 use Rattle.replies.specs.Asked.{Asks, AsksUnder, Requests, answered, header_of, operation_of}
 use Rattle.replies.specs.Event.{event_of, asked_in, event_in}
-use Rattle.replies.specs.Request.{operation_group, job_attributes}
+use Rattle.replies.specs.Attributes.{is_tagged, value_of}
+use Rattle.replies.specs.PrintJob.{print_job_table}
+use Rattle.replies.specs.Request.{operation_group, job_attributes, is_utf8}
 use Rattle.replay.specs.Acting.{IsRequest}
 use Rattle.replay.specs.Replay.{Standing, Happens}
 
@@ -77,10 +82,16 @@ gives_if true status result is = tt
 gives_if false status result is = is
 
 gives_asked : (asked : Operation) (group : IppGroup) (template : List IppAttribute) (document : List ℕ) → GivesRequest (asked_in asked group template document)
-gives_asked asked group template document = gives_if _ _ _ (gives_if _ _ _ (gives_or (event_in asked group template document) _ _ (gives_in asked group template document)))
+gives_asked asked group template document =
+    let uri : Option IppValue = value_of (codes "printer-uri") group in
+    let tagged : Bool = list_all (is_tagged group) print_job_table in
+    let event : Result Event Status = option_map_or (event_in asked group template document) uri (Err Went.BadRequest) in
+    gives_if (not (is_utf8 group)) Went.CharsetNotSupported (cond (not tagged) (Err Went.BadRequest) event)
+    (gives_if (not tagged) Went.BadRequest event (gives_or (event_in asked group template document) uri Went.BadRequest (gives_in asked group template document)))
 
 gives_event : (asked : Operation) (message : IppMessage) (document : List ℕ) → GivesRequest (event_of asked message document)
-gives_event asked message document = gives_or (λ group. asked_in asked group (job_attributes message) document) (operation_group message) _ (λ group. gives_asked asked group (job_attributes message) document)
+gives_event asked message document =
+    gives_or (λ group. asked_in asked group (job_attributes message) document) (operation_group message) Went.BadRequest (λ group. gives_asked asked group (job_attributes message) document)
 
 given : (asked : Operation) (body : List ℕ) (result : Result Event Status) → Requests asked body result → GivesRequest result
 given asked body result (inl fault) = subst GivesRequest (sym fault.2) tt
