@@ -43,5 +43,15 @@ module _ (old : State)
   pub step_keeps : (event : Event) (now : ℕ) (reply : Reply) (new : State) → StepAt event now old reply new → StepKeeps event old reply.documents.items new
   step_keeps (Is.PrintJob request) now reply new step = printed now reply new (asked_of request now old) step
   step_keeps (Is.ValidateJob request) now reply new step = validated now reply new (validated_of request old) step
+  step_keeps (Is.CreateJob request) now reply new step = refused now reply new _ step
+  step_keeps (Is.SendDocument request) now reply new step = refused now reply new _ step
+  step_keeps (Is.CancelJob request) now reply new step = refused now reply new _ step
+  step_keeps (Is.GetJobAttributes request) now reply new step = refused now reply new _ step
+  step_keeps (Is.GetJobs request) now reply new step = refused now reply new _ step
+  step_keeps (Is.GetPrinterAttributes request) now reply new step = refused now reply new _ step
+  step_keeps (Is.HoldJob request) now reply new step = refused now reply new _ step
+  step_keeps (Is.ReleaseJob request) now reply new step = refused now reply new _ step
+  step_keeps (Is.PausePrinter request) now reply new step = refused now reply new _ step
+  step_keeps (Is.ResumePrinter request) now reply new step = refused now reply new _ step
   step_keeps (Is.Report device report) now reply new step = reports now device report reply.documents.items new step.reports
   step_keeps Is.Tick now reply new step = (subst (λ (s : State). AllKeep old s) (sym step.state) (expires now), step.documents)

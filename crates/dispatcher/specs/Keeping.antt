@@ -10,5 +10,15 @@ use Rattle.dispatcher.specs.declared.event.Event.TheVariants as Is
 abbrev pub StepKeeps : Event → State → List DocumentRecord → State → Type 0
 StepKeeps (Is.PrintJob request) old documents new = AllKeep old new × (documents ≡ [])
 StepKeeps (Is.ValidateJob request) old documents new = AllKeep old new × (documents ≡ [])
+StepKeeps (Is.CreateJob request) old documents new = AllKeep old new × (documents ≡ [])
+StepKeeps (Is.SendDocument request) old documents new = AllKeep old new × (documents ≡ [])
+StepKeeps (Is.CancelJob request) old documents new = AllKeep old new × (documents ≡ [])
+StepKeeps (Is.GetJobAttributes request) old documents new = AllKeep old new × (documents ≡ [])
+StepKeeps (Is.GetJobs request) old documents new = AllKeep old new × (documents ≡ [])
+StepKeeps (Is.GetPrinterAttributes request) old documents new = AllKeep old new × (documents ≡ [])
+StepKeeps (Is.HoldJob request) old documents new = AllKeep old new × (documents ≡ [])
+StepKeeps (Is.ReleaseJob request) old documents new = AllKeep old new × (documents ≡ [])
+StepKeeps (Is.PausePrinter request) old documents new = AllKeep old new × (documents ≡ [])
+StepKeeps (Is.ResumePrinter request) old documents new = AllKeep old new × (documents ≡ [])
 StepKeeps (Is.Report device report) old documents new = KeepsOrEnds device old documents new
 StepKeeps Is.Tick old documents new = AllKeep old new × (documents ≡ [])

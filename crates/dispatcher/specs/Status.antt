@@ -7,6 +7,7 @@ abbrev pub code_of : Status → ℕ
 code_of Is.Ok = 0x0000
 code_of Is.OkIgnoredOrSubstituted = 0x0001
 code_of Is.BadRequest = 0x0400
+code_of Is.NotAuthorized = 0x0403
 code_of Is.NotPossible = 0x0404
 code_of Is.NotFound = 0x0406
 code_of Is.TooLarge = 0x0408

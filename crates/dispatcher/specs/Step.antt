@@ -5,6 +5,9 @@ use Rattle.dispatcher.specs.declared.event.Event.{Event}
 use Rattle.dispatcher.specs.declared.event.Event.TheVariants as Is
 use Rattle.dispatcher.specs.declared.reply.Reply.{Reply}
 use Rattle.dispatcher.specs.declared.reply.Answer.TheVariants as Says
+use Rattle.dispatcher.specs.declared.status.Status.TheVariants as Went
+use Rattle.dispatcher.specs.Answers.{Refuses}
+use Rattle.dispatcher.specs.Checks.{refused}
 use Rattle.dispatcher.specs.PrintJob.{PrintsJob, asked_of}
 use Rattle.dispatcher.specs.ValidateJob.{ValidatesJob}
 use Rattle.print_room.specs.Report.{Reports}
@@ -29,6 +32,16 @@ pub record Ticks (now : ℕ) (old : State) (reply : Reply) (new : State) : Type 
 abbrev pub StepAt : Event → ℕ → State → Reply → State → Type 0
 StepAt (Is.PrintJob request) now old reply new = PrintsJob now request old reply new
 StepAt (Is.ValidateJob request) now old reply new = ValidatesJob now request old reply new
+StepAt (Is.CreateJob request) now old reply new = Refuses now old (refused Went.OperationNotSupported) reply new
+StepAt (Is.SendDocument request) now old reply new = Refuses now old (refused Went.OperationNotSupported) reply new
+StepAt (Is.CancelJob request) now old reply new = Refuses now old (refused Went.OperationNotSupported) reply new
+StepAt (Is.GetJobAttributes request) now old reply new = Refuses now old (refused Went.OperationNotSupported) reply new
+StepAt (Is.GetJobs request) now old reply new = Refuses now old (refused Went.OperationNotSupported) reply new
+StepAt (Is.GetPrinterAttributes request) now old reply new = Refuses now old (refused Went.OperationNotSupported) reply new
+StepAt (Is.HoldJob request) now old reply new = Refuses now old (refused Went.OperationNotSupported) reply new
+StepAt (Is.ReleaseJob request) now old reply new = Refuses now old (refused Went.OperationNotSupported) reply new
+StepAt (Is.PausePrinter request) now old reply new = Refuses now old (refused Went.OperationNotSupported) reply new
+StepAt (Is.ResumePrinter request) now old reply new = Refuses now old (refused Went.OperationNotSupported) reply new
 StepAt (Is.Report device report) now old reply new = Reported now device report old reply new
 StepAt Is.Tick now old reply new = Ticks now old reply new
 
@@ -39,6 +52,16 @@ Step old event moment reply new = StepAt event (max moment old.last) old reply n
 abbrev pub TakesNoMemoryAt : Event → ℕ → State → Type 0
 TakesNoMemoryAt (Is.PrintJob request) now old = IsErr (asked_of request now old)
 TakesNoMemoryAt (Is.ValidateJob request) now old = Unit {0}
+TakesNoMemoryAt (Is.CreateJob request) now old = Unit {0}
+TakesNoMemoryAt (Is.SendDocument request) now old = Unit {0}
+TakesNoMemoryAt (Is.CancelJob request) now old = Unit {0}
+TakesNoMemoryAt (Is.GetJobAttributes request) now old = Unit {0}
+TakesNoMemoryAt (Is.GetJobs request) now old = Unit {0}
+TakesNoMemoryAt (Is.GetPrinterAttributes request) now old = Unit {0}
+TakesNoMemoryAt (Is.HoldJob request) now old = Unit {0}
+TakesNoMemoryAt (Is.ReleaseJob request) now old = Unit {0}
+TakesNoMemoryAt (Is.PausePrinter request) now old = Unit {0}
+TakesNoMemoryAt (Is.ResumePrinter request) now old = Unit {0}
 TakesNoMemoryAt (Is.Report device report) now old = Unit {0}
 TakesNoMemoryAt Is.Tick now old = Unit {0}
 

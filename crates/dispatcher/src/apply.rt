@@ -1,10 +1,15 @@
 //! What each event does.
 ghost use Rattle.std.specs.Prelude.{◌≡◌, ◌≤◌, IfOk, IsOk, OnErr};
+ghost use Rattle.dispatcher.specs.Answers.{Refuses};
+ghost use Rattle.dispatcher.specs.Checks.{refused};
+ghost use Rattle.dispatcher.specs.declared.status.Status.TheVariants as Went;
 ghost use Rattle.dispatcher.specs.Step.{Step, Reported, Ticks, TakesNoMemory};
 
 use crate::event::Event;
 use crate::print_job::print_job;
-use crate::reply::Reply;
+use crate::checks::refused;
+use crate::reply::{Reply, refuse};
+use crate::status::Status;
 use crate::validate_job::validate_job;
 use base_types::{DeviceId, Moment, Report};
 use print_room::PrintRoom;
@@ -28,9 +33,20 @@ pub(crate) fn apply(
     match event {
         Event::PrintJob(request) => print_job(alloc, room, request, now),
         Event::ValidateJob(request) => Ok(validate_job(alloc, room, request, now)),
+        Event::CreateJob(_) | Event::SendDocument(_) | Event::CancelJob(_) => Ok(not_yet(alloc, room, now)),
+        Event::GetJobAttributes(_) | Event::GetJobs(_) | Event::GetPrinterAttributes(_) => Ok(not_yet(alloc, room, now)),
+        Event::HoldJob(_) | Event::ReleaseJob(_) | Event::PausePrinter(_) | Event::ResumePrinter(_) => Ok(not_yet(alloc, room, now)),
         Event::Report(device, report) => Ok(act_on(alloc, room, device, &report, now)),
         Event::Tick => Ok(tick(alloc, room, now)),
     }
+}
+
+/// Not served yet.
+fn not_yet(alloc: Global, room: &mut PrintRoom, now: Moment) -> Reply
+    requires { room.old.last ≤ now }
+    ensures { Refuses now room.old (refused Went.OperationNotSupported) result room.new }
+{
+    refuse(alloc, room, refused(alloc, Status::OperationNotSupported), now)
 }
 
 /// Time goes on: jobs whose documents stopped coming in are aborted.

@@ -3,8 +3,9 @@ ghost use Rattle.std.specs.Prelude.{◌≡◌};
 ghost use Rattle.dispatcher.specs.Run.{is_query};
 ghost use Rattle.dispatcher.specs.Target.{names};
 
-use base_types::{DeviceId, Report, Text};
+use base_types::{DeviceId, JobId, Report, Text};
 use job_template::RequestAttributes;
+use printer_objects::Requested;
 use settings_file::PrinterSettings;
 use spool::Octets;
 
@@ -30,6 +31,33 @@ impl Target {
             Target::Unknown => false,
         }
     }
+}
+
+/// Which job a request names (RFC 8011, section 4.1.5).
+#[derive(Debug, Drop)]
+pub enum JobTarget {
+    /// The job of this id: its job-uri is given.
+    Numbered(JobId),
+    /// The job of this id, where it was sent to this printer: a printer-uri and a job-id are given.
+    OfPrinter(Target, JobId),
+    /// Nothing that this server has.
+    Unknown,
+}
+
+/// Who asks for something to be done with a job, and with which.
+#[derive(Drop)]
+pub struct JobRequest {
+    pub target: JobTarget,
+    /// Who asks, as claimed: requesting-user-name.
+    pub user: Text,
+}
+
+/// Who asks for something to be done with a printer, and with which.
+#[derive(Drop)]
+pub struct PrinterRequest {
+    pub target: Target,
+    /// Who asks, as claimed: requesting-user-name.
+    pub user: Text,
 }
 
 /// The job that a request asks for (RFC 8011, section 4.2.1): what is read of it.
@@ -73,11 +101,92 @@ pub struct ValidateJob {
     pub form: DocumentForm,
 }
 
+/// A Send-Document request (RFC 8011, section 4.3.1).
+#[derive(Drop)]
+pub struct SendDocument {
+    pub job: JobRequest,
+    pub form: DocumentForm,
+    /// The document data.
+    pub octets: Octets,
+    /// last-document: whether none follows.
+    pub last: bool,
+}
+
+/// Until when a job is to be held: the job-hold-until of a Hold-Job.
+#[derive(Drop)]
+pub enum HoldUntil {
+    /// `no-hold`: it is to be released.
+    NoHold,
+    /// `indefinite`, or none is given.
+    Indefinite,
+    /// Another value. The job is held, and the attribute returned as it came.
+    Unsupported(RequestAttributes),
+}
+
+/// A Hold-Job request (RFC 8011, section 4.3.5).
+#[derive(Drop)]
+pub struct HoldJob {
+    pub job: JobRequest,
+    pub until: HoldUntil,
+}
+
+/// A Get-Job-Attributes request (RFC 8011, section 4.3.4).
+#[derive(Drop)]
+pub struct GetJobAttributes {
+    pub target: JobTarget,
+    pub requested: Requested,
+}
+
+/// A Get-Printer-Attributes request (RFC 8011, section 4.2.5).
+#[derive(Drop)]
+pub struct GetPrinterAttributes {
+    pub target: Target,
+    pub requested: Requested,
+}
+
+/// Which jobs are asked for: the which-jobs of a Get-Jobs.
+#[derive(Drop)]
+pub enum WhichJobs {
+    /// `completed`: the finished ones.
+    Completed,
+    /// `not-completed`, or none is given: the others.
+    NotCompleted,
+    /// Another value, which isn't supported: the attribute, as it came.
+    Unsupported(RequestAttributes),
+}
+
+/// A Get-Jobs request (RFC 8011, section 4.2.6).
+#[derive(Drop)]
+pub struct GetJobs {
+    pub printer: PrinterRequest,
+    pub which: WhichJobs,
+    /// my-jobs: whether only those of who asks are wanted.
+    pub mine: bool,
+    /// limit, where it is given and is at least 1: how many are wanted at most.
+    pub limit: Option<u32>,
+    pub requested: Requested,
+}
+
 /// What the core acts on: one request that is complete, or one report of a device.
 #[derive(Drop)]
 pub enum Event {
     PrintJob(PrintJob),
     ValidateJob(ValidateJob),
+    /// Create-Job (RFC 8011, section 4.2.4).
+    CreateJob(AskedJob),
+    SendDocument(SendDocument),
+    /// Cancel-Job (RFC 8011, section 4.3.3).
+    CancelJob(JobRequest),
+    GetJobAttributes(GetJobAttributes),
+    GetJobs(GetJobs),
+    GetPrinterAttributes(GetPrinterAttributes),
+    HoldJob(HoldJob),
+    /// Release-Job (RFC 8011, section 4.3.6).
+    ReleaseJob(JobRequest),
+    /// Pause-Printer (RFC 8011, section 4.2.7).
+    PausePrinter(PrinterRequest),
+    /// Resume-Printer (RFC 8011, section 4.2.8).
+    ResumePrinter(PrinterRequest),
     Report(DeviceId, Report),
     /// Time goes on.
     Tick,
@@ -89,8 +198,12 @@ impl Event {
         ensures { result ≡ is_query self.now }
     {
         match self {
-            Event::ValidateJob(_) => true,
-            Event::PrintJob(_) | Event::Report(_, _) | Event::Tick => false,
+            Event::ValidateJob(_) | Event::GetPrinterAttributes(_) => true,
+            Event::GetJobAttributes(_) | Event::GetJobs(_) => true,
+            Event::PrintJob(_) | Event::CreateJob(_) | Event::SendDocument(_) => false,
+            Event::CancelJob(_) | Event::HoldJob(_) | Event::ReleaseJob(_) => false,
+            Event::PausePrinter(_) | Event::ResumePrinter(_) => false,
+            Event::Report(_, _) | Event::Tick => false,
         }
     }
 }

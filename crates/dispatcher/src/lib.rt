@@ -25,7 +25,10 @@ mod status;
 mod validate_job;
 
 pub use dispatch::Dispatched;
-pub use event::{AskedJob, DocumentForm, Event, PrintJob, Target, ValidateJob};
+pub use event::{
+    AskedJob, DocumentForm, Event, GetJobAttributes, GetJobs, GetPrinterAttributes, HoldJob, HoldUntil,
+    JobRequest, JobTarget, PrintJob, PrinterRequest, SendDocument, Target, ValidateJob, WhichJobs,
+};
 pub use print_room::Started;
 pub use reply::{Answer, Cancel, IppAnswer, Reply};
 pub use run::{Listener, Outcome, Timed};

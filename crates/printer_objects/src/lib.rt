@@ -33,4 +33,5 @@ pub use offer::Offer;
 pub use operation::Operation;
 pub use printer_attribute::PrinterAttribute;
 pub use printer_shown::{PrinterShown, printer_attributes};
+pub use requested::Requested;
 pub use state::{PrinterReason, PrinterState, keeps_busy, printer_reason, printer_state};
