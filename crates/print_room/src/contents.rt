@@ -7,6 +7,7 @@ ghost use Rattle.print_room.specs.DeviceJobs.{IsRoom};
 use crate::room::PrintRoom;
 use crate::started::Started;
 use base_types::{DeviceNow, Moment, PrinterId};
+use job_objects::Printer;
 use prices::Plan;
 use settings_file::Settings;
 use spool::{Spool, is_paused};
@@ -55,6 +56,14 @@ impl PrintRoom {
         ensures { result.now ≡ self.now.begun }
     {
         &self.begun
+    }
+
+    /// The printers, in the settings' order: one for each of them.
+    pub fn printers(&self) -> &[Printer]
+        ensures value { result.now ≡ self.now.paused }
+        ensures kept { IsRoom self.now }
+    {
+        &self.printers
     }
 
     /// Whether a printer is paused.
