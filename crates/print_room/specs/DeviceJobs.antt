@@ -1,17 +1,22 @@
 -- Which job each device has: the spool has it too, and no other device does. Until its device ends it, it
 -- stays there, with its documents, byte for byte.
-use Rattle.std.specs.Prelude.{ℕ, ◌≡◌, ◌⊎◌, true, List, [], length, Option, Some, None, slice_get}
+use Rattle.std.specs.Prelude.{ℕ, ◌≡◌, ◌⊎◌, true, List, [], length, Option, Some, None, slice_get, position}
 use Rattle.std.specs.Option.{option_and_then}
 use Rattle.base_types.specs.Device.{Device}
 use Rattle.spool.specs.Document.{DocumentRecord}
 use Rattle.spool.specs.Spooled.{SpooledRecord}
 use Rattle.spool.specs.OnDevice.{is_on_device, documents_at}
 use Rattle.print_room.specs.Activity.{job_on}
+use Rattle.print_room.specs.Report.{has_job}
 use Rattle.print_room.specs.State.{State}
 
 -- the job that the device at a place has
 abbrev pub job_of : List Device → ℕ → Option ℕ
 job_of devices place = option_and_then (λ d. job_on d.activity) (slice_get devices place)
+
+-- the place of the device that has the job of this id
+abbrev pub device_of : List Device → ℕ → Option ℕ
+device_of devices id = position (λ d. has_job id d.activity) devices
 
 -- the job that a device has is in the spool, as one that a device has, and no other device has it
 pub record Agree (devices : List Device) (jobs : List SpooledRecord) : Type 0 where

@@ -1,24 +1,84 @@
--- What becomes of jobs that no device has.
-use Rattle.std.specs.Prelude.{ℕ, ◌≡◌, ◌+◌, false, [], ◌∷◌, ◌++◌, map, None}
+-- What becomes of jobs and printers by what people ask, and of jobs that nobody asks about any more.
+use Rattle.std.specs.Prelude.{ℕ, ◌≡◌, ◌+◌, Bool, false, true, List, [], ◌∷◌, ◌++◌, map, set, Option, None}
+use Rattle.std.specs.List.{list_any}
+use Rattle.std.specs.Str.{bytes_eq}
+use Rattle.job_objects.specs.declared.job_change.JobChange.{JobChange}
+use Rattle.spool.specs.declared.refusal.SpoolRefusal.{SpoolRefusal}
+use Rattle.spool.specs.Document.{DocumentRecord}
 use Rattle.spool.specs.Submission.{Submission, spooled_of}
-use Rattle.spool.specs.Spooled.{expired}
+use Rattle.spool.specs.Spooled.{SpooledRecord, changed, expired}
+use Rattle.spool.specs.Jobs.{spooled_at, with_job}
 use Rattle.spool.specs.Kept.{retained}
-use Rattle.spool.specs.Calls.{new_refusal}
+use Rattle.spool.specs.Calls.{new_refusal, change_refusal, cancel_refusal, cancel_of, adds, document_refusal, with_document, closed_if}
 use Rattle.print_room.specs.State.{State}
 
--- with one job more, which is all in, under the next id
-abbrev pub with_new_job : ℕ → Submission → State → State
-with_new_job now job old = record old {
+-- ---- who asks
+
+-- whether a name is an operator's
+abbrev pub is_operator : List ℕ → State → Bool
+is_operator name state = list_any (bytes_eq name) state.settings.operators
+
+-- ---- a job that comes
+
+-- these jobs, from a moment on
+abbrev pub with_jobs : ℕ → List SpooledRecord → State → State
+with_jobs now jobs old = record old { last = now; spool = record old.spool { jobs = jobs } }
+
+-- with one job more under the next id, told whether documents are still to come
+abbrev pub with_job_taken : ℕ → Submission → Bool → State → State
+with_job_taken now job incoming old = record old {
   last = now;
-  spool = record { jobs = old.spool.jobs ++ spooled_of job old.spool.next false ∷ []; next = old.spool.next + 1 };
+  spool = record { jobs = old.spool.jobs ++ spooled_of job old.spool.next incoming ∷ []; next = old.spool.next + 1 };
 }
 
+-- with one job more, which is all in
+abbrev pub with_new_job : ℕ → Submission → State → State
+with_new_job now job old = with_job_taken now job false old
+
 -- a job that nothing stands against is taken under this id, the next one
-pub record Submits (now : ℕ) (old : State) (job : Submission) (id : ℕ) (new : State) : Type 0 where
+pub record Submits (now : ℕ) (old : State) (job : Submission) (incoming : Bool) (id : ℕ) (new : State) : Type 0 where
   pub free : new_refusal old.spool job.documents ≡ None
   pub id_is : id ≡ old.spool.next
-  pub state : new ≡ with_new_job now job old
+  pub state : new ≡ with_job_taken now job incoming old
+
+-- why a document that someone sends to the job of this id isn't taken, if there is a cause other than out of memory
+abbrev pub sending_refusal : ℕ → List ℕ → DocumentRecord → Bool → State → Option SpoolRefusal
+sending_refusal id name document last state = document_refusal name (is_operator name state) document last (spooled_at id state.spool.jobs)
+
+-- the job of this id takes a document, and is all in where that is the last
+abbrev pub sending : ℕ → ℕ → DocumentRecord → Bool → State → State
+sending now id document last old = with_jobs now (closed_if last id now (with_document (adds document last) id document now old.spool.jobs)) old
+
+-- ---- a job that someone wants changed
+
+-- why a change of the job of this id isn't made
+abbrev pub asked_refusal : ℕ → List ℕ → JobChange → ℕ → State → Option SpoolRefusal
+asked_refusal id name change now state = change_refusal name (is_operator name state) change now (spooled_at id state.spool.jobs)
+
+-- the job of this id is changed
+abbrev pub changing : ℕ → ℕ → JobChange → State → State
+changing now id change old = with_jobs now (with_job id (changed change now) old.spool.jobs) old
+
+-- why a cancel of the job of this id isn't made
+abbrev pub canceling_refusal : ℕ → List ℕ → State → Option SpoolRefusal
+canceling_refusal id name state = cancel_refusal name (is_operator name state) (spooled_at id state.spool.jobs)
+
+-- as whom someone cancels the job of this id
+abbrev pub cancel_by : ℕ → List ℕ → State → JobChange
+cancel_by id name state = cancel_of name (spooled_at id state.spool.jobs)
+
+-- the job of this id is canceled by someone, and of the finished jobs the oldest may be forgotten
+abbrev pub canceling : ℕ → ℕ → List ℕ → State → State
+canceling now id name old = with_jobs now (retained (with_job id (changed (cancel_by id name old) now) old.spool.jobs)) old
+
+-- ---- a printer that someone wants paused, or no longer
+
+-- the printer at a place is paused, or isn't any longer
+abbrev pub pausing : ℕ → ℕ → Bool → State → State
+pausing now place paused old = record old { last = now; paused = set old.paused place paused }
+
+-- ---- time
 
 -- the jobs whose documents stopped coming in are aborted, and of the finished jobs the oldest may be forgotten
 abbrev pub expiring : ℕ → State → State
-expiring now old = record old { last = now; spool = record old.spool { jobs = retained (map (expired now) old.spool.jobs) } }
+expiring now old = with_jobs now (retained (map (expired now) old.spool.jobs)) old

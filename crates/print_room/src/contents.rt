@@ -2,11 +2,12 @@
 ghost use Rattle.std.specs.Prelude.{◌≡◌};
 ghost use Rattle.std.specs.Option.{option_copied};
 ghost use Rattle.spool.specs.Calls.{paused_at};
-ghost use Rattle.print_room.specs.DeviceJobs.{IsRoom};
+ghost use Rattle.print_room.specs.DeviceJobs.{IsRoom, device_of};
 
+use crate::report::has_job;
 use crate::room::PrintRoom;
 use crate::started::Started;
-use base_types::{DeviceNow, Moment, PrinterId};
+use base_types::{DeviceId, DeviceNow, JobId, Moment, PrinterId};
 use job_objects::Printer;
 use prices::Plan;
 use settings_file::Settings;
@@ -28,6 +29,25 @@ impl PrintRoom {
         ensures kept { IsRoom self.now }
     {
         &self.devices
+    }
+
+    /// The device that has the job of this id, if one has it.
+    pub fn device_of(&self, id: JobId) -> Option<DeviceId>
+        ensures { result ≡ device_of self.now.devices id }
+    {
+        match self.place_of(id) {
+            Some(place) => Some(DeviceId::new(place)),
+            None => None,
+        }
+    }
+
+    /// The place of the device that has the job of this id.
+    fn place_of(&self, id: JobId) -> Option<usize>
+        ensures { result ≡ device_of self.now.devices id }
+    {
+        self.devices
+            .iter()
+            .position(|device| has_job(device.activity, id.number()))
     }
 
     /// The jobs.

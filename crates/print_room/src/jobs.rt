@@ -1,21 +1,23 @@
-//! Jobs that come, and jobs that stop coming.
-ghost use Rattle.std.specs.Prelude.{◌≡◌, ◌≤◌, IfOk, IfErr, OnOk, OnErr};
+//! Jobs that come, jobs that someone wants changed, and jobs that stop coming.
+ghost use Rattle.std.specs.Prelude.{◌≡◌, ◌≤◌, [], true, false, None, Some, IfOk, IfErr, OnOk, OnErr, option_map};
+ghost use Rattle.job_objects.specs.declared.job_change.JobChange.TheVariants as Change;
 ghost use Rattle.spool.specs.Calls.{new_refusal, IsRefusal};
-ghost use Rattle.print_room.specs.Jobs.{Submits, expiring};
+ghost use Rattle.print_room.specs.Jobs.{Submits, is_operator, sending_refusal, sending, asked_refusal, changing, canceling_refusal, canceling, expiring};
 ghost use Rattle.print_room.specs.DeviceJobs.{AllKeep};
 
-use crate::room::PrintRoom;
-use base_types::{JobId, Moment};
-use spool::{NewJob, Refused};
+use crate::room::{PrintRoom, is_named};
+use base_types::{JobId, Moment, Text};
+use spool::{Asker, Document, NewJob, Refused, RefusedDocument, SpoolRefusal};
 
-/// What becomes of jobs that no device has, at a moment that is not before the last one.
+/// What becomes of jobs by what people ask, at a moment that is not before the last one. A refusal
+/// changes nothing.
 impl PrintRoom {
     /// Takes a job that is all in, under the next id: it is pending, or held.
     ///
-    /// A refusal changes nothing and hands the job back. In this order: too large, busy, out of memory.
+    /// A refusal hands the job back. In this order: too large, busy, out of memory.
     pub fn submit(&mut self, job: NewJob, now: Moment) -> Result<JobId, Refused>
         requires { self.old.last ≤ now }
-        ensures ok { IfOk result (λ id. Submits now self.old job id self.new) }
+        ensures ok { IfOk result (λ id. Submits now self.old job false id self.new) }
         ensures kept { OnErr result (self.new ≡ self.old) }
         ensures keep { OnOk result (AllKeep self.old self.new) }
         ensures returned { IfErr result (λ refused. refused.job ≡ job) }
@@ -24,6 +26,136 @@ impl PrintRoom {
         let id = self.spool.submit(job)?;
         self.advance(now);
         Ok(id)
+    }
+
+    /// Takes a job whose documents are still to come, under the next id.
+    ///
+    /// Refused in this order: busy, out of memory.
+    pub fn create(&mut self, job: NewJob, now: Moment) -> Result<JobId, SpoolRefusal>
+        requires later { self.old.last ≤ now }
+        requires empty { job.documents ≡ [] }
+        ensures ok { IfOk result (λ id. Submits now self.old job true id self.new) }
+        ensures kept { OnErr result (self.new ≡ self.old) }
+        ensures keep { OnOk result (AllKeep self.old self.new) }
+        ensures refused { IfErr result (λ refusal. IsRefusal (new_refusal self.old.spool []) refusal) }
+    {
+        let id = self.spool.create(job)?;
+        self.advance(now);
+        Ok(id)
+    }
+
+    /// Adds a document that someone sends to a job whose documents are still to come (RFC 8011,
+    /// section 4.3.1); with the last one the job is all in. A last document without octets isn't added.
+    ///
+    /// A refusal hands the document back. In this order: not found, not authorized, not possible, too
+    /// large, out of memory.
+    pub fn add_document(
+        &mut self,
+        id: JobId,
+        name: &Text,
+        document: Document,
+        last: bool,
+        now: Moment,
+    ) -> Result<(), RefusedDocument>
+        requires { self.old.last ≤ now }
+        ensures ok { OnOk result ((sending_refusal id name.now document last self.old ≡ None) × (self.new ≡ sending now id document last self.old)) }
+        ensures kept { OnErr result (self.new ≡ self.old) }
+        ensures keep { OnOk result (AllKeep self.old self.new) }
+        ensures returned { IfErr result (λ refused. refused.document ≡ document) }
+        ensures refused { IfErr result (λ refused. IsRefusal (sending_refusal id name.now document last self.old) refused.refusal) }
+    {
+        let is_operator = self.is_operator(name);
+        let asker = Asker { name, is_operator };
+        self.spool.add_document(id, asker, document, last, now)?;
+        self.advance(now);
+        Ok(())
+    }
+
+    /// Why a document that someone sends isn't taken, if there is a cause other than out of memory. It
+    /// takes no memory.
+    pub fn admits_document(
+        &self,
+        id: JobId,
+        name: &Text,
+        document: &Document,
+        last: bool,
+    ) -> Result<(), SpoolRefusal>
+        ensures ok { OnOk result (sending_refusal id name.now document.now last self.now ≡ None) }
+        ensures refused { IfErr result (λ refusal. sending_refusal id name.now document.now last self.now ≡ Some refusal) }
+    {
+        let is_operator = self.is_operator(name);
+        let asker = Asker { name, is_operator };
+        self.spool.admits_document(id, asker, document, last)
+    }
+
+    /// Holds a job that waits, for someone (RFC 8011, section 4.3.5). It takes no memory.
+    ///
+    /// Refused in this order: not found, not authorized, not possible.
+    pub fn hold(&mut self, id: JobId, name: &Text, now: Moment) -> Result<(), SpoolRefusal>
+        requires { self.old.last ≤ now }
+        ensures ok { OnOk result ((asked_refusal id name.now Change.Hold now self.old ≡ None) × (self.new ≡ changing now id Change.Hold self.old)) }
+        ensures kept { OnErr result (self.new ≡ self.old) }
+        ensures keep { OnOk result (AllKeep self.old self.new) }
+        ensures refused { IfErr result (λ refusal. asked_refusal id name.now Change.Hold now self.old ≡ Some refusal) }
+    {
+        let is_operator = self.is_operator(name);
+        let asker = Asker { name, is_operator };
+        self.spool.hold(id, asker, now)?;
+        self.advance(now);
+        Ok(())
+    }
+
+    /// Releases a job, for someone (RFC 8011, section 4.3.6): one that is held is held no longer, one
+    /// that a device prints goes on. It takes no memory.
+    ///
+    /// Refused in this order: not found, not authorized, not possible.
+    pub fn release(&mut self, id: JobId, name: &Text, now: Moment) -> Result<(), SpoolRefusal>
+        requires { self.old.last ≤ now }
+        ensures ok { OnOk result ((asked_refusal id name.now Change.Release now self.old ≡ None) × (self.new ≡ changing now id Change.Release self.old)) }
+        ensures kept { OnErr result (self.new ≡ self.old) }
+        ensures keep { OnOk result (AllKeep self.old self.new) }
+        ensures refused { IfErr result (λ refusal. asked_refusal id name.now Change.Release now self.old ≡ Some refusal) }
+    {
+        let is_operator = self.is_operator(name);
+        let asker = Asker { name, is_operator };
+        self.spool.release(id, asker, now)?;
+        self.advance(now);
+        Ok(())
+    }
+
+    /// Cancels a job that isn't finished, for someone (RFC 8011, section 4.3.3). A device that has it
+    /// keeps it until it says that it is done. It takes no memory.
+    ///
+    /// Refused in this order: not found, not authorized, not possible.
+    pub fn cancel(&mut self, id: JobId, name: &Text, now: Moment) -> Result<(), SpoolRefusal>
+        requires { self.old.last ≤ now }
+        ensures ok { OnOk result ((canceling_refusal id name.now self.old ≡ None) × (self.new ≡ canceling now id name.now self.old)) }
+        ensures kept { OnErr result (self.new ≡ self.old) }
+        ensures keep { OnOk result (AllKeep self.old self.new) }
+        ensures refused { IfErr result (λ refusal. canceling_refusal id name.now self.old ≡ Some refusal) }
+    {
+        let is_operator = self.is_operator(name);
+        let asker = Asker { name, is_operator };
+        self.spool.cancel(id, asker, now)?;
+        self.advance(now);
+        Ok(())
+    }
+
+    /// Why a cancel isn't made, if it isn't. It takes no memory.
+    pub fn admits_cancel(&self, id: JobId, name: &Text) -> Result<(), SpoolRefusal>
+        ensures ok { OnOk result (canceling_refusal id name.now self.now ≡ None) }
+        ensures refused { IfErr result (λ refusal. canceling_refusal id name.now self.now ≡ Some refusal) }
+    {
+        let is_operator = self.is_operator(name);
+        let asker = Asker { name, is_operator };
+        self.spool.admits_cancel(id, asker)
+    }
+
+    /// Whether a name is an operator's.
+    pub fn is_operator(&self, name: &Text) -> bool
+        ensures { result ≡ is_operator name.now self.now }
+    {
+        is_named(&self.settings.operators, name.as_bytes())
     }
 
     /// Time goes on: jobs whose documents stopped coming in are aborted, and of the finished jobs the

@@ -13,6 +13,7 @@ mod dispatch;
 mod jobs;
 mod law;
 mod opening;
+mod pausing;
 mod planning;
 mod ready;
 mod report;

@@ -13,7 +13,7 @@ use job_objects::DeviceSays;
 use spool::Document;
 
 /// Whether the device has the job of this number.
-fn has_job(activity: Activity, number: u32) -> bool
+pub(crate) fn has_job(activity: Activity, number: u32) -> bool
     ensures { result ≡ has_job number activity }
 {
     match job_on(activity) {

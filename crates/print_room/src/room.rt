@@ -105,7 +105,7 @@ fn load(media: &mut [Medium], names: &[Text])
 }
 
 /// Whether a text is one of these.
-fn is_named(names: &[Text], wanted: &[u8]) -> bool
+pub(crate) fn is_named(names: &[Text], wanted: &[u8]) -> bool
     ensures { result ≡ list_any (bytes_eq wanted.now) names.now }
 {
     names.iter().any(|name| wanted == name.as_bytes())

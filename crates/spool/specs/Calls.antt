@@ -69,6 +69,11 @@ abbrev pub change_refusal : List ℕ → Bool → JobChange → ℕ → Option S
 change_refusal name is_operator change now found =
     or_else (asking_refusal name is_operator found) (if allows change now found then None else Some Why.NotPossible)
 
+-- why someone can't cancel a job: they may not change it, or it is finished
+abbrev pub cancel_refusal : List ℕ → Bool → Option SpooledRecord → Option SpoolRefusal
+cancel_refusal name is_operator found =
+    or_else (asking_refusal name is_operator found) (if option_map_or (λ s. is_finished s.job.state) found false then Some Why.NotPossible else None)
+
 -- as whom someone cancels a job
 abbrev pub cancel_of : List ℕ → Option SpooledRecord → JobChange
 cancel_of name found = Change.Cancel (option_map_or (λ s. canceler_of name s.job) found Operator)

@@ -1,12 +1,13 @@
 //! What may be asked of jobs: to be shown, held, released, canceled.
-ghost use Rattle.std.specs.Prelude.{◌≡◌, OnOk, OnErr, IfErr, IfOk, None, Some, option_map};
-ghost use Rattle.std.specs.Option.{option_copied};
+ghost use Rattle.std.specs.Prelude.{◌≡◌, OnOk, OnErr, IfErr, IfOk, None, Some, false, option_map};
+ghost use Rattle.std.specs.Option.{option_copied, option_map_or};
+ghost use Rattle.job_objects.specs.JobState.{is_finished};
 ghost use Rattle.job_objects.specs.declared.job_change.JobChange.{JobChange};
 ghost use Rattle.job_objects.specs.declared.job_change.JobChange.TheVariants as Change;
 ghost use Rattle.spool.specs.Spooled.{changed};
 ghost use Rattle.spool.specs.Kept.{retained};
 ghost use Rattle.spool.specs.Jobs.{spooled_at, job_at, with_job};
-ghost use Rattle.spool.specs.Calls.{asking_refusal, change_refusal, cancel_of};
+ghost use Rattle.spool.specs.Calls.{asking_refusal, change_refusal, cancel_refusal, cancel_of};
 ghost use Rattle.spool.specs.OnDevice.{AllStay};
 
 use crate::asker::Asker;
@@ -73,15 +74,40 @@ impl Spool {
     /// Cancels a job that isn't finished. A device that has it keeps it, with its documents, until it
     /// says that it is done.
     pub fn cancel(&mut self, id: JobId, asker: Asker<'_>, now: Moment) -> Result<(), SpoolRefusal>
-        ensures ok { OnOk result (let found = spooled_at id self.old.jobs in let change = cancel_of asker.entry.name.now found in (change_refusal asker.entry.name.now asker.entry.is_operator change now found ≡ None) × (self.new ≡ record self.old { jobs = retained (with_job id (changed change now) self.old.jobs) })) }
+        ensures ok { OnOk result (let found = spooled_at id self.old.jobs in let change = cancel_of asker.entry.name.now found in (cancel_refusal asker.entry.name.now asker.entry.is_operator found ≡ None) × (self.new ≡ record self.old { jobs = retained (with_job id (changed change now) self.old.jobs) })) }
         ensures kept { OnErr result (self.new ≡ self.old) }
         ensures stay { OnOk result (AllStay self.old.jobs self.new.jobs) }
-        ensures refused { IfErr result (λ refusal. let found = spooled_at id self.old.jobs in change_refusal asker.entry.name.now asker.entry.is_operator (cancel_of asker.entry.name.now found) now found ≡ Some refusal) }
+        ensures refused { IfErr result (λ refusal. cancel_refusal asker.entry.name.now asker.entry.is_operator (spooled_at id self.old.jobs) ≡ Some refusal) }
     {
-        let change = self.cancel_by(id, asker);
-        self.ask(id, asker, change, now)?;
+        let spool = &*self;
+        spool.admits_cancel(id, asker)?;
+        let change = spool.cancel_by(id, asker);
+        let _changed = self.change(id, change, now);
         self.forget();
         Ok(())
+    }
+
+    /// Why a cancel would be refused, if it would be.
+    pub fn admits_cancel(&self, id: JobId, asker: Asker<'_>) -> Result<(), SpoolRefusal>
+        ensures ok { OnOk result (cancel_refusal asker.entry.name.now asker.entry.is_operator (spooled_at id self.now.jobs) ≡ None) }
+        ensures refused { IfErr result (λ refusal. cancel_refusal asker.entry.name.now asker.entry.is_operator (spooled_at id self.now.jobs) ≡ Some refusal) }
+    {
+        self.may_change(id, asker)?;
+        if self.is_finished(id) {
+            Err(SpoolRefusal::NotPossible)
+        } else {
+            Ok(())
+        }
+    }
+
+    /// Whether the job of this id is finished, where there is one.
+    fn is_finished(&self, id: JobId) -> bool
+        ensures { result ≡ option_map_or (λ s. is_finished s.job.state) (spooled_at id self.now.jobs) false }
+    {
+        match self.spooled(id) {
+            Some(spooled) => spooled.job().state.is_finished(),
+            None => false,
+        }
     }
 
     /// How someone cancels the job of this id.
