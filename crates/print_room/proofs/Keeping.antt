@@ -1,20 +1,29 @@
 -- What becomes of the documents of the jobs that devices have.
-use Rattle.std.proofs.Common.{◌≡◌, ◌⊎◌, ◌∙◌, ℕ, Bool, true, false, cond, List, [], ◌∷◌, map, Option, Some, None, refl, sym, ap, subst, inl, inr}
-use Rattle.std.specs.Prelude.{slice_get, MatchOption}
+use Rattle.std.proofs.Common.{◌≡◌, ◌⊎◌, ◌∙◌, ℕ, Bool, true, false, cond, List, [], ◌∷◌, map, Option, Some, None, refl, sym, ap, subst, inl, inr, true≢false}
+use Rattle.std.specs.Prelude.{slice_get, MatchOption, IfSome, All, not, ◌&&◌, length}
+use Rattle.std.proofs.lemmas.Bool.{cases_eq}
 use Rattle.std.specs.Option.{option_map_or}
 use Rattle.base_types.specs.Device.{Device}
 use Rattle.base_types.specs.declared.report.Report.{Report}
+use Rattle.job_objects.specs.declared.job_change.JobChange.{JobChange}
+use Rattle.job_objects.specs.declared.job_change.JobChange.TheVariants.{Close}
 use Rattle.job_objects.specs.declared.device_says.DeviceSays.{DeviceSays}
 use Rattle.job_objects.specs.declared.device_says.DeviceSays.TheVariants.{Stop, Continue, Done, Fail}
 use Rattle.job_objects.specs.DeviceSays.{is_end}
 use Rattle.spool.specs.Document.{DocumentRecord}
-use Rattle.spool.specs.Spooled.{SpooledRecord, handed_out, expired}
-use Rattle.spool.specs.Jobs.{spooled_at, documents_told}
+use Rattle.spool.specs.Spooled.{SpooledRecord, attached, changed, handed_out, expired}
+use Rattle.spool.specs.Jobs.{spooled_at, with_job, documents_told}
 use Rattle.spool.specs.OnDevice.{is_on_device, documents_at, AllStay}
 use Rattle.spool.specs.Submission.{Submission, spooled_of}
 use Rattle.spool.specs.Kept.{retained}
-use Rattle.print_room.specs.Jobs.{with_new_job, expiring}
-use Rattle.spool.proofs.OnDevice.{there, others_told, stay_told, stay_same, stay_before, stay_then, stay_map, stay_retained, expired_on}
+use Rattle.print_room.specs.Jobs.{is_operator, with_job_taken, sending_refusal, sending, changing, cancel_by, canceling, expiring}
+use Rattle.spool.specs.Calls.{or_else, asking_refusal, taking_refusal, document_refusal, adds, is_too_large, with_document, closed_if}
+use Rattle.spool.specs.declared.refusal.SpoolRefusal.{SpoolRefusal}
+use Rattle.spool.specs.declared.refusal.SpoolRefusal.TheVariants as Why
+use Rattle.spool.specs.Sound.{IsSound}
+use Rattle.spool.specs.Spool.{IsSpool}
+use Rattle.spool.proofs.Sound.{incoming_off, sound_found}
+use Rattle.spool.proofs.OnDevice.{there, others_told, stay_told, stay_same, stay_before, stay_then, stay_map, stay_with, stay_retained, others_with, changed_on, expired_on}
 use Rattle.print_room.specs.Activity.{job_on}
 use Rattle.print_room.specs.State.{State, with_device}
 use Rattle.print_room.specs.Report.{said_of_job, activity_after, refitted, jobs_after, documents_out, state_after, Reports}
@@ -100,8 +109,55 @@ reports_keep now place report old documents new agree = at (slice_get old.device
     at (Some d) found reports =
         subst (λ (s : State). KeepsOrEnds place old documents s) (sym reports.0) (subst (λ (ds : List DocumentRecord). KeepsOrEnds place old ds (state_after now place report d old)) (sym reports.1) (report_keeps now place report d old found agree))
 
-pub submits_keep : (now : ℕ) (job : Submission) (old : State) → Agree old.devices old.spool.jobs → AllKeep old (with_new_job now job old)
-submits_keep now job old agree = keep_from old (with_new_job now job old) (λ place id has. has) (stay_before old.spool.jobs (spooled_of job old.spool.next false ∷ [])) agree
+pub submits_keep : (now : ℕ) (job : Submission) (incoming : Bool) (old : State) → Agree old.devices old.spool.jobs → AllKeep old (with_job_taken now job incoming old)
+submits_keep now job incoming old agree = keep_from old (with_job_taken now job incoming old) (λ place id has. has) (stay_before old.spool.jobs (spooled_of job old.spool.next incoming ∷ [])) agree
+
+pub changes_keep : (now id : ℕ) (change : JobChange) (old : State) → Agree old.devices old.spool.jobs → AllKeep old (changing now id change old)
+changes_keep now id change old agree = keep_from old (changing now id change old) (λ place one has. has) (stay_with id (changed change now) (changed_on change now) old.spool.jobs) agree
+
+pub cancels_keep : (now id : ℕ) (name : List ℕ) (old : State) → Agree old.devices old.spool.jobs → AllKeep old (canceling now id name old)
+cancels_keep now id name old agree =
+    let change = cancel_by id name old in
+    let after = with_job id (changed change now) old.spool.jobs in
+    keep_from old (canceling now id name old) (λ place one has. has) (stay_then old.spool.jobs after (retained after) (stay_with id (changed change now) (changed_on change now) old.spool.jobs) (stay_retained after)) agree
+
+-- ---- a document that someone sends
+
+-- where nothing stands against the first, nor against the second, nothing does against the second
+later_free : (first later : Option SpoolRefusal) → or_else first later ≡ None → later ≡ None
+later_free None later free = free
+later_free (Some cause) later free = absurd (cc)
+
+still_incoming : (incoming large : Bool) → cond (not incoming) (Some Why.NotPossible) (cond large (Some Why.TooLarge) None) ≡ None → incoming ≡ true
+still_incoming true large free = refl
+still_incoming false large free = absurd (cc)
+
+-- a job that takes a document isn't on a device
+sent_off : (id : ℕ) (name : List ℕ) (operator : Bool) (document : DocumentRecord) (last : Bool) (jobs : List SpooledRecord) → All IsSound jobs → document_refusal name operator document last (spooled_at id jobs) ≡ None → is_on_device id jobs ≡ false
+sent_off id name operator document last jobs sound free = at (spooled_at id jobs) (sound_found id jobs sound) free
+  where
+    at : (o : Option SpooledRecord) → IfSome o IsSound → document_refusal name operator document last o ≡ None → option_map_or (λ s. s.on_device) o false ≡ false
+    at None fits free = refl
+    at (Some s) fits free =
+        incoming_off s fits (still_incoming s.job.incoming (adds document last && is_too_large (length document.contents) s.job) (later_free (asking_refusal name operator (Some s)) (taking_refusal document (adds document last) (Some s)) free))
+
+attached_stay : (added : Bool) (id : ℕ) (document : DocumentRecord) (now : ℕ) (jobs : List SpooledRecord) → is_on_device id jobs ≡ false → AllStay jobs (with_document added id document now jobs)
+attached_stay false id document now jobs off one on = stay_same jobs one on
+attached_stay true id document now jobs off one on = elim (cases_eq one id) [
+  | inl same ↦ absurd (true≢false (sym on ∙ (ap (λ (n : ℕ). is_on_device n jobs) same ∙ off)))
+  | inr differ ↦ others_with id (attached document now) (λ s. refl) jobs one differ on
+]
+
+closed_stay : (last : Bool) (id now : ℕ) (jobs : List SpooledRecord) → AllStay jobs (closed_if last id now jobs)
+closed_stay false id now jobs = stay_same jobs
+closed_stay true id now jobs = stay_with id (changed Close now) (changed_on Close now) jobs
+
+pub sends_keep : (now id : ℕ) (name : List ℕ) (document : DocumentRecord) (last : Bool) (old : State) → IsSpool old.spool → Agree old.devices old.spool.jobs → sending_refusal id name document last old ≡ None → AllKeep old (sending now id document last old)
+sends_keep now id name document last old spool agree free =
+    let jobs = old.spool.jobs in
+    let taken = with_document (adds document last) id document now jobs in
+    let off = sent_off id name (is_operator name old) document last jobs spool.sound free in
+    keep_from old (sending now id document last old) (λ place one has. has) (stay_then jobs taken (closed_if last id now taken) (attached_stay (adds document last) id document now jobs off) (closed_stay last id now taken)) agree
 
 pub expires_keep : (now : ℕ) (old : State) → Agree old.devices old.spool.jobs → AllKeep old (expiring now old)
 expires_keep now old agree =

@@ -1,12 +1,13 @@
 //! What every state after this one keeps, however it comes about.
-ghost use Rattle.std.specs.Prelude.{◌≡◌, ℕ, List, Option};
+ghost use Rattle.std.specs.Prelude.{◌≡◌, ℕ, Bool, List, Option, None};
 ghost use Rattle.base_types.specs.declared.report.Report.{Report};
+ghost use Rattle.job_objects.specs.declared.job_change.JobChange.{JobChange};
 ghost use Rattle.prices.specs.Plan.{PlanRecord};
 ghost use Rattle.spool.specs.Document.{DocumentRecord};
 ghost use Rattle.spool.specs.Submission.{Submission};
 ghost use Rattle.print_room.specs.declared.started.Started.{Started};
 ghost use Rattle.print_room.specs.State.{State};
-ghost use Rattle.print_room.specs.Jobs.{with_new_job, expiring};
+ghost use Rattle.print_room.specs.Jobs.{with_job_taken, sending_refusal, sending, changing, canceling, pausing, expiring};
 ghost use Rattle.print_room.specs.Report.{Reports};
 ghost use Rattle.print_room.specs.Dispatch.{Dispatches};
 ghost use Rattle.print_room.specs.DeviceJobs.{AllKeep, KeepsOrEnds};
@@ -14,10 +15,14 @@ ghost use Rattle.print_room.specs.DeviceJobs.{AllKeep, KeepsOrEnds};
 use crate::room::PrintRoom;
 
 impl PrintRoom {
-    /// The documents of jobs that devices have stay, byte for byte, over a new job, over time and over a
-    /// dispatch; a report hands out whole those of the job that it ends, and touches no other's.
+    /// The documents of jobs that devices have stay, byte for byte, whatever people ask, over time and
+    /// over a dispatch; a report hands out whole those of the job that it ends, and touches no other's.
     pub fn documents_stay(&self)
-        ensures submits { (now : ℕ) (job : Submission) → AllKeep self.now (with_new_job now job self.now) }
+        ensures submits { (now : ℕ) (job : Submission) (incoming : Bool) → AllKeep self.now (with_job_taken now job incoming self.now) }
+        ensures sends { (now id : ℕ) (name : List ℕ) (document : DocumentRecord) (last : Bool) → sending_refusal id name document last self.now ≡ None → AllKeep self.now (sending now id document last self.now) }
+        ensures changes { (now id : ℕ) (change : JobChange) → AllKeep self.now (changing now id change self.now) }
+        ensures cancels { (now id : ℕ) (name : List ℕ) → AllKeep self.now (canceling now id name self.now) }
+        ensures pauses { (now place : ℕ) (paused : Bool) → AllKeep self.now (pausing now place paused self.now) }
         ensures expires { (now : ℕ) → AllKeep self.now (expiring now self.now) }
         ensures reports { (now place : ℕ) (report : Report) (documents : List DocumentRecord) (new : State) → Reports now place report self.now documents new → KeepsOrEnds place self.now documents new }
         ensures dispatches { (now : ℕ) (plan : Option PlanRecord) (started : List Started) (new : State) → Dispatches now self.now plan started new → AllKeep self.now new }
