@@ -1,7 +1,8 @@
--- The checks of a request for a job, in their order (RFC 8011, sections 4.1.5 to 4.1.7, 4.2.1.1 and 4.2.1.2):
--- its printer, its document's form, its template, and whether there is room for it. The first that fails
--- decides. Which of them a request has to pass stands with its operation.
-use Rattle.std.specs.Prelude.{ℕ, ◌==◌, ◌&&◌, not, nat_lt, Bool, false, if◌then◌else◌, List, [], length, Option, Some, None, Result, Ok, Err, codes}
+-- The checks of a request, in their order (RFC 8011, sections 4.1.5 to 4.1.7, 4.2.1.1 and 4.2.1.2): its
+-- printer or its job, its document's form, its template, whether who asks may, whether the job's state
+-- allows it, and whether there is room for it. The first that fails decides. Which of them a request has to
+-- pass stands with its operation.
+use Rattle.std.specs.Prelude.{ℕ, ◌==◌, ◌&&◌, not, nat_lt, Bool, false, if◌then◌else◌, List, [], length, Option, Some, None, Result, Ok, Err, codes, slice_get}
 use Rattle.std.specs.Option.{option_map_or}
 use Rattle.std.specs.Str.{bytes_eq}
 use Rattle.base_types.specs.declared.limits.TheConstants.Limits.{JOB_OCTETS}
@@ -16,7 +17,12 @@ use Rattle.dispatcher.specs.declared.status.Status.{Status}
 use Rattle.dispatcher.specs.declared.status.Status.TheVariants as Went
 use Rattle.dispatcher.specs.declared.checks.NamedPrinter.{NamedPrinter}
 use Rattle.dispatcher.specs.declared.checks.Refusal.{Refusal}
-use Rattle.dispatcher.specs.Target.{printer_of}
+use Rattle.dispatcher.specs.declared.event.JobTarget.{JobTarget}
+use Rattle.dispatcher.specs.Target.{printer_of, job_of}
+use Rattle.job_objects.specs.Job.{JobRecord}
+use Rattle.spool.specs.declared.refusal.SpoolRefusal.{SpoolRefusal}
+use Rattle.spool.specs.declared.refusal.SpoolRefusal.TheVariants as Why
+use Rattle.print_room.specs.Jobs.{is_operator}
 use Rattle.print_room.specs.State.{State}
 
 -- a status, and nothing that isn't supported
@@ -31,6 +37,15 @@ offer_of state printer = record { devices = state.devices; printer = printer }
 abbrev pub named_printer : Target → State → Result NamedPrinter Refusal
 named_printer target state =
     option_map_or (λ found. Ok (record { place = found.0; offer = offer_of state found.1 })) (printer_of target state.settings.printers) (Err (refused Went.NotFound))
+
+-- the job is known
+abbrev pub named_job : JobTarget → State → Result JobRecord Refusal
+named_job target state = option_map_or Ok (job_of target state) (Err (refused Went.NotFound))
+
+-- the printer that a job was sent to
+abbrev pub printer_of_job : JobRecord → State → Result NamedPrinter Refusal
+printer_of_job job state =
+    option_map_or (λ printer. Ok (record { place = job.needs.printer; offer = offer_of state printer })) (slice_get state.settings.printers job.needs.printer) (Err (refused Went.NotFound))
 
 -- compression is given and is not `none` (section 4.2.1.1)
 abbrev pub is_compressed : Option (List ℕ) → Bool
@@ -54,6 +69,24 @@ abbrev pub unsupported_asked : Bool → List IppAttribute → OfferRecord → Re
 unsupported_asked fidelity template offer =
     if fidelity && not (length (unsupported_of offer template) == 0) then Err (record { status = Went.AttributesNotSupported; unsupported = unsupported_of offer template })
     else Ok (unsupported_of offer template)
+
+-- what a change of a job that isn't made is answered
+abbrev pub status_of : SpoolRefusal → Status
+status_of Why.Busy = Went.Busy
+status_of Why.TooLarge = Went.TooLarge
+status_of Why.NotFound = Went.NotFound
+status_of Why.NotPossible = Went.NotPossible
+status_of Why.NotAuthorized = Went.NotAuthorized
+status_of Why.OutOfMemory = Went.TemporaryError
+
+-- nothing stands against a change of a job
+abbrev pub unrefused : Option SpoolRefusal → Result (Unit {0}) Refusal
+unrefused None = Ok tt
+unrefused (Some cause) = Err (refused (status_of cause))
+
+-- who asks is an operator
+abbrev pub by_operator : List ℕ → State → Result (Unit {0}) Refusal
+by_operator name state = if is_operator name state then Ok tt else Err (refused Went.NotAuthorized)
 
 -- a job may have so many octets, and a further job is taken
 abbrev pub room_for : ℕ → State → Result (Unit {0}) Refusal

@@ -8,7 +8,7 @@ use Rattle.spool.specs.Submission.{Submission, spooled_of}
 use Rattle.spool.specs.Calls.{paused_at}
 use Rattle.dispatcher.specs.declared.event.PrintJob.{PrintJob}
 use Rattle.dispatcher.specs.declared.reply.Reply.{Reply}
-use Rattle.dispatcher.specs.declared.print_job.Accepted.{Accepted}
+use Rattle.dispatcher.specs.declared.submission.Accepted.{Accepted}
 use Rattle.dispatcher.specs.declared.checks.NamedPrinter.{NamedPrinter}
 use Rattle.dispatcher.specs.declared.checks.Refusal.{Refusal}
 use Rattle.dispatcher.specs.Answers.{Replies, Refuses, taken_with}
@@ -17,26 +17,6 @@ use Rattle.print_room.specs.State.{State}
 use Rattle.print_room.specs.Jobs.{with_new_job}
 use Rattle.job_template.specs.Template.{template_of, medium_of}
 
--- ---- the job
-
--- the job of the document, with what the job group comes to
-abbrev pub submission_of : PrintJob → ℕ → NamedPrinter → List ℕ → Submission
-submission_of request now printer format =
-    let template = template_of printer.offer request.job.template in record {
-      created = now;
-      printer = printer.place;
-      owner = request.job.user;
-      name = request.job.name;
-      priority = template.priority;
-      sides = template.sides;
-      finishings = template.finishings;
-      media = medium_of printer.offer request.job.template;
-      copies = template.copies;
-      held = template.held;
-      impressions = request.job.impressions;
-      documents = record { format = format; contents = request.octets } ∷ [];
-    }
-
 -- ---- the job that a request makes, or the first reason against it
 
 -- by its job group, the printer and the format being known
@@ -44,7 +24,7 @@ abbrev pub asked_of_format : PrintJob → ℕ → State → NamedPrinter → Lis
 asked_of_format request now old printer format =
     unsupported_asked request.job.fidelity request.job.template printer.offer >>= (λ unsupported.
     room_for (length request.octets) old >>= (λ _.
-    Ok (record { job = submission_of request now printer format; unsupported = unsupported })))
+    Ok (record { job = submission_of request.job now printer (record { format = format; contents = request.octets } ∷ []); unsupported = unsupported })))
 
 -- by its document's form
 abbrev pub asked_of_printer : PrintJob → ℕ → State → NamedPrinter → Result Accepted Refusal
@@ -57,14 +37,10 @@ asked_of request now old = named_printer request.job.target old >>= asked_of_pri
 
 -- ---- the answer
 
--- the group that shows a job that is taken next, before any dispatch (section 4.2.1.2)
-abbrev pub group_of : State → Submission → IppGroup
-group_of old job = created_group old.settings.uri_base (spooled_of job old.spool.next false).job (paused_at old.paused job.printer)
-
 -- the job is answered, and kept under the next id
 pub record TakesJob (now : ℕ) (old : State) (accepted : Accepted) (reply : Reply) (new : State) : Type 0 where
-  pub replies : Replies (taken_with accepted.unsupported) accepted.unsupported (group_of old accepted.job ∷ []) reply
-  pub state : new ≡ with_new_job now accepted.job old
+  pub replies : Replies (taken_with accepted.unsupported) accepted.unsupported (group_of old accepted.job false ∷ []) reply
+  pub state : new ≡ with_job_taken now accepted.job false old
 
 -- one reply and one state after it
 abbrev pub PrintsJob : ℕ → PrintJob → State → Reply → State → Type 0

@@ -133,13 +133,13 @@ still_incoming true large free = refl
 still_incoming false large free = absurd (cc)
 
 -- a job that takes a document isn't on a device
-sent_off : (id : ℕ) (name : List ℕ) (operator : Bool) (document : DocumentRecord) (last : Bool) (jobs : List SpooledRecord) → All IsSound jobs → document_refusal name operator document last (spooled_at id jobs) ≡ None → is_on_device id jobs ≡ false
-sent_off id name operator document last jobs sound free = at (spooled_at id jobs) (sound_found id jobs sound) free
+sent_off : (id : ℕ) (name : List ℕ) (operator : Bool) (octets : ℕ) (last : Bool) (jobs : List SpooledRecord) → All IsSound jobs → document_refusal name operator octets last (spooled_at id jobs) ≡ None → is_on_device id jobs ≡ false
+sent_off id name operator octets last jobs sound free = at (spooled_at id jobs) (sound_found id jobs sound) free
   where
-    at : (o : Option SpooledRecord) → IfSome o IsSound → document_refusal name operator document last o ≡ None → option_map_or (λ s. s.on_device) o false ≡ false
+    at : (o : Option SpooledRecord) → IfSome o IsSound → document_refusal name operator octets last o ≡ None → option_map_or (λ s. s.on_device) o false ≡ false
     at None fits free = refl
     at (Some s) fits free =
-        incoming_off s fits (still_incoming s.job.incoming (adds document last && is_too_large (length document.contents) s.job) (later_free (asking_refusal name operator (Some s)) (taking_refusal document (adds document last) (Some s)) free))
+        incoming_off s fits (still_incoming s.job.incoming (adds octets last && is_too_large octets s.job) (later_free (asking_refusal name operator (Some s)) (taking_refusal octets (adds octets last) (Some s)) free))
 
 attached_stay : (added : Bool) (id : ℕ) (document : DocumentRecord) (now : ℕ) (jobs : List SpooledRecord) → is_on_device id jobs ≡ false → AllStay jobs (with_document added id document now jobs)
 attached_stay false id document now jobs off one on = stay_same jobs one on
@@ -152,12 +152,12 @@ closed_stay : (last : Bool) (id now : ℕ) (jobs : List SpooledRecord) → AllSt
 closed_stay false id now jobs = stay_same jobs
 closed_stay true id now jobs = stay_with id (changed Close now) (changed_on Close now) jobs
 
-pub sends_keep : (now id : ℕ) (name : List ℕ) (document : DocumentRecord) (last : Bool) (old : State) → IsSpool old.spool → Agree old.devices old.spool.jobs → sending_refusal id name document last old ≡ None → AllKeep old (sending now id document last old)
+pub sends_keep : (now id : ℕ) (name : List ℕ) (document : DocumentRecord) (last : Bool) (old : State) → IsSpool old.spool → Agree old.devices old.spool.jobs → sending_refusal id name (length document.contents) last old ≡ None → AllKeep old (sending now id document last old)
 sends_keep now id name document last old spool agree free =
     let jobs = old.spool.jobs in
-    let taken = with_document (adds document last) id document now jobs in
-    let off = sent_off id name (is_operator name old) document last jobs spool.sound free in
-    keep_from old (sending now id document last old) (λ place one has. has) (stay_then jobs taken (closed_if last id now taken) (attached_stay (adds document last) id document now jobs off) (closed_stay last id now taken)) agree
+    let taken = with_document (adds (length document.contents) last) id document now jobs in
+    let off = sent_off id name (is_operator name old) (length document.contents) last jobs spool.sound free in
+    keep_from old (sending now id document last old) (λ place one has. has) (stay_then jobs taken (closed_if last id now taken) (attached_stay (adds (length document.contents) last) id document now jobs off) (closed_stay last id now taken)) agree
 
 pub expires_keep : (now : ℕ) (old : State) → Agree old.devices old.spool.jobs → AllKeep old (expiring now old)
 expires_keep now old agree =

@@ -1,5 +1,5 @@
 -- What becomes of jobs and printers by what people ask, and of jobs that nobody asks about any more.
-use Rattle.std.specs.Prelude.{ℕ, ◌≡◌, ◌+◌, Bool, false, true, List, [], ◌∷◌, ◌++◌, map, set, Option, None}
+use Rattle.std.specs.Prelude.{ℕ, ◌≡◌, ◌+◌, Bool, false, true, List, [], ◌∷◌, ◌++◌, map, set, length, Option, None}
 use Rattle.std.specs.List.{list_any}
 use Rattle.std.specs.Str.{bytes_eq}
 use Rattle.job_objects.specs.declared.job_change.JobChange.{JobChange}
@@ -41,13 +41,14 @@ pub record Submits (now : ℕ) (old : State) (job : Submission) (incoming : Bool
   pub id_is : id ≡ old.spool.next
   pub state : new ≡ with_job_taken now job incoming old
 
--- why a document that someone sends to the job of this id isn't taken, if there is a cause other than out of memory
-abbrev pub sending_refusal : ℕ → List ℕ → DocumentRecord → Bool → State → Option SpoolRefusal
-sending_refusal id name document last state = document_refusal name (is_operator name state) document last (spooled_at id state.spool.jobs)
+-- why a document of so many octets that someone sends to the job of this id isn't taken, if there is a cause
+-- other than out of memory
+abbrev pub sending_refusal : ℕ → List ℕ → ℕ → Bool → State → Option SpoolRefusal
+sending_refusal id name octets last state = document_refusal name (is_operator name state) octets last (spooled_at id state.spool.jobs)
 
 -- the job of this id takes a document, and is all in where that is the last
 abbrev pub sending : ℕ → ℕ → DocumentRecord → Bool → State → State
-sending now id document last old = with_jobs now (closed_if last id now (with_document (adds document last) id document now old.spool.jobs)) old
+sending now id document last old = with_jobs now (closed_if last id now (with_document (adds (length document.contents) last) id document now old.spool.jobs)) old
 
 -- ---- a job that someone wants changed
 

@@ -1,5 +1,5 @@
 //! Jobs that come, jobs that someone wants changed, and jobs that stop coming.
-ghost use Rattle.std.specs.Prelude.{◌≡◌, ◌≤◌, [], true, false, None, Some, IfOk, IfErr, OnOk, OnErr, option_map};
+ghost use Rattle.std.specs.Prelude.{◌≡◌, ◌≤◌, [], true, false, None, Some, IfOk, IfErr, OnOk, OnErr, length};
 ghost use Rattle.job_objects.specs.declared.job_change.JobChange.TheVariants as Change;
 ghost use Rattle.spool.specs.Calls.{new_refusal, IsRefusal};
 ghost use Rattle.print_room.specs.Jobs.{Submits, is_operator, sending_refusal, sending, asked_refusal, changing, canceling_refusal, canceling, expiring};
@@ -58,11 +58,11 @@ impl PrintRoom {
         now: Moment,
     ) -> Result<(), RefusedDocument>
         requires { self.old.last ≤ now }
-        ensures ok { OnOk result ((sending_refusal id name.now document last self.old ≡ None) × (self.new ≡ sending now id document last self.old)) }
+        ensures ok { OnOk result ((sending_refusal id name.now (length document.contents) last self.old ≡ None) × (self.new ≡ sending now id document last self.old)) }
         ensures kept { OnErr result (self.new ≡ self.old) }
         ensures keep { OnOk result (AllKeep self.old self.new) }
         ensures returned { IfErr result (λ refused. refused.document ≡ document) }
-        ensures refused { IfErr result (λ refused. IsRefusal (sending_refusal id name.now document last self.old) refused.refusal) }
+        ensures refused { IfErr result (λ refused. IsRefusal (sending_refusal id name.now (length document.contents) last self.old) refused.refusal) }
     {
         let is_operator = self.is_operator(name);
         let asker = Asker { name, is_operator };
@@ -71,21 +71,21 @@ impl PrintRoom {
         Ok(())
     }
 
-    /// Why a document that someone sends isn't taken, if there is a cause other than out of memory. It
-    /// takes no memory.
+    /// Why a document of so many octets that someone sends isn't taken, if there is a cause other than
+    /// out of memory. It takes no memory.
     pub fn admits_document(
         &self,
         id: JobId,
         name: &Text,
-        document: &Document,
+        octets: usize,
         last: bool,
     ) -> Result<(), SpoolRefusal>
-        ensures ok { OnOk result (sending_refusal id name.now document.now last self.now ≡ None) }
-        ensures refused { IfErr result (λ refusal. sending_refusal id name.now document.now last self.now ≡ Some refusal) }
+        ensures ok { OnOk result (sending_refusal id name.now octets last self.now ≡ None) }
+        ensures refused { IfErr result (λ refusal. sending_refusal id name.now octets last self.now ≡ Some refusal) }
     {
         let is_operator = self.is_operator(name);
         let asker = Asker { name, is_operator };
-        self.spool.admits_document(id, asker, document, last)
+        self.spool.admits_document(id, asker, octets, last)
     }
 
     /// Holds a job that waits, for someone (RFC 8011, section 4.3.5). It takes no memory.

@@ -1,5 +1,5 @@
 //! What every state after this one keeps, however it comes about.
-ghost use Rattle.std.specs.Prelude.{◌≡◌, ℕ, Bool, List, Option, None};
+ghost use Rattle.std.specs.Prelude.{◌≡◌, ℕ, Bool, List, Option, None, length};
 ghost use Rattle.base_types.specs.declared.report.Report.{Report};
 ghost use Rattle.job_objects.specs.declared.job_change.JobChange.{JobChange};
 ghost use Rattle.prices.specs.Plan.{PlanRecord};
@@ -19,7 +19,7 @@ impl PrintRoom {
     /// over a dispatch; a report hands out whole those of the job that it ends, and touches no other's.
     pub fn documents_stay(&self)
         ensures submits { (now : ℕ) (job : Submission) (incoming : Bool) → AllKeep self.now (with_job_taken now job incoming self.now) }
-        ensures sends { (now id : ℕ) (name : List ℕ) (document : DocumentRecord) (last : Bool) → sending_refusal id name document last self.now ≡ None → AllKeep self.now (sending now id document last self.now) }
+        ensures sends { (now id : ℕ) (name : List ℕ) (document : DocumentRecord) (last : Bool) → sending_refusal id name (length document.contents) last self.now ≡ None → AllKeep self.now (sending now id document last self.now) }
         ensures changes { (now id : ℕ) (change : JobChange) → AllKeep self.now (changing now id change self.now) }
         ensures cancels { (now id : ℕ) (name : List ℕ) → AllKeep self.now (canceling now id name self.now) }
         ensures pauses { (now place : ℕ) (paused : Bool) → AllKeep self.now (pausing now place paused self.now) }

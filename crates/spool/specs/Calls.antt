@@ -80,25 +80,25 @@ cancel_of name found = Change.Cancel (option_map_or (λ s. canceler_of name s.jo
 
 -- ---- a further document
 
--- whether a document is added: not where it has no octets and is the last
-abbrev pub adds : DocumentRecord → Bool → Bool
-adds document last = not last || nat_lt 0 (length document.contents)
+-- whether a document of so many octets is added: not where it has none and is the last
+abbrev pub adds : ℕ → Bool → Bool
+adds octets last = not last || nat_lt 0 octets
 
 -- whether the job may not have so many documents and octets more
 abbrev pub is_too_large : ℕ → JobRecord → Bool
 is_too_large octets job = nat_le JOB_DOCUMENTS job.documents || nat_lt JOB_OCTETS (job.octets + octets)
 
--- why a job doesn't take a document, told whether it is added
-abbrev pub taking_refusal : DocumentRecord → Bool → Option SpooledRecord → Option SpoolRefusal
-taking_refusal document added found =
+-- why a job doesn't take a document of so many octets, told whether it is added
+abbrev pub taking_refusal : ℕ → Bool → Option SpooledRecord → Option SpoolRefusal
+taking_refusal octets added found =
     option_map_or (λ s. if not s.job.incoming then Some Why.NotPossible
-    else if added && is_too_large (length document.contents) s.job then Some Why.TooLarge
+    else if added && is_too_large octets s.job then Some Why.TooLarge
     else None) found None
 
--- why a document that someone sends isn't taken, if there is a cause other than out of memory
-abbrev pub document_refusal : List ℕ → Bool → DocumentRecord → Bool → Option SpooledRecord → Option SpoolRefusal
-document_refusal name is_operator document last found =
-    or_else (asking_refusal name is_operator found) (taking_refusal document (adds document last) found)
+-- why a document of so many octets that someone sends isn't taken, if there is a cause other than out of memory
+abbrev pub document_refusal : List ℕ → Bool → ℕ → Bool → Option SpooledRecord → Option SpoolRefusal
+document_refusal name is_operator octets last found =
+    or_else (asking_refusal name is_operator found) (taking_refusal octets (adds octets last) found)
 
 -- the jobs with the document, if it is added
 abbrev pub with_document : Bool → ℕ → DocumentRecord → ℕ → List SpooledRecord → List SpooledRecord

@@ -13,11 +13,11 @@ use crate::spool::Spool;
 use base_types::{JobId, Limits, Moment};
 use job_objects::{Job, JobChange};
 
-/// Whether a document is added to its job: the last one isn't, if it has no octets.
-fn adds(document: &Document, last: bool) -> bool
-    ensures { result ≡ adds document.now last }
+/// Whether a document of so many octets is added to its job: the last one isn't, if it has none.
+fn adds(octets: usize, last: bool) -> bool
+    ensures { result ≡ adds octets last }
 {
-    !last || document.contents.len() > 0
+    !last || octets > 0
 }
 
 /// Whether a job may not have so many octets more in one more document.
@@ -41,15 +41,16 @@ impl Spool {
         last: bool,
         now: Moment,
     ) -> Result<(), RefusedDocument>
-        ensures ok { OnOk result ((document_refusal asker.entry.name.now asker.entry.is_operator document last (spooled_at id self.old.jobs) ≡ None) × (self.new ≡ record self.old { jobs = closed_if last id now (with_document (adds document last) id document now self.old.jobs) })) }
+        ensures ok { OnOk result ((document_refusal asker.entry.name.now asker.entry.is_operator (length document.contents) last (spooled_at id self.old.jobs) ≡ None) × (self.new ≡ record self.old { jobs = closed_if last id now (with_document (adds (length document.contents) last) id document now self.old.jobs) })) }
         ensures kept { OnErr result (self.new ≡ self.old) }
         ensures stay { OnOk result (AllStay self.old.jobs self.new.jobs) }
         ensures returned { IfErr result (λ refused. refused.document ≡ document) }
-        ensures refused { IfErr result (λ refused. IsRefusal (document_refusal asker.entry.name.now asker.entry.is_operator document last (spooled_at id self.old.jobs)) refused.refusal) }
+        ensures refused { IfErr result (λ refused. IsRefusal (document_refusal asker.entry.name.now asker.entry.is_operator (length document.contents) last (spooled_at id self.old.jobs)) refused.refusal) }
     {
-        let added = adds(&document, last);
+        let octets = document.contents.len();
+        let added = adds(octets, last);
         let spool = &*self;
-        if let Err(refusal) = spool.admits_document(id, asker, &document, last) {
+        if let Err(refusal) = spool.admits_document(id, asker, octets, last) {
             return Err(RefusedDocument { refusal, document });
         }
         if let Err(document) = self.attach_if(added, id, document, now) {
@@ -60,27 +61,28 @@ impl Spool {
         Ok(())
     }
 
-    /// Why a document that someone sends isn't taken, if there is a cause other than out of memory.
+    /// Why a document of so many octets that someone sends isn't taken, if there is a cause other than out
+    /// of memory.
     pub fn admits_document(
         &self,
         id: JobId,
         asker: Asker<'_>,
-        document: &Document,
+        octets: usize,
         last: bool,
     ) -> Result<(), SpoolRefusal>
-        ensures ok { OnOk result (document_refusal asker.entry.name.now asker.entry.is_operator document.now last (spooled_at id self.now.jobs) ≡ None) }
+        ensures ok { OnOk result (document_refusal asker.entry.name.now asker.entry.is_operator octets last (spooled_at id self.now.jobs) ≡ None) }
         ensures off { OnOk result (is_on_device id self.now.jobs ≡ false) }
-        ensures refused { IfErr result (λ refusal. document_refusal asker.entry.name.now asker.entry.is_operator document.now last (spooled_at id self.now.jobs) ≡ Some refusal) }
+        ensures refused { IfErr result (λ refusal. document_refusal asker.entry.name.now asker.entry.is_operator octets last (spooled_at id self.now.jobs) ≡ Some refusal) }
     {
         self.may_change(id, asker)?;
-        self.may_take(id, document, adds(document, last))
+        self.may_take(id, octets, adds(octets, last))
     }
 
-    /// Whether a job takes a document, told whether it is added.
-    fn may_take(&self, id: JobId, document: &Document, added: bool) -> Result<(), SpoolRefusal>
-        ensures ok { OnOk result (taking_refusal document.now added (spooled_at id self.now.jobs) ≡ None) }
+    /// Whether a job takes a document of so many octets, told whether it is added.
+    fn may_take(&self, id: JobId, octets: usize, added: bool) -> Result<(), SpoolRefusal>
+        ensures ok { OnOk result (taking_refusal octets added (spooled_at id self.now.jobs) ≡ None) }
         ensures off { OnOk result (is_on_device id self.now.jobs ≡ false) }
-        ensures refused { IfErr result (λ refusal. taking_refusal document.now added (spooled_at id self.now.jobs) ≡ Some refusal) }
+        ensures refused { IfErr result (λ refusal. taking_refusal octets added (spooled_at id self.now.jobs) ≡ Some refusal) }
     {
         let Some(spooled) = self.spooled(id) else {
             return Ok(());
@@ -89,7 +91,7 @@ impl Spool {
         if !job.incoming {
             return Err(SpoolRefusal::NotPossible);
         }
-        if added && is_too_large(job, document.contents.len()) {
+        if added && is_too_large(job, octets) {
             return Err(SpoolRefusal::TooLarge);
         }
         Ok(())
@@ -103,7 +105,7 @@ impl Spool {
         document: Document,
         now: Moment,
     ) -> Result<(), Document>
-        requires taking { taking_refusal document added (spooled_at id self.old.jobs) ≡ None }
+        requires taking { taking_refusal (length document.contents) added (spooled_at id self.old.jobs) ≡ None }
         requires off { is_on_device id self.old.jobs ≡ false }
         ensures ok { OnOk result (self.new ≡ record self.old { jobs = with_document added id document now self.old.jobs }) }
         ensures stay { OnOk result (AllStay self.old.jobs self.new.jobs) }

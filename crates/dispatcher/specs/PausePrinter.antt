@@ -1,0 +1,35 @@
+-- What a Pause-Printer and a Resume-Printer request come to (RFC 8011, sections 4.2.7 and 4.2.8): an operator
+-- pauses a printer, or ends its pause.
+use Rattle.std.specs.Prelude.{ℕ, ◌≡◌, Bool, true, false, [], Result, Ok, MatchResult}
+use Rattle.text.specs.Steps.{◌>>=◌}
+use Rattle.dispatcher.specs.declared.event.PrinterRequest.{PrinterRequest}
+use Rattle.dispatcher.specs.declared.reply.Reply.{Reply}
+use Rattle.dispatcher.specs.declared.checks.Refusal.{Refusal}
+use Rattle.dispatcher.specs.declared.status.Status.TheVariants as Went
+use Rattle.dispatcher.specs.Answers.{Replies, Refuses}
+use Rattle.dispatcher.specs.Checks.{named_printer, by_operator}
+use Rattle.print_room.specs.State.{State}
+use Rattle.print_room.specs.Jobs.{pausing}
+
+-- the place of the printer, or the first reason against it
+abbrev pub paused_of : PrinterRequest → State → Result ℕ Refusal
+paused_of request old =
+    named_printer request.target old >>= (λ printer.
+    by_operator request.user old >>= (λ _.
+    Ok printer.place))
+
+-- the printer is paused, or isn't any longer
+pub record PausesIt (now : ℕ) (old : State) (paused : Bool) (place : ℕ) (reply : Reply) (new : State) : Type 0 where
+  pub replies : Replies Went.Ok [] [] reply
+  pub state : new ≡ pausing now place paused old
+
+abbrev pub SetsPaused : ℕ → PrinterRequest → Bool → State → Reply → State → Type 0
+SetsPaused now request paused old reply new =
+    MatchResult (paused_of request old) (λ place. PausesIt now old paused place reply new) (λ refusal. Refuses now old refusal reply new)
+
+-- one reply and one state after it
+abbrev pub PausesPrinter : ℕ → PrinterRequest → State → Reply → State → Type 0
+PausesPrinter now request old reply new = SetsPaused now request true old reply new
+
+abbrev pub ResumesPrinter : ℕ → PrinterRequest → State → Reply → State → Type 0
+ResumesPrinter now request old reply new = SetsPaused now request false old reply new
