@@ -1,57 +1,136 @@
 -- A step leaves the documents of jobs that devices have.
-use Rattle.std.proofs.Common.{◌≡◌, ℕ, List, [], Result, Ok, Err, refl, sym, subst}
-use Rattle.std.specs.Prelude.{max, MatchResult}
+use Rattle.std.proofs.Common.{◌≡◌, ◌∙◌, ℕ, Bool, true, false, List, [], length, Option, Some, None, Result, Ok, Err, refl, sym, ap, subst}
+use Rattle.std.specs.Prelude.{MatchResult}
+use Rattle.text.specs.Steps.{◌>>=◌}
 use Rattle.base_types.specs.declared.report.Report.{Report}
+use Rattle.job_objects.specs.Job.{JobRecord}
+use Rattle.job_objects.specs.declared.job_change.JobChange.{JobChange}
+use Rattle.job_objects.specs.declared.job_change.JobChange.TheVariants as Change
 use Rattle.spool.specs.Document.{DocumentRecord}
 use Rattle.spool.specs.Submission.{Submission}
+use Rattle.spool.specs.declared.refusal.SpoolRefusal.{SpoolRefusal}
 use Rattle.print_room.specs.State.{State}
-use Rattle.print_room.specs.Jobs.{with_new_job, expiring}
+use Rattle.print_room.specs.Jobs.{with_job_taken, sending_refusal, sending, changing, canceling, pausing, expiring}
 use Rattle.print_room.specs.Report.{Reports}
 use Rattle.print_room.specs.DeviceJobs.{AllKeep, KeepsOrEnds}
 use Rattle.ipp_codec.specs.Message.{IppAttribute}
 use Rattle.dispatcher.specs.declared.event.Event.{Event}
 use Rattle.dispatcher.specs.declared.event.Event.TheVariants as Is
-use Rattle.dispatcher.specs.declared.event.PrintJob.{PrintJob}
-use Rattle.dispatcher.specs.declared.print_job.Accepted.{Accepted}
+use Rattle.dispatcher.specs.declared.event.SendDocument.{SendDocument}
+use Rattle.dispatcher.specs.declared.event.JobRequest.{JobRequest}
+use Rattle.dispatcher.specs.declared.event.HoldUntil.{HoldUntil}
+use Rattle.dispatcher.specs.declared.event.HoldUntil.TheVariants.{NoHold, Indefinite, Unsupported}
+use Rattle.dispatcher.specs.declared.submission.Accepted.{Accepted}
+use Rattle.dispatcher.specs.declared.send_document.Sent.{Sent}
+use Rattle.dispatcher.specs.declared.checks.NamedPrinter.{NamedPrinter}
 use Rattle.dispatcher.specs.declared.checks.Refusal.{Refusal}
 use Rattle.dispatcher.specs.declared.reply.Reply.{Reply}
 use Rattle.dispatcher.specs.Answers.{Refuses}
-use Rattle.dispatcher.specs.PrintJob.{TakesJob, PrintsJob, asked_of}
+use Rattle.dispatcher.specs.Checks.{refused, status_of, named_job, printer_of_job, format_asked, unrefused}
+use Rattle.dispatcher.specs.PrintJob.{TakesJob, asked_of}
 use Rattle.dispatcher.specs.ValidateJob.{Validates, validated_of}
+use Rattle.dispatcher.specs.CreateJob.{CreatesIt, created_of}
+use Rattle.dispatcher.specs.SendDocument.{SendsIt, sent_group, sent_in_format, sent_to_printer, sent_to_job, sent_of}
+use Rattle.dispatcher.specs.CancelJob.{CancelsIt, canceled_of}
+use Rattle.dispatcher.specs.HoldJob.{ChangesIt, ChangesJob, HoldsUntil, changed_of}
+use Rattle.dispatcher.specs.PausePrinter.{PausesIt, paused_of}
 use Rattle.dispatcher.specs.Step.{StepAt}
 use Rattle.dispatcher.specs.Keeping.{StepKeeps}
 
-module _ (old : State)
-    (submits : (now : ℕ) (job : Submission) → AllKeep old (with_new_job now job old))
-    (expires : (now : ℕ) → AllKeep old (expiring now old))
-    (reports : (now place : ℕ) (report : Report) (documents : List DocumentRecord) (new : State) → Reports now place report old documents new → KeepsOrEnds place old documents new) where
+-- what the room promises of each change
+pub record RoomKeeps (old : State) : Type 0 where
+  pub submits : (now : ℕ) (job : Submission) (incoming : Bool) → AllKeep old (with_job_taken now job incoming old)
+  pub sends : (now id : ℕ) (name : List ℕ) (document : DocumentRecord) (last : Bool) → sending_refusal id name (length document.contents) last old ≡ None → AllKeep old (sending now id document last old)
+  pub changes : (now id : ℕ) (change : JobChange) → AllKeep old (changing now id change old)
+  pub cancels : (now id : ℕ) (name : List ℕ) → AllKeep old (canceling now id name old)
+  pub pauses : (now place : ℕ) (paused : Bool) → AllKeep old (pausing now place paused old)
+  pub expires : (now : ℕ) → AllKeep old (expiring now old)
+  pub reports : (now place : ℕ) (report : Report) (documents : List DocumentRecord) (new : State) → Reports now place report old documents new → KeepsOrEnds place old documents new
+
+-- ---- a document is sent only where nothing stands against it
+
+-- what comes of a first and a second check is what comes of the second
+behind : {A B : Type 0} (first : Result A Refusal) (second : A → Result B Refusal) (made : B) → (first >>= second) ≡ Ok made → (a : A) × (second a ≡ Ok made)
+behind (Ok a) second made is = (a, is)
+behind (Err refusal) second made is = absurd (cc)
+
+abbrev job_in : ℕ → Result Sent Refusal → ℕ
+job_in default (Ok sent) = sent.job
+job_in default (Err refusal) = default
+
+at_last : (cause : Option SpoolRefusal) (one sent : Sent) → (unrefused cause >>= (λ _. Ok one)) ≡ Ok sent → (cause ≡ None) × (one.job ≡ sent.job)
+at_last None one sent is = (refl, ap (λ (r : Result Sent Refusal). job_in one.job r) is)
+at_last (Some why) one sent is = absurd (cc)
+
+sent_free : (request : SendDocument) (old : State) (sent : Sent) → sent_of request old ≡ Ok sent → sending_refusal sent.job request.job.user (length request.octets) request.last old ≡ None
+sent_free request old sent is =
+    let job = behind (named_job request.job.target old) (sent_to_job request old) sent is in
+    let printer = behind (printer_of_job job.0 old) (sent_to_printer request old job.0) sent job.1 in
+    let format = behind (format_asked request.form printer.0.offer) (sent_in_format request old job.0) sent printer.1 in
+    let one : Sent = record { job = job.0.id; format = format.0; group = sent_group old job.0 request.last } in
+    let free = at_last (sending_refusal job.0.id request.job.user (length request.octets) request.last old) one sent format.1 in
+    subst (λ (id : ℕ). sending_refusal id request.job.user (length request.octets) request.last old ≡ None) free.1 free.0
+
+-- ---- each step
+
+module _ (old : State) (room : RoomKeeps old) where
   -- only the last moment changes
   only_later : (now : ℕ) (new : State) → new ≡ record old { last = now } → AllKeep old new
   only_later now new is = subst (λ (s : State). AllKeep old s) (sym is) (λ place id has. (has, refl))
 
-  refused : (now : ℕ) (reply : Reply) (new : State) (refusal : Refusal) → Refuses now old refusal reply new → AllKeep old new × (reply.documents.items ≡ [])
-  refused now reply new refusal refuses = (only_later now new refuses.state, refuses.replies.documents)
+  becomes : (new after : State) → new ≡ after → AllKeep old after → AllKeep old new
+  becomes new after is keeps = subst (λ (s : State). AllKeep old s) (sym is) keeps
+
+  refusing : (now : ℕ) (reply : Reply) (new : State) (refusal : Refusal) → Refuses now old refusal reply new → AllKeep old new × (reply.documents.items ≡ [])
+  refusing now reply new refusal refuses = (only_later now new refuses.state, refuses.replies.documents)
 
   printed : (now : ℕ) (reply : Reply) (new : State) (r : Result Accepted Refusal) → MatchResult r (λ accepted. TakesJob now old accepted reply new) (λ refusal. Refuses now old refusal reply new) → AllKeep old new × (reply.documents.items ≡ [])
-  printed now reply new (Ok accepted) takes = (subst (λ (s : State). AllKeep old s) (sym takes.state) (submits now accepted.job), takes.replies.documents)
-  printed now reply new (Err refusal) refuses = refused now reply new refusal refuses
+  printed now reply new (Ok accepted) is = (becomes new (with_job_taken now accepted.job false old) is.state (room.submits now accepted.job false), is.replies.documents)
+  printed now reply new (Err refusal) refuses = refusing now reply new refusal refuses
+
+  created : (now : ℕ) (reply : Reply) (new : State) (r : Result Accepted Refusal) → MatchResult r (λ accepted. CreatesIt now old accepted reply new) (λ refusal. Refuses now old refusal reply new) → AllKeep old new × (reply.documents.items ≡ [])
+  created now reply new (Ok accepted) is = (becomes new (with_job_taken now accepted.job true old) is.state (room.submits now accepted.job true), is.replies.documents)
+  created now reply new (Err refusal) refuses = refusing now reply new refusal refuses
 
   validated : (now : ℕ) (reply : Reply) (new : State) (r : Result (List IppAttribute) Refusal) → MatchResult r (λ unsupported. Validates now old unsupported reply new) (λ refusal. Refuses now old refusal reply new) → AllKeep old new × (reply.documents.items ≡ [])
   validated now reply new (Ok unsupported) is = (only_later now new is.state, is.replies.documents)
-  validated now reply new (Err refusal) refuses = refused now reply new refusal refuses
+  validated now reply new (Err refusal) refuses = refusing now reply new refusal refuses
+
+  sent : (now : ℕ) (request : SendDocument) (reply : Reply) (new : State) (r : Result Sent Refusal) → sent_of request old ≡ r → MatchResult r (λ sent. SendsIt now old request sent reply new) (λ refusal. Refuses now old refusal reply new) → AllKeep old new × (reply.documents.items ≡ [])
+  sent now request reply new (Ok s) found is =
+      let document : DocumentRecord = record { format = s.format; contents = request.octets } in
+      (becomes new (sending now s.job document request.last old) is.state (room.sends now s.job request.job.user document request.last (sent_free request old s found)), is.replies.documents)
+  sent now request reply new (Err refusal) found refuses = refusing now reply new refusal refuses
+
+  canceled : (now : ℕ) (name : List ℕ) (reply : Reply) (new : State) (r : Result ℕ Refusal) → MatchResult r (λ id. CancelsIt now old name id reply new) (λ refusal. Refuses now old refusal reply new) → AllKeep old new × (reply.documents.items ≡ [])
+  canceled now name reply new (Ok id) is = (becomes new (canceling now id name old) is.state (room.cancels now id name), is.documents)
+  canceled now name reply new (Err refusal) refuses = refusing now reply new refusal refuses
+
+  changed : (now : ℕ) (change : JobChange) (unsupported : List IppAttribute) (reply : Reply) (new : State) (r : Result ℕ Refusal) → MatchResult r (λ id. ChangesIt now old change unsupported id reply new) (λ refusal. Refuses now old refusal reply new) → AllKeep old new × (reply.documents.items ≡ [])
+  changed now change unsupported reply new (Ok id) is = (becomes new (changing now id change old) is.state (room.changes now id change), is.replies.documents)
+  changed now change unsupported reply new (Err refusal) refuses = refusing now reply new refusal refuses
+
+  held : (now : ℕ) (request : JobRequest) (until : HoldUntil) (reply : Reply) (new : State) → HoldsUntil now request until old reply new → AllKeep old new × (reply.documents.items ≡ [])
+  held now request NoHold reply new step = changed now Change.Release [] reply new (changed_of request Change.Release now old) step
+  held now request Indefinite reply new step = changed now Change.Hold [] reply new (changed_of request Change.Hold now old) step
+  held now request (Unsupported attribute) reply new step = changed now Change.Hold attribute reply new (changed_of request Change.Hold now old) step
+
+  paused : (now : ℕ) (pauses : Bool) (reply : Reply) (new : State) (r : Result ℕ Refusal) → MatchResult r (λ place. PausesIt now old pauses place reply new) (λ refusal. Refuses now old refusal reply new) → AllKeep old new × (reply.documents.items ≡ [])
+  paused now pauses reply new (Ok place) is = (becomes new (pausing now place pauses old) is.state (room.pauses now place pauses), is.replies.documents)
+  paused now pauses reply new (Err refusal) refuses = refusing now reply new refusal refuses
 
   pub step_keeps : (event : Event) (now : ℕ) (reply : Reply) (new : State) → StepAt event now old reply new → StepKeeps event old reply.documents.items new
   step_keeps (Is.PrintJob request) now reply new step = printed now reply new (asked_of request now old) step
   step_keeps (Is.ValidateJob request) now reply new step = validated now reply new (validated_of request old) step
-  step_keeps (Is.CreateJob request) now reply new step = refused now reply new _ step
-  step_keeps (Is.SendDocument request) now reply new step = refused now reply new _ step
-  step_keeps (Is.CancelJob request) now reply new step = refused now reply new _ step
-  step_keeps (Is.GetJobAttributes request) now reply new step = refused now reply new _ step
-  step_keeps (Is.GetJobs request) now reply new step = refused now reply new _ step
-  step_keeps (Is.GetPrinterAttributes request) now reply new step = refused now reply new _ step
-  step_keeps (Is.HoldJob request) now reply new step = refused now reply new _ step
-  step_keeps (Is.ReleaseJob request) now reply new step = refused now reply new _ step
-  step_keeps (Is.PausePrinter request) now reply new step = refused now reply new _ step
-  step_keeps (Is.ResumePrinter request) now reply new step = refused now reply new _ step
-  step_keeps (Is.Report device report) now reply new step = reports now device report reply.documents.items new step.reports
-  step_keeps Is.Tick now reply new step = (subst (λ (s : State). AllKeep old s) (sym step.state) (expires now), step.documents)
+  step_keeps (Is.CreateJob request) now reply new step = created now reply new (created_of request now old) step
+  step_keeps (Is.SendDocument request) now reply new step = sent now request reply new (sent_of request old) refl step
+  step_keeps (Is.CancelJob request) now reply new step = canceled now request.user reply new (canceled_of request old) step
+  step_keeps (Is.GetJobAttributes request) now reply new step = refusing now reply new _ step
+  step_keeps (Is.GetJobs request) now reply new step = refusing now reply new _ step
+  step_keeps (Is.GetPrinterAttributes request) now reply new step = refusing now reply new _ step
+  step_keeps (Is.HoldJob request) now reply new step = held now request.job request.until reply new step
+  step_keeps (Is.ReleaseJob request) now reply new step = changed now Change.Release [] reply new (changed_of request Change.Release now old) step
+  step_keeps (Is.PausePrinter request) now reply new step = paused now true reply new (paused_of request old) step
+  step_keeps (Is.ResumePrinter request) now reply new step = paused now false reply new (paused_of request old) step
+  step_keeps (Is.Report device report) now reply new step = room.reports now device report reply.documents.items new step.reports
+  step_keeps Is.Tick now reply new step = (becomes new (expiring now old) step.state (room.expires now), step.documents)

@@ -1,28 +1,20 @@
 -- What a Create-Job request comes to (RFC 8011, section 4.2.4): what a Print-Job with the same job would, as
 -- far as no document is asked about, and a job whose documents are still to come.
-use Rattle.std.specs.Prelude.{ℕ, ◌≡◌, true, [], ◌∷◌, Result, Ok, MatchResult}
+use Rattle.std.specs.Prelude.{ℕ, ◌≡◌, true, [], ◌∷◌, Result, MatchResult}
 use Rattle.text.specs.Steps.{◌>>=◌}
 use Rattle.dispatcher.specs.declared.event.AskedJob.{AskedJob}
 use Rattle.dispatcher.specs.declared.reply.Reply.{Reply}
 use Rattle.dispatcher.specs.declared.submission.Accepted.{Accepted}
-use Rattle.dispatcher.specs.declared.checks.NamedPrinter.{NamedPrinter}
 use Rattle.dispatcher.specs.declared.checks.Refusal.{Refusal}
 use Rattle.dispatcher.specs.Answers.{Replies, Refuses, taken_with}
-use Rattle.dispatcher.specs.Checks.{named_printer, unsupported_asked, room_for}
-use Rattle.dispatcher.specs.Submission.{submission_of, group_of}
+use Rattle.dispatcher.specs.Checks.{named_printer}
+use Rattle.dispatcher.specs.Submission.{job_asked, group_of}
 use Rattle.print_room.specs.State.{State}
 use Rattle.print_room.specs.Jobs.{with_job_taken}
 
--- the job that is made, the printer being known, or the first reason against it
-abbrev pub created_of_printer : AskedJob → ℕ → State → NamedPrinter → Result Accepted Refusal
-created_of_printer asked now old printer =
-    unsupported_asked asked.fidelity asked.template printer.offer >>= (λ unsupported.
-    room_for 0 old >>= (λ _.
-    Ok (record { job = submission_of asked now printer []; unsupported = unsupported })))
-
--- by its printer
+-- the job that is made, or the first reason against it
 abbrev pub created_of : AskedJob → ℕ → State → Result Accepted Refusal
-created_of asked now old = named_printer asked.target old >>= created_of_printer asked now old
+created_of asked now old = named_printer asked.target old >>= job_asked asked 0 now old
 
 -- the job is answered, and kept under the next id, its documents still to come
 pub record CreatesIt (now : ℕ) (old : State) (accepted : Accepted) (reply : Reply) (new : State) : Type 0 where

@@ -4,8 +4,14 @@ pub mod Lending
 pub mod Target
 pub mod Answers
 pub mod Checks
+pub mod Submission
 pub mod PrintJob
 pub mod ValidateJob
+pub mod CreateJob
+pub mod SendDocument
+pub mod CancelJob
+pub mod HoldJob
+pub mod PausePrinter
 pub mod Step
 pub mod Keeping
 pub mod Run

@@ -2,29 +2,24 @@
 -- makes, and what it is answered.
 use Rattle.std.specs.Prelude.{ℕ, ◌≡◌, false, List, [], ◌∷◌, length, Result, Ok, MatchResult}
 use Rattle.text.specs.Steps.{◌>>=◌}
-use Rattle.ipp_codec.specs.Message.{IppGroup}
-use Rattle.printer_objects.specs.Created.{created_group}
-use Rattle.spool.specs.Submission.{Submission, spooled_of}
-use Rattle.spool.specs.Calls.{paused_at}
 use Rattle.dispatcher.specs.declared.event.PrintJob.{PrintJob}
 use Rattle.dispatcher.specs.declared.reply.Reply.{Reply}
 use Rattle.dispatcher.specs.declared.submission.Accepted.{Accepted}
 use Rattle.dispatcher.specs.declared.checks.NamedPrinter.{NamedPrinter}
 use Rattle.dispatcher.specs.declared.checks.Refusal.{Refusal}
 use Rattle.dispatcher.specs.Answers.{Replies, Refuses, taken_with}
-use Rattle.dispatcher.specs.Checks.{named_printer, format_asked, unsupported_asked, room_for}
+use Rattle.dispatcher.specs.Checks.{named_printer, format_asked}
+use Rattle.dispatcher.specs.Submission.{job_asked, of_documents, group_of}
 use Rattle.print_room.specs.State.{State}
-use Rattle.print_room.specs.Jobs.{with_new_job}
-use Rattle.job_template.specs.Template.{template_of, medium_of}
+use Rattle.print_room.specs.Jobs.{with_job_taken}
 
 -- ---- the job that a request makes, or the first reason against it
 
--- by its job group, the printer and the format being known
+-- by its job group, the printer and the format being known: a job of the one document
 abbrev pub asked_of_format : PrintJob → ℕ → State → NamedPrinter → List ℕ → Result Accepted Refusal
 asked_of_format request now old printer format =
-    unsupported_asked request.job.fidelity request.job.template printer.offer >>= (λ unsupported.
-    room_for (length request.octets) old >>= (λ _.
-    Ok (record { job = submission_of request.job now printer (record { format = format; contents = request.octets } ∷ []); unsupported = unsupported })))
+    job_asked request.job (length request.octets) now old printer >>= (λ accepted.
+    Ok (of_documents (record { format = format; contents = request.octets } ∷ []) accepted))
 
 -- by its document's form
 abbrev pub asked_of_printer : PrintJob → ℕ → State → NamedPrinter → Result Accepted Refusal

@@ -1,6 +1,6 @@
 -- What a Send-Document request comes to (RFC 8011, section 4.3.1): a document more for a job whose documents
 -- are still to come; with the last one the job is all in.
-use Rattle.std.specs.Prelude.{ℕ, ◌≡◌, not, Bool, List, [], ◌∷◌, Result, Ok, MatchResult}
+use Rattle.std.specs.Prelude.{ℕ, ◌≡◌, not, Bool, List, [], ◌∷◌, length, Result, Ok, MatchResult}
 use Rattle.text.specs.Steps.{◌>>=◌}
 use Rattle.ipp_codec.specs.Message.{IppGroup}
 use Rattle.job_objects.specs.Job.{JobRecord}
@@ -24,11 +24,11 @@ abbrev pub sent_group : State → JobRecord → Bool → IppGroup
 sent_group old job last =
     created_attributes old.settings.uri_base job.id (waiting_state (not last) job.held) (waiting_reasons (not last) job.held job.stranded (paused_at old.paused job.needs.printer))
 
--- the document for the job, in this format, or the first reason against it
+-- its job and its format, the one asked for, or the first reason against it
 abbrev pub sent_in_format : SendDocument → State → JobRecord → List ℕ → Result Sent Refusal
 sent_in_format request old job format =
-    unrefused (sending_refusal job.id request.job.user (record { format = format; contents = request.octets }) request.last old) >>= (λ _.
-    Ok (record { job = job.id; document = record { format = format; contents = request.octets }; group = sent_group old job request.last }))
+    unrefused (sending_refusal job.id request.job.user (length request.octets) request.last old) >>= (λ _.
+    Ok (record { job = job.id; format = format; group = sent_group old job request.last }))
 
 -- by its form
 abbrev pub sent_to_printer : SendDocument → State → JobRecord → NamedPrinter → Result Sent Refusal
@@ -43,11 +43,11 @@ abbrev pub sent_of : SendDocument → State → Result Sent Refusal
 sent_of request old = named_job request.job.target old >>= sent_to_job request old
 
 -- the job is answered, and has the document
-pub record SendsIt (now : ℕ) (old : State) (last : Bool) (sent : Sent) (reply : Reply) (new : State) : Type 0 where
+pub record SendsIt (now : ℕ) (old : State) (request : SendDocument) (sent : Sent) (reply : Reply) (new : State) : Type 0 where
   pub replies : Replies Went.Ok [] (sent.group ∷ []) reply
-  pub state : new ≡ sending now sent.job sent.document last old
+  pub state : new ≡ sending now sent.job (record { format = sent.format; contents = request.octets }) request.last old
 
 -- one reply and one state after it
 abbrev pub SendsDocument : ℕ → SendDocument → State → Reply → State → Type 0
 SendsDocument now request old reply new =
-    MatchResult (sent_of request old) (λ sent. SendsIt now old request.last sent reply new) (λ refusal. Refuses now old refusal reply new)
+    MatchResult (sent_of request old) (λ sent. SendsIt now old request sent reply new) (λ refusal. Refuses now old refusal reply new)

@@ -10,6 +10,11 @@ use Rattle.dispatcher.specs.Answers.{Refuses}
 use Rattle.dispatcher.specs.Checks.{refused}
 use Rattle.dispatcher.specs.PrintJob.{PrintsJob, asked_of}
 use Rattle.dispatcher.specs.ValidateJob.{ValidatesJob}
+use Rattle.dispatcher.specs.CreateJob.{CreatesJob, created_of}
+use Rattle.dispatcher.specs.SendDocument.{SendsDocument, sent_of}
+use Rattle.dispatcher.specs.CancelJob.{CancelsJob, canceled_of}
+use Rattle.dispatcher.specs.HoldJob.{HoldsJob, ReleasesJob}
+use Rattle.dispatcher.specs.PausePrinter.{PausesPrinter, ResumesPrinter}
 use Rattle.print_room.specs.Report.{Reports}
 use Rattle.print_room.specs.State.{State}
 use Rattle.print_room.specs.Jobs.{expiring}
@@ -32,29 +37,30 @@ pub record Ticks (now : ℕ) (old : State) (reply : Reply) (new : State) : Type 
 abbrev pub StepAt : Event → ℕ → State → Reply → State → Type 0
 StepAt (Is.PrintJob request) now old reply new = PrintsJob now request old reply new
 StepAt (Is.ValidateJob request) now old reply new = ValidatesJob now request old reply new
-StepAt (Is.CreateJob request) now old reply new = Refuses now old (refused Went.OperationNotSupported) reply new
-StepAt (Is.SendDocument request) now old reply new = Refuses now old (refused Went.OperationNotSupported) reply new
-StepAt (Is.CancelJob request) now old reply new = Refuses now old (refused Went.OperationNotSupported) reply new
+StepAt (Is.CreateJob request) now old reply new = CreatesJob now request old reply new
+StepAt (Is.SendDocument request) now old reply new = SendsDocument now request old reply new
+StepAt (Is.CancelJob request) now old reply new = CancelsJob now request old reply new
 StepAt (Is.GetJobAttributes request) now old reply new = Refuses now old (refused Went.OperationNotSupported) reply new
 StepAt (Is.GetJobs request) now old reply new = Refuses now old (refused Went.OperationNotSupported) reply new
 StepAt (Is.GetPrinterAttributes request) now old reply new = Refuses now old (refused Went.OperationNotSupported) reply new
-StepAt (Is.HoldJob request) now old reply new = Refuses now old (refused Went.OperationNotSupported) reply new
-StepAt (Is.ReleaseJob request) now old reply new = Refuses now old (refused Went.OperationNotSupported) reply new
-StepAt (Is.PausePrinter request) now old reply new = Refuses now old (refused Went.OperationNotSupported) reply new
-StepAt (Is.ResumePrinter request) now old reply new = Refuses now old (refused Went.OperationNotSupported) reply new
+StepAt (Is.HoldJob request) now old reply new = HoldsJob now request old reply new
+StepAt (Is.ReleaseJob request) now old reply new = ReleasesJob now request old reply new
+StepAt (Is.PausePrinter request) now old reply new = PausesPrinter now request old reply new
+StepAt (Is.ResumePrinter request) now old reply new = ResumesPrinter now request old reply new
 StepAt (Is.Report device report) now old reply new = Reported now device report old reply new
 StepAt Is.Tick now old reply new = Ticks now old reply new
 
 abbrev pub Step : State → Event → ℕ → Reply → State → Type 0
 Step old event moment reply new = StepAt event (max moment old.last) old reply new
 
--- an event that is acted on without memory: all but a Print-Job that takes a job
+-- an event that is acted on without memory: all but a request that is answered more than a status, and a
+-- cancel that a device is told
 abbrev pub TakesNoMemoryAt : Event → ℕ → State → Type 0
 TakesNoMemoryAt (Is.PrintJob request) now old = IsErr (asked_of request now old)
 TakesNoMemoryAt (Is.ValidateJob request) now old = Unit {0}
-TakesNoMemoryAt (Is.CreateJob request) now old = Unit {0}
-TakesNoMemoryAt (Is.SendDocument request) now old = Unit {0}
-TakesNoMemoryAt (Is.CancelJob request) now old = Unit {0}
+TakesNoMemoryAt (Is.CreateJob request) now old = IsErr (created_of request now old)
+TakesNoMemoryAt (Is.SendDocument request) now old = IsErr (sent_of request old)
+TakesNoMemoryAt (Is.CancelJob request) now old = IsErr (canceled_of request old)
 TakesNoMemoryAt (Is.GetJobAttributes request) now old = Unit {0}
 TakesNoMemoryAt (Is.GetJobs request) now old = Unit {0}
 TakesNoMemoryAt (Is.GetPrinterAttributes request) now old = Unit {0}

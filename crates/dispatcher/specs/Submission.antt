@@ -1,6 +1,7 @@
 -- The job that a request asks for, and how it is answered where it is taken (RFC 8011, sections 4.2.1 and
 -- 4.2.4).
-use Rattle.std.specs.Prelude.{ℕ, Bool, List}
+use Rattle.std.specs.Prelude.{ℕ, Bool, List, [], Result, Ok}
+use Rattle.text.specs.Steps.{◌>>=◌}
 use Rattle.ipp_codec.specs.Message.{IppGroup}
 use Rattle.printer_objects.specs.Created.{created_group}
 use Rattle.job_template.specs.Template.{template_of, medium_of}
@@ -9,11 +10,14 @@ use Rattle.spool.specs.Submission.{Submission, spooled_of}
 use Rattle.spool.specs.Calls.{paused_at}
 use Rattle.dispatcher.specs.declared.event.AskedJob.{AskedJob}
 use Rattle.dispatcher.specs.declared.checks.NamedPrinter.{NamedPrinter}
+use Rattle.dispatcher.specs.declared.checks.Refusal.{Refusal}
+use Rattle.dispatcher.specs.declared.submission.Accepted.{Accepted}
+use Rattle.dispatcher.specs.Checks.{unsupported_asked, room_for}
 use Rattle.print_room.specs.State.{State}
 
--- the job of these documents, with what the job group comes to
-abbrev pub submission_of : AskedJob → ℕ → NamedPrinter → List DocumentRecord → Submission
-submission_of asked now printer documents =
+-- the job, with what the job group comes to; its documents are added later
+abbrev pub submission_of : AskedJob → ℕ → NamedPrinter → Submission
+submission_of asked now printer =
     let template = template_of printer.offer asked.template in record {
       created = now;
       printer = printer.place;
@@ -26,8 +30,19 @@ submission_of asked now printer documents =
       copies = template.copies;
       held = template.held;
       impressions = asked.impressions;
-      documents = documents;
+      documents = [];
     }
+
+-- a job of these documents
+abbrev pub of_documents : List DocumentRecord → Accepted → Accepted
+of_documents documents accepted = record accepted { job = record accepted.job { documents = documents } }
+
+-- the job that is made of a printer for so many octets, or the first reason against it
+abbrev pub job_asked : AskedJob → ℕ → ℕ → State → NamedPrinter → Result Accepted Refusal
+job_asked asked octets now old printer =
+    unsupported_asked asked.fidelity asked.template printer.offer >>= (λ unsupported.
+    room_for octets old >>= (λ _.
+    Ok (record { job = submission_of asked now printer; unsupported = unsupported })))
 
 -- the group that shows a job that is taken next, before any dispatch (section 4.2.1.2), told whether
 -- documents are still to come

@@ -5,11 +5,16 @@ ghost use Rattle.dispatcher.specs.Checks.{refused};
 ghost use Rattle.dispatcher.specs.declared.status.Status.TheVariants as Went;
 ghost use Rattle.dispatcher.specs.Step.{Step, Reported, Ticks, TakesNoMemory};
 
+use crate::cancel_job::cancel_job;
+use crate::create_job::create_job;
 use crate::event::Event;
+use crate::hold_job::{hold_job, release_job};
+use crate::pause_printer::{pause_printer, resume_printer};
 use crate::print_job::print_job;
 use crate::checks::refused;
 use crate::reply::{Reply, refuse};
 use crate::status::Status;
+use crate::send_document::send_document;
 use crate::validate_job::validate_job;
 use base_types::{DeviceId, Moment, Report};
 use print_room::PrintRoom;
@@ -33,9 +38,15 @@ pub(crate) fn apply(
     match event {
         Event::PrintJob(request) => print_job(alloc, room, request, now),
         Event::ValidateJob(request) => Ok(validate_job(alloc, room, request, now)),
-        Event::CreateJob(_) | Event::SendDocument(_) | Event::CancelJob(_) => Ok(not_yet(alloc, room, now)),
-        Event::GetJobAttributes(_) | Event::GetJobs(_) | Event::GetPrinterAttributes(_) => Ok(not_yet(alloc, room, now)),
-        Event::HoldJob(_) | Event::ReleaseJob(_) | Event::PausePrinter(_) | Event::ResumePrinter(_) => Ok(not_yet(alloc, room, now)),
+        Event::CreateJob(request) => create_job(alloc, room, request, now),
+        Event::SendDocument(request) => send_document(alloc, room, request, now),
+        Event::CancelJob(request) => cancel_job(alloc, room, &request, now),
+        Event::GetJobAttributes(_) | Event::GetJobs(_) => Ok(not_yet(alloc, room, now)),
+        Event::GetPrinterAttributes(_) => Ok(not_yet(alloc, room, now)),
+        Event::HoldJob(request) => Ok(hold_job(alloc, room, request, now)),
+        Event::ReleaseJob(request) => Ok(release_job(alloc, room, request, now)),
+        Event::PausePrinter(request) => Ok(pause_printer(alloc, room, &request, now)),
+        Event::ResumePrinter(request) => Ok(resume_printer(alloc, room, &request, now)),
         Event::Report(device, report) => Ok(act_on(alloc, room, device, &report, now)),
         Event::Tick => Ok(tick(alloc, room, now)),
     }

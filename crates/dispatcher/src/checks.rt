@@ -1,17 +1,21 @@
-//! The checks of a request for a job, in their order: its printer, its document's form, its template,
-//! and whether there is room for it. None takes memory.
+//! The checks of a request, in their order: its printer or its job, its document's form, its template,
+//! whether who asks may, whether the job's state allows it, and whether there is room for it. None takes
+//! memory.
 ghost use Rattle.std.specs.Prelude.{◌≡◌, ◌==◌, ◌&&◌, Ok, Err, MatchResult, length, not, option_map};
-ghost use Rattle.std.specs.Option.{option_copied};
-ghost use Rattle.dispatcher.specs.Checks.{format_asked, format_of, is_compressed, named_printer, refused, room_for, unsupported_asked};
-ghost use Rattle.dispatcher.specs.Target.{printer_of};
+ghost use Rattle.std.specs.Option.{option_copied, option_and_then};
+ghost use Rattle.spool.specs.Jobs.{job_at};
+ghost use Rattle.dispatcher.specs.Checks.{by_operator, format_asked, format_of, is_compressed, named_job, named_printer, printer_of_job, refused, room_for, status_of, unsupported_asked};
+ghost use Rattle.dispatcher.specs.Target.{if_sent_to, job_of, printer_of};
 
-use crate::event::{DocumentForm, Target};
+use crate::event::{DocumentForm, JobTarget, Target};
 use crate::status::Status;
-use base_types::{Limits, Text};
+use base_types::{JobId, Limits, Text};
+use job_objects::Job;
 use job_template::RequestAttributes;
 use print_room::PrintRoom;
 use printer_objects::Offer;
 use settings_file::PrinterSettings;
+use spool::SpoolRefusal;
 use std::alloc::Global;
 
 /// The first reason against a request, and what of it isn't supported, if that is the reason.
@@ -69,6 +73,88 @@ fn printer_of<'a>(
         }
     }
     None
+}
+
+/// The job that a request names.
+pub(crate) fn named_job<'a>(
+    alloc: Global,
+    room: &'a PrintRoom,
+    target: &JobTarget,
+) -> Result<&'a Job, Refusal>
+    ensures { MatchResult result (λ job. named_job target.now room.now ≡ Ok job.now) (λ refusal. named_job target.now room.now ≡ Err refusal) }
+{
+    match job_of(room, target) {
+        Some(job) => Ok(job),
+        None => Err(refused(alloc, Status::NotFound)),
+    }
+}
+
+/// The job that is named, if it is kept.
+fn job_of<'a>(room: &'a PrintRoom, target: &JobTarget) -> Option<&'a Job>
+    ensures { option_copied result ≡ job_of target.now room.now }
+{
+    match target {
+        JobTarget::Numbered(id) => room.spool().get(*id),
+        JobTarget::OfPrinter(target, id) => job_of_printer(room, target, *id),
+        JobTarget::Unknown => None,
+    }
+}
+
+/// The job of this id, if it was sent to the printer that is named.
+fn job_of_printer<'a>(room: &'a PrintRoom, target: &Target, id: JobId) -> Option<&'a Job>
+    ensures { option_copied result ≡ option_and_then (λ found. option_and_then (if_sent_to found.0) (job_at id room.now.spool.jobs)) (printer_of target.now room.now.settings.printers) }
+{
+    let found = printer_of(&room.settings().printers, target)?;
+    let job = room.spool().get(id)?;
+    if job.needs.printer.place() == found.0 {
+        Some(job)
+    } else {
+        None
+    }
+}
+
+/// The printer that a job was sent to.
+pub(crate) fn printer_of_job<'a>(
+    alloc: Global,
+    room: &'a PrintRoom,
+    job: &Job,
+) -> Result<NamedPrinter<'a>, Refusal>
+    ensures { result ≡ printer_of_job job.now room.now }
+{
+    let place = job.needs.printer.place();
+    match room.settings().printers.get(place) {
+        Some(printer) => Ok(NamedPrinter {
+            place,
+            offer: Offer::new(room.devices(), printer),
+        }),
+        None => Err(refused(alloc, Status::NotFound)),
+    }
+}
+
+/// What a change of a job that isn't made is answered.
+pub(crate) fn refused_change(alloc: Global, cause: SpoolRefusal) -> Refusal
+    ensures { result ≡ refused (status_of cause) }
+{
+    let status = match cause {
+        SpoolRefusal::Busy => Status::Busy,
+        SpoolRefusal::TooLarge => Status::TooLarge,
+        SpoolRefusal::NotFound => Status::NotFound,
+        SpoolRefusal::NotPossible => Status::NotPossible,
+        SpoolRefusal::NotAuthorized => Status::NotAuthorized,
+        SpoolRefusal::OutOfMemory => Status::TemporaryError,
+    };
+    refused(alloc, status)
+}
+
+/// Whether who asks is an operator.
+pub(crate) fn by_operator(alloc: Global, room: &PrintRoom, name: &Text) -> Result<(), Refusal>
+    ensures { result ≡ by_operator name.now room.now }
+{
+    if room.is_operator(name) {
+        Ok(())
+    } else {
+        Err(refused(alloc, Status::NotAuthorized))
+    }
 }
 
 /// The format of a document that is sent so, as the settings write it.

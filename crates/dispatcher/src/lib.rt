@@ -13,15 +13,21 @@
 #![tactic(auto)]
 
 mod apply;
+mod cancel_job;
 mod checks;
+mod create_job;
 mod dispatch;
 mod event;
+mod hold_job;
 mod law;
+mod pause_printer;
 mod print_job;
 mod reply;
 mod run;
+mod send_document;
 mod server_core;
 mod status;
+mod submission;
 mod validate_job;
 
 pub use dispatch::Dispatched;

@@ -2,28 +2,16 @@
 //! taken.
 ghost use Rattle.std.specs.Prelude.{◌≡◌, ◌≤◌, ◌∷◌, [], IfOk, IsOk, IsErr, OnErr, None};
 ghost use Rattle.spool.specs.Calls.{new_refusal};
-ghost use Rattle.dispatcher.specs.PrintJob.{PrintsJob, TakesJob, asked_of_format, asked_of_printer, asked_of, group_of};
+ghost use Rattle.dispatcher.specs.PrintJob.{PrintsJob, TakesJob, asked_of_format, asked_of_printer, asked_of};
 
-use crate::checks::{
-    NamedPrinter, Refusal, format_asked, named_printer, room_for, unsupported_asked,
-};
-use crate::event::{AskedJob, PrintJob};
+use crate::checks::{NamedPrinter, Refusal, format_asked, named_printer};
+use crate::event::PrintJob;
 use crate::reply::{Reply, refuse, taken_with};
-use base_types::{Moment, PrinterId, Text};
-use ipp_codec::Group;
-use job_objects::{JobState, waiting_reasons};
-use job_template::{RequestAttributes, medium_of, template_of};
+use crate::submission::{Accepted, groups_of, job_asked};
+use base_types::{Moment, Text};
 use print_room::PrintRoom;
-use printer_objects::created_job_attributes;
-use spool::{Document, NewJob, Octets};
+use spool::{Document, Octets};
 use std::alloc::{AllocError, Global};
-
-/// A job that nothing stands against, and what of its request isn't supported.
-#[derive(Drop)]
-pub(crate) struct Accepted {
-    pub(crate) job: NewJob,
-    pub(crate) unsupported: RequestAttributes,
-}
 
 /// Takes the job of a Print-Job request, or says why not.
 pub(crate) fn print_job(
@@ -57,26 +45,11 @@ fn take(
 {
     let Accepted { job, unsupported } = accepted;
     let status = taken_with(&unsupported);
-    let groups = groups_of(alloc, room, &job)?;
+    let groups = groups_of(alloc, room, &job, false)?;
     match room.submit(job, now) {
         Ok(_) => Ok(Reply::answered(alloc, status, unsupported, groups)),
         Err(_) => Err(AllocError),
     }
-}
-
-/// The group that shows a job which is taken next.
-fn groups_of(alloc: Global, room: &PrintRoom, job: &NewJob) -> Result<Vec<Group>, AllocError>
-    requires { new_refusal room.now.spool job.now.documents ≡ None }
-    ensures { IfOk result (λ groups. groups.items ≡ group_of room.now job.now ∷ []) }
-{
-    let id = room.spool().next_id().unwrap();
-    let state = JobState::waiting(false, job.held);
-    let reasons = waiting_reasons(false, job.held, false, room.is_paused(job.printer));
-    let settings = room.settings();
-    let group = created_job_attributes(alloc, &settings.uri_base, id, state, reasons)?;
-    let mut groups = Vec::with_capacity(alloc, 1)?;
-    groups.push(group)?;
-    Ok(groups)
 }
 
 /// The job that a request asks for, or the first reason against it.
@@ -128,40 +101,12 @@ fn asked_of_format(
     ensures free { IfOk result (λ asked. IfOk asked (λ accepted. new_refusal room.now.spool accepted.job.documents ≡ None)) }
 {
     let PrintJob { job, octets, .. } = request;
-    let AskedJob {
-        user,
-        name,
-        impressions,
-        fidelity,
-        template: asked,
-        ..
-    } = job;
-    let template = template_of(&printer.offer, &asked);
-    let medium = medium_of(&printer.offer, &asked);
-    let unsupported = match unsupported_asked(alloc, &printer.offer, fidelity, asked) {
-        Ok(unsupported) => unsupported,
+    let mut accepted = match job_asked(alloc, room, printer, job, octets.len(), now)? {
+        Ok(accepted) => accepted,
         Err(refusal) => return Ok(Err(refusal)),
     };
-    if let Err(refusal) = room_for(alloc, room, octets.len()) {
-        return Ok(Err(refusal));
-    }
-    let documents = one_document(alloc, format, octets)?;
-    let media = medium.copied(alloc)?;
-    let job = NewJob {
-        created: now,
-        printer: PrinterId::new(printer.place),
-        owner: user,
-        name,
-        priority: template.priority,
-        sides: template.sides,
-        finishings: template.finishings,
-        media,
-        copies: template.copies,
-        held: template.held,
-        impressions,
-        documents,
-    };
-    Ok(Ok(Accepted { job, unsupported }))
+    accepted.job.documents = one_document(alloc, format, octets)?;
+    Ok(Ok(accepted))
 }
 
 /// One document of this format.

@@ -1,6 +1,7 @@
 //! What an event is answered.
 ghost use Rattle.std.specs.Prelude.{◌≡◌, ◌≤◌, []};
-ghost use Rattle.dispatcher.specs.Answers.{Refuses, Replies, taken_with};
+ghost use Rattle.dispatcher.specs.declared.status.Status.TheVariants as Went;
+ghost use Rattle.dispatcher.specs.Answers.{IsAnswer, Refuses, Replies, taken_with};
 
 use crate::checks::Refusal;
 use crate::status::Status;
@@ -63,6 +64,35 @@ impl Reply {
                 groups,
             }),
             cancels: Vec::new(alloc),
+            documents: Vec::new(alloc),
+        }
+    }
+
+    /// That it is done; nothing else.
+    pub(crate) fn done(alloc: Global) -> Reply
+        ensures { Replies Went.Ok [] [] result }
+    {
+        Reply::answered(
+            alloc,
+            Status::Ok,
+            RequestAttributes::new(alloc),
+            Vec::new(alloc),
+        )
+    }
+
+    /// That it is done, and these cancels to send.
+    pub(crate) fn canceled(alloc: Global, cancels: Vec<Cancel>) -> Reply
+        ensures answer { IsAnswer Went.Ok [] [] result.answer }
+        ensures cancels { result.cancels.items ≡ cancels.items }
+        ensures documents { result.documents.items ≡ [] }
+    {
+        Reply {
+            answer: Answer::Ipp(IppAnswer {
+                status: Status::Ok,
+                unsupported: RequestAttributes::new(alloc),
+                groups: Vec::new(alloc),
+            }),
+            cancels,
             documents: Vec::new(alloc),
         }
     }

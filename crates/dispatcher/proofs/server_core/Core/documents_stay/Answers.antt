@@ -9,15 +9,23 @@ use Rattle.dispatcher.specs.declared.event.Event.{Event}
 use Rattle.dispatcher.specs.declared.reply.Reply.{Reply}
 use Rattle.dispatcher.specs.Step.{Step}
 use Rattle.dispatcher.specs.Keeping.{StepKeeps}
-use Rattle.dispatcher.proofs.Keeping.{step_keeps}
+use Rattle.dispatcher.proofs.Keeping.{RoomKeeps, step_keeps}
 use Rattle.dispatcher.proofs.server_core.Core.documents_stay.Goals as goal
 
 pub returns-clause-steps : goal.returns-clause-steps
 returns-clause-steps g c =
     let s : State = c.self.inside.room in
-    let law = c.documents_stay.ensures in
+    let law : RoomKeeps s = record {
+      submits = c.documents_stay.ensures.submits;
+      sends = c.documents_stay.ensures.sends;
+      changes = c.documents_stay.ensures.changes;
+      cancels = c.documents_stay.ensures.cancels;
+      pauses = c.documents_stay.ensures.pauses;
+      expires = c.documents_stay.ensures.expires;
+      reports = c.documents_stay.ensures.reports;
+    } in
     subst (λ (t : State). (event : Event) (moment : ℕ) (reply : Reply) (new : State) → Step t event moment reply new → StepKeeps event t reply.documents.items new) c.self.view_is
-    (λ event moment reply new step. step_keeps s law.submits law.expires law.reports event (max moment s.last) reply new step)
+    (λ event moment reply new step. step_keeps s law event (max moment s.last) reply new step)
 
 pub returns-clause-dispatches : goal.returns-clause-dispatches
 returns-clause-dispatches g c =

@@ -1,0 +1,70 @@
+//! What a Cancel-Job does (RFC 8011, section 4.3.3).
+ghost use Rattle.std.specs.Prelude.{◌≡◌, ◌≤◌, IfOk, IsOk, IsErr, OnErr, None};
+ghost use Rattle.print_room.specs.Jobs.{canceling_refusal};
+ghost use Rattle.dispatcher.specs.CancelJob.{CancelsIt, CancelsJob, canceled_of, cancels_of};
+
+use crate::checks::{Refusal, named_job, refused_change};
+use crate::event::JobRequest;
+use crate::reply::{Cancel, Reply, refuse};
+use base_types::{JobId, Moment, Text};
+use print_room::PrintRoom;
+use std::alloc::{AllocError, Global};
+
+/// Cancels a job, or says why not. Only a cancel that a device is told takes memory.
+pub(crate) fn cancel_job(
+    alloc: Global,
+    room: &mut PrintRoom,
+    request: &JobRequest,
+    now: Moment,
+) -> Result<Reply, AllocError>
+    requires { room.old.last ≤ now }
+    ensures ok { IfOk result (λ reply. CancelsJob now request.now room.old reply room.new) }
+    ensures err { OnErr result (room.new ≡ room.old) }
+    ensures light { IsErr (canceled_of request.now room.old) → IsOk result }
+{
+    match canceled_of(alloc, room, request) {
+        Ok(id) => cancel(alloc, room, id, &request.user, now),
+        Err(refusal) => Ok(refuse(alloc, room, refusal, now)),
+    }
+}
+
+/// The job that is canceled, or the first reason against it.
+fn canceled_of(alloc: Global, room: &PrintRoom, request: &JobRequest) -> Result<JobId, Refusal>
+    ensures ok { result ≡ canceled_of request.now room.now }
+    ensures free { IfOk result (λ id. canceling_refusal id request.now.user room.now ≡ None) }
+{
+    let job = named_job(alloc, room, &request.target)?;
+    match room.admits_cancel(job.id, &request.user) {
+        Ok(()) => Ok(job.id),
+        Err(cause) => Err(refused_change(alloc, cause)),
+    }
+}
+
+/// Cancels a job that nothing stands against; the device that has it is told.
+fn cancel(
+    alloc: Global,
+    room: &mut PrintRoom,
+    id: JobId,
+    name: &Text,
+    now: Moment,
+) -> Result<Reply, AllocError>
+    requires later { room.old.last ≤ now }
+    requires free { canceling_refusal id name.now room.old ≡ None }
+    ensures ok { IfOk result (λ reply. CancelsIt now room.old name.now id reply room.new) }
+    ensures err { OnErr result (room.new ≡ room.old) }
+{
+    let cancels = cancels_of(alloc, room, id)?;
+    let _canceled = room.cancel(id, name, now);
+    Ok(Reply::canceled(alloc, cancels))
+}
+
+/// The cancel that is sent: to the device that has the job.
+fn cancels_of(alloc: Global, room: &PrintRoom, job: JobId) -> Result<Vec<Cancel>, AllocError>
+    ensures { IfOk result (λ cancels. cancels.items ≡ cancels_of job room.now) }
+{
+    let mut cancels = Vec::new(alloc);
+    if let Some(device) = room.device_of(job) {
+        cancels.push(Cancel { job, device })?;
+    }
+    Ok(cancels)
+}

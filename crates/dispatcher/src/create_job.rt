@@ -1,0 +1,71 @@
+//! What a Create-Job does (RFC 8011, section 4.2.4): it is refused by the first check that fails, or a
+//! job is made whose documents are still to come.
+ghost use Rattle.std.specs.Prelude.{◌≡◌, ◌≤◌, [], IfOk, IsOk, IsErr, OnErr, None};
+ghost use Rattle.spool.specs.Calls.{new_refusal};
+ghost use Rattle.dispatcher.specs.CreateJob.{CreatesJob, CreatesIt, created_of};
+
+use crate::checks::{Refusal, named_printer};
+use crate::event::AskedJob;
+use crate::reply::{Reply, refuse, taken_with};
+use crate::submission::{Accepted, groups_of, job_asked};
+use base_types::Moment;
+use print_room::PrintRoom;
+use std::alloc::{AllocError, Global};
+
+/// Makes the job of a Create-Job request, or says why not.
+pub(crate) fn create_job(
+    alloc: Global,
+    room: &mut PrintRoom,
+    request: AskedJob,
+    now: Moment,
+) -> Result<Reply, AllocError>
+    requires { room.old.last ≤ now }
+    ensures ok { IfOk result (λ reply. CreatesJob now request room.old reply room.new) }
+    ensures err { OnErr result (room.new ≡ room.old) }
+    ensures light { IsErr (created_of request now room.old) → IsOk result }
+{
+    match created_by(alloc, room, request, now)? {
+        Ok(accepted) => create(alloc, room, accepted, now),
+        Err(refusal) => Ok(refuse(alloc, room, refusal, now)),
+    }
+}
+
+/// Makes a job that nothing stands against; it is answered with its URI, id and state.
+fn create(
+    alloc: Global,
+    room: &mut PrintRoom,
+    accepted: Accepted,
+    now: Moment,
+) -> Result<Reply, AllocError>
+    requires later { room.old.last ≤ now }
+    requires empty { accepted.job.documents ≡ [] }
+    requires free { new_refusal room.old.spool [] ≡ None }
+    ensures ok { IfOk result (λ reply. CreatesIt now room.old accepted reply room.new) }
+    ensures err { OnErr result (room.new ≡ room.old) }
+{
+    let Accepted { job, unsupported } = accepted;
+    let status = taken_with(&unsupported);
+    let groups = groups_of(alloc, room, &job, true)?;
+    match room.create(job, now) {
+        Ok(_) => Ok(Reply::answered(alloc, status, unsupported, groups)),
+        Err(_) => Err(AllocError),
+    }
+}
+
+/// The job that a request asks for, or the first reason against it.
+fn created_by(
+    alloc: Global,
+    room: &PrintRoom,
+    request: AskedJob,
+    now: Moment,
+) -> Result<Result<Accepted, Refusal>, AllocError>
+    ensures ok { IfOk result (λ made. made ≡ created_of request now room.now) }
+    ensures err { OnErr result (IsOk (created_of request now room.now)) }
+    ensures free { IfOk result (λ made. IfOk made (λ accepted. new_refusal room.now.spool [] ≡ None)) }
+    ensures empty { IfOk result (λ made. IfOk made (λ accepted. accepted.job.documents ≡ [])) }
+{
+    match named_printer(alloc, room, &request.target) {
+        Ok(printer) => job_asked(alloc, room, &printer, request, 0, now),
+        Err(refusal) => Ok(Err(refusal)),
+    }
+}

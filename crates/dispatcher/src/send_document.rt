@@ -1,0 +1,169 @@
+//! What a Send-Document does (RFC 8011, section 4.3.1): it is refused by the first check that fails, or
+//! its job gets the document.
+ghost use Rattle.std.specs.Prelude.{◌≡◌, ◌≤◌, ◌∷◌, [], IfOk, IsOk, IsErr, OnErr, None, length};
+ghost use Rattle.print_room.specs.Jobs.{sending_refusal};
+ghost use Rattle.dispatcher.specs.SendDocument.{SendsDocument, SendsIt, sent_group, sent_in_format, sent_to_printer, sent_to_job, sent_of};
+
+use crate::checks::{
+    NamedPrinter, Refusal, format_asked, named_job, printer_of_job, refused_change,
+};
+use crate::event::SendDocument;
+use crate::reply::{Reply, refuse};
+use crate::status::Status;
+use base_types::{JobId, Moment, Text};
+use ipp_codec::Group;
+use job_objects::{Job, JobState, waiting_reasons};
+use job_template::RequestAttributes;
+use print_room::PrintRoom;
+use printer_objects::created_job_attributes;
+use spool::Document;
+use std::alloc::{AllocError, Global};
+
+/// The job that a document is sent to, where nothing stands against it: the document's format, and the
+/// group that shows the job after it.
+#[derive(Drop)]
+pub(crate) struct Sent {
+    pub(crate) job: JobId,
+    pub(crate) format: Text,
+    pub(crate) group: Group,
+}
+
+/// Adds the document of a Send-Document request to its job, or says why not.
+pub(crate) fn send_document(
+    alloc: Global,
+    room: &mut PrintRoom,
+    request: SendDocument,
+    now: Moment,
+) -> Result<Reply, AllocError>
+    requires { room.old.last ≤ now }
+    ensures ok { IfOk result (λ reply. SendsDocument now request room.old reply room.new) }
+    ensures err { OnErr result (room.new ≡ room.old) }
+    ensures light { IsErr (sent_of request room.old) → IsOk result }
+{
+    match sent_by(alloc, room, &request)? {
+        Ok(sent) => send(alloc, room, request, sent, now),
+        Err(refusal) => Ok(refuse(alloc, room, refusal, now)),
+    }
+}
+
+/// Adds a document that nothing stands against; the job is answered as it is then.
+fn send(
+    alloc: Global,
+    room: &mut PrintRoom,
+    request: SendDocument,
+    sent: Sent,
+    now: Moment,
+) -> Result<Reply, AllocError>
+    requires later { room.old.last ≤ now }
+    requires free { sending_refusal sent.job request.job.user (length request.octets) request.last room.old ≡ None }
+    ensures ok { IfOk result (λ reply. SendsIt now room.old request sent reply room.new) }
+    ensures err { OnErr result (room.new ≡ room.old) }
+{
+    let SendDocument {
+        job: asked,
+        octets,
+        last,
+        ..
+    } = request;
+    let Sent { job, format, group } = sent;
+    let mut groups = Vec::with_capacity(alloc, 1)?;
+    groups.push(group)?;
+    let document = Document {
+        format,
+        contents: octets,
+    };
+    match room.add_document(job, &asked.user, document, last, now) {
+        Ok(()) => {
+            let unsupported = RequestAttributes::new(alloc);
+            Ok(Reply::answered(alloc, Status::Ok, unsupported, groups))
+        }
+        Err(_) => Err(AllocError),
+    }
+}
+
+/// The job that a request sends a document to, or the first reason against it.
+fn sent_by(
+    alloc: Global,
+    room: &PrintRoom,
+    request: &SendDocument,
+) -> Result<Result<Sent, Refusal>, AllocError>
+    ensures ok { IfOk result (λ made. made ≡ sent_of request.now room.now) }
+    ensures err { OnErr result (IsOk (sent_of request.now room.now)) }
+    ensures free { IfOk result (λ made. IfOk made (λ sent. sending_refusal sent.job request.now.job.user (length request.now.octets) request.now.last room.now ≡ None)) }
+{
+    match named_job(alloc, room, &request.job.target) {
+        Ok(job) => sent_to_job(alloc, room, job, request),
+        Err(refusal) => Ok(Err(refusal)),
+    }
+}
+
+/// The same, by the printer that the job was sent to.
+fn sent_to_job(
+    alloc: Global,
+    room: &PrintRoom,
+    job: &Job,
+    request: &SendDocument,
+) -> Result<Result<Sent, Refusal>, AllocError>
+    ensures ok { IfOk result (λ made. made ≡ sent_to_job request.now room.now job.now) }
+    ensures err { OnErr result (IsOk (sent_to_job request.now room.now job.now)) }
+    ensures free { IfOk result (λ made. IfOk made (λ sent. sending_refusal sent.job request.now.job.user (length request.now.octets) request.now.last room.now ≡ None)) }
+{
+    match printer_of_job(alloc, room, job) {
+        Ok(printer) => sent_to_printer(alloc, room, job, &printer, request),
+        Err(refusal) => Ok(Err(refusal)),
+    }
+}
+
+/// The same, by the document's form.
+fn sent_to_printer(
+    alloc: Global,
+    room: &PrintRoom,
+    job: &Job,
+    printer: &NamedPrinter<'_>,
+    request: &SendDocument,
+) -> Result<Result<Sent, Refusal>, AllocError>
+    ensures ok { IfOk result (λ made. made ≡ sent_to_printer request.now room.now job.now printer.now) }
+    ensures err { OnErr result (IsOk (sent_to_printer request.now room.now job.now printer.now)) }
+    ensures free { IfOk result (λ made. IfOk made (λ sent. sending_refusal sent.job request.now.job.user (length request.now.octets) request.now.last room.now ≡ None)) }
+{
+    match format_asked(alloc, &printer.offer, &request.form) {
+        Ok(format) => sent_in_format(alloc, room, job, format, request),
+        Err(refusal) => Ok(Err(refusal)),
+    }
+}
+
+/// The same, of a document in this format.
+fn sent_in_format(
+    alloc: Global,
+    room: &PrintRoom,
+    job: &Job,
+    format: &Text,
+    request: &SendDocument,
+) -> Result<Result<Sent, Refusal>, AllocError>
+    ensures ok { IfOk result (λ made. made ≡ sent_in_format request.now room.now job.now format.now) }
+    ensures err { OnErr result (IsOk (sent_in_format request.now room.now job.now format.now)) }
+    ensures free { IfOk result (λ made. IfOk made (λ sent. sending_refusal sent.job request.now.job.user (length request.now.octets) request.now.last room.now ≡ None)) }
+{
+    let octets = request.octets.len();
+    if let Err(cause) = room.admits_document(job.id, &request.job.user, octets, request.last) {
+        return Ok(Err(refused_change(alloc, cause)));
+    }
+    let group = sent_group(alloc, room, job, request.last)?;
+    let format = format.copied(alloc)?;
+    Ok(Ok(Sent {
+        job: job.id,
+        format,
+        group,
+    }))
+}
+
+/// The group that shows the job after a document: others are still to come, unless it was the last.
+fn sent_group(alloc: Global, room: &PrintRoom, job: &Job, last: bool) -> Result<Group, AllocError>
+    ensures { IfOk result (λ group. group ≡ sent_group room.now job.now last) }
+{
+    let paused = room.is_paused(job.needs.printer);
+    let state = JobState::waiting(!last, job.held);
+    let reasons = waiting_reasons(!last, job.held, job.stranded, paused);
+    let settings = room.settings();
+    created_job_attributes(alloc, &settings.uri_base, job.id, state, reasons)
+}
