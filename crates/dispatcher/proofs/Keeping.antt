@@ -1,5 +1,5 @@
 -- A step leaves the documents of jobs that devices have.
-use Rattle.std.proofs.Common.{◌≡◌, ◌∙◌, ℕ, Bool, true, false, List, [], length, Option, Some, None, Result, Ok, Err, refl, sym, ap, subst}
+use Rattle.std.proofs.Common.{◌≡◌, ◌∙◌, ℕ, Bool, true, false, List, [], ◌∷◌, length, Option, Some, None, Result, Ok, Err, refl, sym, ap, subst}
 use Rattle.std.specs.Prelude.{MatchResult}
 use Rattle.text.specs.Steps.{◌>>=◌}
 use Rattle.base_types.specs.declared.report.Report.{Report}
@@ -13,7 +13,8 @@ use Rattle.print_room.specs.State.{State}
 use Rattle.print_room.specs.Jobs.{with_job_taken, sending_refusal, sending, changing, canceling, pausing, expiring}
 use Rattle.print_room.specs.Report.{Reports}
 use Rattle.print_room.specs.DeviceJobs.{AllKeep, KeepsOrEnds}
-use Rattle.ipp_codec.specs.Message.{IppAttribute}
+use Rattle.ipp_codec.specs.Message.{IppAttribute, IppGroup}
+use Rattle.listings.specs.Groups.{printer_group, job_group, job_groups}
 use Rattle.dispatcher.specs.declared.event.Event.{Event}
 use Rattle.dispatcher.specs.declared.event.Event.TheVariants as Is
 use Rattle.dispatcher.specs.declared.event.SendDocument.{SendDocument}
@@ -25,8 +26,9 @@ use Rattle.dispatcher.specs.declared.send_document.Sent.{Sent}
 use Rattle.dispatcher.specs.declared.checks.NamedPrinter.{NamedPrinter}
 use Rattle.dispatcher.specs.declared.checks.Refusal.{Refusal}
 use Rattle.dispatcher.specs.declared.reply.Reply.{Reply}
-use Rattle.dispatcher.specs.Answers.{Refuses}
-use Rattle.dispatcher.specs.Checks.{refused, status_of, named_job, printer_of_job, format_asked, unrefused}
+use Rattle.dispatcher.specs.Answers.{Refuses, Shows}
+use Rattle.dispatcher.specs.GetJobs.{wanted_of}
+use Rattle.dispatcher.specs.Checks.{named_job, named_printer, printer_of_job, format_asked, unrefused}
 use Rattle.dispatcher.specs.PrintJob.{TakesJob, asked_of}
 use Rattle.dispatcher.specs.ValidateJob.{Validates, validated_of}
 use Rattle.dispatcher.specs.CreateJob.{CreatesIt, created_of}
@@ -119,15 +121,19 @@ module _ (old : State) (room : RoomKeeps old) where
   paused now pauses reply new (Ok place) is = (becomes new (pausing now place pauses old) is.state (room.pauses now place pauses), is.replies.documents)
   paused now pauses reply new (Err refusal) refuses = refusing now reply new refusal refuses
 
+  shown : {A : Type 0} (now : ℕ) (reply : Reply) (new : State) (groups : A → List IppGroup) (r : Result A Refusal) → MatchResult r (λ a. Shows now old (groups a) reply new) (λ refusal. Refuses now old refusal reply new) → AllKeep old new × (reply.documents.items ≡ [])
+  shown now reply new groups (Ok a) is = (only_later now new is.state, is.replies.documents)
+  shown now reply new groups (Err refusal) refuses = refusing now reply new refusal refuses
+
   pub step_keeps : (event : Event) (now : ℕ) (reply : Reply) (new : State) → StepAt event now old reply new → StepKeeps event old reply.documents.items new
   step_keeps (Is.PrintJob request) now reply new step = printed now reply new (asked_of request now old) step
   step_keeps (Is.ValidateJob request) now reply new step = validated now reply new (validated_of request old) step
   step_keeps (Is.CreateJob request) now reply new step = created now reply new (created_of request now old) step
   step_keeps (Is.SendDocument request) now reply new step = sent now request reply new (sent_of request old) refl step
   step_keeps (Is.CancelJob request) now reply new step = canceled now request.user reply new (canceled_of request old) step
-  step_keeps (Is.GetJobAttributes request) now reply new step = refusing now reply new _ step
-  step_keeps (Is.GetJobs request) now reply new step = refusing now reply new _ step
-  step_keeps (Is.GetPrinterAttributes request) now reply new step = refusing now reply new _ step
+  step_keeps (Is.GetJobAttributes request) now reply new step = shown now reply new (λ job. job_group now request.requested old job ∷ []) (named_job request.target old) step
+  step_keeps (Is.GetJobs request) now reply new step = shown now reply new (λ wanted. job_groups wanted now request.requested old) (wanted_of request old) step
+  step_keeps (Is.GetPrinterAttributes request) now reply new step = shown now reply new (λ printer. printer_group printer.place printer.offer now request.requested old ∷ []) (named_printer request.target old) step
   step_keeps (Is.HoldJob request) now reply new step = held now request.job request.until reply new step
   step_keeps (Is.ReleaseJob request) now reply new step = changed now Change.Release [] reply new (changed_of request Change.Release now old) step
   step_keeps (Is.PausePrinter request) now reply new step = paused now true reply new (paused_of request old) step

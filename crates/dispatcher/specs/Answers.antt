@@ -28,3 +28,8 @@ taken_with unsupported = if length unsupported == 0 then Went.Ok else Went.OkIgn
 pub record Refuses (now : ℕ) (old : State) (refusal : Refusal) (reply : Reply) (new : State) : Type 0 where
   pub replies : Replies refusal.status refusal.unsupported [] reply
   pub state : new ≡ record old { last = now }
+
+-- these groups are answered, and only the last moment changes
+pub record Shows (now : ℕ) (old : State) (groups : List IppGroup) (reply : Reply) (new : State) : Type 0 where
+  pub replies : Replies Went.Ok [] groups reply
+  pub state : new ≡ record old { last = now }

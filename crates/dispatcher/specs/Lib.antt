@@ -12,6 +12,9 @@ pub mod SendDocument
 pub mod CancelJob
 pub mod HoldJob
 pub mod PausePrinter
+pub mod GetPrinterAttributes
+pub mod GetJobAttributes
+pub mod GetJobs
 pub mod Step
 pub mod Keeping
 pub mod Run

@@ -5,9 +5,7 @@ use Rattle.dispatcher.specs.declared.event.Event.{Event}
 use Rattle.dispatcher.specs.declared.event.Event.TheVariants as Is
 use Rattle.dispatcher.specs.declared.reply.Reply.{Reply}
 use Rattle.dispatcher.specs.declared.reply.Answer.TheVariants as Says
-use Rattle.dispatcher.specs.declared.status.Status.TheVariants as Went
-use Rattle.dispatcher.specs.Answers.{Refuses}
-use Rattle.dispatcher.specs.Checks.{refused}
+use Rattle.dispatcher.specs.Checks.{named_job, named_printer}
 use Rattle.dispatcher.specs.PrintJob.{PrintsJob, asked_of}
 use Rattle.dispatcher.specs.ValidateJob.{ValidatesJob}
 use Rattle.dispatcher.specs.CreateJob.{CreatesJob, created_of}
@@ -15,6 +13,9 @@ use Rattle.dispatcher.specs.SendDocument.{SendsDocument, sent_of}
 use Rattle.dispatcher.specs.CancelJob.{CancelsJob, canceled_of}
 use Rattle.dispatcher.specs.HoldJob.{HoldsJob, ReleasesJob}
 use Rattle.dispatcher.specs.PausePrinter.{PausesPrinter, ResumesPrinter}
+use Rattle.dispatcher.specs.GetPrinterAttributes.{ShowsPrinter}
+use Rattle.dispatcher.specs.GetJobAttributes.{ShowsJob}
+use Rattle.dispatcher.specs.GetJobs.{ListsJobs, wanted_of}
 use Rattle.print_room.specs.Report.{Reports}
 use Rattle.print_room.specs.State.{State}
 use Rattle.print_room.specs.Jobs.{expiring}
@@ -40,9 +41,9 @@ StepAt (Is.ValidateJob request) now old reply new = ValidatesJob now request old
 StepAt (Is.CreateJob request) now old reply new = CreatesJob now request old reply new
 StepAt (Is.SendDocument request) now old reply new = SendsDocument now request old reply new
 StepAt (Is.CancelJob request) now old reply new = CancelsJob now request old reply new
-StepAt (Is.GetJobAttributes request) now old reply new = Refuses now old (refused Went.OperationNotSupported) reply new
-StepAt (Is.GetJobs request) now old reply new = Refuses now old (refused Went.OperationNotSupported) reply new
-StepAt (Is.GetPrinterAttributes request) now old reply new = Refuses now old (refused Went.OperationNotSupported) reply new
+StepAt (Is.GetJobAttributes request) now old reply new = ShowsJob now request old reply new
+StepAt (Is.GetJobs request) now old reply new = ListsJobs now request old reply new
+StepAt (Is.GetPrinterAttributes request) now old reply new = ShowsPrinter now request old reply new
 StepAt (Is.HoldJob request) now old reply new = HoldsJob now request old reply new
 StepAt (Is.ReleaseJob request) now old reply new = ReleasesJob now request old reply new
 StepAt (Is.PausePrinter request) now old reply new = PausesPrinter now request old reply new
@@ -61,9 +62,9 @@ TakesNoMemoryAt (Is.ValidateJob request) now old = Unit {0}
 TakesNoMemoryAt (Is.CreateJob request) now old = IsErr (created_of request now old)
 TakesNoMemoryAt (Is.SendDocument request) now old = IsErr (sent_of request old)
 TakesNoMemoryAt (Is.CancelJob request) now old = IsErr (canceled_of request old)
-TakesNoMemoryAt (Is.GetJobAttributes request) now old = Unit {0}
-TakesNoMemoryAt (Is.GetJobs request) now old = Unit {0}
-TakesNoMemoryAt (Is.GetPrinterAttributes request) now old = Unit {0}
+TakesNoMemoryAt (Is.GetJobAttributes request) now old = IsErr (named_job request.target old)
+TakesNoMemoryAt (Is.GetJobs request) now old = IsErr (wanted_of request old)
+TakesNoMemoryAt (Is.GetPrinterAttributes request) now old = IsErr (named_printer request.target old)
 TakesNoMemoryAt (Is.HoldJob request) now old = Unit {0}
 TakesNoMemoryAt (Is.ReleaseJob request) now old = Unit {0}
 TakesNoMemoryAt (Is.PausePrinter request) now old = Unit {0}

@@ -1,19 +1,16 @@
 //! What each event does.
 ghost use Rattle.std.specs.Prelude.{◌≡◌, ◌≤◌, IfOk, IsOk, OnErr};
-ghost use Rattle.dispatcher.specs.Answers.{Refuses};
-ghost use Rattle.dispatcher.specs.Checks.{refused};
-ghost use Rattle.dispatcher.specs.declared.status.Status.TheVariants as Went;
 ghost use Rattle.dispatcher.specs.Step.{Step, Reported, Ticks, TakesNoMemory};
 
 use crate::cancel_job::cancel_job;
 use crate::create_job::create_job;
 use crate::event::Event;
+use crate::get_attributes::{get_job_attributes, get_printer_attributes};
+use crate::get_jobs::get_jobs;
 use crate::hold_job::{hold_job, release_job};
 use crate::pause_printer::{pause_printer, resume_printer};
 use crate::print_job::print_job;
-use crate::checks::refused;
-use crate::reply::{Reply, refuse};
-use crate::status::Status;
+use crate::reply::Reply;
 use crate::send_document::send_document;
 use crate::validate_job::validate_job;
 use base_types::{DeviceId, Moment, Report};
@@ -22,8 +19,8 @@ use std::alloc::{AllocError, Global};
 
 /// Acts on an event, at a moment or, where that is earlier, at the last one.
 ///
-/// Out of memory, the event is dropped and the room is as it was. Only a Print-Job that is taken takes
-/// memory.
+/// Out of memory, the event is dropped and the room is as it was. Only a request that is answered more
+/// than a status, and a cancel that a device is told, take memory.
 pub(crate) fn apply(
     alloc: Global,
     room: &mut PrintRoom,
@@ -41,8 +38,11 @@ pub(crate) fn apply(
         Event::CreateJob(request) => create_job(alloc, room, request, now),
         Event::SendDocument(request) => send_document(alloc, room, request, now),
         Event::CancelJob(request) => cancel_job(alloc, room, &request, now),
-        Event::GetJobAttributes(_) | Event::GetJobs(_) => Ok(not_yet(alloc, room, now)),
-        Event::GetPrinterAttributes(_) => Ok(not_yet(alloc, room, now)),
+        Event::GetJobAttributes(request) => get_job_attributes(alloc, room, &request, now),
+        Event::GetJobs(request) => get_jobs(alloc, room, request, now),
+        Event::GetPrinterAttributes(request) => {
+            get_printer_attributes(alloc, room, &request, now)
+        }
         Event::HoldJob(request) => Ok(hold_job(alloc, room, request, now)),
         Event::ReleaseJob(request) => Ok(release_job(alloc, room, request, now)),
         Event::PausePrinter(request) => Ok(pause_printer(alloc, room, &request, now)),
@@ -50,14 +50,6 @@ pub(crate) fn apply(
         Event::Report(device, report) => Ok(act_on(alloc, room, device, &report, now)),
         Event::Tick => Ok(tick(alloc, room, now)),
     }
-}
-
-/// Not served yet.
-fn not_yet(alloc: Global, room: &mut PrintRoom, now: Moment) -> Reply
-    requires { room.old.last ≤ now }
-    ensures { Refuses now room.old (refused Went.OperationNotSupported) result room.new }
-{
-    refuse(alloc, room, refused(alloc, Status::OperationNotSupported), now)
 }
 
 /// Time goes on: jobs whose documents stopped coming in are aborted.

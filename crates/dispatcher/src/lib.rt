@@ -18,6 +18,8 @@ mod checks;
 mod create_job;
 mod dispatch;
 mod event;
+mod get_attributes;
+mod get_jobs;
 mod hold_job;
 mod law;
 mod pause_printer;

@@ -1,7 +1,7 @@
 //! What an event is answered.
 ghost use Rattle.std.specs.Prelude.{◌≡◌, ◌≤◌, []};
 ghost use Rattle.dispatcher.specs.declared.status.Status.TheVariants as Went;
-ghost use Rattle.dispatcher.specs.Answers.{IsAnswer, Refuses, Replies, taken_with};
+ghost use Rattle.dispatcher.specs.Answers.{IsAnswer, Refuses, Replies, Shows, taken_with};
 
 use crate::checks::Refusal;
 use crate::status::Status;
@@ -133,4 +133,18 @@ pub(crate) fn refuse(alloc: Global, room: &mut PrintRoom, refusal: Refusal, now:
     } = refusal;
     room.advance(now);
     Reply::answered(alloc, status, unsupported, Vec::new(alloc))
+}
+
+/// Answers these groups.
+pub(crate) fn show(alloc: Global, room: &mut PrintRoom, groups: Vec<Group>, now: Moment) -> Reply
+    requires { room.old.last ≤ now }
+    ensures { Shows now room.old groups.items result room.new }
+{
+    room.advance(now);
+    Reply::answered(
+        alloc,
+        Status::Ok,
+        RequestAttributes::new(alloc),
+        groups,
+    )
 }

@@ -1,0 +1,15 @@
+-- What a Get-Job-Attributes request comes to (RFC 8011, section 4.3.4): the group of the job.
+use Rattle.std.specs.Prelude.{ℕ, [], ◌∷◌, MatchResult}
+use Rattle.listings.specs.Groups.{job_group}
+use Rattle.dispatcher.specs.declared.event.GetJobAttributes.{GetJobAttributes}
+use Rattle.dispatcher.specs.declared.reply.Reply.{Reply}
+use Rattle.dispatcher.specs.Answers.{Refuses, Shows}
+use Rattle.dispatcher.specs.Checks.{named_job}
+use Rattle.print_room.specs.State.{State}
+
+-- one reply and one state after it
+abbrev pub ShowsJob : ℕ → GetJobAttributes → State → Reply → State → Type 0
+ShowsJob now request old reply new =
+    MatchResult (named_job request.target old)
+    (λ job. Shows now old (job_group now request.requested old job ∷ []) reply new)
+    (λ refusal. Refuses now old refusal reply new)

@@ -1,0 +1,38 @@
+-- What a Get-Jobs request comes to (RFC 8011, section 4.2.6): a group for each job that is asked for.
+use Rattle.std.specs.Prelude.{ℕ, Bool, true, false, if◌then◌else◌, List, Option, Some, None, Result, Ok, Err, MatchResult}
+use Rattle.text.specs.Steps.{◌>>=◌}
+use Rattle.listings.specs.Listing.{WantedJobs}
+use Rattle.listings.specs.Groups.{job_groups}
+use Rattle.dispatcher.specs.declared.event.GetJobs.{GetJobs}
+use Rattle.dispatcher.specs.declared.event.WhichJobs.{WhichJobs}
+use Rattle.dispatcher.specs.declared.event.WhichJobs.TheVariants.{Completed, NotCompleted, Unsupported}
+use Rattle.dispatcher.specs.declared.reply.Reply.{Reply}
+use Rattle.dispatcher.specs.declared.checks.Refusal.{Refusal}
+use Rattle.dispatcher.specs.declared.status.Status.TheVariants as Went
+use Rattle.dispatcher.specs.Answers.{Refuses, Shows}
+use Rattle.dispatcher.specs.Checks.{named_printer}
+use Rattle.print_room.specs.State.{State}
+
+-- whether the finished jobs are asked for; a which-jobs that isn't supported is answered as it came
+abbrev pub finished_asked : WhichJobs → Result Bool Refusal
+finished_asked Completed = Ok true
+finished_asked NotCompleted = Ok false
+finished_asked (Unsupported attribute) = Err (record { status = Went.AttributesNotSupported; unsupported = attribute })
+
+-- whose jobs are asked for, if not everybody's: by my-jobs those of who asks
+abbrev pub owner_asked : Bool → List ℕ → Option (List ℕ)
+owner_asked mine user = if mine then Some user else None
+
+-- the jobs that are asked for, or the first reason against it
+abbrev pub wanted_of : GetJobs → State → Result WantedJobs Refusal
+wanted_of request old =
+    named_printer request.printer.target old >>= (λ printer.
+    finished_asked request.which >>= (λ finished.
+    Ok (record { printer = printer.place; finished = finished; owner = owner_asked request.mine request.printer.user; limit = request.limit })))
+
+-- one reply and one state after it
+abbrev pub ListsJobs : ℕ → GetJobs → State → Reply → State → Type 0
+ListsJobs now request old reply new =
+    MatchResult (wanted_of request old)
+    (λ wanted. Shows now old (job_groups wanted now request.requested old) reply new)
+    (λ refusal. Refuses now old refusal reply new)

@@ -1,0 +1,15 @@
+-- What a Get-Printer-Attributes request comes to (RFC 8011, section 4.2.5): the group of the printer.
+use Rattle.std.specs.Prelude.{ℕ, [], ◌∷◌, MatchResult}
+use Rattle.listings.specs.Groups.{printer_group}
+use Rattle.dispatcher.specs.declared.event.GetPrinterAttributes.{GetPrinterAttributes}
+use Rattle.dispatcher.specs.declared.reply.Reply.{Reply}
+use Rattle.dispatcher.specs.Answers.{Refuses, Shows}
+use Rattle.dispatcher.specs.Checks.{named_printer}
+use Rattle.print_room.specs.State.{State}
+
+-- one reply and one state after it
+abbrev pub ShowsPrinter : ℕ → GetPrinterAttributes → State → Reply → State → Type 0
+ShowsPrinter now request old reply new =
+    MatchResult (named_printer request.target old)
+    (λ printer. Shows now old (printer_group printer.place printer.offer now request.requested old ∷ []) reply new)
+    (λ refusal. Refuses now old refusal reply new)

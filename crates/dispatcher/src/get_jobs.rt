@@ -1,0 +1,71 @@
+//! What a Get-Jobs is answered (RFC 8011, section 4.2.6).
+ghost use Rattle.std.specs.Prelude.{◌≡◌, ◌≤◌, IfOk, IsOk, IsErr, OnErr};
+ghost use Rattle.std.specs.Option.{option_copied};
+ghost use Rattle.dispatcher.specs.GetJobs.{ListsJobs, finished_asked, owner_asked, wanted_of};
+
+use crate::checks::{Refusal, named_printer};
+use crate::event::{GetJobs, WhichJobs};
+use crate::reply::{Reply, refuse, show};
+use crate::status::Status;
+use base_types::{Moment, PrinterId, Text};
+use listings::{Wanted, job_groups};
+use print_room::PrintRoom;
+use std::alloc::{AllocError, Global};
+
+/// Answers the jobs that are asked for, or why not. A refusal takes no memory.
+pub(crate) fn get_jobs(
+    alloc: Global,
+    room: &mut PrintRoom,
+    request: GetJobs,
+    now: Moment,
+) -> Result<Reply, AllocError>
+    requires { room.old.last ≤ now }
+    ensures ok { IfOk result (λ reply. ListsJobs now request room.old reply room.new) }
+    ensures err { OnErr result (room.new ≡ room.old) }
+    ensures light { IsErr (wanted_of request room.old) → IsOk result }
+{
+    let GetJobs {
+        printer: asked,
+        which,
+        mine,
+        limit,
+        requested,
+    } = request;
+    let place = match named_printer(alloc, room, &asked.target) {
+        Ok(printer) => printer.place,
+        Err(refusal) => return Ok(refuse(alloc, room, refusal, now)),
+    };
+    let finished = match finished_asked(which) {
+        Ok(finished) => finished,
+        Err(refusal) => return Ok(refuse(alloc, room, refusal, now)),
+    };
+    let wanted = Wanted {
+        printer: PrinterId::new(place),
+        finished,
+        owner: owner_asked(mine, &asked.user),
+        limit,
+    };
+    let groups = job_groups(alloc, room, &wanted, now, requested.names())?;
+    Ok(show(alloc, room, groups, now))
+}
+
+/// Whether the finished jobs are asked for; a which-jobs that isn't supported is answered as it came.
+fn finished_asked(which: WhichJobs) -> Result<bool, Refusal>
+    ensures { result ≡ finished_asked which }
+{
+    match which {
+        WhichJobs::Completed => Ok(true),
+        WhichJobs::NotCompleted => Ok(false),
+        WhichJobs::Unsupported(unsupported) => Err(Refusal {
+            status: Status::AttributesNotSupported,
+            unsupported,
+        }),
+    }
+}
+
+/// Whose jobs are asked for, if not everybody's.
+fn owner_asked(mine: bool, user: &Text) -> Option<&Text>
+    ensures { option_copied result ≡ owner_asked mine user.now }
+{
+    if mine { Some(user) } else { None }
+}
