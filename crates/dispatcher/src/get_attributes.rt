@@ -7,9 +7,8 @@ ghost use Rattle.dispatcher.specs.GetJobAttributes.{ShowsJob};
 
 use crate::checks::{named_job, named_printer};
 use crate::event::{GetJobAttributes, GetPrinterAttributes};
-use crate::reply::{Reply, refuse, show};
+use crate::reply::{Reply, one_group, refuse, show};
 use base_types::Moment;
-use ipp_codec::Group;
 use listings::{job_group, printer_group};
 use print_room::PrintRoom;
 use std::alloc::{AllocError, Global};
@@ -56,13 +55,4 @@ pub(crate) fn get_job_attributes(
     };
     let groups = one_group(alloc, group)?;
     Ok(show(alloc, room, groups, now))
-}
-
-/// One group.
-pub(crate) fn one_group(alloc: Global, group: Group) -> Result<Vec<Group>, AllocError>
-    ensures { IfOk result (λ groups. groups.items ≡ group ∷ []) }
-{
-    let mut groups = Vec::with_capacity(alloc, 1)?;
-    groups.push(group)?;
-    Ok(groups)
 }

@@ -1,5 +1,5 @@
 //! What an event is answered.
-ghost use Rattle.std.specs.Prelude.{◌≡◌, ◌≤◌, []};
+ghost use Rattle.std.specs.Prelude.{◌≡◌, ◌≤◌, ◌∷◌, [], IfOk};
 ghost use Rattle.dispatcher.specs.declared.status.Status.TheVariants as Went;
 ghost use Rattle.dispatcher.specs.Answers.{IsAnswer, Refuses, Replies, Shows, taken_with};
 
@@ -10,7 +10,7 @@ use ipp_codec::Group;
 use job_template::RequestAttributes;
 use print_room::PrintRoom;
 use spool::Document;
-use std::alloc::Global;
+use std::alloc::{AllocError, Global};
 
 /// A cancel to send: the device still has the job.
 #[derive(Clone, Copy, Debug, PartialEq, Eq)]
@@ -109,6 +109,15 @@ impl Reply {
             documents,
         }
     }
+}
+
+/// One group.
+pub(crate) fn one_group(alloc: Global, group: Group) -> Result<Vec<Group>, AllocError>
+    ensures { IfOk result (λ groups. groups.items ≡ group ∷ []) }
+{
+    let mut groups = Vec::with_capacity(alloc, 1)?;
+    groups.push(group)?;
+    Ok(groups)
 }
 
 /// How a job is taken or found to be one that would be, by what isn't supported.

@@ -8,7 +8,7 @@ use crate::checks::{
     NamedPrinter, Refusal, format_asked, named_job, printer_of_job, refused_change,
 };
 use crate::event::SendDocument;
-use crate::reply::{Reply, refuse};
+use crate::reply::{Reply, one_group, refuse};
 use crate::status::Status;
 use base_types::{JobId, Moment, Text};
 use ipp_codec::Group;
@@ -66,8 +66,7 @@ fn send(
         ..
     } = request;
     let Sent { job, format, group } = sent;
-    let mut groups = Vec::with_capacity(alloc, 1)?;
-    groups.push(group)?;
+    let groups = one_group(alloc, group)?;
     let document = Document {
         format,
         contents: octets,

@@ -5,6 +5,7 @@ ghost use Rattle.dispatcher.specs.Submission.{job_asked, group_of};
 
 use crate::checks::{NamedPrinter, Refusal, room_for, unsupported_asked};
 use crate::event::AskedJob;
+use crate::reply::one_group;
 use base_types::{Limits, Moment, PrinterId};
 use ipp_codec::Group;
 use job_objects::{JobState, waiting_reasons};
@@ -88,7 +89,5 @@ pub(crate) fn groups_of(
     let reasons = waiting_reasons(incoming, job.held, false, room.is_paused(job.printer));
     let settings = room.settings();
     let group = created_job_attributes(alloc, &settings.uri_base, id, state, reasons)?;
-    let mut groups = Vec::with_capacity(alloc, 1)?;
-    groups.push(group)?;
-    Ok(groups)
+    one_group(alloc, group)
 }

@@ -17,7 +17,7 @@ pub struct Example {
     pub status: ExitStatus,
 }
 
-pub const EXAMPLES: [Example; 25] = [
+pub const EXAMPLES: [Example; 33] = [
     Example {
         input: "two_devices.trace",
         output: "two_devices.out",
@@ -129,6 +129,54 @@ pub const EXAMPLES: [Example; 25] = [
     Example {
         input: "validated.trace",
         output: "validated.out",
+        program: Program::Replay,
+        status: ExitStatus::Done,
+    },
+    Example {
+        input: "printer_attributes.trace",
+        output: "printer_attributes.out",
+        program: Program::Replay,
+        status: ExitStatus::Done,
+    },
+    Example {
+        input: "get_jobs.trace",
+        output: "get_jobs.out",
+        program: Program::Replay,
+        status: ExitStatus::Done,
+    },
+    Example {
+        input: "job_attributes.trace",
+        output: "job_attributes.out",
+        program: Program::Replay,
+        status: ExitStatus::Done,
+    },
+    Example {
+        input: "hold_and_release.trace",
+        output: "hold_and_release.out",
+        program: Program::Replay,
+        status: ExitStatus::Done,
+    },
+    Example {
+        input: "cancel_printing.trace",
+        output: "cancel_printing.out",
+        program: Program::Replay,
+        status: ExitStatus::Done,
+    },
+    Example {
+        input: "documents_one_by_one.trace",
+        output: "documents_one_by_one.out",
+        program: Program::Replay,
+        status: ExitStatus::Done,
+    },
+    Example {
+        input: "pause_and_resume.trace",
+        output: "pause_and_resume.out",
+        program: Program::Replay,
+        status: ExitStatus::Done,
+    },
+    Example {
+        input: "refused_operations.trace",
+        output: "refused_operations.out",
         program: Program::Replay,
         status: ExitStatus::Done,
     },
