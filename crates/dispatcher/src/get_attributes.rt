@@ -1,14 +1,17 @@
 //! What a Get-Printer-Attributes and a Get-Job-Attributes are answered (RFC 8011, sections 4.2.5 and
 //! 4.3.4).
 ghost use Rattle.std.specs.Prelude.{◌≡◌, ◌≤◌, ◌∷◌, [], IfOk, IsOk, IsErr, OnErr};
+ghost use Rattle.listings.specs.Groups.{job_group, printer_group};
 ghost use Rattle.dispatcher.specs.Checks.{named_job, named_printer};
 ghost use Rattle.dispatcher.specs.GetPrinterAttributes.{ShowsPrinter};
 ghost use Rattle.dispatcher.specs.GetJobAttributes.{ShowsJob};
 
-use crate::checks::{named_job, named_printer};
+use crate::checks::{NamedPrinter, named_job, named_printer};
 use crate::event::{GetJobAttributes, GetPrinterAttributes};
 use crate::reply::{Reply, one_group, refuse, show};
-use base_types::Moment;
+use base_types::{Moment, Text};
+use ipp_codec::Group;
+use job_objects::Job;
 use listings::{job_group, printer_group};
 use print_room::PrintRoom;
 use std::alloc::{AllocError, Global};
@@ -26,14 +29,26 @@ pub(crate) fn get_printer_attributes(
     ensures light { IsErr (named_printer request.now.target room.old) → IsOk result }
 {
     let requested = request.requested.names();
-    let group = match named_printer(alloc, room, &request.target) {
-        Ok(printer) => {
-            printer_group(alloc, room, printer.place, &printer.offer, now, requested)?
-        }
+    let printer = match named_printer(alloc, room, &request.target) {
+        Ok(printer) => printer,
         Err(refusal) => return Ok(refuse(alloc, room, refusal, now)),
     };
-    let groups = one_group(alloc, group)?;
+    let groups = printer_groups(alloc, room, &printer, now, requested)?;
     Ok(show(alloc, room, groups, now))
+}
+
+/// The group of a printer.
+fn printer_groups(
+    alloc: Global,
+    room: &PrintRoom,
+    printer: &NamedPrinter<'_>,
+    now: Moment,
+    requested: &[Text],
+) -> Result<Vec<Group>, AllocError>
+    ensures { IfOk result (λ groups. groups.items ≡ printer_group printer.now.place printer.now.offer now requested.now room.now ∷ []) }
+{
+    let group = printer_group(alloc, room, printer.place, &printer.offer, now, requested)?;
+    one_group(alloc, group)
 }
 
 /// Answers the attributes of a job, or why not. A refusal takes no memory.
@@ -49,10 +64,24 @@ pub(crate) fn get_job_attributes(
     ensures light { IsErr (named_job request.now.target room.old) → IsOk result }
 {
     let requested = request.requested.names();
-    let group = match named_job(alloc, room, &request.target) {
-        Ok(job) => job_group(alloc, room, job, now, requested)?,
+    let job = match named_job(alloc, room, &request.target) {
+        Ok(job) => job,
         Err(refusal) => return Ok(refuse(alloc, room, refusal, now)),
     };
-    let groups = one_group(alloc, group)?;
+    let groups = job_groups(alloc, room, job, now, requested)?;
     Ok(show(alloc, room, groups, now))
+}
+
+/// The group of a job.
+fn job_groups(
+    alloc: Global,
+    room: &PrintRoom,
+    job: &Job,
+    now: Moment,
+    requested: &[Text],
+) -> Result<Vec<Group>, AllocError>
+    ensures { IfOk result (λ groups. groups.items ≡ job_group now requested.now room.now job.now ∷ []) }
+{
+    let group = job_group(alloc, room, job, now, requested)?;
+    one_group(alloc, group)
 }

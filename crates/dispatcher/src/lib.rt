@@ -34,8 +34,9 @@ mod validate_job;
 
 pub use dispatch::Dispatched;
 pub use event::{
-    AskedJob, DocumentForm, Event, GetJobAttributes, GetJobs, GetPrinterAttributes, HoldJob, HoldUntil,
-    JobRequest, JobTarget, PrintJob, PrinterRequest, SendDocument, Target, ValidateJob, WhichJobs,
+    AskedJob, DocumentForm, Event, GetJobAttributes, GetJobs, GetPrinterAttributes, HoldJob,
+    HoldUntil, JobRequest, JobTarget, PrintJob, PrinterRequest, SendDocument, Target, ValidateJob,
+    WhichJobs,
 };
 pub use print_room::Started;
 pub use reply::{Answer, Cancel, IppAnswer, Reply};

@@ -48,7 +48,11 @@ pub(crate) fn resume_printer(
 }
 
 /// The printer, or the first reason against it.
-fn paused_of(alloc: Global, room: &PrintRoom, request: &PrinterRequest) -> Result<PrinterId, Refusal>
+fn paused_of(
+    alloc: Global,
+    room: &PrintRoom,
+    request: &PrinterRequest,
+) -> Result<PrinterId, Refusal>
     ensures { result ≡ paused_of request.now room.now }
 {
     let printer = named_printer(alloc, room, &request.target)?;

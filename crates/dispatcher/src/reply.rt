@@ -150,10 +150,5 @@ pub(crate) fn show(alloc: Global, room: &mut PrintRoom, groups: Vec<Group>, now:
     ensures { Shows now room.old groups.items result room.new }
 {
     room.advance(now);
-    Reply::answered(
-        alloc,
-        Status::Ok,
-        RequestAttributes::new(alloc),
-        groups,
-    )
+    Reply::answered(alloc, Status::Ok, RequestAttributes::new(alloc), groups)
 }
