@@ -9,8 +9,7 @@ use Rattle.ipp_codec.specs.Message.{IppMessage}
 use Rattle.ipp_codec.specs.Grammar.{Spells}
 use Rattle.ipp_codec.specs.FirstFault.{HeadFault}
 use Rattle.printer_objects.specs.declared.operation.Operation.{Operation}
-use Rattle.printer_objects.specs.declared.operation.Operation.TheVariants as operation
-use Rattle.printer_objects.specs.Operation.{operation_code}
+use Rattle.printer_objects.specs.Operation.{operation_code, operation_table}
 use Rattle.dispatcher.specs.declared.event.Event.{Event}
 use Rattle.dispatcher.specs.declared.status.Status.{Status}
 use Rattle.dispatcher.specs.declared.status.Status.TheVariants as status
@@ -32,15 +31,11 @@ header_of _ = None
 abbrev pub request_id_of : List ℕ → Option ℕ
 request_id_of body = option_map (λ header. header.request_id) (header_of body)
 
--- the operations that are served (section 5.4.15)
-abbrev pub served : List Operation
-served = operation.PrintJob ∷ operation.ValidateJob ∷ []
-
--- the operation of a code, if it is served
+-- the operation of a code, if it is one of the table (section 5.4.15)
 abbrev pub operation_in : ℕ → Option Operation
-operation_in code = find (λ o. operation_code o == code) served
+operation_in code = find (λ o. operation_code o == code) operation_table
 
--- the operation that a header asks for: the version's major number is 1 or 2 (RFC 8011, section 4.1.8), and the operation is served
+-- the operation that a header asks for: the version's major number is 1 or 2 (RFC 8011, section 4.1.8), and the operation is one of the table
 abbrev pub operation_of : Header → Result Operation Status
 operation_of header =
     if not ((header.major == 1) || (header.major == 2)) then Err status.VersionNotSupported

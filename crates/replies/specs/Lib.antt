@@ -1,8 +1,12 @@
-pub mod Known
+pub mod Syntax
+pub mod OperationAttribute
 pub mod Attributes
 pub mod Request
 pub mod Target
-pub mod PrintJob
+pub mod Requested
+pub mod JobCreation
+pub mod JobRequests
+pub mod PrinterRequests
 pub mod Event
 pub mod Asked
 pub mod Reply

@@ -1,54 +1,121 @@
 //! What the attributes of a group say.
-ghost use Rattle.std.specs.Prelude.{◌≡◌, option_map, map, IfOk};
+ghost use Rattle.std.specs.Prelude.{◌≡◌, ◌∷◌, [], option_map, IfOk};
 ghost use Rattle.std.specs.List.{list_all};
-ghost use Rattle.ipp_codec.specs.Views.{value_shown, group_shown};
-ghost use Rattle.replies.specs.Attributes.{value_of, is_tagged, behind_language, name_in, name_or, bytes_of, number_of, truth_of};
-ghost use Rattle.replies.specs.Known.{known as named};
+ghost use Rattle.ipp_codec.specs.Views.{attribute_shown, value_shown, group_shown};
+ghost use Rattle.replies.specs.Attributes.{first_named, attribute_of, has, value_of, is_tagged, as_it_came, behind_language, name_in, name_or, bytes_of, number_of, truth_of};
+ghost use Rattle.replies.specs.OperationAttribute.{values_in_order};
+ghost use Rattle.replies.specs.Syntax.{has_syntax};
 
+use crate::operation_attribute::OperationAttribute;
 use crate::syntax::Syntax;
 use base_types::Text;
-use ipp_codec::{GroupView, ValueTag, ValueView};
+use ipp_codec::{Attribute, AttributeView, GroupView, ValueTag, ValueView};
+use job_template::RequestAttributes;
 use std::alloc::{AllocError, Global};
 
-/// An attribute that is read.
-#[derive(Clone, Copy)]
-pub(crate) struct Known {
-    pub name: &'static [u8],
-    pub syntax: Syntax,
-}
-
-/// The first value of the first attribute of a name.
-pub(crate) fn value_of<'a>(group: &GroupView<'a>, name: &[u8]) -> Option<ValueView<'a>>
-    ensures { option_map value_shown result ≡ value_of name.now (group_shown group.now) }
+/// The first attribute of a name.
+pub(crate) fn first_named<'a>(group: &GroupView<'a>, name: &[u8]) -> Option<AttributeView<'a>>
+    ensures { option_map attribute_shown result ≡ first_named name.now (group_shown group.now).attributes }
 {
     for attribute in group.attributes() {
         if attribute.name() == name {
-            return Some(attribute.first());
+            return Some(attribute);
         }
     }
     None
 }
 
-/// Whether an attribute, where it is there, has a tag of its syntax.
-fn is_tagged(group: &GroupView<'_>, known: Known) -> bool
-    ensures { result ≡ is_tagged (group_shown group.now) (named known) }
+/// An attribute, where it is there: the first of its name.
+pub(crate) fn attribute_of<'a>(
+    group: &GroupView<'a>,
+    which: OperationAttribute,
+) -> Option<AttributeView<'a>>
+    ensures { option_map attribute_shown result ≡ attribute_of which (group_shown group.now) }
 {
-    match value_of(group, known.name) {
-        Some(value) => known.syntax.has_tag(value.tag()),
+    first_named(group, which.name())
+}
+
+/// Whether an attribute is there.
+pub(crate) fn has(group: &GroupView<'_>, which: OperationAttribute) -> bool
+    ensures { result ≡ has which (group_shown group.now) }
+{
+    attribute_of(group, which).is_some()
+}
+
+/// The first value of an attribute, where it is there.
+pub(crate) fn value_of<'a>(
+    group: &GroupView<'a>,
+    which: OperationAttribute,
+) -> Option<ValueView<'a>>
+    ensures { option_map value_shown result ≡ value_of which (group_shown group.now) }
+{
+    match attribute_of(group, which) {
+        Some(attribute) => Some(attribute.first()),
+        None => None,
+    }
+}
+
+/// Whether each value of an attribute has a tag of a syntax.
+fn all_have_syntax(attribute: &AttributeView<'_>, syntax: Syntax) -> bool
+    ensures { result ≡ list_all (has_syntax syntax) (values_in_order (attribute_shown attribute.now)) }
+{
+    for value in attribute.values() {
+        if !syntax.has_tag(value.tag()) {
+            return false;
+        }
+    }
+    true
+}
+
+/// Whether each value of an attribute that acts has a tag of its syntax, where it is there.
+fn is_tagged(group: &GroupView<'_>, which: OperationAttribute) -> bool
+    ensures { result ≡ is_tagged (group_shown group.now) which }
+{
+    let syntax = which.syntax();
+    match attribute_of(group, which) {
+        Some(attribute) if which.all_values_act() => all_have_syntax(&attribute, syntax),
+        Some(attribute) => syntax.has_tag(attribute.first().tag()),
         None => true,
     }
 }
 
 /// Whether each of these attributes that is there has a tag of its syntax.
-pub(crate) fn are_tagged(group: &GroupView<'_>, table: &[Known]) -> bool
-    ensures { result ≡ list_all (is_tagged (group_shown group.now)) (map named table.now) }
+pub(crate) fn are_tagged(group: &GroupView<'_>, read: &[OperationAttribute]) -> bool
+    ensures { result ≡ list_all (is_tagged (group_shown group.now)) read.now }
 {
-    for known in table {
-        if !is_tagged(group, *known) {
+    for which in read {
+        if !is_tagged(group, *which) {
             return false;
         }
     }
     true
+}
+
+/// An attribute as it came, with all its values; none where it isn't there.
+pub(crate) fn as_it_came(
+    alloc: Global,
+    group: &GroupView<'_>,
+    which: OperationAttribute,
+) -> Result<RequestAttributes, AllocError>
+    ensures { IfOk result (λ attributes. attributes ≡ as_it_came which (group_shown group.now)) }
+{
+    let name = which.name();
+    let owned = group.to_owned(alloc)?;
+    for attribute in owned.attributes {
+        if attribute.name() == name {
+            return alone(alloc, attribute);
+        }
+    }
+    Ok(RequestAttributes::new(alloc))
+}
+
+/// One attribute.
+fn alone(alloc: Global, attribute: Attribute) -> Result<RequestAttributes, AllocError>
+    ensures { IfOk result (λ attributes. attributes ≡ attribute ∷ []) }
+{
+    let mut attributes = Vec::new(alloc);
+    attributes.push(attribute)?;
+    Ok(RequestAttributes::from_vec(attributes))
 }
 
 /// What stands behind a language, which is counted, and the count of the text.
@@ -73,16 +140,16 @@ fn name_in<'a>(value: &ValueView<'a>) -> &'a [u8]
     }
 }
 
-/// A copy of the name of an attribute, or of a default where it isn't there.
+/// A copy of the name that an attribute is, or of a default where it isn't there.
 pub(crate) fn name_or(
     alloc: Global,
     group: &GroupView<'_>,
-    name: &[u8],
+    which: OperationAttribute,
     default: &[u8],
 ) -> Result<Text, AllocError>
-    ensures { IfOk result (λ text. text ≡ name_or name.now default.now (group_shown group.now)) }
+    ensures { IfOk result (λ text. text ≡ name_or which default.now (group_shown group.now)) }
 {
-    match value_of(group, name) {
+    match value_of(group, which) {
         Some(value) => Text::copy_of(alloc, name_in(&value)),
         None => Text::copy_of(alloc, default),
     }
@@ -92,29 +159,29 @@ pub(crate) fn name_or(
 pub(crate) fn bytes_of(
     alloc: Global,
     group: &GroupView<'_>,
-    name: &[u8],
+    which: OperationAttribute,
 ) -> Result<Option<Text>, AllocError>
-    ensures { IfOk result (λ text. text ≡ bytes_of name.now (group_shown group.now)) }
+    ensures { IfOk result (λ text. text ≡ bytes_of which (group_shown group.now)) }
 {
-    match value_of(group, name) {
+    match value_of(group, which) {
         Some(value) => Ok(Some(Text::copy_of(alloc, value.bytes())?)),
         None => Ok(None),
     }
 }
 
 /// The integer of an attribute, where it is there and isn't negative.
-pub(crate) fn number_of(group: &GroupView<'_>, name: &[u8]) -> Option<u32>
-    ensures { result ≡ number_of name.now (group_shown group.now) }
+pub(crate) fn number_of(group: &GroupView<'_>, which: OperationAttribute) -> Option<u32>
+    ensures { result ≡ number_of which (group_shown group.now) }
 {
-    let number = value_of(group, name)?.as_integer()?;
+    let number = value_of(group, which)?.as_integer()?;
     u32::try_from(number).ok()
 }
 
 /// The truth of an attribute; false where it isn't there.
-pub(crate) fn truth_of(group: &GroupView<'_>, name: &[u8]) -> bool
-    ensures { result ≡ truth_of name.now (group_shown group.now) }
+pub(crate) fn truth_of(group: &GroupView<'_>, which: OperationAttribute) -> bool
+    ensures { result ≡ truth_of which (group_shown group.now) }
 {
-    match value_of(group, name) {
+    match value_of(group, which) {
         Some(value) => value.as_boolean().unwrap_or(false),
         None => false,
     }

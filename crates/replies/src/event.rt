@@ -1,15 +1,18 @@
 //! What a message asks, by its operation.
 ghost use Rattle.std.specs.Prelude.{◌≡◌, IfOk};
-ghost use Rattle.ipp_codec.specs.Views.{value_shown, group_shown, message_shown};
+ghost use Rattle.ipp_codec.specs.Views.{group_shown, message_shown};
 ghost use Rattle.replies.specs.Request.{job_attributes};
-ghost use Rattle.replies.specs.Event.{asked_in, event_in, event_of};
+ghost use Rattle.replies.specs.Event.{is_complete, asked_in, event_in, event_of};
 
-use crate::attributes::value_of;
-use crate::print_job::{is_tagged, print_job_of, validate_job_of};
-use crate::request::{is_utf8, job_attributes, operation_group};
+use crate::attributes::{are_tagged, has};
+use crate::job_creation::{asked_job_of, print_job_of, validate_job_of};
+use crate::job_requests::{get_job_attributes_of, hold_job_of, job_request_of, send_document_of};
+use crate::operation_attribute::{OperationAttribute, attributes_read};
+use crate::printer_requests::{get_jobs_of, get_printer_attributes_of, printer_request_of};
+use crate::request::{is_utf8, operation_group};
+use crate::target::names_job;
 use dispatcher::{Event, Status};
-use ipp_codec::{GroupView, MessageView, ValueView};
-use job_template::RequestAttributes;
+use ipp_codec::{GroupView, MessageView};
 use printer_objects::Operation;
 use std::alloc::{AllocError, Global};
 
@@ -41,15 +44,25 @@ fn asked_in(
     if !is_utf8(group) {
         return Ok(Err(Status::CharsetNotSupported));
     }
-    if !is_tagged(group) {
+    if !are_tagged(group, attributes_read(operation)) {
         return Ok(Err(Status::BadRequest));
     }
-    match value_of(group, b"printer-uri") {
-        Some(uri) => {
-            let template = job_attributes(alloc, message)?;
-            event_in(alloc, operation, group, template, document, &uri)
-        }
-        None => Ok(Err(Status::BadRequest)),
+    if !is_complete(operation, group) {
+        return Ok(Err(Status::BadRequest));
+    }
+    Ok(Ok(event_in(alloc, operation, message, group, document)?))
+}
+
+/// Whether a request has what it can't be without: the job or the printer that it is for, and in a
+/// Send-Document whether a document follows.
+fn is_complete(operation: Operation, group: &GroupView<'_>) -> bool
+    ensures { result ≡ is_complete operation (group_shown group.now) }
+{
+    match operation {
+        Operation::SendDocument => names_job(group) && has(group, OperationAttribute::LastDocument),
+        Operation::CancelJob | Operation::GetJobAttributes => names_job(group),
+        Operation::HoldJob | Operation::ReleaseJob => names_job(group),
+        _ => has(group, OperationAttribute::PrinterUri),
     }
 }
 
@@ -57,22 +70,28 @@ fn asked_in(
 fn event_in(
     alloc: Global,
     operation: Operation,
+    message: &MessageView<'_>,
     group: &GroupView<'_>,
-    template: RequestAttributes,
     document: &[u8],
-    uri: &ValueView<'_>,
-) -> Result<Result<Event, Status>, AllocError>
-    ensures { IfOk result (λ event. event ≡ event_in operation (group_shown group.now) template document.now (value_shown uri.now)) }
+) -> Result<Event, AllocError>
+    ensures { IfOk result (λ event. event ≡ event_in operation (group_shown group.now) (job_attributes (message_shown message.now)) document.now) }
 {
-    match operation {
-        Operation::PrintJob => {
-            let request = print_job_of(alloc, group, template, document, uri)?;
-            Ok(Ok(Event::PrintJob(request)))
+    Ok(match operation {
+        Operation::PrintJob => Event::PrintJob(print_job_of(alloc, message, group, document)?),
+        Operation::ValidateJob => Event::ValidateJob(validate_job_of(alloc, message, group)?),
+        Operation::CreateJob => Event::CreateJob(asked_job_of(alloc, message, group)?),
+        Operation::SendDocument => Event::SendDocument(send_document_of(alloc, group, document)?),
+        Operation::CancelJob => Event::CancelJob(job_request_of(alloc, group)?),
+        Operation::GetJobAttributes => {
+            Event::GetJobAttributes(get_job_attributes_of(alloc, group)?)
         }
-        Operation::ValidateJob => {
-            let request = validate_job_of(alloc, group, template, uri)?;
-            Ok(Ok(Event::ValidateJob(request)))
+        Operation::GetJobs => Event::GetJobs(get_jobs_of(alloc, group)?),
+        Operation::GetPrinterAttributes => {
+            Event::GetPrinterAttributes(get_printer_attributes_of(alloc, group)?)
         }
-        _ => Ok(Err(Status::OperationNotSupported)),
-    }
+        Operation::HoldJob => Event::HoldJob(hold_job_of(alloc, group)?),
+        Operation::ReleaseJob => Event::ReleaseJob(job_request_of(alloc, group)?),
+        Operation::PausePrinter => Event::PausePrinter(printer_request_of(alloc, group)?),
+        Operation::ResumePrinter => Event::ResumePrinter(printer_request_of(alloc, group)?),
+    })
 }

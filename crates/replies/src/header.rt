@@ -37,7 +37,7 @@ pub fn request_id(body: &[u8]) -> Option<u32>
 }
 
 /// The operation that a header asks for, or why it is refused: it has another version, or asks for an
-/// operation that isn't served.
+/// operation that isn't in the table.
 pub(crate) fn operation_of(header: Header) -> Result<Operation, Status>
     ensures { result ≡ operation_of header }
 {
@@ -50,15 +50,14 @@ pub(crate) fn operation_of(header: Header) -> Result<Operation, Status>
     }
 }
 
-/// The operation of a code, if it is served.
+/// The operation of a code, if it is one of the table.
 fn operation_in(code: u16) -> Option<Operation>
     ensures { result ≡ operation_in code }
 {
-    if code == Operation::PrintJob.code() {
-        Some(Operation::PrintJob)
-    } else if code == Operation::ValidateJob.code() {
-        Some(Operation::ValidateJob)
-    } else {
-        None
+    for operation in Operation::all() {
+        if operation.code() == code {
+            return Some(operation);
+        }
     }
+    None
 }

@@ -2,8 +2,9 @@
 //!
 //! [`ipp_event`] says exactly which bodies are events, and with which status each other body is
 //! answered; a body asks one thing ([`one_asked`]). [`ipp_reply`] and [`ipp_refusal`] say each byte
-//! of a reply. Only Print-Job exists so far. Nothing here knows what the core does with an event,
-//! nor over which wire a body comes. `docs/IPP.md` has the rules for someone who writes a client.
+//! of a reply. Which attributes an operation reads, with which tags, is one table
+//! (`operation_attribute`). Nothing here knows what the core does with an event, nor over which wire
+//! a body comes. `docs/IPP.md` has the rules for someone who writes a client.
 //!
 //! Tests stand in `core_tests`.
 #![tactic(auto)]
@@ -12,11 +13,15 @@ mod asked;
 mod attributes;
 mod event;
 mod header;
+mod job_creation;
+mod job_requests;
 mod law;
-mod print_job;
+mod operation_attribute;
+mod printer_requests;
 mod refusal;
 mod reply;
 mod request;
+mod requested;
 mod syntax;
 mod target;
 

@@ -1,9 +1,11 @@
-//! Which messages are requests.
+//! Which messages are requests, and who asks.
 ghost use Rattle.std.specs.Prelude.{◌≡◌, option_map, IfOk};
 ghost use Rattle.ipp_codec.specs.Views.{attribute_shown, group_shown, message_shown};
-ghost use Rattle.replies.specs.Request.{is_named, begins_request, is_operation_group, operation_group, job_group, job_attributes, is_utf8};
+ghost use Rattle.replies.specs.Request.{is_request_id, is_named, begins_request, is_operation_group, operation_group, job_group, job_attributes, is_utf8, user_of};
 
-use crate::attributes::value_of;
+use crate::attributes::{first_named, name_or};
+use crate::operation_attribute::OperationAttribute;
+use base_types::Text;
 use ipp_codec::{AttributeView, Group, GroupTag, GroupView, MessageView, ValueTag};
 use job_template::RequestAttributes;
 use std::alloc::{AllocError, Global};
@@ -12,12 +14,22 @@ use std::alloc::{AllocError, Global};
 pub(crate) fn operation_group<'a>(message: &MessageView<'a>) -> Option<GroupView<'a>>
     ensures { option_map group_shown result ≡ operation_group (message_shown message.now) }
 {
+    if !is_request_id(message.request_id()) {
+        return None;
+    }
     let group = message.groups().next()?;
     if is_operation_group(&group) {
         Some(group)
     } else {
         None
     }
+}
+
+/// Whether a number is a request-id (RFC 8011, section 4.1.2).
+fn is_request_id(id: u32) -> bool
+    ensures { result ≡ is_request_id id }
+{
+    1 <= id && id <= 2_147_483_647
 }
 
 /// Whether a group is the operation group of a request.
@@ -86,8 +98,20 @@ fn is_named(attribute: &AttributeView<'_>, name: &[u8], tag: ValueTag) -> bool
 pub(crate) fn is_utf8(group: &GroupView<'_>) -> bool
     ensures { result ≡ is_utf8 (group_shown group.now) }
 {
-    match value_of(group, b"attributes-charset") {
-        Some(charset) => charset.bytes().eq_ignore_ascii_case(b"utf-8"),
+    match first_named(group, b"attributes-charset") {
+        Some(charset) => charset.first().bytes().eq_ignore_ascii_case(b"utf-8"),
         None => false,
     }
+}
+
+/// Who asks, as claimed.
+pub(crate) fn user_of(alloc: Global, group: &GroupView<'_>) -> Result<Text, AllocError>
+    ensures { IfOk result (λ user. user ≡ user_of (group_shown group.now)) }
+{
+    name_or(
+        alloc,
+        group,
+        OperationAttribute::RequestingUserName,
+        b"anonymous",
+    )
 }

@@ -1,7 +1,6 @@
 //! The kinds of values that attributes have.
-ghost use Rattle.std.specs.Prelude.{◌≡◌, ◌==◌};
-ghost use Rattle.std.specs.List.{list_any};
-ghost use Rattle.replies.specs.Known.{tags_of};
+ghost use Rattle.std.specs.Prelude.{◌≡◌};
+ghost use Rattle.replies.specs.Syntax.{has_tag};
 
 use ipp_codec::ValueTag;
 
@@ -13,6 +12,8 @@ pub(crate) enum Syntax {
     /// With a language or without.
     Name,
     Keyword,
+    /// A keyword, or a name without a language.
+    KeywordOrName,
     Uri,
     MimeMediaType,
 }
@@ -20,13 +21,14 @@ pub(crate) enum Syntax {
 impl Syntax {
     /// Whether a value of this tag is of the syntax.
     pub fn has_tag(self, tag: ValueTag) -> bool
-        ensures { result ≡ list_any (λ known. tag == known) (tags_of self) }
+        ensures { result ≡ has_tag self tag }
     {
         match self {
             Syntax::Integer => tag == ValueTag::INTEGER,
             Syntax::Boolean => tag == ValueTag::BOOLEAN,
             Syntax::Name => tag == ValueTag::NAME || tag == ValueTag::NAME_WITH_LANGUAGE,
             Syntax::Keyword => tag == ValueTag::KEYWORD,
+            Syntax::KeywordOrName => tag == ValueTag::KEYWORD || tag == ValueTag::NAME,
             Syntax::Uri => tag == ValueTag::URI,
             Syntax::MimeMediaType => tag == ValueTag::MIME_MEDIA_TYPE,
         }

@@ -1,10 +1,10 @@
 use Rattle.std.proofs.Common.{◌≡◌}
 use Rattle.ipp_codec.specs.Views.{group_shown, attributes_left}
-use Rattle.replies.specs.Attributes.{first_of, value_of}
-use Rattle.replies.proofs.attributes.value_of.Given as goal
+use Rattle.replies.specs.Attributes.{first_named}
+use Rattle.replies.proofs.attributes.first_named.Given as goal
 
 abbrev pub invariant-loop-attribute : goal.invariant-loop-attribute
 invariant-loop-attribute l =
     (goal.iterator-loop-attribute).can_next l.attribute-iterator
     × (goal.iterator-loop-attribute).is_finite l.attribute-iterator
-    × (first_of l.name (attributes_left l.attribute-iterator) ≡ value_of l.name (group_shown l.group))
+    × (first_named l.name (attributes_left l.attribute-iterator) ≡ first_named l.name (group_shown l.group).attributes)

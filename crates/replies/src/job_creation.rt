@@ -1,0 +1,72 @@
+//! What is read of a request for a new job: Print-Job, Validate-Job and Create-Job.
+ghost use Rattle.std.specs.Prelude.{◌≡◌, IfOk};
+ghost use Rattle.ipp_codec.specs.Views.{group_shown, message_shown};
+ghost use Rattle.replies.specs.JobCreation.{asked_job_of, form_of, print_job_of, validate_job_of};
+ghost use Rattle.replies.specs.Request.{job_attributes};
+
+use crate::attributes::{bytes_of, name_or, number_of, truth_of};
+use crate::operation_attribute::OperationAttribute;
+use crate::request::{job_attributes, user_of};
+use crate::target::printer_target;
+use dispatcher::{AskedJob, DocumentForm, PrintJob, ValidateJob};
+use ipp_codec::{GroupView, MessageView};
+use spool::Octets;
+use std::alloc::{AllocError, Global};
+
+/// The job that is asked for, with the message's job group as its template.
+pub(crate) fn asked_job_of(
+    alloc: Global,
+    message: &MessageView<'_>,
+    group: &GroupView<'_>,
+) -> Result<AskedJob, AllocError>
+    ensures { IfOk result (λ job. job ≡ asked_job_of (group_shown group.now) (job_attributes (message_shown message.now))) }
+{
+    Ok(AskedJob {
+        target: printer_target(alloc, group)?,
+        user: user_of(alloc, group)?,
+        name: name_or(alloc, group, OperationAttribute::JobName, b"untitled")?,
+        impressions: number_of(group, OperationAttribute::JobImpressions),
+        fidelity: truth_of(group, OperationAttribute::IppAttributeFidelity),
+        template: job_attributes(alloc, message)?,
+    })
+}
+
+/// The form in which the document is sent.
+pub(crate) fn form_of(alloc: Global, group: &GroupView<'_>) -> Result<DocumentForm, AllocError>
+    ensures { IfOk result (λ form. form ≡ form_of (group_shown group.now)) }
+{
+    Ok(DocumentForm {
+        compression: bytes_of(alloc, group, OperationAttribute::Compression)?,
+        format: bytes_of(alloc, group, OperationAttribute::DocumentFormat)?,
+    })
+}
+
+/// What is read of a Print-Job.
+pub(crate) fn print_job_of(
+    alloc: Global,
+    message: &MessageView<'_>,
+    group: &GroupView<'_>,
+    document: &[u8],
+) -> Result<PrintJob, AllocError>
+    ensures { IfOk result (λ request. request ≡ print_job_of (group_shown group.now) (job_attributes (message_shown message.now)) document.now) }
+{
+    Ok(PrintJob {
+        job: asked_job_of(alloc, message, group)?,
+        form: form_of(alloc, group)?,
+        octets: Octets::new(Vec::from_slice(alloc, document)?),
+    })
+}
+
+/// What is read of a Validate-Job; what follows its attributes isn't looked at.
+pub(crate) fn validate_job_of(
+    alloc: Global,
+    message: &MessageView<'_>,
+    group: &GroupView<'_>,
+) -> Result<ValidateJob, AllocError>
+    ensures { IfOk result (λ request. request ≡ validate_job_of (group_shown group.now) (job_attributes (message_shown message.now))) }
+{
+    Ok(ValidateJob {
+        job: asked_job_of(alloc, message, group)?,
+        form: form_of(alloc, group)?,
+    })
+}
