@@ -1,9 +1,7 @@
 -- A request is answered.
-use Rattle.std.proofs.Common.{◌≡◌, ℕ, Bool, true, false, cond, not, List, Option, Some, None, MatchOption, Result, Ok, Err, MatchResult, subst, inl, inr, max, sym}
-use Rattle.std.specs.Prelude.{codes}
-use Rattle.std.specs.List.{list_all}
+use Rattle.std.proofs.Common.{◌≡◌, ℕ, Bool, true, false, cond, not, List, [], ◌∷◌, Option, Some, None, MatchOption, Result, Ok, Err, MatchResult, subst, inl, inr, max, sym}
 use Rattle.std.specs.Option.{option_map_or}
-use Rattle.ipp_codec.specs.Message.{IppValue, IppAttribute, IppGroup, IppMessage}
+use Rattle.ipp_codec.specs.Message.{IppAttribute, IppGroup, IppMessage}
 use Rattle.printer_objects.specs.declared.operation.Operation.{Operation}
 use Rattle.printer_objects.specs.declared.operation.Operation.TheVariants as operation
 use Rattle.dispatcher.specs.declared.event.Event.{Event}
@@ -12,36 +10,74 @@ use Rattle.dispatcher.specs.declared.reply.Answer.TheVariants as Says
 use Rattle.dispatcher.specs.declared.reply.Reply.{Reply}
 use Rattle.dispatcher.specs.declared.status.Status.{Status}
 use Rattle.dispatcher.specs.declared.status.Status.TheVariants as Went
-use Rattle.dispatcher.specs.Answers.{IsAnswer, Replies, Refuses}
+use Rattle.job_objects.specs.declared.job_change.JobChange.{JobChange}
+use Rattle.job_objects.specs.declared.job_change.JobChange.TheVariants as Change
+use Rattle.listings.specs.Groups.{printer_group, job_group, job_groups}
+use Rattle.dispatcher.specs.declared.event.JobRequest.{JobRequest}
+use Rattle.dispatcher.specs.declared.event.PrinterRequest.{PrinterRequest}
+use Rattle.dispatcher.specs.declared.event.HoldUntil.{HoldUntil}
+use Rattle.dispatcher.specs.declared.event.HoldUntil.TheVariants.{NoHold, Indefinite, Unsupported}
+use Rattle.dispatcher.specs.Answers.{IsAnswer, Replies, Refuses, Shows}
+use Rattle.dispatcher.specs.Checks.{named_job, named_printer}
 use Rattle.dispatcher.specs.PrintJob.{TakesJob, asked_of}
 use Rattle.dispatcher.specs.ValidateJob.{Validates, validated_of}
+use Rattle.dispatcher.specs.CreateJob.{CreatesIt, created_of}
+use Rattle.dispatcher.specs.SendDocument.{SendsIt, sent_of}
+use Rattle.dispatcher.specs.CancelJob.{CancelsIt, canceled_of}
+use Rattle.dispatcher.specs.HoldJob.{ChangesIt, ChangesJob, HoldsUntil, changed_of}
+use Rattle.dispatcher.specs.PausePrinter.{PausesIt, SetsPaused, paused_of}
+use Rattle.dispatcher.specs.GetJobs.{wanted_of}
 use Rattle.print_room.specs.State.{State}
 use Rattle.dispatcher.specs.Step.{Step, StepAt}
 use Rattle.replies.specs.declared.asked.Asked.TheVariants as Body
 use Rattle.replies.specs.Asked.{Asks, AsksUnder, Requests, answered, header_of, operation_of}
-use Rattle.replies.specs.Event.{event_of, asked_in, event_in}
-use Rattle.replies.specs.Attributes.{is_tagged, value_of}
-use Rattle.replies.specs.PrintJob.{print_job_table}
+use Rattle.replies.specs.Event.{event_of, asked_in, event_in, are_tagged, is_complete}
 use Rattle.replies.specs.Request.{operation_group, job_attributes, is_utf8}
 use Rattle.replay.specs.Acting.{IsRequest}
 use Rattle.replay.specs.Replay.{Standing, Happens}
 
+says : (status : Status) (unsupported : List IppAttribute) (groups : List IppGroup) (reply : Reply) → IsAnswer status unsupported groups reply.answer → reply.answer ≡ Says.Nothing → ⊥
+says status unsupported groups reply answer nothing = subst (λ a. IsAnswer status unsupported groups a) nothing answer
+
 says_something : (status : Status) (unsupported : List IppAttribute) (groups : List IppGroup) (reply : Reply) → Replies status unsupported groups reply → reply.answer ≡ Says.Nothing → ⊥
-says_something status unsupported groups reply replies nothing = subst (λ a. IsAnswer status unsupported groups a) nothing replies.answer
+says_something status unsupported groups reply replies nothing = says status unsupported groups reply replies.answer nothing
 
-printed_answer : (now : ℕ) (old : State) (reply : Reply) (new : State) (asked : Result _ _)
-    → MatchResult asked (λ accepted. TakesJob now old accepted reply new) (λ refusal. Refuses now old refusal reply new) → reply.answer ≡ Says.Nothing → ⊥
-printed_answer now old reply new (Ok accepted) taken nothing = says_something _ _ _ reply taken.replies nothing
-printed_answer now old reply new (Err refusal) refused nothing = says_something _ _ _ reply refused.replies nothing
+-- what comes of checks has an answer, where what is done if none fails has one
+answers : {A : Type 0} (Done : A → Type 0) (now : ℕ) (old : State) (reply : Reply) (new : State) → ((a : A) → Done a → reply.answer ≡ Says.Nothing → ⊥)
+    → (asked : Result A _) → MatchResult asked Done (λ refusal. Refuses now old refusal reply new) → reply.answer ≡ Says.Nothing → ⊥
+answers Done now old reply new each (Ok a) is nothing = each a is nothing
+answers Done now old reply new each (Err refusal) refused nothing = says_something _ _ _ reply refused.replies nothing
 
-validated_answer : (now : ℕ) (old : State) (reply : Reply) (new : State) (asked : Result _ _)
-    → MatchResult asked (λ unsupported. Validates now old unsupported reply new) (λ refusal. Refuses now old refusal reply new) → reply.answer ≡ Says.Nothing → ⊥
-validated_answer now old reply new (Ok unsupported) is nothing = says_something _ _ _ reply is.replies nothing
-validated_answer now old reply new (Err refusal) refused nothing = says_something _ _ _ reply refused.replies nothing
+changed_answer : (request : JobRequest) (change : JobChange) (unsupported : List IppAttribute) (now : ℕ) (old : State) (reply : Reply) (new : State) → ChangesJob now request change unsupported old reply new → reply.answer ≡ Says.Nothing → ⊥
+changed_answer request change unsupported now old reply new step nothing =
+    answers (λ id. ChangesIt now old change unsupported id reply new) now old reply new (λ id is. says_something _ _ _ reply is.replies) (changed_of request change now old) step nothing
+
+held_answer : (request : JobRequest) (until : HoldUntil) (now : ℕ) (old : State) (reply : Reply) (new : State) → HoldsUntil now request until old reply new → reply.answer ≡ Says.Nothing → ⊥
+held_answer request NoHold now old reply new step nothing = changed_answer request Change.Release [] now old reply new step nothing
+held_answer request Indefinite now old reply new step nothing = changed_answer request Change.Hold [] now old reply new step nothing
+held_answer request (Unsupported attribute) now old reply new step nothing = changed_answer request Change.Hold attribute now old reply new step nothing
+
+paused_answer : (request : PrinterRequest) (paused : Bool) (now : ℕ) (old : State) (reply : Reply) (new : State) → SetsPaused now request paused old reply new → reply.answer ≡ Says.Nothing → ⊥
+paused_answer request paused now old reply new step nothing =
+    answers (λ place. PausesIt now old paused place reply new) now old reply new (λ place is. says_something _ _ _ reply is.replies) (paused_of request old) step nothing
+
+shown_answer : {A : Type 0} (groups : A → List IppGroup) (now : ℕ) (old : State) (reply : Reply) (new : State) (asked : Result A _) → MatchResult asked (λ a. Shows now old (groups a) reply new) (λ refusal. Refuses now old refusal reply new) → reply.answer ≡ Says.Nothing → ⊥
+shown_answer groups now old reply new asked step nothing =
+    answers (λ a. Shows now old (groups a) reply new) now old reply new (λ a is. says_something _ _ _ reply is.replies) asked step nothing
 
 stepped_answer : (event : Event) (now : ℕ) (old : State) (reply : Reply) (new : State) → IsRequest event → StepAt event now old reply new → reply.answer ≡ Says.Nothing → ⊥
-stepped_answer (Is.PrintJob request) now old reply new is step nothing = printed_answer now old reply new (asked_of request now old) step nothing
-stepped_answer (Is.ValidateJob request) now old reply new is step nothing = validated_answer now old reply new (validated_of request old) step nothing
+stepped_answer (Is.PrintJob request) now old reply new is step nothing = answers (λ accepted. TakesJob now old accepted reply new) now old reply new (λ accepted done. says_something _ _ _ reply done.replies) (asked_of request now old) step nothing
+stepped_answer (Is.ValidateJob request) now old reply new is step nothing = answers (λ unsupported. Validates now old unsupported reply new) now old reply new (λ unsupported done. says_something _ _ _ reply done.replies) (validated_of request old) step nothing
+stepped_answer (Is.CreateJob request) now old reply new is step nothing = answers (λ accepted. CreatesIt now old accepted reply new) now old reply new (λ accepted done. says_something _ _ _ reply done.replies) (created_of request now old) step nothing
+stepped_answer (Is.SendDocument request) now old reply new is step nothing = answers (λ sent. SendsIt now old request sent reply new) now old reply new (λ sent done. says_something _ _ _ reply done.replies) (sent_of request old) step nothing
+stepped_answer (Is.CancelJob request) now old reply new is step nothing = answers (λ id. CancelsIt now old request.user id reply new) now old reply new (λ id done. says _ _ _ reply done.answer) (canceled_of request old) step nothing
+stepped_answer (Is.GetJobAttributes request) now old reply new is step nothing = shown_answer (λ job. job_group now request.requested old job ∷ []) now old reply new (named_job request.target old) step nothing
+stepped_answer (Is.GetJobs request) now old reply new is step nothing = shown_answer (λ wanted. job_groups wanted now request.requested old) now old reply new (wanted_of request old) step nothing
+stepped_answer (Is.GetPrinterAttributes request) now old reply new is step nothing = shown_answer (λ printer. printer_group printer.place printer.offer now request.requested old ∷ []) now old reply new (named_printer request.target old) step nothing
+stepped_answer (Is.HoldJob request) now old reply new is step nothing = held_answer request.job request.until now old reply new step nothing
+stepped_answer (Is.ReleaseJob request) now old reply new is step nothing = changed_answer request Change.Release [] now old reply new step nothing
+stepped_answer (Is.PausePrinter request) now old reply new is step nothing = paused_answer request true now old reply new step nothing
+stepped_answer (Is.ResumePrinter request) now old reply new is step nothing = paused_answer request false now old reply new step nothing
 stepped_answer (Is.Report device report) now old reply new is step nothing = absurd is
 stepped_answer Is.Tick now old reply new is step nothing = absurd is
 
@@ -59,19 +95,19 @@ request_is_answered texts names event old reply text new is happens nothing = el
 abbrev GivesRequest : Result Event Status → Type 0
 GivesRequest result = MatchResult result IsRequest (λ status. Unit {0})
 
-gives_in : (asked : Operation) (group : IppGroup) (template : List IppAttribute) (document : List ℕ) (uri : _) → GivesRequest (event_in asked group template document uri)
-gives_in operation.PrintJob group template document uri = tt
-gives_in operation.ValidateJob group template document uri = tt
-gives_in operation.CreateJob group template document uri = tt
-gives_in operation.SendDocument group template document uri = tt
-gives_in operation.CancelJob group template document uri = tt
-gives_in operation.GetJobAttributes group template document uri = tt
-gives_in operation.GetJobs group template document uri = tt
-gives_in operation.GetPrinterAttributes group template document uri = tt
-gives_in operation.HoldJob group template document uri = tt
-gives_in operation.ReleaseJob group template document uri = tt
-gives_in operation.PausePrinter group template document uri = tt
-gives_in operation.ResumePrinter group template document uri = tt
+gives_in : (asked : Operation) (group : IppGroup) (template : List IppAttribute) (document : List ℕ) → IsRequest (event_in asked group template document)
+gives_in operation.PrintJob group template document = tt
+gives_in operation.ValidateJob group template document = tt
+gives_in operation.CreateJob group template document = tt
+gives_in operation.SendDocument group template document = tt
+gives_in operation.CancelJob group template document = tt
+gives_in operation.GetJobAttributes group template document = tt
+gives_in operation.GetJobs group template document = tt
+gives_in operation.GetPrinterAttributes group template document = tt
+gives_in operation.HoldJob group template document = tt
+gives_in operation.ReleaseJob group template document = tt
+gives_in operation.PausePrinter group template document = tt
+gives_in operation.ResumePrinter group template document = tt
 
 gives_or : {A : Type 0} (f : A → Result Event Status) (o : Option A) (status : Status) → ((a : A) → GivesRequest (f a)) → GivesRequest (option_map_or f o (Err status))
 gives_or f None status each = tt
@@ -83,11 +119,12 @@ gives_if false status result is = is
 
 gives_asked : (asked : Operation) (group : IppGroup) (template : List IppAttribute) (document : List ℕ) → GivesRequest (asked_in asked group template document)
 gives_asked asked group template document =
-    let uri : Option IppValue = value_of (codes "printer-uri") group in
-    let tagged : Bool = list_all (is_tagged group) print_job_table in
-    let event : Result Event Status = option_map_or (event_in asked group template document) uri (Err Went.BadRequest) in
-    gives_if (not (is_utf8 group)) Went.CharsetNotSupported (cond (not tagged) (Err Went.BadRequest) event)
-    (gives_if (not tagged) Went.BadRequest event (gives_or (event_in asked group template document) uri Went.BadRequest (gives_in asked group template document)))
+    let event : Result Event Status = Ok (event_in asked group template document) in
+    let complete : Result Event Status = cond (not (is_complete asked group)) (Err Went.BadRequest) event in
+    let tagged : Result Event Status = cond (not (are_tagged asked group)) (Err Went.BadRequest) complete in
+    gives_if (not (is_utf8 group)) Went.CharsetNotSupported tagged
+    (gives_if (not (are_tagged asked group)) Went.BadRequest complete
+    (gives_if (not (is_complete asked group)) Went.BadRequest event (gives_in asked group template document)))
 
 gives_event : (asked : Operation) (message : IppMessage) (document : List ℕ) → GivesRequest (event_of asked message document)
 gives_event asked message document =

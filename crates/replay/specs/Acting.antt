@@ -20,6 +20,16 @@ Acts log bytes old output false log' new output' = (log' ≡ log) × (new ≡ ol
 abbrev pub IsRequest : Event → Type 0
 IsRequest (Is.PrintJob request) = Unit {0}
 IsRequest (Is.ValidateJob request) = Unit {0}
+IsRequest (Is.CreateJob request) = Unit {0}
+IsRequest (Is.SendDocument request) = Unit {0}
+IsRequest (Is.CancelJob request) = Unit {0}
+IsRequest (Is.GetJobAttributes request) = Unit {0}
+IsRequest (Is.GetJobs request) = Unit {0}
+IsRequest (Is.GetPrinterAttributes request) = Unit {0}
+IsRequest (Is.HoldJob request) = Unit {0}
+IsRequest (Is.ReleaseJob request) = Unit {0}
+IsRequest (Is.PausePrinter request) = Unit {0}
+IsRequest (Is.ResumePrinter request) = Unit {0}
 IsRequest (Is.Report device report) = ⊥
 IsRequest Is.Tick = ⊥
 
