@@ -1,20 +1,30 @@
 -- The attributes of a job and their values (RFC 8011, sections 5.3 and 5.2).
-use Rattle.std.specs.Prelude.{ℕ, ◌+◌, ◌-◌, ◌/◌, Bool, true, false, List, ◌++◌, Option, Some, None, codes}
+use Rattle.std.specs.Prelude.{ℕ, ◌+◌, ◌-◌, ◌/◌, Bool, true, false, List, ◌++◌, map, filter, Option, Some, None, codes}
 use Rattle.std.specs.Fmt.{decimal}
 use Rattle.base_types.specs.declared.needs.Sides.{Sides}
 use Rattle.base_types.specs.declared.needs.Sides.TheVariants as side
-use Rattle.ipp_codec.specs.Message.{plain, IppAttribute}
+use Rattle.ipp_codec.specs.Message.{plain, IppAttribute, IppGroup}
 use Rattle.ipp_codec.specs.Tag as tags
 use Rattle.job_objects.specs.Job.{JobRecord}
 use Rattle.job_objects.specs.JobState.{state_code}
 use Rattle.job_objects.specs.Reasons.{reasons_of}
-use Rattle.printer_objects.specs.declared.job_shown.JobShown.{JobShown}
 use Rattle.printer_objects.specs.declared.job_shown.TheConstants.{OCTETS_PER_K}
 use Rattle.printer_objects.specs.declared.job_attribute.JobAttribute.{JobAttribute}
 use Rattle.printer_objects.specs.declared.job_attribute.JobAttribute.TheVariants.{Uri, Id, PrinterUri, Name, OriginatingUserName, State, StateReasons, NumberOfDocuments, KOctets, Impressions, TimeAtCreation, TimeAtProcessing, TimeAtCompleted, PrinterUpTime, Copies, HoldUntil, Priority, Media, Sides as SidesOf, Finishings}
 use Rattle.printer_objects.specs.Attribute.{alone, number, enumerated, keyword, time, reasons_attribute}
 use Rattle.printer_objects.specs.Finishing.{each_finishing, finishings_attribute}
-use Rattle.printer_objects.specs.JobAttribute.{job_attribute_name}
+use Rattle.printer_objects.specs.JobAttribute.{job_attribute_name, job_table, is_wanted}
+
+-- what the attributes of a job are made of
+pub record ShownJob : Type 0 where
+  pub job : JobRecord
+  -- what the URIs of printers and jobs begin with
+  pub uri_base : List ℕ
+  -- the name of the printer that the job was sent to, and whether that is paused
+  pub printer_name : List ℕ
+  pub printer_paused : Bool
+  -- when it is asked
+  pub moment : ℕ
 
 -- the base of URIs, `/jobs/` and the id
 abbrev pub job_uri : List ℕ → ℕ → List ℕ
@@ -46,28 +56,32 @@ sides_keyword side.LongEdge = codes "two-sided-long-edge"
 sides_keyword side.ShortEdge = codes "two-sided-short-edge"
 
 -- the values of an attribute under its name
-abbrev pub valued : List ℕ → JobShown → JobAttribute → IppAttribute
-valued name shown Uri = alone name (plain tags.uri (job_uri shown.uri_base.now shown.job.now.id))
-valued name shown Id = alone name (number shown.job.now.id)
-valued name shown PrinterUri = alone name (plain tags.uri (printer_uri shown.uri_base.now shown.printer_name.now))
-valued name shown Name = alone name (plain tags.name shown.job.now.name)
-valued name shown OriginatingUserName = alone name (plain tags.name shown.job.now.owner)
-valued name shown State = alone name (enumerated (state_code shown.job.now.state))
-valued name shown StateReasons = reasons_attribute name (reasons_of shown.job.now shown.printer_paused)
-valued name shown NumberOfDocuments = alone name (number shown.job.now.documents)
-valued name shown KOctets = alone name (number (k_octets shown.job.now.octets))
-valued name shown Impressions = alone name (number (impressions_shown shown.job.now))
-valued name shown TimeAtCreation = alone name (time (Some shown.job.now.created))
-valued name shown TimeAtProcessing = alone name (time shown.job.now.started)
-valued name shown TimeAtCompleted = alone name (time shown.job.now.finished)
+abbrev pub valued : List ℕ → ShownJob → JobAttribute → IppAttribute
+valued name shown Uri = alone name (plain tags.uri (job_uri shown.uri_base shown.job.id))
+valued name shown Id = alone name (number shown.job.id)
+valued name shown PrinterUri = alone name (plain tags.uri (printer_uri shown.uri_base shown.printer_name))
+valued name shown Name = alone name (plain tags.name shown.job.name)
+valued name shown OriginatingUserName = alone name (plain tags.name shown.job.owner)
+valued name shown State = alone name (enumerated (state_code shown.job.state))
+valued name shown StateReasons = reasons_attribute name (reasons_of shown.job shown.printer_paused)
+valued name shown NumberOfDocuments = alone name (number shown.job.documents)
+valued name shown KOctets = alone name (number (k_octets shown.job.octets))
+valued name shown Impressions = alone name (number (impressions_shown shown.job))
+valued name shown TimeAtCreation = alone name (time (Some shown.job.created))
+valued name shown TimeAtProcessing = alone name (time shown.job.started)
+valued name shown TimeAtCompleted = alone name (time shown.job.finished)
 valued name shown PrinterUpTime = alone name (time (Some shown.moment))
-valued name shown Copies = alone name (number shown.job.now.needs.copies)
-valued name shown HoldUntil = alone name (keyword (hold_until shown.job.now.held))
-valued name shown Priority = alone name (number shown.job.now.priority)
-valued name shown Media = alone name (keyword shown.job.now.needs.media)
-valued name shown SidesOf = alone name (keyword (sides_keyword shown.job.now.needs.sides))
-valued name shown Finishings = finishings_attribute name (each_finishing shown.job.now.needs.finishings)
+valued name shown Copies = alone name (number shown.job.needs.copies)
+valued name shown HoldUntil = alone name (keyword (hold_until shown.job.held))
+valued name shown Priority = alone name (number shown.job.priority)
+valued name shown Media = alone name (keyword shown.job.needs.media)
+valued name shown SidesOf = alone name (keyword (sides_keyword shown.job.needs.sides))
+valued name shown Finishings = finishings_attribute name (each_finishing shown.job.needs.finishings)
 
 -- an attribute of a job
-abbrev pub job_shown : JobShown → JobAttribute → IppAttribute
+abbrev pub job_shown : ShownJob → JobAttribute → IppAttribute
 job_shown shown which = valued (job_attribute_name which) shown which
+
+-- the job group of a reply: the attributes that are asked for, in the table's order
+abbrev pub job_attributes : ShownJob → List (List ℕ) → IppGroup
+job_attributes shown requested = record { tag = tags.job_attributes; attributes = map (job_shown shown) (filter (is_wanted requested) job_table) }

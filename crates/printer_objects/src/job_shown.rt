@@ -1,8 +1,7 @@
 //! The attributes of a job, with their values.
-ghost use Rattle.std.specs.Prelude.{◌≡◌, ◌++◌, IfOk, map, filter, None, Some};
-ghost use Rattle.ipp_codec.specs.Tag as tags;
-ghost use Rattle.printer_objects.specs.JobAttribute.{job_table, is_wanted};
-ghost use Rattle.printer_objects.specs.JobShown.{job_uri, printer_uri, hold_until, sides_keyword, k_octets, impressions_shown, job_shown};
+ghost use Rattle.std.specs.Prelude.{◌≡◌, ◌++◌, IfOk, None, Some};
+ghost use Rattle.printer_objects.specs.JobAttribute.{is_wanted};
+ghost use Rattle.printer_objects.specs.JobShown.{job_uri, printer_uri, hold_until, sides_keyword, k_octets, impressions_shown, job_shown, job_attributes};
 
 use crate::attribute::{bytes, enumerated, keyword, number, reasons, time};
 use crate::finishing::{each_finishing, finishings};
@@ -11,12 +10,13 @@ use base_types::{JobId, Moment, Sides, Text};
 use ipp_codec::{Attribute, Group, GroupTag, ValueTag};
 use job_objects::Job;
 use std::alloc::{AllocError, Global};
+use std::marker::Model;
 
 /// Octets that are shown as one k-octet.
 pub(crate) const OCTETS_PER_K: usize = 1_024;
 
-/// What the attributes of a job are made of.
-#[derive(Clone, Copy)]
+/// What the attributes of a job are made of. In clauses it is a record of what these fields refer to.
+#[derive(Drop)]
 pub struct JobShown<'a> {
     pub job: &'a Job,
     /// What the URIs of printers and jobs begin with.
@@ -29,13 +29,27 @@ pub struct JobShown<'a> {
     pub moment: Moment,
 }
 
+impl<'a> Model for JobShown<'a> {
+    ghost use Rattle.printer_objects.specs.JobShown.{ShownJob};
+
+    ghost Value = { ShownJob };
+
+    ghost view = { λ s. record {
+      job = s.job.now;
+      uri_base = s.uri_base.now;
+      printer_name = s.printer_name.now;
+      printer_paused = s.printer_paused;
+      moment = s.moment;
+    } };
+}
+
 /// The job group of a reply: the attributes of a job that are asked for, in the table's order.
 pub fn job_attributes(
     alloc: Global,
     shown: &JobShown<'_>,
     requested: &[Text],
 ) -> Result<Group, AllocError>
-    ensures { IfOk result (λ group. group ≡ record { tag = tags.job_attributes; attributes = map (job_shown shown.now) (filter (is_wanted requested.now) job_table) }) }
+    ensures { IfOk result (λ group. group ≡ job_attributes shown.now requested.now) }
 {
     let mut group = Group::new(alloc, GroupTag::JOB);
     for which in JobAttribute::all() {

@@ -1,8 +1,6 @@
 //! The attributes of a printer, with their values.
-ghost use Rattle.std.specs.Prelude.{◌≡◌, IfOk, map, filter, Some};
-ghost use Rattle.ipp_codec.specs.Tag as tags;
-ghost use Rattle.printer_objects.specs.PrinterAttribute.{is_wanted_of_printer, printer_table};
-ghost use Rattle.printer_objects.specs.PrinterShown.{printer_shown};
+ghost use Rattle.std.specs.Prelude.{◌≡◌, IfOk, Some};
+ghost use Rattle.printer_objects.specs.PrinterShown.{printer_shown, printer_attributes};
 
 use crate::attribute::{
     MILLIS_PER_SECOND, bytes, english, enumerated, keyword, number, texts, time, yes,
@@ -18,9 +16,11 @@ use base_types::{Limits, Moment, Text};
 use ipp_codec::{Attribute, Group, GroupTag, ValueTag};
 use job_objects::Printer;
 use std::alloc::{AllocError, Global};
+use std::marker::Model;
 
-/// What the attributes of a printer are made of.
-#[derive(Clone, Copy)]
+/// What the attributes of a printer are made of. In clauses it is a record of what these fields refer
+/// to.
+#[derive(Drop)]
 pub struct PrinterShown<'a> {
     pub printer: &'a Printer,
     /// Its settings, and what it offers.
@@ -35,13 +35,28 @@ pub struct PrinterShown<'a> {
     pub moment: Moment,
 }
 
+impl<'a> Model for PrinterShown<'a> {
+    ghost use Rattle.printer_objects.specs.PrinterShown.{ShownPrinter};
+
+    ghost Value = { ShownPrinter };
+
+    ghost view = { λ s. record {
+      paused = s.printer.now;
+      offer = s.offer.now;
+      uri_base = s.uri_base.now;
+      busy = s.busy;
+      queued = s.queued;
+      moment = s.moment;
+    } };
+}
+
 /// The printer group of a reply: the attributes of a printer that are asked for, in the table's order.
 pub fn printer_attributes(
     alloc: Global,
     shown: &PrinterShown<'_>,
     requested: &[Text],
 ) -> Result<Group, AllocError>
-    ensures { IfOk result (λ group. group ≡ record { tag = tags.printer_attributes; attributes = map (printer_shown shown.now) (filter (is_wanted_of_printer requested.now) printer_table) }) }
+    ensures { IfOk result (λ group. group ≡ printer_attributes shown.now requested.now) }
 {
     let mut group = Group::new(alloc, GroupTag::PRINTER);
     for which in PrinterAttribute::all() {
