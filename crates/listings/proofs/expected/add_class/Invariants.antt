@@ -1,0 +1,8 @@
+use Rattle.std.proofs.Common.{◌≡◌, ◌++◌, map, drop}
+use Rattle.prices.specs.Timetable.{slots_from}
+use Rattle.listings.specs.Expected.{completion, completions_in}
+use Rattle.listings.proofs.expected.add_class.Given as goal
+
+-- those added, and those of the devices that are left, are all
+abbrev pub invariant-loop-place : goal.invariant-loop-place
+invariant-loop-place l = l.expected.items ++ map (completion l.class.problem) (slots_from l.class.problem l.place (drop l.place l.class.priced.way)) ≡ l.initial.expected.items ++ completions_in l.class

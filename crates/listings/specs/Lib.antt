@@ -1,0 +1,5 @@
+pub mod Expected
+pub mod Turn
+pub mod Entry
+pub mod Listing
+pub mod Groups

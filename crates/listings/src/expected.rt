@@ -1,0 +1,130 @@
+//! When jobs are expected to be complete.
+ghost use Rattle.std.specs.Prelude.{◌≡◌, ◌==◌, ◌^◌, ◌≤◌, ◌++◌, IfOk, OnOk, map, find};
+ghost use Rattle.std.specs.Option.{option_copied};
+ghost use Rattle.cost_table.specs.Class.{wait_of};
+ghost use Rattle.prices.specs.Total.{time_on};
+ghost use Rattle.prices.specs.Timetable.{slots_of_list};
+ghost use Rattle.listings.specs.Expected.{completion, completions_in, expected_of, moment_of, on_devices, planned};
+
+use base_types::{Activity, DeviceId, DeviceNow, JobId, Moment};
+use cost_table::ClassProblem;
+use prices::{Plan, PlannedClass};
+use std::alloc::{AllocError, Global};
+
+/// A job, and when it is expected to be complete.
+#[derive(Clone, Copy)]
+pub(crate) struct Expected {
+    pub(crate) job: JobId,
+    /// In ms; wide enough for a sum of any times.
+    pub(crate) moment: u128,
+}
+
+/// The job that a device has, as it is expected at a moment. A stopped device is taken to go on then.
+fn expected_of(activity: Activity, now: Moment) -> Option<Expected>
+    ensures { result ≡ expected_of now activity }
+{
+    match activity {
+        Activity::Running(Some(printing)) => Some(Expected {
+            job: printing.job,
+            moment: u128::from(printing.end),
+        }),
+        Activity::Stopped(Some(interrupted)) => Some(Expected {
+            job: interrupted.job,
+            moment: u128::from(now.millis()) + u128::from(interrupted.left),
+        }),
+        Activity::Running(None) | Activity::Stopped(None) => None,
+    }
+}
+
+/// The jobs that devices have, as they are expected at a moment.
+pub(crate) fn on_devices(
+    alloc: Global,
+    devices: &[DeviceNow],
+    now: Moment,
+) -> Result<Vec<Expected>, AllocError>
+    ensures { IfOk result (λ had. had.items ≡ on_devices now devices.now) }
+{
+    let mut had = Vec::new(alloc);
+    for device in devices {
+        if let Some(expected) = expected_of(device.activity, now) {
+            had.push(expected)?;
+        }
+    }
+    Ok(had)
+}
+
+/// The jobs of the last plan, if one was made, by their completions in ms from its moment on.
+pub(crate) fn planned(alloc: Global, plan: Option<&Plan>) -> Result<Vec<Expected>, AllocError>
+    ensures { IfOk result (λ expected. expected.items ≡ planned (option_copied plan.entry)) }
+{
+    let mut expected = Vec::new(alloc);
+    if let Some(plan) = plan {
+        for class in plan.classes() {
+            add_class(&mut expected, class)?;
+        }
+    }
+    Ok(expected)
+}
+
+/// Adds the jobs of a class.
+fn add_class(expected: &mut Vec<Expected>, class: &PlannedClass) -> Result<(), AllocError>
+    ensures { OnOk result (expected.new.items ≡ expected.old.items ++ completions_in class.now) }
+{
+    for (place, queue) in class.priced.way.queues().iter().enumerate() {
+        add_queue(expected, &class.problem, DeviceId::new(place), queue.jobs())?;
+    }
+    Ok(())
+}
+
+/// Adds the jobs that a device prints one after the other, once it is free.
+fn add_queue(
+    expected: &mut Vec<Expected>,
+    class: &ClassProblem,
+    device: DeviceId,
+    jobs: &[JobId],
+) -> Result<(), AllocError>
+    ensures { OnOk result (expected.new.items ≡ expected.old.items ++ map (completion class.now) (slots_of_list class.now device (wait_of class.now device) jobs.now)) }
+{
+    let mut free = wait(class, device);
+    for job in jobs {
+        free += u128::from(time_or_zero(class, *job, device));
+        expected.push(Expected {
+            job: *job,
+            moment: free,
+        })?;
+    }
+    Ok(())
+}
+
+/// The wait of a device, in ms; 0 where the class has none for it.
+fn wait(class: &ClassProblem, device: DeviceId) -> u128
+    ensures wait { result ≡ wait_of class.now device }
+    ensures short { result ≤ 2 ^ 64 }
+{
+    match class.waits().get(device.place()) {
+        Some(wait) => u128::from(*wait),
+        None => 0,
+    }
+}
+
+/// The time of a job on a device that is able, in ms; on any other 0.
+fn time_or_zero(class: &ClassProblem, job: JobId, device: DeviceId) -> u64
+    ensures { result ≡ time_on class.now job device }
+{
+    class.time(job, device).unwrap_or(0)
+}
+
+/// When a job is expected to be complete, if it is one of these.
+pub(crate) fn moment_of(expected: &[Expected], job: JobId) -> Option<u128>
+    ensures { result ≡ moment_of expected.now job }
+{
+    let found = find(expected, job)?;
+    Some(found.moment)
+}
+
+/// The first of these of a job.
+fn find(expected: &[Expected], job: JobId) -> Option<&Expected>
+    ensures { option_copied result ≡ find (λ e. e.job == job) expected.now }
+{
+    expected.iter().find(|one| one.job == job)
+}

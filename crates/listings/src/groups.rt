@@ -1,0 +1,155 @@
+//! The groups of a printer, of a job, and of a list of jobs.
+ghost use Rattle.std.specs.Prelude.{◌≡◌, ◌==◌, ◌&&◌, not, IfOk, count_by, slice_get};
+ghost use Rattle.std.specs.List.{list_any};
+ghost use Rattle.std.specs.Option.{option_map_or};
+ghost use Rattle.job_objects.specs.JobState.{is_finished};
+ghost use Rattle.printer_objects.specs.PrinterState.{is_busy_with};
+ghost use Rattle.listings.specs.Groups.{is_queued, job_group, job_groups, printer_group};
+
+use crate::listing::listed;
+use crate::wanted::Wanted;
+use base_types::{Moment, PrinterId, Text};
+use ipp_codec::Group;
+use job_objects::{Job, Printer};
+use print_room::PrintRoom;
+use printer_objects::{
+    JobShown, Offer, PrinterShown, job_attributes, keeps_busy, printer_attributes,
+};
+use settings_file::{PrinterSettings, Settings};
+use spool::Spool;
+use std::alloc::{AllocError, Global};
+
+/// The printer group of a Get-Printer-Attributes (RFC 8011, section 4.2.5): the attributes that are
+/// asked for of the printer at a place of the settings, which offers this.
+///
+/// The only error is out of memory.
+pub fn printer_group<'a>(
+    alloc: Global,
+    room: &'a PrintRoom,
+    place: usize,
+    offer: &'a Offer<'a>,
+    now: Moment,
+    requested: &[Text],
+) -> Result<Group, AllocError>
+    ensures { IfOk result (λ group. group ≡ printer_group place offer.now now requested.now room.now) }
+{
+    let running = Printer::new();
+    let shown = PrinterShown {
+        printer: printer_at(room.printers(), place, &running),
+        offer,
+        uri_base: uri_base(room.settings()),
+        busy: is_busy(room.spool(), place),
+        queued: queued(room.spool(), place),
+        moment: now,
+    };
+    printer_attributes(alloc, &shown, requested)
+}
+
+/// What the URIs of printers and jobs begin with.
+fn uri_base(settings: &Settings) -> &Text
+    ensures { result.now ≡ settings.now.uri_base }
+{
+    &settings.uri_base
+}
+
+/// The printer at a place, or this one where there is none.
+fn printer_at<'a>(printers: &'a [Printer], place: usize, otherwise: &'a Printer) -> &'a Printer
+    ensures { result.now ≡ option_map_or (λ p. p) (slice_get printers.now place) otherwise.now }
+{
+    match printers.get(place) {
+        Some(printer) => printer,
+        None => otherwise,
+    }
+}
+
+/// Whether some job of the printer at a place is on a device.
+fn is_busy(spool: &Spool, place: usize) -> bool
+    ensures { result ≡ list_any (λ s. is_busy_with place s.job) spool.now.jobs }
+{
+    spool
+        .jobs()
+        .iter()
+        .any(|spooled| keeps_printer_busy(spooled.job(), place))
+}
+
+/// Whether a job keeps the printer at a place busy.
+fn keeps_printer_busy(job: &Job, place: usize) -> bool
+    ensures { result ≡ is_busy_with place job.now }
+{
+    keeps_busy(job, PrinterId::new(place))
+}
+
+/// How many jobs of the printer at a place are unfinished.
+fn queued(spool: &Spool, place: usize) -> usize
+    ensures { result ≡ count_by (is_queued place) spool.now.jobs }
+{
+    spool
+        .jobs()
+        .iter()
+        .filter(|spooled| is_queued(spooled.job(), place))
+        .count()
+}
+
+/// Whether a job was sent to the printer at a place and is unfinished.
+fn is_queued(job: &Job, place: usize) -> bool
+    ensures { result ≡ (job.now.needs.printer == place) && not (is_finished job.now.state) }
+{
+    job.needs.printer.place() == place && !job.state.is_finished()
+}
+
+/// The job group of a Get-Job-Attributes (RFC 8011, section 4.3.4): the attributes of a job that are
+/// asked for.
+///
+/// The only error is out of memory.
+pub fn job_group(
+    alloc: Global,
+    room: &PrintRoom,
+    job: &Job,
+    now: Moment,
+    requested: &[Text],
+) -> Result<Group, AllocError>
+    ensures { IfOk result (λ group. group ≡ job_group now requested.now room.now job.now) }
+{
+    let settings = room.settings();
+    let printer = job.needs.printer;
+    let nameless = Text::new(Vec::new(alloc));
+    let shown = JobShown {
+        job,
+        uri_base: &settings.uri_base,
+        printer_name: name_of(&settings.printers, printer, &nameless),
+        printer_paused: room.is_paused(printer),
+        moment: now,
+    };
+    job_attributes(alloc, &shown, requested)
+}
+
+/// The name of a printer of the settings, or this one where there is no such printer.
+fn name_of<'a>(printers: &'a [PrinterSettings], printer: PrinterId, otherwise: &'a Text) -> &'a Text
+    ensures { result.now ≡ option_map_or (λ p. p.name) (slice_get printers.now printer) otherwise.now }
+{
+    match printers.get(printer.place()) {
+        Some(printer) => &printer.name,
+        None => otherwise,
+    }
+}
+
+/// The job groups of a Get-Jobs (RFC 8011, section 4.2.6): one for each job that is asked for, in the
+/// order of [`listed`], each with the attributes that are asked for.
+///
+/// The only error is out of memory.
+pub fn job_groups(
+    alloc: Global,
+    room: &PrintRoom,
+    wanted: &Wanted<'_>,
+    now: Moment,
+    requested: &[Text],
+) -> Result<Vec<Group>, AllocError>
+    ensures { IfOk result (λ groups. groups.items ≡ job_groups wanted.now now requested.now room.now) }
+{
+    let listed = listed(alloc, room, wanted, now)?;
+    let mut groups = Vec::with_capacity(alloc, listed.len())?;
+    for entry in &listed {
+        groups.push(job_group(alloc, room, entry.job(), now, requested)?)?;
+    }
+    Ok(groups)
+}
