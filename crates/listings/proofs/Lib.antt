@@ -1,2 +1,3 @@
 mod Placing
 mod Showing
+mod Ordering

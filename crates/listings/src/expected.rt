@@ -12,7 +12,7 @@ use prices::{Plan, PlannedClass};
 use std::alloc::{AllocError, Global};
 
 /// A job, and when it is expected to be complete.
-#[derive(Clone, Copy, Debug, PartialEq, Eq)]
+#[derive(Clone, Copy)]
 pub(crate) struct Expected {
     pub(crate) job: JobId,
     /// In ms; wide enough for a sum of any times.

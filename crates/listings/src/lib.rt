@@ -5,6 +5,7 @@
 //! It promises which jobs are listed, and in which order: jobs that aren't finished by when their turn
 //! comes ([`listed`]), first those that devices have, by their estimated ends, then those that the last
 //! plan has, by their completions, then all the rest by their ids; finished jobs from the latest back.
+//! That this is an order, and neither drops a job nor repeats one, is a law ([`listing_is_ordered`]).
 //! What an attribute says is promised below, in `printer_objects`. Nothing here changes a room, and
 //! each call's only error is want of memory. Tests stand in `core_tests`.
 #![tactic(auto)]
@@ -12,11 +13,13 @@
 mod entry;
 mod expected;
 mod groups;
+mod law;
 mod listing;
 mod turn;
 mod wanted;
 
 pub use entry::Entry;
 pub use groups::{job_group, job_groups, printer_group};
+pub use law::listing_is_ordered;
 pub use listing::listed;
 pub use wanted::Wanted;

@@ -13,7 +13,7 @@ use spool::SpooledJob;
 use std::alloc::{AllocError, Global};
 
 /// What counts first in the order of jobs.
-#[derive(Clone, Copy, Debug, PartialEq, Eq)]
+#[derive(Clone, Copy)]
 pub(crate) enum Rank {
     Finished,
     /// A device has it.
@@ -38,7 +38,7 @@ impl Rank {
 }
 
 /// When the turn of a job comes: the rank counts first, then the moment, then the id.
-#[derive(Clone, Copy, Debug, PartialEq, Eq)]
+#[derive(Clone, Copy)]
 pub(crate) struct Turn {
     pub(crate) rank: Rank,
     /// In ms.
