@@ -1,6 +1,6 @@
 -- What a Pause-Printer and a Resume-Printer request come to (RFC 8011, sections 4.2.7 and 4.2.8): an operator
 -- pauses a printer, or ends its pause.
-use Rattle.std.specs.Prelude.{ℕ, ◌≡◌, Bool, true, false, [], Result, Ok, MatchResult}
+use Rattle.std.specs.Prelude.{ℕ, ◌≡◌, Bool, [], Result, Ok, MatchResult}
 use Rattle.text.specs.Steps.{◌>>=◌}
 use Rattle.dispatcher.specs.declared.event.PrinterRequest.{PrinterRequest}
 use Rattle.dispatcher.specs.declared.reply.Reply.{Reply}
@@ -23,13 +23,7 @@ pub record PausesIt (now : ℕ) (old : State) (paused : Bool) (place : ℕ) (rep
   pub replies : Replies Went.Ok [] [] reply
   pub state : new ≡ pausing now place paused old
 
+-- one reply and one state after it
 abbrev pub SetsPaused : ℕ → PrinterRequest → Bool → State → Reply → State → Type 0
 SetsPaused now request paused old reply new =
     MatchResult (paused_of request old) (λ place. PausesIt now old paused place reply new) (λ refusal. Refuses now old refusal reply new)
-
--- one reply and one state after it
-abbrev pub PausesPrinter : ℕ → PrinterRequest → State → Reply → State → Type 0
-PausesPrinter now request old reply new = SetsPaused now request true old reply new
-
-abbrev pub ResumesPrinter : ℕ → PrinterRequest → State → Reply → State → Type 0
-ResumesPrinter now request old reply new = SetsPaused now request false old reply new

@@ -1,5 +1,5 @@
 -- A step: what an event does to the state, and what it is answered.
-use Rattle.std.specs.Prelude.{ℕ, ◌≡◌, max, [], IsErr}
+use Rattle.std.specs.Prelude.{ℕ, ◌≡◌, max, true, false, [], IsErr}
 use Rattle.base_types.specs.declared.report.Report.{Report}
 use Rattle.dispatcher.specs.declared.event.Event.{Event}
 use Rattle.dispatcher.specs.declared.event.Event.TheVariants as Is
@@ -12,7 +12,7 @@ use Rattle.dispatcher.specs.CreateJob.{CreatesJob, created_of}
 use Rattle.dispatcher.specs.SendDocument.{SendsDocument, sent_of}
 use Rattle.dispatcher.specs.CancelJob.{CancelsJob, canceled_of}
 use Rattle.dispatcher.specs.HoldJob.{HoldsJob, ReleasesJob}
-use Rattle.dispatcher.specs.PausePrinter.{PausesPrinter, ResumesPrinter}
+use Rattle.dispatcher.specs.PausePrinter.{SetsPaused}
 use Rattle.dispatcher.specs.GetPrinterAttributes.{ShowsPrinter}
 use Rattle.dispatcher.specs.GetJobAttributes.{ShowsJob}
 use Rattle.dispatcher.specs.GetJobs.{ListsJobs, wanted_of}
@@ -46,8 +46,8 @@ StepAt (Is.GetJobs request) now old reply new = ListsJobs now request old reply 
 StepAt (Is.GetPrinterAttributes request) now old reply new = ShowsPrinter now request old reply new
 StepAt (Is.HoldJob request) now old reply new = HoldsJob now request old reply new
 StepAt (Is.ReleaseJob request) now old reply new = ReleasesJob now request old reply new
-StepAt (Is.PausePrinter request) now old reply new = PausesPrinter now request old reply new
-StepAt (Is.ResumePrinter request) now old reply new = ResumesPrinter now request old reply new
+StepAt (Is.PausePrinter request) now old reply new = SetsPaused now request true old reply new
+StepAt (Is.ResumePrinter request) now old reply new = SetsPaused now request false old reply new
 StepAt (Is.Report device report) now old reply new = Reported now device report old reply new
 StepAt Is.Tick now old reply new = Ticks now old reply new
 

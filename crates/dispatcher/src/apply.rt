@@ -8,7 +8,7 @@ use crate::event::Event;
 use crate::get_attributes::{get_job_attributes, get_printer_attributes};
 use crate::get_jobs::get_jobs;
 use crate::hold_job::{hold_job, release_job};
-use crate::pause_printer::{pause_printer, resume_printer};
+use crate::pause_printer::set_paused;
 use crate::print_job::print_job;
 use crate::reply::Reply;
 use crate::send_document::send_document;
@@ -45,8 +45,8 @@ pub(crate) fn apply(
         }
         Event::HoldJob(request) => Ok(hold_job(alloc, room, request, now)),
         Event::ReleaseJob(request) => Ok(release_job(alloc, room, request, now)),
-        Event::PausePrinter(request) => Ok(pause_printer(alloc, room, &request, now)),
-        Event::ResumePrinter(request) => Ok(resume_printer(alloc, room, &request, now)),
+        Event::PausePrinter(request) => Ok(set_paused(alloc, room, &request, true, now)),
+        Event::ResumePrinter(request) => Ok(set_paused(alloc, room, &request, false, now)),
         Event::Report(device, report) => Ok(act_on(alloc, room, device, &report, now)),
         Event::Tick => Ok(tick(alloc, room, now)),
     }

@@ -1,6 +1,6 @@
 //! What a Pause-Printer and a Resume-Printer do (RFC 8011, sections 4.2.7 and 4.2.8).
 ghost use Rattle.std.specs.Prelude.{◌≡◌, ◌≤◌};
-ghost use Rattle.dispatcher.specs.PausePrinter.{PausesPrinter, ResumesPrinter, paused_of};
+ghost use Rattle.dispatcher.specs.PausePrinter.{SetsPaused, paused_of};
 
 use crate::checks::{Refusal, by_operator, named_printer};
 use crate::event::PrinterRequest;
@@ -9,50 +9,31 @@ use base_types::{Moment, PrinterId};
 use print_room::PrintRoom;
 use std::alloc::Global;
 
-/// Pauses a printer, or says why not. It takes no memory.
-pub(crate) fn pause_printer(
+/// Pauses a printer, or ends its pause, or says why not. It takes no memory.
+pub(crate) fn set_paused(
     alloc: Global,
     room: &mut PrintRoom,
     request: &PrinterRequest,
+    paused: bool,
     now: Moment,
 ) -> Reply
     requires { room.old.last ≤ now }
-    ensures { PausesPrinter now request.now room.old result room.new }
+    ensures { SetsPaused now request.now paused room.old result room.new }
 {
-    match paused_of(alloc, room, request) {
-        Ok(printer) => {
-            room.pause(printer, now);
-            Reply::done(alloc)
-        }
-        Err(refusal) => refuse(alloc, room, refusal, now),
+    let printer = match paused_of(alloc, room, request) {
+        Ok(printer) => printer,
+        Err(refusal) => return refuse(alloc, room, refusal, now),
+    };
+    if paused {
+        room.pause(printer, now);
+    } else {
+        room.resume(printer, now);
     }
-}
-
-/// Ends the pause of a printer, or says why not. It takes no memory.
-pub(crate) fn resume_printer(
-    alloc: Global,
-    room: &mut PrintRoom,
-    request: &PrinterRequest,
-    now: Moment,
-) -> Reply
-    requires { room.old.last ≤ now }
-    ensures { ResumesPrinter now request.now room.old result room.new }
-{
-    match paused_of(alloc, room, request) {
-        Ok(printer) => {
-            room.resume(printer, now);
-            Reply::done(alloc)
-        }
-        Err(refusal) => refuse(alloc, room, refusal, now),
-    }
+    Reply::done(alloc)
 }
 
 /// The printer, or the first reason against it.
-fn paused_of(
-    alloc: Global,
-    room: &PrintRoom,
-    request: &PrinterRequest,
-) -> Result<PrinterId, Refusal>
+fn paused_of(alloc: Global, room: &PrintRoom, request: &PrinterRequest) -> Result<PrinterId, Refusal>
     ensures { result ≡ paused_of request.now room.now }
 {
     let printer = named_printer(alloc, room, &request.target)?;
