@@ -3,7 +3,7 @@
 ghost use Rattle.std.specs.Prelude.{◌≡◌, ◌≢◌, ℕ, ◌+◌, ◌-◌, ◌<◌, ◌≤◌, ◌⊎◌, length, slice_index, slice_index_or, slice_set, vec_len, [], IfOk};
 ghost use Rattle.assignment.specs.Costs.{cost_of, nowhere};
 ghost use Rattle.assignment.specs.Seating.{IsFair, HasNewJob};
-ghost use Rattle.assignment.specs.Search.{IsNearest, IsNearestOf, IsRelaxed, IsExitOf, IsSized, SearchedFrom, IsBlank, IsFinished, open_count};
+ghost use Rattle.assignment.specs.Search.{IsNearestOf, IsReached, IsRelaxed, IsExitOf, IsSized, SearchedFrom, IsBlank, IsFinished, open_count};
 
 use crate::costs::{Costs, Place, UNABLE, cost};
 use crate::seating::Seating;
@@ -27,7 +27,6 @@ pub(crate) struct Search {
     pub(crate) lengths: Vec<u64>,
     pub(crate) froms: Vec<usize>,
     pub(crate) ranks: Vec<usize>,
-    pub(crate) nearest: Option<usize>,
     pub(crate) exit: Exit,
     pub(crate) settled: usize,
 }
@@ -51,7 +50,6 @@ fn blank(alloc: Global, new: usize, len: usize) -> Result<Search, AllocError>
         lengths,
         froms,
         ranks,
-        nearest: None,
         exit,
         settled: 1,
     })
@@ -69,13 +67,12 @@ fn begin(
     requires some { 0 < length free.now }
     ensures sizes { IfOk result (λ x. IsSized seating.now x) }
     ensures searched { IfOk result (λ x. SearchedFrom costs.now seating.now free.now x) }
-    ensures nearest { IfOk result (λ x. IsNearest seating.now x) }
     ensures counted { IfOk result (λ x. x.settled + open_count x.ranks.items ≤ vec_len x.ranks) }
 {
     let new = seating.seats.len();
     let mut search = blank(alloc, new, seating.jobs.len())?;
-    relax(costs, seating, &mut search, new);
     leave(costs, seating, free, &mut search, new);
+    relax(costs, seating, &mut search, new);
     Ok(search)
 }
 
@@ -97,16 +94,28 @@ pub(crate) fn search_exit(
 {
     let mut search = begin(alloc, costs, seating, free)?;
     'settling: loop {
-        match search.nearest {
-            Some(c) => {
-                if search.exit.length <= search.lengths[c] {
-                    return Ok(search);
-                }
-                settle(costs, seating, free, &mut search, c);
-            }
+        match nearest(&search, seating.seats.len()) {
+            Some(c) => settle(costs, seating, free, &mut search, c),
             None => return Ok(search),
         }
     }
+}
+
+/// The nearest of the unsettled seats that are nearer than the exit, if there is one.
+fn nearest(search: &Search, seats: usize) -> Option<usize>
+    requires lengths_in { seats ≤ vec_len search.now.lengths }
+    requires ranks_in { seats ≤ vec_len search.now.ranks }
+    ensures { IsNearestOf search.now.lengths.items search.now.ranks.items seats search.now.exit.length result }
+{
+    let mut nearest = None;
+    let mut least = search.exit.length;
+    for (c, length) in search.lengths[..seats].iter().enumerate() {
+        if *length < least && search.ranks[c] == UNSETTLED {
+            nearest = Some(c);
+            least = *length;
+        }
+    }
+    nearest
 }
 
 /// Settles the nearest seat `c`, and takes the ways of its job.
@@ -126,16 +135,15 @@ fn settle(costs: &Costs, seating: &Seating, free: &[Place], search: &mut Search,
     ensures searched { SearchedFrom costs.now seating.now free.now search.new }
     ensures ranks { search.new.ranks.items ≡ slice_set search.old.ranks.items c search.old.settled }
     ensures settled { search.new.settled ≡ search.old.settled + 1 }
-    ensures nearest { IsNearest seating.now search.new }
 {
     search.ranks[c] = search.settled;
     search.settled += 1;
-    relax(costs, seating, search, c);
     leave(costs, seating, free, search, c);
+    relax(costs, seating, search, c);
 }
 
-/// Shortens the lengths of the unsettled seats that are nearer by way of the job at `q`, and finds
-/// the nearest of them.
+/// Shortens the lengths of the unsettled seats that are nearer than the exit, and nearest so far, by
+/// way of the job at `q`.
 fn relax(costs: &Costs, seating: &Seating, search: &mut Search, q: usize)
     requires sizes { IsSized seating.now search.old }
     requires here { q ≤ vec_len seating.now.seats }
@@ -147,65 +155,55 @@ fn relax(costs: &Costs, seating: &Seating, search: &mut Search, q: usize)
     ensures sizes { IsSized seating.now search.new }
     ensures same { (search.new.ranks ≡ search.old.ranks) × (search.new.exit ≡ search.old.exit) × (search.new.settled ≡ search.old.settled) }
     ensures relaxed { (c : ℕ) → c < vec_len seating.now.seats
-        → IsRelaxed (slice_index search.old.ranks.items c) q
+        → IsRelaxed search.old.exit.length (slice_index search.old.ranks.items c) q
         (slice_index search.old.lengths.items q + (cost_of costs.now (slice_index seating.now.jobs.items q) (slice_index_or seating.now.seats.items c nowhere) + slice_index seating.now.rents.items c - slice_index seating.now.prices.items q))
         (slice_index search.old.lengths.items c) (slice_index search.new.lengths.items c) (slice_index search.old.froms.items c) (slice_index search.new.froms.items c) }
     ensures rest { slice_index search.new.lengths.items (vec_len seating.now.seats) ≡ slice_index search.old.lengths.items (vec_len seating.now.seats) }
-    ensures nearest { IsNearest seating.now search.new }
 {
     let job = seating.jobs[q];
+    let row = costs.row(job);
     let price = seating.prices[q];
     let base = search.lengths[q];
-    let row = costs.row(job);
-    let mut nearest = None;
     for c in 0..seating.seats.len() {
         let length = base + (cost(&costs.waits, row, seating.seats[c]) + seating.rents[c] - price);
-        nearest = take_way(search, c, length, q, nearest);
+        take_way(search, c, length, q);
     }
-    search.nearest = nearest;
 }
 
-/// Reaches the seat `c` by way of `q`, over the given length, where it is unsettled and that is
-/// shorter. It gives the nearest unsettled seat up to `c`, given the one before it.
-fn take_way(
-    search: &mut Search,
-    c: usize,
-    length: u64,
-    q: usize,
-    nearest: Option<usize>,
-) -> Option<usize>
+/// Reaches the seat `c` by way of `q`, over the given length, where that is nearer than the exit.
+#[inline]
+fn take_way(search: &mut Search, c: usize, length: u64, q: usize)
     requires lengths_in { c < vec_len search.old.lengths }
     requires froms_in { c < vec_len search.old.froms }
     requires ranks_in { c < vec_len search.old.ranks }
-    requires before { IsNearestOf search.old.lengths.items search.old.ranks.items c nearest }
     ensures sizes { (vec_len search.new.lengths ≡ vec_len search.old.lengths) × (vec_len search.new.froms ≡ vec_len search.old.froms) }
     ensures same { (search.new.ranks ≡ search.old.ranks) × (search.new.exit ≡ search.old.exit) × (search.new.settled ≡ search.old.settled) }
-    ensures relaxed { IsRelaxed (slice_index search.old.ranks.items c) q length
+    ensures relaxed { IsRelaxed search.old.exit.length (slice_index search.old.ranks.items c) q length
         (slice_index search.old.lengths.items c) (slice_index search.new.lengths.items c) (slice_index search.old.froms.items c) (slice_index search.new.froms.items c) }
     ensures others { (k : ℕ) → k ≢ c
         → (slice_index search.new.lengths.items k ≡ slice_index search.old.lengths.items k) × (slice_index search.new.froms.items k ≡ slice_index search.old.froms.items k) }
-    ensures nearest { IsNearestOf search.new.lengths.items search.new.ranks.items (c + 1) result }
 {
-    if search.ranks[c] != UNSETTLED {
-        return nearest;
+    if length < search.exit.length {
+        reach_seat(search, c, length, q);
     }
-    if length < search.lengths[c] {
-        search.lengths[c] = length;
-        search.froms[c] = q;
-    }
-    nearer(search, nearest, c)
 }
 
-/// The nearest unsettled seat up to the unsettled seat `c`, given the one before it.
-fn nearer(search: &Search, nearest: Option<usize>, c: usize) -> Option<usize>
-    requires here { c < vec_len search.now.lengths }
-    requires unsettled { slice_index search.now.ranks.items c ≡ UNSETTLED }
-    requires before { IsNearestOf search.now.lengths.items search.now.ranks.items c nearest }
-    ensures { IsNearestOf search.now.lengths.items search.now.ranks.items (c + 1) result }
+/// Reaches the seat `c` by way of `q`, over the given length, where it is unsettled and that is
+/// shorter.
+fn reach_seat(search: &mut Search, c: usize, length: u64, q: usize)
+    requires lengths_in { c < vec_len search.old.lengths }
+    requires froms_in { c < vec_len search.old.froms }
+    requires ranks_in { c < vec_len search.old.ranks }
+    ensures sizes { (vec_len search.new.lengths ≡ vec_len search.old.lengths) × (vec_len search.new.froms ≡ vec_len search.old.froms) }
+    ensures same { (search.new.ranks ≡ search.old.ranks) × (search.new.exit ≡ search.old.exit) × (search.new.settled ≡ search.old.settled) }
+    ensures reached { IsReached (slice_index search.old.ranks.items c) q length
+        (slice_index search.old.lengths.items c) (slice_index search.new.lengths.items c) (slice_index search.old.froms.items c) (slice_index search.new.froms.items c) }
+    ensures others { (k : ℕ) → k ≢ c
+        → (slice_index search.new.lengths.items k ≡ slice_index search.old.lengths.items k) × (slice_index search.new.froms.items k ≡ slice_index search.old.froms.items k) }
 {
-    match nearest {
-        Some(before) if search.lengths[before] <= search.lengths[c] => nearest,
-        _ => Some(c),
+    if search.ranks[c] == UNSETTLED && length < search.lengths[c] {
+        search.lengths[c] = length;
+        search.froms[c] = q;
     }
 }
 
