@@ -1,5 +1,5 @@
 //! What a job costs at a place from the end of a device's list.
-ghost use Rattle.std.specs.Prelude.{◌≡◌, ◌+◌, ◌*◌, ◌≤◌, min, suc};
+ghost use Rattle.std.specs.Prelude.{◌≡◌, ◌+◌, ◌*◌, ◌≤◌, min, slice_index_or, suc};
 ghost use Rattle.assignment.specs.Costs.{cost_at, cost_of, row_of};
 
 use base_types::Limits;
@@ -65,6 +65,20 @@ impl Costs {
             Some(row) => row.times(),
             None => &[],
         }
+    }
+
+    /// The time of a job on a device; [`UNABLE`] where there is none.
+    pub(crate) fn time(&self, job: usize, device: usize) -> u64
+        ensures { result ≡ slice_index_or (row_of self.now job) device UNABLE }
+    {
+        self.row(job).get(device).copied().unwrap_or(UNABLE)
+    }
+
+    /// The wait of a device; [`UNABLE`] where there is no such device.
+    pub(crate) fn wait(&self, device: usize) -> u64
+        ensures { result ≡ slice_index_or self.now.waits.items device UNABLE }
+    {
+        self.waits.get(device).copied().unwrap_or(UNABLE)
     }
 }
 

@@ -2,10 +2,12 @@
 //! others would leave.
 ghost use Rattle.std.specs.Prelude.{◌≡◌, ◌≢◌, ℕ, ◌+◌, ◌-◌, ◌<◌, ◌≤◌, ◌⊎◌, length, slice_index, slice_index_or, slice_set, vec_len, [], IfOk};
 ghost use Rattle.assignment.specs.Costs.{cost_of, nowhere};
+ghost use Rattle.assignment.specs.Lanes.{IsLane, IsLaned};
 ghost use Rattle.assignment.specs.Seating.{IsFair, HasNewJob};
 ghost use Rattle.assignment.specs.Search.{IsNearestOf, IsReached, IsRelaxed, IsExitOf, IsSized, SearchedFrom, IsBlank, IsFinished, open_count};
 
 use crate::costs::{Costs, Place, UNABLE, cost};
+use crate::lanes::Lane;
 use crate::seating::Seating;
 use std::alloc::{AllocError, Global};
 
@@ -59,10 +61,12 @@ fn blank(alloc: Global, new: usize, len: usize) -> Result<Search, AllocError>
 fn begin(
     alloc: Global,
     costs: &Costs,
+    lanes: &[Lane],
     seating: &Seating,
     free: &[Place],
 ) -> Result<Search, AllocError>
     requires new_job { HasNewJob seating.now }
+    requires laned { IsLaned (vec_len costs.now.waits) seating.now.seats.items lanes.now }
     requires rents_low { (k : ℕ) → k < vec_len seating.now.seats → slice_index seating.now.rents.items k ≤ UNABLE }
     requires some { 0 < length free.now }
     ensures sizes { IfOk result (λ x. IsSized seating.now x) }
@@ -72,7 +76,7 @@ fn begin(
     let new = seating.seats.len();
     let mut search = blank(alloc, new, seating.jobs.len())?;
     leave(costs, seating, free, &mut search, new);
-    relax(costs, seating, &mut search, new);
+    relax(costs, lanes, seating, &mut search, new);
     Ok(search)
 }
 
@@ -80,10 +84,12 @@ fn begin(
 pub(crate) fn search_exit(
     alloc: Global,
     costs: &Costs,
+    lanes: &[Lane],
     seating: &Seating,
     free: &[Place],
 ) -> Result<Search, AllocError>
     requires new_job { HasNewJob seating.now }
+    requires laned { IsLaned (vec_len costs.now.waits) seating.now.seats.items lanes.now }
     requires fair { IsFair (cost_of costs.now) seating.now.jobs.items seating.now.prices.items seating.now.seats.items seating.now.rents.items }
     requires fair_free { IsFair (cost_of costs.now) seating.now.jobs.items seating.now.prices.items free.now [] }
     requires rents_low { (k : ℕ) → k < vec_len seating.now.seats → slice_index seating.now.rents.items k ≤ UNABLE }
@@ -92,10 +98,10 @@ pub(crate) fn search_exit(
     ensures searched { IfOk result (λ x. SearchedFrom costs.now seating.now free.now x) }
     ensures finished { IfOk result (λ x. IsFinished seating.now x) }
 {
-    let mut search = begin(alloc, costs, seating, free)?;
+    let mut search = begin(alloc, costs, lanes, seating, free)?;
     'settling: loop {
         match nearest(&search, seating.seats.len()) {
-            Some(c) => settle(costs, seating, free, &mut search, c),
+            Some(c) => settle(costs, lanes, seating, free, &mut search, c),
             None => return Ok(search),
         }
     }
@@ -119,8 +125,16 @@ fn nearest(search: &Search, seats: usize) -> Option<usize>
 }
 
 /// Settles the nearest seat `c`, and takes the ways of its job.
-fn settle(costs: &Costs, seating: &Seating, free: &[Place], search: &mut Search, c: usize)
+fn settle(
+    costs: &Costs,
+    lanes: &[Lane],
+    seating: &Seating,
+    free: &[Place],
+    search: &mut Search,
+    c: usize,
+)
     requires sizes { IsSized seating.now search.old }
+    requires laned { IsLaned (vec_len costs.now.waits) seating.now.seats.items lanes.now }
     requires fair { IsFair (cost_of costs.now) seating.now.jobs.items seating.now.prices.items seating.now.seats.items seating.now.rents.items }
     requires fair_free { IsFair (cost_of costs.now) seating.now.jobs.items seating.now.prices.items free.now [] }
     requires rents_low { (k : ℕ) → k < vec_len seating.now.seats → slice_index seating.now.rents.items k ≤ UNABLE }
@@ -139,15 +153,17 @@ fn settle(costs: &Costs, seating: &Seating, free: &[Place], search: &mut Search,
     search.ranks[c] = search.settled;
     search.settled += 1;
     leave(costs, seating, free, search, c);
-    relax(costs, seating, search, c);
+    relax(costs, lanes, seating, search, c);
 }
 
 /// Shortens the lengths of the unsettled seats that are nearer than the exit, and nearest so far, by
 /// way of the job at `q`.
-fn relax(costs: &Costs, seating: &Seating, search: &mut Search, q: usize)
+fn relax(costs: &Costs, lanes: &[Lane], seating: &Seating, search: &mut Search, q: usize)
     requires sizes { IsSized seating.now search.old }
+    requires laned { IsLaned (vec_len costs.now.waits) seating.now.seats.items lanes.now }
     requires here { q ≤ vec_len seating.now.seats }
     requires near { slice_index search.old.lengths.items q ≤ UNABLE }
+    requires reach { search.old.exit.length + slice_index seating.now.prices.items q ≤ slice_index search.old.lengths.items q + UNABLE }
     requires settled { slice_index search.old.ranks.items q ≢ UNSETTLED }
     requires rents_low { (c : ℕ) → c < vec_len seating.now.seats → slice_index seating.now.rents.items c ≤ UNABLE }
     requires fair { (c : ℕ) → c < vec_len seating.now.seats
@@ -160,13 +176,53 @@ fn relax(costs: &Costs, seating: &Seating, search: &mut Search, q: usize)
         (slice_index search.old.lengths.items c) (slice_index search.new.lengths.items c) (slice_index search.old.froms.items c) (slice_index search.new.froms.items c) }
     ensures rest { slice_index search.new.lengths.items (vec_len seating.now.seats) ≡ slice_index search.old.lengths.items (vec_len seating.now.seats) }
 {
+    for device in 0..lanes.len() {
+        relax_lane(costs, device, lanes[device].seats(), seating, search, q);
+    }
+}
+
+/// Shortens the lengths of one device's seats as [`relax`] does. Once the charge of a place alone is
+/// as much as may be, so is that of each place before it.
+fn relax_lane(
+    costs: &Costs,
+    device: usize,
+    lane: &[usize],
+    seating: &Seating,
+    search: &mut Search,
+    q: usize,
+)
+    requires sizes { IsSized seating.now search.old }
+    requires lane { IsLane device seating.now.seats.items lane.now }
+    requires here { q ≤ vec_len seating.now.seats }
+    requires near { slice_index search.old.lengths.items q ≤ UNABLE }
+    requires reach { search.old.exit.length + slice_index seating.now.prices.items q ≤ slice_index search.old.lengths.items q + UNABLE }
+    requires settled { slice_index search.old.ranks.items q ≢ UNSETTLED }
+    requires rents_low { (c : ℕ) → c < vec_len seating.now.seats → slice_index seating.now.rents.items c ≤ UNABLE }
+    requires fair { (c : ℕ) → c < vec_len seating.now.seats
+        → slice_index seating.now.prices.items q ≤ cost_of costs.now (slice_index seating.now.jobs.items q) (slice_index_or seating.now.seats.items c nowhere) + slice_index seating.now.rents.items c }
+    ensures sizes { IsSized seating.now search.new }
+    ensures same { (search.new.ranks ≡ search.old.ranks) × (search.new.exit ≡ search.old.exit) × (search.new.settled ≡ search.old.settled) }
+    ensures relaxed { (c : ℕ) → c < vec_len seating.now.seats → (slice_index_or seating.now.seats.items c nowhere).device ≡ device
+        → IsRelaxed search.old.exit.length (slice_index search.old.ranks.items c) q
+        (slice_index search.old.lengths.items q + (cost_of costs.now (slice_index seating.now.jobs.items q) (slice_index_or seating.now.seats.items c nowhere) + slice_index seating.now.rents.items c - slice_index seating.now.prices.items q))
+        (slice_index search.old.lengths.items c) (slice_index search.new.lengths.items c) (slice_index search.old.froms.items c) (slice_index search.new.froms.items c) }
+    ensures rest { slice_index search.new.lengths.items (vec_len seating.now.seats) ≡ slice_index search.old.lengths.items (vec_len seating.now.seats) }
+    ensures others { (c : ℕ) → c < vec_len seating.now.seats → (slice_index_or seating.now.seats.items c nowhere).device ≢ device
+        → (slice_index search.new.lengths.items c ≡ slice_index search.old.lengths.items c) × (slice_index search.new.froms.items c ≡ slice_index search.old.froms.items c) }
+{
     let job = seating.jobs[q];
-    let row = costs.row(job);
     let price = seating.prices[q];
     let base = search.lengths[q];
-    for c in 0..seating.seats.len() {
-        let length = base + (cost(&costs.waits, row, seating.seats[c]) + seating.rents[c] - price);
-        take_way(search, c, length, q);
+    let most = (search.exit.length + price).saturating_sub(base);
+    let time = costs.time(job, device);
+    let mut charge = costs.wait(device);
+    for after in 0..lane.len() {
+        charge = charge.saturating_add(time);
+        if charge >= most {
+            return;
+        }
+        let c = lane[after];
+        take_way(search, c, base + (charge + seating.rents[c] - price), q);
     }
 }
 

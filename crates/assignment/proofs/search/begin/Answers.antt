@@ -1,7 +1,7 @@
-use Rattle.std.proofs.Common.{◌≡◌, ℕ, vec_len, ap, subst, inl, inr, ◌∙◌, arith}
+use Rattle.std.proofs.Common.{◌≡◌, ℕ, vec_len, get_or, ap, subst, inl, inr, ◌∙◌, arith}
 use Rattle.std.specs.Global.{Vec}
 use Rattle.assignment.specs.declared.search.Search.{Search}
-use Rattle.assignment.specs.Costs.{cost_of}
+use Rattle.assignment.specs.Costs.{cost_of, nowhere}
 use Rattle.assignment.specs.Search.{IsBlank}
 use Rattle.assignment.proofs.Opening.{Begins, begun}
 use Rattle.assignment.proofs.Charges.{cost_of-low}
@@ -50,3 +50,12 @@ returns-clause-counted c =
     let es = c.relax.ensures.same.2 ∙ ap (λ (v : Search). v.settled) c.leave.ensures.same in
     let ranks = c.relax.ensures.same.0 ∙ ap (λ (v : Search). v.ranks) c.leave.ensures.same in
     rw (es, ranks) (omega (arith, b.settled, b.counted, b.ranks))
+
+pub relax-requires-clause-reach : goal.relax-requires-clause-reach
+relax-requires-clause-reach c =
+    let s = c.args.seating.now in
+    let r = c.requires in
+    let en : c.len-new.result ≡ vec_len s.seats = c.len-new.ensures in
+    let price : get_or s.prices.items c.len-new.result 0 ≡ 0 = rw en r.new_job.uncharged in
+    let lengths = ap (λ (v : Search). get_or v.lengths.items c.len-new.result 0) c.leave.ensures.same in
+    omega (arith, price, lengths, c.leave.ensures.every 0 r.some, cost_of-low c.args.costs.now (get_or s.jobs.items c.len-new.result 0) (get_or c.args.free.now 0 nowhere))

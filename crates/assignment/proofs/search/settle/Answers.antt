@@ -2,8 +2,8 @@ use Rattle.std.proofs.Common.{◌≡◌, ◌≢◌, ℕ, ◌<◌, length, vec_le
 use Rattle.std.specs.Global.{Vec}
 use Rattle.std.proofs.lemmas.List.{get_or-set_same, get_or-set_other}
 use Rattle.assignment.specs.declared.search.Search.{Search}
-use Rattle.assignment.specs.declared.search.Exit.{Exit}
-use Rattle.assignment.specs.Costs.{cost_of}
+use Rattle.assignment.specs.Costs.{cost_of, nowhere}
+use Rattle.assignment.proofs.Charges.{cost_of-low}
 use Rattle.assignment.proofs.Step.{Settles, searched_now}
 use Rattle.assignment.proofs.search.settle.Goals as goal
 
@@ -41,3 +41,12 @@ returns-clause-searched c =
     } in
     let apart : vec_len s.seats ≢ c.args.c = omega (arith, r.here) in
     rw es (searched_now h (rw er (get_or-set_other x.ranks.items c.args.c (vec_len s.seats) x.settled 0 apart ∙ r.searched.root_rank)))
+
+pub relax-requires-clause-reach : goal.relax-requires-clause-reach
+relax-requires-clause-reach c =
+    let s = c.args.seating.now in
+    let r = c.requires in
+    let f = c.args.search.now.exit.place in
+    let lengths = ap (λ (v : Search). get_or v.lengths.items c.args.c 0) c.leave.ensures.same in
+    let fair = r.fair_free.at c.args.c f (omega (arith, r.here, s.jobs.ok.0, r.sizes.jobs)) r.searched.exit_place in
+    omega (arith, fair, lengths, c.leave.ensures.every f r.searched.exit_place, cost_of-low c.args.costs.now (get_or s.jobs.items c.args.c 0) (get_or c.args.free.now f nowhere))
