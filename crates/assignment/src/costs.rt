@@ -66,20 +66,13 @@ impl Costs {
             None => &[],
         }
     }
+}
 
-    /// The time of a job on a device; [`UNABLE`] where there is none.
-    pub(crate) fn time(&self, job: usize, device: usize) -> u64
-        ensures { result ≡ slice_index_or (row_of self.now job) device UNABLE }
-    {
-        self.row(job).get(device).copied().unwrap_or(UNABLE)
-    }
-
-    /// The wait of a device; [`UNABLE`] where there is no such device.
-    pub(crate) fn wait(&self, device: usize) -> u64
-        ensures { result ≡ slice_index_or self.now.waits.items device UNABLE }
-    {
-        self.waits.get(device).copied().unwrap_or(UNABLE)
-    }
+/// The time or the wait on a device, of a list of them; [`UNABLE`] where there is none.
+pub(crate) fn on_device(values: &[u64], device: usize) -> u64
+    ensures { result ≡ slice_index_or values.now device UNABLE }
+{
+    values.get(device).copied().unwrap_or(UNABLE)
 }
 
 /// What a job with these times adds to the total at a place: the device's wait once, and the job's

@@ -1,12 +1,12 @@
 //! The search for the nearest free place: shortest ways from the new job, over the seats that
 //! others would leave.
 ghost use Rattle.std.specs.Prelude.{◌≡◌, ◌≢◌, ℕ, ◌+◌, ◌-◌, ◌<◌, ◌≤◌, ◌⊎◌, length, slice_index, slice_index_or, slice_set, vec_len, [], IfOk};
-ghost use Rattle.assignment.specs.Costs.{cost_of, nowhere};
+ghost use Rattle.assignment.specs.Costs.{cost_at, cost_of, nowhere};
 ghost use Rattle.assignment.specs.Lanes.{IsLane, IsLaned};
 ghost use Rattle.assignment.specs.Seating.{IsFair, HasNewJob};
 ghost use Rattle.assignment.specs.Search.{IsNearestOf, IsReached, IsRelaxed, IsExitOf, IsSized, SearchedFrom, IsBlank, IsFinished, open_count};
 
-use crate::costs::{Costs, Place, UNABLE, cost};
+use crate::costs::{Costs, Place, UNABLE, cost, on_device};
 use crate::lanes::Lane;
 use crate::seating::Seating;
 use std::alloc::{AllocError, Global};
@@ -22,6 +22,16 @@ pub(crate) struct Exit {
     pub(crate) length: u64,
     pub(crate) place: usize,
     pub(crate) from: usize,
+}
+
+/// The ways from a settled seat: how far the seat is, what its job is charged, and the charge from
+/// which on a place is no nearer than the exit.
+#[derive(Clone, Copy, Debug)]
+struct Ways {
+    origin: usize,
+    base: u64,
+    price: u64,
+    most: u64,
 }
 
 #[derive(Debug, Drop)]
@@ -176,53 +186,61 @@ fn relax(costs: &Costs, lanes: &[Lane], seating: &Seating, search: &mut Search, 
         (slice_index search.old.lengths.items c) (slice_index search.new.lengths.items c) (slice_index search.old.froms.items c) (slice_index search.new.froms.items c) }
     ensures rest { slice_index search.new.lengths.items (vec_len seating.now.seats) ≡ slice_index search.old.lengths.items (vec_len seating.now.seats) }
 {
+    let row = costs.row(seating.jobs[q]);
+    let price = seating.prices[q];
+    let base = search.lengths[q];
+    let most = (search.exit.length + price).saturating_sub(base);
+    let ways = Ways {
+        origin: q,
+        base,
+        price,
+        most,
+    };
     for device in 0..lanes.len() {
-        relax_lane(costs, device, lanes[device].seats(), seating, search, q);
+        let lane = lanes[device].seats();
+        relax_lane(&costs.waits, row, device, lane, seating, search, ways);
     }
 }
 
-/// Shortens the lengths of one device's seats as [`relax`] does. Once the charge of a place alone is
-/// as much as may be, so is that of each place before it.
+/// Shortens the lengths of one device's seats as [`relax`] does, for a job with these times. Once the
+/// charge of a place is as much as may be, so is that of each place before it.
 fn relax_lane(
-    costs: &Costs,
+    waits: &[u64],
+    row: &[u64],
     device: usize,
     lane: &[usize],
     seating: &Seating,
     search: &mut Search,
-    q: usize,
+    ways: Ways,
 )
     requires sizes { IsSized seating.now search.old }
     requires lane { IsLane device seating.now.seats.items lane.now }
-    requires here { q ≤ vec_len seating.now.seats }
-    requires near { slice_index search.old.lengths.items q ≤ UNABLE }
-    requires reach { search.old.exit.length + slice_index seating.now.prices.items q ≤ slice_index search.old.lengths.items q + UNABLE }
-    requires settled { slice_index search.old.ranks.items q ≢ UNSETTLED }
+    requires near { ways.base ≤ UNABLE }
+    requires reach { search.old.exit.length + ways.price ≤ ways.base + UNABLE }
+    requires most { ways.most ≡ search.old.exit.length + ways.price - ways.base }
     requires rents_low { (c : ℕ) → c < vec_len seating.now.seats → slice_index seating.now.rents.items c ≤ UNABLE }
     requires fair { (c : ℕ) → c < vec_len seating.now.seats
-        → slice_index seating.now.prices.items q ≤ cost_of costs.now (slice_index seating.now.jobs.items q) (slice_index_or seating.now.seats.items c nowhere) + slice_index seating.now.rents.items c }
+        → ways.price ≤ cost_at waits.now row.now (slice_index_or seating.now.seats.items c nowhere) + slice_index seating.now.rents.items c }
     ensures sizes { IsSized seating.now search.new }
     ensures same { (search.new.ranks ≡ search.old.ranks) × (search.new.exit ≡ search.old.exit) × (search.new.settled ≡ search.old.settled) }
     ensures relaxed { (c : ℕ) → c < vec_len seating.now.seats → (slice_index_or seating.now.seats.items c nowhere).device ≡ device
-        → IsRelaxed search.old.exit.length (slice_index search.old.ranks.items c) q
-        (slice_index search.old.lengths.items q + (cost_of costs.now (slice_index seating.now.jobs.items q) (slice_index_or seating.now.seats.items c nowhere) + slice_index seating.now.rents.items c - slice_index seating.now.prices.items q))
+        → IsRelaxed search.old.exit.length (slice_index search.old.ranks.items c) ways.origin
+        (ways.base + (cost_at waits.now row.now (slice_index_or seating.now.seats.items c nowhere) + slice_index seating.now.rents.items c - ways.price))
         (slice_index search.old.lengths.items c) (slice_index search.new.lengths.items c) (slice_index search.old.froms.items c) (slice_index search.new.froms.items c) }
     ensures rest { slice_index search.new.lengths.items (vec_len seating.now.seats) ≡ slice_index search.old.lengths.items (vec_len seating.now.seats) }
     ensures others { (c : ℕ) → c < vec_len seating.now.seats → (slice_index_or seating.now.seats.items c nowhere).device ≢ device
         → (slice_index search.new.lengths.items c ≡ slice_index search.old.lengths.items c) × (slice_index search.new.froms.items c ≡ slice_index search.old.froms.items c) }
 {
-    let job = seating.jobs[q];
-    let price = seating.prices[q];
-    let base = search.lengths[q];
-    let most = (search.exit.length + price).saturating_sub(base);
-    let time = costs.time(job, device);
-    let mut charge = costs.wait(device);
+    let time = on_device(row, device);
+    let mut charge = on_device(waits, device);
     for after in 0..lane.len() {
         charge = charge.saturating_add(time);
-        if charge >= most {
+        if charge >= ways.most {
             return;
         }
         let c = lane[after];
-        take_way(search, c, base + (charge + seating.rents[c] - price), q);
+        let length = ways.base + (charge + seating.rents[c] - ways.price);
+        take_way(search, c, length, ways.origin);
     }
 }
 

@@ -4,88 +4,63 @@ use Rattle.std.proofs.lemmas.Bool.{cases_eq, cases_lt}
 use Rattle.std.proofs.lemmas.List.{get_or_read}
 use Rattle.assignment.specs.declared.costs.Place.{Place}
 use Rattle.assignment.specs.declared.search.Exit.{Exit}
-use Rattle.assignment.specs.Costs.{cost_of, nowhere}
+use Rattle.assignment.specs.Costs.{nowhere}
 use Rattle.assignment.proofs.Nearest.{relaxed_before, relaxed_here}
 use Rattle.assignment.proofs.Reaching.{charged, dear_on, placed}
 use Rattle.assignment.proofs.search.relax_lane.Goals as goal
 
-pub returns-then-charge-most-clause-relaxed : goal.returns-then-charge-most-clause-relaxed
-returns-then-charge-most-clause-relaxed c =
+pub returns-then-charge-ways-clause-relaxed : goal.returns-then-charge-ways-clause-relaxed
+returns-then-charge-ways-clause-relaxed c =
     let s = c.args.seating.now in
-    let x = c.args.search.now in
-    let q = c.args.q in
     let at = c.loop-after.after in
     let r = c.requires in
-    let job : c.index-job.result.now ≡ get_or s.jobs.items q 0 = get_or_read s.jobs.items q _ (omega (arith, r.here, r.sizes.jobs, s.jobs.ok.0)) c.index-job.ensures 0 in
-    let price : c.index-price.result.now ≡ get_or s.prices.items q 0 = get_or_read s.prices.items q _ (omega (arith, r.here, r.sizes.prices, s.prices.ok.0)) c.index-price.ensures 0 in
-    let base : c.index-base.result.now ≡ get_or x.lengths.items q 0 = get_or_read x.lengths.items q _ (omega (arith, r.here, r.sizes.lengths, x.lengths.ok.0)) c.index-base.ensures 0 in
     let i = c.loop-after.invariant in
-    let dear = charged c.args.costs.now c.args.device at c.index-job.result.now c.loop-after.charge c.time-time.result c.saturating_add-charge.result i.charge c.time-time.ensures c.saturating_add-charge.ensures in
+    let dear = charged c.args.waits.now c.args.row.now c.args.device at c.loop-after.charge c.on_device-time.result c.saturating_add-charge.result i.charge c.on_device-time.ensures c.saturating_add-charge.ensures in
     λ k lt on.
     let place = get_or s.seats.items k nowhere in
     elim (cases_lt place.after at) [
-      | inl before ↦ rw (← job, ← price, ← base) (i.done k lt on before)
+      | inl before ↦ i.done k lt on before
       | inr from ↦
           let rest = i.rest k (omega arith) (λ _ _. from) in
-          inl (rw (← price, ← base) (dear_on c.args.costs.now (get_or s.jobs.items q 0) place c.args.device at c.saturating_add-charge.result c.index-base.result.now c.index-price.result.now (get_or s.rents.items k 0) x.exit.length on from (rw (← job) dear) (omega (arith, c.if-charge-most.true, c.saturating_sub-most.ensures)) (omega (arith, r.reach, price, base)) (omega (arith, r.fair k lt, price))), rest.0, rest.1)
+          inl (dear_on c.args.waits.now c.args.row.now place c.args.device at c.saturating_add-charge.result c.args.ways.base c.args.ways.price (get_or s.rents.items k 0) c.args.search.now.exit.length on from dear (omega (arith, c.if-charge-ways.true, r.most)) r.reach (r.fair k lt), rest.0, rest.1)
     ]
 
-pub overflow_add-charge : goal.overflow_add-charge
-overflow_add-charge c =
+pub overflow_add-length : goal.overflow_add-length
+overflow_add-length c =
     let s = c.args.seating.now in
-    let x = c.args.search.now in
-    let q = c.args.q in
     let at = c.loop-after.after in
     let r = c.requires in
-    let job : c.index-job.result.now ≡ get_or s.jobs.items q 0 = get_or_read s.jobs.items q _ (omega (arith, r.here, r.sizes.jobs, s.jobs.ok.0)) c.index-job.ensures 0 in
-    let price : c.index-price.result.now ≡ get_or s.prices.items q 0 = get_or_read s.prices.items q _ (omega (arith, r.here, r.sizes.prices, s.prices.ok.0)) c.index-price.ensures 0 in
-    let base : c.index-base.result.now ≡ get_or x.lengths.items q 0 = get_or_read x.lengths.items q _ (omega (arith, r.here, r.sizes.lengths, x.lengths.ok.0)) c.index-base.ensures 0 in
-    let p = placed c.args.costs.now s.seats.items c.args.lane.now c.args.device at (vec_len s.seats) c.index-job.result.now (get_or s.jobs.items q 0) c.loop-after.charge c.time-time.result c.saturating_add-charge.result c.index-base.result.now c.index-price.result.now x.exit.length r.lane c.loop-after-test.true (omega (arith, s.seats.ok.0)) job c.loop-after.invariant.charge c.time-time.ensures c.saturating_add-charge.ensures (omega (arith, c.if-charge-most.false, c.saturating_sub-most.ensures)) (omega (arith, r.reach, price, base)) in
+    let p = placed c.args.waits.now c.args.row.now s.seats.items c.args.lane.now c.args.device at (vec_len s.seats) c.loop-after.charge c.on_device-time.result c.saturating_add-charge.result c.args.ways.base c.args.ways.price c.args.search.now.exit.length r.lane c.loop-after-test.true (omega (arith, s.seats.ok.0)) c.loop-after.invariant.charge c.on_device-time.ensures c.saturating_add-charge.ensures (omega (arith, c.if-charge-ways.false, r.most)) r.reach in
     let seat = get_or c.args.lane.now at 0 in
     let rent : c.index.result.now ≡ get_or s.rents.items seat 0 = get_or_read s.rents.items seat _ (omega (arith, p.0, r.sizes.rents, s.rents.ok.0)) c.index.ensures 0 in
     omega (arith, p.3, rent, r.rents_low seat p.0)
 
-pub overflow_sub-charge : goal.overflow_sub-charge
-overflow_sub-charge c =
+pub overflow_sub-length : goal.overflow_sub-length
+overflow_sub-length c =
     let s = c.args.seating.now in
-    let x = c.args.search.now in
-    let q = c.args.q in
     let at = c.loop-after.after in
     let r = c.requires in
-    let job : c.index-job.result.now ≡ get_or s.jobs.items q 0 = get_or_read s.jobs.items q _ (omega (arith, r.here, r.sizes.jobs, s.jobs.ok.0)) c.index-job.ensures 0 in
-    let price : c.index-price.result.now ≡ get_or s.prices.items q 0 = get_or_read s.prices.items q _ (omega (arith, r.here, r.sizes.prices, s.prices.ok.0)) c.index-price.ensures 0 in
-    let base : c.index-base.result.now ≡ get_or x.lengths.items q 0 = get_or_read x.lengths.items q _ (omega (arith, r.here, r.sizes.lengths, x.lengths.ok.0)) c.index-base.ensures 0 in
-    let p = placed c.args.costs.now s.seats.items c.args.lane.now c.args.device at (vec_len s.seats) c.index-job.result.now (get_or s.jobs.items q 0) c.loop-after.charge c.time-time.result c.saturating_add-charge.result c.index-base.result.now c.index-price.result.now x.exit.length r.lane c.loop-after-test.true (omega (arith, s.seats.ok.0)) job c.loop-after.invariant.charge c.time-time.ensures c.saturating_add-charge.ensures (omega (arith, c.if-charge-most.false, c.saturating_sub-most.ensures)) (omega (arith, r.reach, price, base)) in
+    let p = placed c.args.waits.now c.args.row.now s.seats.items c.args.lane.now c.args.device at (vec_len s.seats) c.loop-after.charge c.on_device-time.result c.saturating_add-charge.result c.args.ways.base c.args.ways.price c.args.search.now.exit.length r.lane c.loop-after-test.true (omega (arith, s.seats.ok.0)) c.loop-after.invariant.charge c.on_device-time.ensures c.saturating_add-charge.ensures (omega (arith, c.if-charge-ways.false, r.most)) r.reach in
     let seat = get_or c.args.lane.now at 0 in
     let rent : c.index.result.now ≡ get_or s.rents.items seat 0 = get_or_read s.rents.items seat _ (omega (arith, p.0, r.sizes.rents, s.rents.ok.0)) c.index.ensures 0 in
-    omega (arith, p.4, rent, price, r.fair seat p.0)
+    omega (arith, p.4, rent, r.fair seat p.0)
 
-pub overflow_add-base : goal.overflow_add-base
-overflow_add-base c =
+pub overflow_add-length-in-loop-after : goal.overflow_add-length-in-loop-after
+overflow_add-length-in-loop-after c =
     let s = c.args.seating.now in
-    let x = c.args.search.now in
-    let q = c.args.q in
     let at = c.loop-after.after in
     let r = c.requires in
-    let job : c.index-job.result.now ≡ get_or s.jobs.items q 0 = get_or_read s.jobs.items q _ (omega (arith, r.here, r.sizes.jobs, s.jobs.ok.0)) c.index-job.ensures 0 in
-    let price : c.index-price.result.now ≡ get_or s.prices.items q 0 = get_or_read s.prices.items q _ (omega (arith, r.here, r.sizes.prices, s.prices.ok.0)) c.index-price.ensures 0 in
-    let base : c.index-base.result.now ≡ get_or x.lengths.items q 0 = get_or_read x.lengths.items q _ (omega (arith, r.here, r.sizes.lengths, x.lengths.ok.0)) c.index-base.ensures 0 in
-    let p = placed c.args.costs.now s.seats.items c.args.lane.now c.args.device at (vec_len s.seats) c.index-job.result.now (get_or s.jobs.items q 0) c.loop-after.charge c.time-time.result c.saturating_add-charge.result c.index-base.result.now c.index-price.result.now x.exit.length r.lane c.loop-after-test.true (omega (arith, s.seats.ok.0)) job c.loop-after.invariant.charge c.time-time.ensures c.saturating_add-charge.ensures (omega (arith, c.if-charge-most.false, c.saturating_sub-most.ensures)) (omega (arith, r.reach, price, base)) in
+    let p = placed c.args.waits.now c.args.row.now s.seats.items c.args.lane.now c.args.device at (vec_len s.seats) c.loop-after.charge c.on_device-time.result c.saturating_add-charge.result c.args.ways.base c.args.ways.price c.args.search.now.exit.length r.lane c.loop-after-test.true (omega (arith, s.seats.ok.0)) c.loop-after.invariant.charge c.on_device-time.ensures c.saturating_add-charge.ensures (omega (arith, c.if-charge-ways.false, r.most)) r.reach in
     let seat = get_or c.args.lane.now at 0 in
     let rent : c.index.result.now ≡ get_or s.rents.items seat 0 = get_or_read s.rents.items seat _ (omega (arith, p.0, r.sizes.rents, s.rents.ok.0)) c.index.ensures 0 in
-    omega (arith, p.3, rent, r.rents_low seat p.0, base, r.near)
+    omega (arith, p.3, rent, r.rents_low seat p.0, r.near)
 
 pub loop-after-preserved : goal.loop-after-preserved
 loop-after-preserved c =
     let s = c.args.seating.now in
-    let x = c.args.search.now in
-    let q = c.args.q in
     let at = c.loop-after.after in
     let r = c.requires in
-    let job : c.index-job.result.now ≡ get_or s.jobs.items q 0 = get_or_read s.jobs.items q _ (omega (arith, r.here, r.sizes.jobs, s.jobs.ok.0)) c.index-job.ensures 0 in
-    let price : c.index-price.result.now ≡ get_or s.prices.items q 0 = get_or_read s.prices.items q _ (omega (arith, r.here, r.sizes.prices, s.prices.ok.0)) c.index-price.ensures 0 in
-    let base : c.index-base.result.now ≡ get_or x.lengths.items q 0 = get_or_read x.lengths.items q _ (omega (arith, r.here, r.sizes.lengths, x.lengths.ok.0)) c.index-base.ensures 0 in
-    let p = placed c.args.costs.now s.seats.items c.args.lane.now c.args.device at (vec_len s.seats) c.index-job.result.now (get_or s.jobs.items q 0) c.loop-after.charge c.time-time.result c.saturating_add-charge.result c.index-base.result.now c.index-price.result.now x.exit.length r.lane c.loop-after-test.true (omega (arith, s.seats.ok.0)) job c.loop-after.invariant.charge c.time-time.ensures c.saturating_add-charge.ensures (omega (arith, c.if-charge-most.false, c.saturating_sub-most.ensures)) (omega (arith, r.reach, price, base)) in
+    let p = placed c.args.waits.now c.args.row.now s.seats.items c.args.lane.now c.args.device at (vec_len s.seats) c.loop-after.charge c.on_device-time.result c.saturating_add-charge.result c.args.ways.base c.args.ways.price c.args.search.now.exit.length r.lane c.loop-after-test.true (omega (arith, s.seats.ok.0)) c.loop-after.invariant.charge c.on_device-time.ensures c.saturating_add-charge.ensures (omega (arith, c.if-charge-ways.false, r.most)) r.reach in
     let seat = get_or c.args.lane.now at 0 in
     let rent : c.index.result.now ≡ get_or s.rents.items seat 0 = get_or_read s.rents.items seat _ (omega (arith, p.0, r.sizes.rents, s.rents.ok.0)) c.index.ensures 0 in
     let i = c.loop-after.invariant in
@@ -95,7 +70,6 @@ loop-after-preserved c =
     let on : (get_or s.seats.items seat nowhere).device ≡ c.args.device = ap (λ (x : Place). x.device) p.1 in
     let stands : (get_or s.seats.items seat nowhere).after ≡ at = ap (λ (x : Place). x.after) p.1 in
     let rest = i.rest seat (omega (arith, p.0)) (λ _ _. omega (arith, stands)) in
-    let cost : cost_of c.args.costs.now c.index-job.result.now (get_or s.seats.items seat nowhere) ≡ c.saturating_add-charge.result = rw job p.4 in
     record {
       sizes = search rules;
       ranks = search rules;
@@ -103,7 +77,7 @@ loop-after-preserved c =
       settled = search rules;
       charge = p.2;
       done = λ k lt is below. elim (cases_eq k seat) [
-        | inl e ↦ rw e (relaxed_here _ _ _ _ _ _ _ _ _ _ _ _ _ t.relaxed (sym reach) (sym rank) (omega (arith, cost, rent)) (sym rest.0) (sym rest.1))
+        | inl e ↦ rw e (relaxed_here _ _ _ _ _ _ _ _ _ _ _ _ _ t.relaxed (sym reach) (sym rank) (omega (arith, p.4, rent)) (sym rest.0) (sym rest.1))
         | inr d ↦
             let other = t.others k d in
             let before : (get_or s.seats.items k nowhere).after < at = elim (cases_eq (get_or s.seats.items k nowhere).after at) [
