@@ -6,11 +6,13 @@ pub mod Fill
 pub mod Filled
 pub mod Gaps
 pub mod Laid
+pub mod LaneGrowth
 pub mod Nearest
 pub mod Opening
 pub mod Proving
 pub mod Queues
 pub mod Raised
+pub mod Reaching
 pub mod Reading
 pub mod Room
 pub mod Spread

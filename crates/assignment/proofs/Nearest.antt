@@ -1,32 +1,28 @@
--- The seats that were looked at so far: the nearest unsettled one of them, and their lengths.
-use Rattle.std.proofs.Common.{◌≡◌, ◌≢◌, ℕ, ◌+◌, ◌<◌, List, Option, Some, None, get_or, inl, inr, arith}
-use Rattle.std.proofs.lemmas.Bool.{cases_eq}
+-- The seats that were looked at so far.
+use Rattle.std.proofs.Common.{◌≡◌, ℕ, ◌<◌, ◌≤◌, ◌+◌, List, Option, Some, None, get_or, arith}
 use Rattle.assignment.specs.declared.search.TheConstants.{UNSETTLED}
 use Rattle.assignment.specs.Search.{IsNearestOf, IsRelaxed}
 
--- lengths of these seats stay
-pub nearest_kept : (L L' R R' : List ℕ) (n : ℕ) (r : Option ℕ) → IsNearestOf L R n r → ((k : ℕ) → k < n → get_or L' k 0 ≡ get_or L k 0) → R' ≡ R → IsNearestOf L' R' n r
-nearest_kept L L' R R' n None h same er = λ k lt. rw er (h k lt)
-nearest_kept L L' R R' n (Some c) h same er = (h.0, rw er h.1, λ k lt free. rw (same c h.0, same k lt) (h.2 k lt (rw (← er) free)))
+-- `least` is the length of the nearest unsettled one of the first n seats, or as far as `reach`
+abbrev pub IsFound : List ℕ → List ℕ → (n reach least : ℕ) → Option ℕ → Type 0
+IsFound lengths ranks n reach least None = least ≡ reach
+IsFound lengths ranks n reach least (Some c) = (c < n) × (get_or ranks c 0 ≡ UNSETTLED) × (get_or lengths c 0 ≡ least) × (least < reach)
 
--- the next seat is settled
-pub nearest_skips : (L R : List ℕ) (n : ℕ) (r : Option ℕ) → IsNearestOf L R n r → get_or R n 0 ≢ UNSETTLED → IsNearestOf L R (n + 1) r
-nearest_skips L R n None h ne = λ k lt. elim (cases_eq k n) [
-  | inl e ↦ rw e ne
-  | inr d ↦ h k (omega arith)
-]
-nearest_skips L R n (Some c) h ne = (
-  omega (arith, h.0),
-  h.1,
-  λ k lt free. elim (cases_eq k n) [
-    | inl e ↦ absurd (ne (rw (← e) free))
-    | inr d ↦ h.2 k (omega arith) free
-  ],
-)
+pub found_more : (lengths ranks : List ℕ) (n reach least : ℕ) (r : Option ℕ) → IsFound lengths ranks n reach least r → IsFound lengths ranks (n + 1) reach least r
+found_more lengths ranks n reach least None h = h
+found_more lengths ranks n reach least (Some c) h = (omega (arith, h.0), h.1, h.2, h.3)
+
+pub found_low : (lengths ranks : List ℕ) (n reach least : ℕ) (r : Option ℕ) → IsFound lengths ranks n reach least r → least ≤ reach
+found_low lengths ranks n reach least None h = omega (arith, h)
+found_low lengths ranks n reach least (Some c) h = omega (arith, h.3)
+
+pub nearest_of : (lengths ranks : List ℕ) (n reach least : ℕ) (r : Option ℕ) → IsFound lengths ranks n reach least r → ((k : ℕ) → k < n → get_or ranks k 0 ≡ UNSETTLED → least ≤ get_or lengths k 0) → IsNearestOf lengths ranks n reach r
+nearest_of lengths ranks n reach least None h all = λ k lt e. omega (arith, all k lt e, h)
+nearest_of lengths ranks n reach least (Some c) h all = (h.0, h.1, omega (arith, h.2, h.3), λ k lt e. omega (arith, all k lt e, h.2))
 
 -- the seat that is looked at, and one that was
-pub relaxed_here : (r r' o x x' l l' f f' m g : ℕ) → IsRelaxed r o x l m f g → r' ≡ r → x' ≡ x → l' ≡ l → f' ≡ f → IsRelaxed r' o x' l' m f' g
-relaxed_here r r' o x x' l l' f f' m g h er ex el ef = rw (er, ex, el, ef) h
+pub relaxed_here : (e e' r r' o x x' l l' f f' m g : ℕ) → IsRelaxed e r o x l m f g → e' ≡ e → r' ≡ r → x' ≡ x → l' ≡ l → f' ≡ f → IsRelaxed e' r' o x' l' m f' g
+relaxed_here e e' r r' o x x' l l' f f' m g h ee er ex el ef = rw (ee, er, ex, el, ef) h
 
-pub relaxed_before : (r o x l m m' f g g' : ℕ) → IsRelaxed r o x l m f g → m' ≡ m → g' ≡ g → IsRelaxed r o x l m' f g'
-relaxed_before r o x l m m' f g g' h em eg = rw (em, eg) h
+pub relaxed_before : (reach r o x l m m' f g g' : ℕ) → IsRelaxed reach r o x l m f g → m' ≡ m → g' ≡ g → IsRelaxed reach r o x l m' f g'
+relaxed_before reach r o x l m m' f g g' h em eg = rw (em, eg) h

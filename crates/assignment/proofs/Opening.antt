@@ -15,19 +15,20 @@ pub record Begins (cost : ℕ → Place → ℕ) (jobs prices : List ℕ) (seats
   pub some : 0 < length free
   pub far : (c : ℕ) → c < n → get_or L c 0 ≡ FAR
   pub root : get_or L n 0 ≡ 0
+  pub from_root : (c : ℕ) → c < n → get_or F c 0 ≡ n
   pub unsettled : (c : ℕ) → c < n → get_or R c 0 ≡ UNSETTLED
   pub root_rank : get_or R n 0 ≡ 0
   pub far_exit : E.length ≡ FAR
-  pub relaxed : (c : ℕ) → c < n → IsRelaxed (get_or R c 0) n (get_or L n 0 + (cost (get_or jobs n 0) (get_or seats c nowhere) + get_or rents c 0 - get_or prices n 0)) (get_or L c 0) (get_or L' c 0) (get_or F c 0) (get_or F' c 0)
+  pub relaxed : (c : ℕ) → c < n → IsRelaxed E'.length (get_or R c 0) n (get_or L n 0 + (cost (get_or jobs n 0) (get_or seats c nowhere) + get_or rents c 0 - get_or prices n 0)) (get_or L c 0) (get_or L' c 0) (get_or F c 0) (get_or F' c 0)
   pub rest : get_or L' n 0 ≡ get_or L n 0
-  pub exit_every : (f : ℕ) → f < length free → E'.length ≤ get_or L' n 0 + (cost (get_or jobs n 0) (get_or free f nowhere) - get_or prices n 0)
-  pub exit_edge : (E' ≡ E) ⊎ ((E'.place < length free) × (E'.length ≡ get_or L' n 0 + (cost (get_or jobs n 0) (get_or free E'.place nowhere) - get_or prices n 0)) × (E'.from ≡ n))
+  pub exit_every : (f : ℕ) → f < length free → E'.length ≤ get_or L n 0 + (cost (get_or jobs n 0) (get_or free f nowhere) - get_or prices n 0)
+  pub exit_edge : (E' ≡ E) ⊎ ((E'.place < length free) × (E'.length ≡ get_or L n 0 + (cost (get_or jobs n 0) (get_or free E'.place nowhere) - get_or prices n 0)) × (E'.from ≡ n))
 
 at_root : {cost : ℕ → Place → ℕ} {jobs prices : List ℕ} {seats : List Place} {rents : List ℕ} {free : List Place} {L F L' F' R : List ℕ} {E E' : Exit} {n : ℕ} → Begins cost jobs prices seats rents free L F L' F' R E E' n → get_or L' n 0 ≡ 0
 at_root h = h.rest ∙ h.root
 
--- each seat is reached from the new job
-reached : {cost : ℕ → Place → ℕ} {jobs prices : List ℕ} {seats : List Place} {rents : List ℕ} {free : List Place} {L F L' F' R : List ℕ} {E E' : Exit} {n : ℕ} → Begins cost jobs prices seats rents free L F L' F' R E E' n → (c : ℕ) → c < n → (get_or L' c 0 ≡ cost (get_or jobs n 0) (get_or seats c nowhere) + get_or rents c 0) × (get_or F' c 0 ≡ n)
+-- a seat is reached from the new job, or it is no nearer than the exit
+reached : {cost : ℕ → Place → ℕ} {jobs prices : List ℕ} {seats : List Place} {rents : List ℕ} {free : List Place} {L F L' F' R : List ℕ} {E E' : Exit} {n : ℕ} → Begins cost jobs prices seats rents free L F L' F' R E E' n → (c : ℕ) → c < n → ((get_or L' c 0 ≡ cost (get_or jobs n 0) (get_or seats c nowhere) + get_or rents c 0) ⊎ ((get_or L' c 0 ≡ FAR) × (E'.length ≤ cost (get_or jobs n 0) (get_or seats c nowhere) + get_or rents c 0))) × (get_or F' c 0 ≡ n)
 reached {cost} {jobs} {seats} {n} h c lt =
     let low = h.low (get_or jobs n 0) (get_or seats c nowhere) in
     let rent = h.rents_low c lt in
@@ -35,11 +36,31 @@ reached {cost} {jobs} {seats} {n} h c lt =
     let root = h.root in
     let uncharged = h.uncharged in
     elim (h.relaxed c lt) [
-      | inl a ↦ absurd (a.0 (h.unsettled c lt))
-      | inr b ↦ elim b [
-        | inl a ↦ (omega (arith, a.2), a.3)
-        | inr a ↦ absurd (omega (arith, a.1))
+      | inl a ↦ (inr (a.1 ∙ far, omega (arith, a.0)), a.2 ∙ h.from_root c lt)
+      | inr r ↦ elim r [
+        | inl a ↦ absurd (a.0 (h.unsettled c lt))
+        | inr b ↦ elim b [
+          | inl a ↦ (inl (omega (arith, a.2)), a.3)
+          | inr a ↦ absurd (omega (arith, a.1))
+        ]
       ]
+    ]
+
+onward_root : {cost : ℕ → Place → ℕ} {jobs prices : List ℕ} {seats : List Place} {rents : List ℕ} {free : List Place} {L F L' F' R : List ℕ} {E E' : Exit} {n : ℕ} → Begins cost jobs prices seats rents free L F L' F' R E E' n → (c : ℕ) → c < n → (get_or L' c 0 + get_or prices n 0 ≤ get_or L' n 0 + (cost (get_or jobs n 0) (get_or seats c nowhere) + get_or rents c 0)) ⊎ (E'.length + get_or prices n 0 ≤ get_or L' n 0 + (cost (get_or jobs n 0) (get_or seats c nowhere) + get_or rents c 0))
+onward_root h c lt =
+    let uncharged = h.uncharged in
+    elim (reached h c lt).0 [
+      | inl is ↦ inl (omega (arith, is))
+      | inr far ↦ inr (omega (arith, far.1))
+    ]
+
+edge_root : {cost : ℕ → Place → ℕ} {jobs prices : List ℕ} {seats : List Place} {rents : List ℕ} {free : List Place} {L F L' F' R : List ℕ} {E E' : Exit} {n : ℕ} → Begins cost jobs prices seats rents free L F L' F' R E E' n → (c : ℕ) → c < n → get_or L' c 0 < FAR → get_or L' c 0 + get_or prices n 0 ≡ get_or L' n 0 + (cost (get_or jobs n 0) (get_or seats c nowhere) + get_or rents c 0)
+edge_root h c lt near =
+    let uncharged = h.uncharged in
+    let root = at_root h in
+    elim (reached h c lt).0 [
+      | inl is ↦ omega (arith, is)
+      | inr far ↦ absurd (omega (arith, far.0))
     ]
 
 -- only the new job is settled
@@ -47,12 +68,12 @@ is_root : {cost : ℕ → Place → ℕ} {jobs prices : List ℕ} {seats : List 
 is_root {n} h q le ne = elim (cases_eq q n) [ inl e ↦ e | inr d ↦ absurd (ne (h.unsettled q (omega arith))) ]
 
 exit_near : {cost : ℕ → Place → ℕ} {jobs prices : List ℕ} {seats : List Place} {rents : List ℕ} {free : List Place} {L F L' F' R : List ℕ} {E E' : Exit} {n : ℕ} → Begins cost jobs prices seats rents free L F L' F' R E E' n → E'.length ≤ UNABLE
-exit_near {jobs} {free} {n} h = omega (arith, h.exit_every 0 h.some, h.low (get_or jobs n 0) (get_or free 0 nowhere), at_root h)
+exit_near {jobs} {free} {n} h = omega (arith, h.exit_every 0 h.some, h.low (get_or jobs n 0) (get_or free 0 nowhere), h.root)
 
 exit_of : {cost : ℕ → Place → ℕ} {jobs prices : List ℕ} {seats : List Place} {rents : List ℕ} {free : List Place} {L F L' F' R : List ℕ} {E E' : Exit} {n : ℕ} → Begins cost jobs prices seats rents free L F L' F' R E E' n → (E'.place < length free) × (E'.length ≡ cost (get_or jobs n 0) (get_or free E'.place nowhere)) × (E'.from ≡ n)
 exit_of {n} h = elim h.exit_edge [
   | inl e ↦ absurd (omega (arith, ap (λ (x : Exit). x.length) e, h.far_exit, exit_near h))
-  | inr k ↦ (k.0, omega (arith, k.1, at_root h, h.uncharged), k.2)
+  | inr k ↦ (k.0, omega (arith, k.1, h.root, h.uncharged), k.2)
 ]
 
 pub begun : {cost : ℕ → Place → ℕ} {jobs prices : List ℕ} {seats : List Place} {rents : List ℕ} {free : List Place} {L F L' F' R : List ℕ} {E E' : Exit} {n : ℕ} → Begins cost jobs prices seats rents free L F L' F' R E E' n → IsSearched cost jobs prices seats rents free L' F' R E' 1 n
@@ -66,14 +87,14 @@ begun {jobs} {free} {R} {n} h =
       root_rank = h.root_rank;
       top_above = omega arith;
       ranked = λ q le ne. rw (is_root h q le ne, h.root_rank) (omega arith);
-      onward = λ q c le lt ne. rw (is_root h q le ne) (omega (arith, (reached h c lt).0));
-      out = λ q f le lt ne. rw (is_root h q le ne) (omega (arith, h.exit_every f lt));
+      onward = λ q c le lt ne. rw (is_root h q le ne) (onward_root h c lt);
+      out = λ q f le lt ne. rw (is_root h q le ne) (omega (arith, h.exit_every f lt, h.root));
       ordered = λ q c le lt ne e. rw (is_root h q le ne) (omega arith);
       within = λ q le ne. rw (is_root h q le ne) (omega arith);
       origin = λ c lt. rw (reached h c lt).1 (omega arith);
       falling = λ c lt. rw ((reached h c lt).1, h.root_rank, h.unsettled c lt) (omega arith);
       origin_settled = λ c lt. rw (reached h c lt).1 root_settled;
-      edge = λ c lt. rw (reached h c lt).1 (omega (arith, (reached h c lt).0));
+      edge = λ c lt near. rw (reached h c lt).1 (edge_root h c lt near);
       near = exit_near h;
       exit_origin = rw out.2 (omega arith);
       exit_settled = rw out.2 root_settled;

@@ -4,7 +4,7 @@ use Rattle.std.proofs.lemmas.Bool.{cases_eq}
 use Rattle.std.proofs.lemmas.List.{get_or_push, get_or_append_left}
 use Rattle.assignment.specs.declared.costs.Place.{Place}
 use Rattle.assignment.specs.declared.search.Exit.{Exit}
-use Rattle.assignment.specs.declared.search.TheConstants.{UNSETTLED}
+use Rattle.assignment.specs.declared.search.TheConstants.{UNSETTLED, FAR}
 use Rattle.assignment.specs.Costs.{nowhere}
 use Rattle.assignment.specs.Seating.{IsFair, IsTight, AreMoved}
 use Rattle.assignment.specs.Search.{IsSearched}
@@ -35,7 +35,10 @@ fair_up h q c le lt =
     let v = h.rent_up c lt in
     elim (far_or_settled h q le) [
       | inl far ↦ omega (arith, h.fair q c le lt)
-      | inr ne ↦ omega (arith, h.searched.onward q c le lt ne, h.searched.within q le ne)
+      | inr ne ↦ elim (h.searched.onward q c le lt ne) [
+        | inl near ↦ omega (arith, near, h.searched.within q le ne)
+        | inr far ↦ omega (arith, far, h.searched.within q le ne)
+      ]
     ]
 
 pub free_up : {cost : ℕ → Place → ℕ} {jobs P : List ℕ} {seats : List Place} {V : List ℕ} {free : List Place} {L F R P' V' : List ℕ} {E : Exit} {top n : ℕ} → Raises cost jobs P seats V free L F R P' V' E top n → (q f : ℕ) → q ≤ n → f < length free → get_or P' q 0 ≤ cost (get_or jobs q 0) (get_or free f nowhere)
@@ -51,9 +54,10 @@ tight_up h c lt = omega (arith, h.price_up c (omega arith), h.rent_up c lt, h.ti
 
 -- the job from which a settled seat was reached pays there what it is charged
 edge_up : {cost : ℕ → Place → ℕ} {jobs P : List ℕ} {seats : List Place} {V : List ℕ} {free : List Place} {L F R P' V' : List ℕ} {E : Exit} {top n : ℕ} → Raises cost jobs P seats V free L F R P' V' E top n → (c : ℕ) → c < n → get_or R c 0 ≢ UNSETTLED → get_or P' (get_or F c 0) 0 ≡ cost (get_or jobs (get_or F c 0) 0) (get_or seats c nowhere) + get_or V' c 0
-edge_up {F} h c lt ne =
+edge_up {L} {F} h c lt ne =
     let from = h.searched.origin c lt in
-    omega (arith, h.price_up (get_or F c 0) from, h.rent_up c lt, h.searched.edge c lt, h.searched.within c (omega arith) ne, h.searched.within (get_or F c 0) from (h.searched.origin_settled c lt))
+    let near : get_or L c 0 < FAR = omega (arith, h.searched.within c (omega arith) ne, h.searched.near) in
+    omega (arith, h.price_up (get_or F c 0) from, h.rent_up c lt, h.searched.edge c lt near, h.searched.within c (omega arith) ne, h.searched.within (get_or F c 0) from (h.searched.origin_settled c lt))
 
 exit_up : {cost : ℕ → Place → ℕ} {jobs P : List ℕ} {seats : List Place} {V : List ℕ} {free : List Place} {L F R P' V' : List ℕ} {E : Exit} {top n : ℕ} → Raises cost jobs P seats V free L F R P' V' E top n → get_or P' E.from 0 ≡ cost (get_or jobs E.from 0) (get_or free E.place nowhere)
 exit_up {E} h =

@@ -3,9 +3,9 @@ use Rattle.std.proofs.Common.{◌≡◌, ◌≢◌, ◌⊎◌, ℕ, ◌+◌, ◌
 use Rattle.std.proofs.lemmas.Bool.{cases_eq}
 use Rattle.assignment.specs.declared.costs.Place.{Place}
 use Rattle.assignment.specs.declared.search.Exit.{Exit}
-use Rattle.assignment.specs.declared.search.TheConstants.{UNSETTLED}
+use Rattle.assignment.specs.declared.search.TheConstants.{UNSETTLED, FAR}
 use Rattle.assignment.specs.Costs.{nowhere}
-use Rattle.assignment.specs.Search.{IsRelaxed, IsSearched}
+use Rattle.assignment.specs.Search.{IsReached, IsRelaxed, IsSearched}
 
 pub record Settles (cost : ℕ → Place → ℕ) (jobs prices : List ℕ) (seats : List Place) (rents : List ℕ) (free : List Place) (L F R L' F' R' : List ℕ) (E E' : Exit) (top s n : ℕ) : Type 0 where
   pub fair : (q c : ℕ) → q ≤ n → c < n → get_or prices q 0 ≤ cost (get_or jobs q 0) (get_or seats c nowhere) + get_or rents c 0
@@ -18,32 +18,44 @@ pub record Settles (cost : ℕ → Place → ℕ) (jobs prices : List ℕ) (seat
   pub room : top < UNSETTLED
   pub rank_same : get_or R' s 0 ≡ top
   pub rank_other : (q : ℕ) → q ≢ s → get_or R' q 0 ≡ get_or R q 0
-  pub relaxed : (c : ℕ) → c < n → IsRelaxed (get_or R' c 0) s (get_or L s 0 + (cost (get_or jobs s 0) (get_or seats c nowhere) + get_or rents c 0 - get_or prices s 0)) (get_or L c 0) (get_or L' c 0) (get_or F c 0) (get_or F' c 0)
+  pub relaxed : (c : ℕ) → c < n → IsRelaxed E'.length (get_or R' c 0) s (get_or L s 0 + (cost (get_or jobs s 0) (get_or seats c nowhere) + get_or rents c 0 - get_or prices s 0)) (get_or L c 0) (get_or L' c 0) (get_or F c 0) (get_or F' c 0)
   pub rest : get_or L' n 0 ≡ get_or L n 0
   pub exit_le : E'.length ≤ E.length
   pub exit_every : (f : ℕ) → f < length free → E'.length ≤ get_or L s 0 + (cost (get_or jobs s 0) (get_or free f nowhere) - get_or prices s 0)
   pub exit_edge : (E' ≡ E) ⊎ ((E'.place < length free) × (E'.length ≡ get_or L s 0 + (cost (get_or jobs s 0) (get_or free E'.place nowhere) - get_or prices s 0)) × (E'.from ≡ s))
 
-relaxed_le : (rank o x l l' f f' : ℕ) → IsRelaxed rank o x l l' f f' → l' ≤ l
-relaxed_le rank o x l l' f f' h = elim h [ inl a ↦ omega arith | inr b ↦ elim b [ inl a ↦ omega arith | inr a ↦ omega arith ] ]
+reached_le : (rank o x l l' f f' : ℕ) → IsReached rank o x l l' f f' → l' ≤ l
+reached_le rank o x l l' f f' h = elim h [ inl a ↦ omega arith | inr b ↦ elim b [ inl a ↦ omega arith | inr a ↦ omega arith ] ]
 
-pub relaxed_settled : (rank o x l l' f f' : ℕ) → IsRelaxed rank o x l l' f f' → rank ≢ UNSETTLED → l' ≡ l
-relaxed_settled rank o x l l' f f' h ne = elim h [ inl a ↦ a.1 | inr b ↦ elim b [ inl a ↦ absurd (ne a.0) | inr a ↦ a.2 ] ]
+relaxed_le : (reach rank o x l l' f f' : ℕ) → IsRelaxed reach rank o x l l' f f' → l' ≤ l
+relaxed_le reach rank o x l l' f f' h = elim h [ inl a ↦ omega arith | inr b ↦ reached_le rank o x l l' f f' b ]
 
-relaxed_by : (rank o x l l' f f' : ℕ) → IsRelaxed rank o x l l' f f' → rank ≡ UNSETTLED → l' ≤ x
-relaxed_by rank o x l l' f f' h e = elim h [ inl a ↦ absurd (a.0 e) | inr b ↦ elim b [ inl a ↦ omega arith | inr a ↦ omega arith ] ]
+reached_settled : (rank o x l l' f f' : ℕ) → IsReached rank o x l l' f f' → rank ≢ UNSETTLED → l' ≡ l
+reached_settled rank o x l l' f f' h ne = elim h [ inl a ↦ a.1 | inr b ↦ elim b [ inl a ↦ absurd (ne a.0) | inr a ↦ a.2 ] ]
+
+pub relaxed_settled : (reach rank o x l l' f f' : ℕ) → IsRelaxed reach rank o x l l' f f' → rank ≢ UNSETTLED → l' ≡ l
+relaxed_settled reach rank o x l l' f f' h ne = elim h [ inl a ↦ a.1 | inr b ↦ reached_settled rank o x l l' f f' b ne ]
+
+reached_by : (rank o x l l' f f' : ℕ) → IsReached rank o x l l' f f' → rank ≡ UNSETTLED → l' ≤ x
+reached_by rank o x l l' f f' h e = elim h [ inl a ↦ absurd (a.0 e) | inr b ↦ elim b [ inl a ↦ omega arith | inr a ↦ omega arith ] ]
+
+relaxed_by : (reach rank o x l l' f f' : ℕ) → IsRelaxed reach rank o x l l' f f' → rank ≡ UNSETTLED → (l' ≤ x) ⊎ (reach ≤ x)
+relaxed_by reach rank o x l l' f f' h e = elim h [ inl a ↦ inr a.0 | inr b ↦ inl (reached_by rank o x l l' f f' b e) ]
+
+reached_either : (rank o x l l' f f' : ℕ) → IsReached rank o x l l' f f' → ((l' ≡ l) × (f' ≡ f)) ⊎ ((rank ≡ UNSETTLED) × (l' ≡ x) × (f' ≡ o))
+reached_either rank o x l l' f f' h = elim h [ inl a ↦ inl (a.1, a.2) | inr b ↦ elim b [ inl a ↦ inr (a.0, a.2, a.3) | inr a ↦ inl (a.2, a.3) ] ]
 
 -- a relaxed seat is as it was, or it is reached from the settled one
-relaxed_either : (rank o x l l' f f' : ℕ) → IsRelaxed rank o x l l' f f' → ((l' ≡ l) × (f' ≡ f)) ⊎ ((rank ≡ UNSETTLED) × (l' ≡ x) × (f' ≡ o))
-relaxed_either rank o x l l' f f' h = elim h [ inl a ↦ inl (a.1, a.2) | inr b ↦ elim b [ inl a ↦ inr (a.0, a.2, a.3) | inr a ↦ inl (a.2, a.3) ] ]
+relaxed_either : (reach rank o x l l' f f' : ℕ) → IsRelaxed reach rank o x l l' f f' → ((l' ≡ l) × (f' ≡ f)) ⊎ ((rank ≡ UNSETTLED) × (l' ≡ x) × (f' ≡ o))
+relaxed_either reach rank o x l l' f f' h = elim h [ inl a ↦ inl (a.1, a.2) | inr b ↦ reached_either rank o x l l' f f' b ]
 
 length_le : {cost : ℕ → Place → ℕ} {jobs prices : List ℕ} {seats : List Place} {rents : List ℕ} {free : List Place} {L F R L' F' R' : List ℕ} {E E' : Exit} {top s n : ℕ} → Settles cost jobs prices seats rents free L F R L' F' R' E E' top s n → (c : ℕ) → c < n → get_or L' c 0 ≤ get_or L c 0
-length_le h c lt = relaxed_le _ _ _ _ _ _ _ (h.relaxed c lt)
+length_le h c lt = relaxed_le _ _ _ _ _ _ _ _ (h.relaxed c lt)
 
 length_same : {cost : ℕ → Place → ℕ} {jobs prices : List ℕ} {seats : List Place} {rents : List ℕ} {free : List Place} {L F R L' F' R' : List ℕ} {E E' : Exit} {top s n : ℕ} → Settles cost jobs prices seats rents free L F R L' F' R' E E' top s n → (q : ℕ) → q ≤ n → get_or R' q 0 ≢ UNSETTLED → get_or L' q 0 ≡ get_or L q 0
 length_same {L} {L'} {n} h q le ne = elim (cases_eq q n) [
   | inl e ↦ rw e h.rest
-  | inr d ↦ relaxed_settled _ _ _ _ _ _ _ (h.relaxed q (omega arith)) ne
+  | inr d ↦ relaxed_settled _ _ _ _ _ _ _ _ (h.relaxed q (omega arith)) ne
 ]
 
 -- what was settled, is
@@ -65,26 +77,33 @@ open_now {s} h c e = elim (cases_eq c s) [
   | inr d ↦ sym (h.rank_other c d) ∙ e
 ]
 
-onward_here : {cost : ℕ → Place → ℕ} {jobs prices : List ℕ} {seats : List Place} {rents : List ℕ} {free : List Place} {L F R L' F' R' : List ℕ} {E E' : Exit} {top s n : ℕ} → Settles cost jobs prices seats rents free L F R L' F' R' E E' top s n → (c : ℕ) → c < n → get_or L' c 0 + get_or prices s 0 ≤ get_or L s 0 + (cost (get_or jobs s 0) (get_or seats c nowhere) + get_or rents c 0)
+onward_here : {cost : ℕ → Place → ℕ} {jobs prices : List ℕ} {seats : List Place} {rents : List ℕ} {free : List Place} {L F R L' F' R' : List ℕ} {E E' : Exit} {top s n : ℕ} → Settles cost jobs prices seats rents free L F R L' F' R' E E' top s n → (c : ℕ) → c < n → (get_or L' c 0 + get_or prices s 0 ≤ get_or L s 0 + (cost (get_or jobs s 0) (get_or seats c nowhere) + get_or rents c 0)) ⊎ (E'.length + get_or prices s 0 ≤ get_or L s 0 + (cost (get_or jobs s 0) (get_or seats c nowhere) + get_or rents c 0))
 onward_here {L} {R'} {s} {n} h c lt =
     let fair = h.fair s c (omega (arith, h.here)) lt in
     elim (cases_eq (get_or R' c 0) UNSETTLED) [
-      | inl e ↦ let by = relaxed_by _ _ _ _ _ _ _ (h.relaxed c lt) e in omega arith
+      | inl e ↦ elim (relaxed_by _ _ _ _ _ _ _ _ (h.relaxed c lt) e) [
+        | inl by ↦ inl (omega arith)
+        | inr far ↦ inr (omega arith)
+      ]
       | inr ne ↦
           let same = length_same h c (omega arith) ne in
           elim (settled_now h c ne) [
-            | inl e ↦ let le : get_or L c 0 ≤ get_or L s 0 = rw e (omega arith) in omega arith
-            | inr d ↦ let le = h.old.ordered c s (omega arith) h.here d.1 h.unsettled in omega arith
+            | inl e ↦ let le : get_or L c 0 ≤ get_or L s 0 = rw e (omega arith) in inl (omega arith)
+            | inr d ↦ let le = h.old.ordered c s (omega arith) h.here d.1 h.unsettled in inl (omega arith)
           ]
     ]
 
-onward_now : {cost : ℕ → Place → ℕ} {jobs prices : List ℕ} {seats : List Place} {rents : List ℕ} {free : List Place} {L F R L' F' R' : List ℕ} {E E' : Exit} {top s n : ℕ} → Settles cost jobs prices seats rents free L F R L' F' R' E E' top s n → (q c : ℕ) → q ≤ n → c < n → get_or R' q 0 ≢ UNSETTLED → get_or L' c 0 + get_or prices q 0 ≤ get_or L' q 0 + (cost (get_or jobs q 0) (get_or seats c nowhere) + get_or rents c 0)
+onward_now : {cost : ℕ → Place → ℕ} {jobs prices : List ℕ} {seats : List Place} {rents : List ℕ} {free : List Place} {L F R L' F' R' : List ℕ} {E E' : Exit} {top s n : ℕ} → Settles cost jobs prices seats rents free L F R L' F' R' E E' top s n → (q c : ℕ) → q ≤ n → c < n → get_or R' q 0 ≢ UNSETTLED → (get_or L' c 0 + get_or prices q 0 ≤ get_or L' q 0 + (cost (get_or jobs q 0) (get_or seats c nowhere) + get_or rents c 0)) ⊎ (E'.length + get_or prices q 0 ≤ get_or L' q 0 + (cost (get_or jobs q 0) (get_or seats c nowhere) + get_or rents c 0))
 onward_now {L} {R'} {s} {n} h q c le lt ne =
     let same = length_same h q le ne in
     let less = length_le h c lt in
+    let nearer = h.exit_le in
     elim (settled_now h q ne) [
       | inl e ↦ rw same (rw e (onward_here h c lt))
-      | inr d ↦ let old = h.old.onward q c le lt d.1 in omega arith
+      | inr d ↦ elim (h.old.onward q c le lt d.1) [
+        | inl old ↦ inl (omega arith)
+        | inr old ↦ inr (omega arith)
+      ]
     ]
 
 out_now : {cost : ℕ → Place → ℕ} {jobs prices : List ℕ} {seats : List Place} {rents : List ℕ} {free : List Place} {L F R L' F' R' : List ℕ} {E E' : Exit} {top s n : ℕ} → Settles cost jobs prices seats rents free L F R L' F' R' E E' top s n → (q f : ℕ) → q ≤ n → f < length free → get_or R' q 0 ≢ UNSETTLED → E'.length + get_or prices q 0 ≤ get_or L' q 0 + cost (get_or jobs q 0) (get_or free f nowhere)
@@ -110,7 +129,7 @@ ordered_now : {cost : ℕ → Place → ℕ} {jobs prices : List ℕ} {seats : L
 ordered_now h q c le lt ne e =
     let same = length_same h q le ne in
     let before = before_here h q le ne in
-    elim (relaxed_either _ _ _ _ _ _ _ (h.relaxed c lt)) [
+    elim (relaxed_either _ _ _ _ _ _ _ _ (h.relaxed c lt)) [
       | inl k ↦ let least = h.least c lt (open_now h c e) in let kept = k.0 in omega arith
       | inr k ↦ let got = k.1 in omega arith
     ]
@@ -126,7 +145,7 @@ within_now {E} {E'} h q le ne =
     ]
 
 origin_now : {cost : ℕ → Place → ℕ} {jobs prices : List ℕ} {seats : List Place} {rents : List ℕ} {free : List Place} {L F R L' F' R' : List ℕ} {E E' : Exit} {top s n : ℕ} → Settles cost jobs prices seats rents free L F R L' F' R' E E' top s n → (c : ℕ) → c < n → get_or F' c 0 ≤ n
-origin_now {n} h c lt = elim (relaxed_either _ _ _ _ _ _ _ (h.relaxed c lt)) [
+origin_now {n} h c lt = elim (relaxed_either _ _ _ _ _ _ _ _ (h.relaxed c lt)) [
   | inl k ↦ rw k.1 (h.old.origin c lt)
   | inr k ↦ rw k.2 (omega (arith, h.here))
 ]
@@ -135,13 +154,13 @@ rank_top : {cost : ℕ → Place → ℕ} {jobs prices : List ℕ} {seats : List
 rank_top h e = omega (arith, h.rank_same, h.room)
 
 origin_settled_now : {cost : ℕ → Place → ℕ} {jobs prices : List ℕ} {seats : List Place} {rents : List ℕ} {free : List Place} {L F R L' F' R' : List ℕ} {E E' : Exit} {top s n : ℕ} → Settles cost jobs prices seats rents free L F R L' F' R' E E' top s n → (c : ℕ) → c < n → get_or R' (get_or F' c 0) 0 ≢ UNSETTLED
-origin_settled_now h c lt = elim (relaxed_either _ _ _ _ _ _ _ (h.relaxed c lt)) [
+origin_settled_now h c lt = elim (relaxed_either _ _ _ _ _ _ _ _ (h.relaxed c lt)) [
   | inl k ↦ rw k.1 (λ e. h.old.origin_settled c lt (sym (was_settled h _ (h.old.origin_settled c lt)).1 ∙ e))
   | inr k ↦ rw k.2 (rank_top h)
 ]
 
 falling_now : {cost : ℕ → Place → ℕ} {jobs prices : List ℕ} {seats : List Place} {rents : List ℕ} {free : List Place} {L F R L' F' R' : List ℕ} {E E' : Exit} {top s n : ℕ} → Settles cost jobs prices seats rents free L F R L' F' R' E E' top s n → (c : ℕ) → c < n → get_or R' (get_or F' c 0) 0 < get_or R' c 0
-falling_now {F} {R} {R'} {top} {s} h c lt = elim (relaxed_either _ _ _ _ _ _ _ (h.relaxed c lt)) [
+falling_now {F} {R} {R'} {top} {s} h c lt = elim (relaxed_either _ _ _ _ _ _ _ _ (h.relaxed c lt)) [
   | inl k ↦
       let was = was_settled h (get_or F c 0) (h.old.origin_settled c lt) in
       let falls = h.old.falling c lt in
@@ -153,12 +172,12 @@ falling_now {F} {R} {R'} {top} {s} h c lt = elim (relaxed_either _ _ _ _ _ _ _ (
   | inr k ↦ let at = k.0 in let same = h.rank_same in let room = h.room in rw k.2 (omega arith)
 ]
 
-edge_now : {cost : ℕ → Place → ℕ} {jobs prices : List ℕ} {seats : List Place} {rents : List ℕ} {free : List Place} {L F R L' F' R' : List ℕ} {E E' : Exit} {top s n : ℕ} → Settles cost jobs prices seats rents free L F R L' F' R' E E' top s n → (c : ℕ) → c < n → get_or L' c 0 + get_or prices (get_or F' c 0) 0 ≡ get_or L' (get_or F' c 0) 0 + (cost (get_or jobs (get_or F' c 0) 0) (get_or seats c nowhere) + get_or rents c 0)
-edge_now {L} {F} {s} {n} h c lt = elim (relaxed_either _ _ _ _ _ _ _ (h.relaxed c lt)) [
+edge_now : {cost : ℕ → Place → ℕ} {jobs prices : List ℕ} {seats : List Place} {rents : List ℕ} {free : List Place} {L F R L' F' R' : List ℕ} {E E' : Exit} {top s n : ℕ} → Settles cost jobs prices seats rents free L F R L' F' R' E E' top s n → (c : ℕ) → c < n → get_or L' c 0 < FAR → get_or L' c 0 + get_or prices (get_or F' c 0) 0 ≡ get_or L' (get_or F' c 0) 0 + (cost (get_or jobs (get_or F' c 0) 0) (get_or seats c nowhere) + get_or rents c 0)
+edge_now {L} {F} {s} {n} h c lt near = elim (relaxed_either _ _ _ _ _ _ _ _ (h.relaxed c lt)) [
   | inl k ↦
       let was = was_settled h (get_or F c 0) (h.old.origin_settled c lt) in
       let same = length_same h (get_or F c 0) (h.old.origin c lt) (λ e. h.old.origin_settled c lt (sym was.1 ∙ e)) in
-      let edge = h.old.edge c lt in
+      let edge = h.old.edge c lt (omega (arith, k.0)) in
       rw (k.1, k.0, same) edge
   | inr k ↦
       let same = length_same h s (omega (arith, h.here)) (rank_top h) in

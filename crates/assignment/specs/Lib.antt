@@ -5,3 +5,4 @@ pub mod Layout
 pub mod Entries
 pub mod Answer
 pub mod AllPlaces
+pub mod Lanes

@@ -10,16 +10,21 @@ use Rattle.assignment.specs.declared.search.TheConstants.{UNSETTLED, FAR}
 use Rattle.assignment.specs.declared.seating.Seating.{Seating}
 use Rattle.assignment.specs.Costs.{cost_of, nowhere}
 
--- r is the place of the least length among the unsettled ones of the first n seats
-abbrev pub IsNearestOf : List ℕ → List ℕ → ℕ → Option ℕ → Type 0
-IsNearestOf lengths ranks n None = (k : ℕ) → k < n → slice_index ranks k ≢ UNSETTLED
-IsNearestOf lengths ranks n (Some c) =
-    (c < n) × (slice_index ranks c ≡ UNSETTLED) × ((k : ℕ) → k < n → slice_index ranks k ≡ UNSETTLED → slice_index lengths c ≤ slice_index lengths k)
+-- r is the place of the least length among the unsettled ones of the first n seats, where one is nearer than `reach`
+abbrev pub IsNearestOf : List ℕ → List ℕ → ℕ → (reach : ℕ) → Option ℕ → Type 0
+IsNearestOf lengths ranks n reach None = (k : ℕ) → k < n → slice_index ranks k ≡ UNSETTLED → reach ≤ slice_index lengths k
+IsNearestOf lengths ranks n reach (Some c) =
+    (c < n) × (slice_index ranks c ≡ UNSETTLED) × (slice_index lengths c < reach) × ((k : ℕ) → k < n → slice_index ranks k ≡ UNSETTLED → slice_index lengths c ≤ slice_index lengths k)
 
--- what a relaxed seat's length and origin become: `length` is the way over the seat `origin`
-abbrev pub IsRelaxed : (rank origin length old new from from' : ℕ) → Type 0
-IsRelaxed rank origin length old new from from' =
+-- what becomes of the length and origin of a seat that a way reaches: `length` is that of the way over the seat `origin`
+abbrev pub IsReached : (rank origin length old new from from' : ℕ) → Type 0
+IsReached rank origin length old new from from' =
     ((rank ≢ UNSETTLED) × (new ≡ old) × (from' ≡ from)) ⊎ ((rank ≡ UNSETTLED) × (length < old) × (new ≡ length) × (from' ≡ origin)) ⊎ ((rank ≡ UNSETTLED) × (old ≤ length) × (new ≡ old) × (from' ≡ from))
+
+-- of a relaxed seat: a way that isn't shorter than `reach` leaves it as it is
+abbrev pub IsRelaxed : (reach rank origin length old new from from' : ℕ) → Type 0
+IsRelaxed reach rank origin length old new from from' =
+    ((reach ≤ length) × (new ≡ old) × (from' ≡ from)) ⊎ IsReached rank origin length old new from from'
 
 abbrev pub IsExitOf : (cost : ℕ → Place → ℕ) (job price base q : ℕ) → List Place → Exit → Type 0
 IsExitOf cost job price base q free exit =
@@ -32,14 +37,14 @@ pub record IsSearched (cost : ℕ → Place → ℕ) (jobs prices : List ℕ) (s
   pub root_rank : slice_index ranks n ≡ 0
   pub top_above : 0 < top
   pub ranked : (q : ℕ) → q ≤ n → slice_index ranks q ≢ UNSETTLED → slice_index ranks q < top
-  pub onward : (q c : ℕ) → q ≤ n → c < n → slice_index ranks q ≢ UNSETTLED → slice_index lengths c + slice_index prices q ≤ slice_index lengths q + (cost (slice_index jobs q) (slice_index_or seats c nowhere) + slice_index rents c)
+  pub onward : (q c : ℕ) → q ≤ n → c < n → slice_index ranks q ≢ UNSETTLED → (slice_index lengths c + slice_index prices q ≤ slice_index lengths q + (cost (slice_index jobs q) (slice_index_or seats c nowhere) + slice_index rents c)) ⊎ (exit.length + slice_index prices q ≤ slice_index lengths q + (cost (slice_index jobs q) (slice_index_or seats c nowhere) + slice_index rents c))
   pub out : (q f : ℕ) → q ≤ n → f < length free → slice_index ranks q ≢ UNSETTLED → exit.length + slice_index prices q ≤ slice_index lengths q + cost (slice_index jobs q) (slice_index_or free f nowhere)
   pub ordered : (q c : ℕ) → q ≤ n → c < n → slice_index ranks q ≢ UNSETTLED → slice_index ranks c ≡ UNSETTLED → slice_index lengths q ≤ slice_index lengths c
   pub within : (q : ℕ) → q ≤ n → slice_index ranks q ≢ UNSETTLED → slice_index lengths q ≤ exit.length
   pub origin : (c : ℕ) → c < n → slice_index froms c ≤ n
   pub falling : (c : ℕ) → c < n → slice_index ranks (slice_index froms c) < slice_index ranks c
   pub origin_settled : (c : ℕ) → c < n → slice_index ranks (slice_index froms c) ≢ UNSETTLED
-  pub edge : (c : ℕ) → c < n → slice_index lengths c + slice_index prices (slice_index froms c) ≡ slice_index lengths (slice_index froms c) + (cost (slice_index jobs (slice_index froms c)) (slice_index_or seats c nowhere) + slice_index rents c)
+  pub edge : (c : ℕ) → c < n → slice_index lengths c < FAR → slice_index lengths c + slice_index prices (slice_index froms c) ≡ slice_index lengths (slice_index froms c) + (cost (slice_index jobs (slice_index froms c)) (slice_index_or seats c nowhere) + slice_index rents c)
   pub near : exit.length ≤ UNABLE
   pub exit_origin : exit.from ≤ n
   pub exit_settled : slice_index ranks exit.from ≢ UNSETTLED
@@ -57,10 +62,6 @@ pub record IsSized (s : Seating) (x : Search) : Type 0 where
 
 abbrev pub SearchedFrom : Costs → Seating → List Place → Search → Type 0
 SearchedFrom t s free x = IsSearched (cost_of t) s.jobs.items s.prices.items s.seats.items s.rents.items free x.lengths.items x.froms.items x.ranks.items x.exit x.settled (vec_len s.seats)
-
--- the search knows the nearest unsettled seat
-abbrev pub IsNearest : Seating → Search → Type 0
-IsNearest s x = IsNearestOf x.lengths.items x.ranks.items (vec_len s.seats) x.nearest
 
 -- 1 for the rank of an unsettled seat, 0 for another
 abbrev pub open_of : ℕ → ℕ
@@ -82,6 +83,7 @@ pub record IsBlank (n : ℕ) (x : Search) : Type 0 where
   pub ranks : vec_len x.ranks ≡ n + 1
   pub far : (c : ℕ) → c < n → slice_index x.lengths.items c ≡ FAR
   pub root : slice_index x.lengths.items n ≡ 0
+  pub from_root : (c : ℕ) → c < n → slice_index x.froms.items c ≡ n
   pub unsettled : (c : ℕ) → c < n → slice_index x.ranks.items c ≡ UNSETTLED
   pub root_rank : slice_index x.ranks.items n ≡ 0
   pub far_exit : x.exit.length ≡ FAR

@@ -5,10 +5,12 @@ ghost use Rattle.std.specs.List.Sorted.{IsPermutation};
 ghost use Rattle.assignment.specs.declared.costs.Place.{Place};
 ghost use Rattle.assignment.specs.Costs.{cost_of, nowhere};
 ghost use Rattle.assignment.specs.Seating.{IsSeated};
+ghost use Rattle.assignment.specs.Lanes.{IsLaned};
 ghost use Rattle.assignment.specs.Layout.{IsFilled, IsLaid};
 ghost use Rattle.assignment.specs.AllPlaces.{CanFill, ShowsAll, place_on};
 
 use crate::costs::{Costs, Place};
+use crate::lanes::{Lane, add_to_lane, empty_lanes};
 use crate::order::longest_first;
 use crate::seating::{Seating, insert};
 use crate::solver::solve;
@@ -41,6 +43,7 @@ fn solve_densely(alloc: Global, costs: &Costs) -> Result<Seating, AllocError>
 {
     let order = longest_first(alloc, costs)?;
     let mut free = all_places(alloc, costs.waits.len(), costs.rows.len())?;
+    let mut lanes = empty_lanes(alloc, costs.waits.len())?;
     let mut seating = Seating {
         seats: Vec::new(alloc),
         rents: Vec::new(alloc),
@@ -48,7 +51,7 @@ fn solve_densely(alloc: Global, costs: &Costs) -> Result<Seating, AllocError>
         prices: Vec::new(alloc),
     };
     for place in 0..order.len() {
-        free = seat_among(alloc, costs, &mut seating, &free, order[place])?;
+        free = seat_among(alloc, costs, &mut lanes, &mut seating, &free, order[place])?;
     }
     Ok(seating)
 }
@@ -57,6 +60,7 @@ fn solve_densely(alloc: Global, costs: &Costs) -> Result<Seating, AllocError>
 fn seat_among(
     alloc: Global,
     costs: &Costs,
+    lanes: &mut [Lane],
     seating: &mut Seating,
     free: &[Place],
     job: usize,
@@ -67,16 +71,20 @@ fn seat_among(
     requires known { All (λ j. j < vec_len costs.now.rows) seating.old.jobs.items }
     requires seated { IsSeated (cost_of costs.now) seating.old free.now }
     requires laid { IsLaid (vec_len costs.now.waits) seating.old.seats.items }
+    requires laned { IsLaned (vec_len costs.now.waits) seating.old.seats.items lanes.old }
     requires shows { ShowsAll costs.now seating.old.seats.items free.now }
     ensures known { IfOk result (λ _. All (λ j. j < vec_len costs.now.rows) seating.new.jobs.items) }
     ensures count { IfOk result (λ _. vec_len seating.new.seats ≡ vec_len seating.old.seats + 1) }
     ensures seated { IfOk result (λ left. IsSeated (cost_of costs.now) seating.new left.items) }
     ensures laid { IfOk result (λ _. IsLaid (vec_len costs.now.waits) seating.new.seats.items) }
+    ensures laned { IfOk result (λ _. IsLaned (vec_len costs.now.waits) seating.new.seats.items lanes.new) }
     ensures shows { IfOk result (λ left. ShowsAll costs.now seating.new.seats.items left.items) }
     ensures jobs { IfOk result (λ _. IsPermutation (seating.old.jobs.items ++ job ∷ []) seating.new.jobs.items) }
 {
-    let at = insert(alloc, costs, seating, free, &mut [], job)?;
+    let seat = seating.seats.len();
+    let at = insert(alloc, costs, lanes, seating, free, &mut [], job)?;
     let taken = free[at];
+    add_to_lane(lanes, taken.device, seat)?;
     let left = without(alloc, free, taken)?;
     Ok(left)
 }

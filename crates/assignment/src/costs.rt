@@ -1,5 +1,5 @@
 //! What a job costs at a place from the end of a device's list.
-ghost use Rattle.std.specs.Prelude.{◌≡◌, ◌+◌, ◌*◌, ◌≤◌, min, suc};
+ghost use Rattle.std.specs.Prelude.{◌≡◌, ◌+◌, ◌*◌, ◌≤◌, min, slice_index_or, suc};
 ghost use Rattle.assignment.specs.Costs.{cost_at, cost_of, row_of};
 
 use base_types::Limits;
@@ -66,6 +66,13 @@ impl Costs {
             None => &[],
         }
     }
+}
+
+/// The time or the wait on a device, of a list of them; [`UNABLE`] where there is none.
+pub(crate) fn on_device(values: &[u64], device: usize) -> u64
+    ensures { result ≡ slice_index_or values.now device UNABLE }
+{
+    values.get(device).copied().unwrap_or(UNABLE)
 }
 
 /// What a job with these times adds to the total at a place: the device's wait once, and the job's

@@ -11,6 +11,7 @@ mod able;
 mod all_places;
 mod answer;
 mod costs;
+mod lanes;
 mod order;
 mod planner;
 mod search;

@@ -1,11 +1,13 @@
 //! The search for the nearest free place: shortest ways from the new job, over the seats that
 //! others would leave.
 ghost use Rattle.std.specs.Prelude.{◌≡◌, ◌≢◌, ℕ, ◌+◌, ◌-◌, ◌<◌, ◌≤◌, ◌⊎◌, length, slice_index, slice_index_or, slice_set, vec_len, [], IfOk};
-ghost use Rattle.assignment.specs.Costs.{cost_of, nowhere};
+ghost use Rattle.assignment.specs.Costs.{cost_at, cost_of, nowhere};
+ghost use Rattle.assignment.specs.Lanes.{IsLane, IsLaned};
 ghost use Rattle.assignment.specs.Seating.{IsFair, HasNewJob};
-ghost use Rattle.assignment.specs.Search.{IsNearest, IsNearestOf, IsRelaxed, IsExitOf, IsSized, SearchedFrom, IsBlank, IsFinished, open_count};
+ghost use Rattle.assignment.specs.Search.{IsNearestOf, IsReached, IsRelaxed, IsExitOf, IsSized, SearchedFrom, IsBlank, IsFinished, open_count};
 
-use crate::costs::{Costs, Place, UNABLE, cost};
+use crate::costs::{Costs, Place, UNABLE, cost, on_device};
+use crate::lanes::Lane;
 use crate::seating::Seating;
 use std::alloc::{AllocError, Global};
 
@@ -22,12 +24,21 @@ pub(crate) struct Exit {
     pub(crate) from: usize,
 }
 
+/// The ways from a settled seat: how far the seat is, what its job is charged, and the charge from
+/// which on a place is no nearer than the exit.
+#[derive(Clone, Copy, Debug)]
+struct Ways {
+    origin: usize,
+    base: u64,
+    price: u64,
+    most: u64,
+}
+
 #[derive(Debug, Drop)]
 pub(crate) struct Search {
     pub(crate) lengths: Vec<u64>,
     pub(crate) froms: Vec<usize>,
     pub(crate) ranks: Vec<usize>,
-    pub(crate) nearest: Option<usize>,
     pub(crate) exit: Exit,
     pub(crate) settled: usize,
 }
@@ -51,7 +62,6 @@ fn blank(alloc: Global, new: usize, len: usize) -> Result<Search, AllocError>
         lengths,
         froms,
         ranks,
-        nearest: None,
         exit,
         settled: 1,
     })
@@ -61,21 +71,22 @@ fn blank(alloc: Global, new: usize, len: usize) -> Result<Search, AllocError>
 fn begin(
     alloc: Global,
     costs: &Costs,
+    lanes: &[Lane],
     seating: &Seating,
     free: &[Place],
 ) -> Result<Search, AllocError>
     requires new_job { HasNewJob seating.now }
+    requires laned { IsLaned (vec_len costs.now.waits) seating.now.seats.items lanes.now }
     requires rents_low { (k : ℕ) → k < vec_len seating.now.seats → slice_index seating.now.rents.items k ≤ UNABLE }
     requires some { 0 < length free.now }
     ensures sizes { IfOk result (λ x. IsSized seating.now x) }
     ensures searched { IfOk result (λ x. SearchedFrom costs.now seating.now free.now x) }
-    ensures nearest { IfOk result (λ x. IsNearest seating.now x) }
     ensures counted { IfOk result (λ x. x.settled + open_count x.ranks.items ≤ vec_len x.ranks) }
 {
     let new = seating.seats.len();
     let mut search = blank(alloc, new, seating.jobs.len())?;
-    relax(costs, seating, &mut search, new);
     leave(costs, seating, free, &mut search, new);
+    relax(costs, lanes, seating, &mut search, new);
     Ok(search)
 }
 
@@ -83,10 +94,12 @@ fn begin(
 pub(crate) fn search_exit(
     alloc: Global,
     costs: &Costs,
+    lanes: &[Lane],
     seating: &Seating,
     free: &[Place],
 ) -> Result<Search, AllocError>
     requires new_job { HasNewJob seating.now }
+    requires laned { IsLaned (vec_len costs.now.waits) seating.now.seats.items lanes.now }
     requires fair { IsFair (cost_of costs.now) seating.now.jobs.items seating.now.prices.items seating.now.seats.items seating.now.rents.items }
     requires fair_free { IsFair (cost_of costs.now) seating.now.jobs.items seating.now.prices.items free.now [] }
     requires rents_low { (k : ℕ) → k < vec_len seating.now.seats → slice_index seating.now.rents.items k ≤ UNABLE }
@@ -95,23 +108,43 @@ pub(crate) fn search_exit(
     ensures searched { IfOk result (λ x. SearchedFrom costs.now seating.now free.now x) }
     ensures finished { IfOk result (λ x. IsFinished seating.now x) }
 {
-    let mut search = begin(alloc, costs, seating, free)?;
+    let mut search = begin(alloc, costs, lanes, seating, free)?;
     'settling: loop {
-        match search.nearest {
-            Some(c) => {
-                if search.exit.length <= search.lengths[c] {
-                    return Ok(search);
-                }
-                settle(costs, seating, free, &mut search, c);
-            }
+        match nearest(&search, seating.seats.len()) {
+            Some(c) => settle(costs, lanes, seating, free, &mut search, c),
             None => return Ok(search),
         }
     }
 }
 
+/// The nearest of the unsettled seats that are nearer than the exit, if there is one.
+fn nearest(search: &Search, seats: usize) -> Option<usize>
+    requires lengths_in { seats ≤ vec_len search.now.lengths }
+    requires ranks_in { seats ≤ vec_len search.now.ranks }
+    ensures { IsNearestOf search.now.lengths.items search.now.ranks.items seats search.now.exit.length result }
+{
+    let mut nearest = None;
+    let mut least = search.exit.length;
+    for (c, length) in search.lengths[..seats].iter().enumerate() {
+        if *length < least && search.ranks[c] == UNSETTLED {
+            nearest = Some(c);
+            least = *length;
+        }
+    }
+    nearest
+}
+
 /// Settles the nearest seat `c`, and takes the ways of its job.
-fn settle(costs: &Costs, seating: &Seating, free: &[Place], search: &mut Search, c: usize)
+fn settle(
+    costs: &Costs,
+    lanes: &[Lane],
+    seating: &Seating,
+    free: &[Place],
+    search: &mut Search,
+    c: usize,
+)
     requires sizes { IsSized seating.now search.old }
+    requires laned { IsLaned (vec_len costs.now.waits) seating.now.seats.items lanes.now }
     requires fair { IsFair (cost_of costs.now) seating.now.jobs.items seating.now.prices.items seating.now.seats.items seating.now.rents.items }
     requires fair_free { IsFair (cost_of costs.now) seating.now.jobs.items seating.now.prices.items free.now [] }
     requires rents_low { (k : ℕ) → k < vec_len seating.now.seats → slice_index seating.now.rents.items k ≤ UNABLE }
@@ -126,20 +159,21 @@ fn settle(costs: &Costs, seating: &Seating, free: &[Place], search: &mut Search,
     ensures searched { SearchedFrom costs.now seating.now free.now search.new }
     ensures ranks { search.new.ranks.items ≡ slice_set search.old.ranks.items c search.old.settled }
     ensures settled { search.new.settled ≡ search.old.settled + 1 }
-    ensures nearest { IsNearest seating.now search.new }
 {
     search.ranks[c] = search.settled;
     search.settled += 1;
-    relax(costs, seating, search, c);
     leave(costs, seating, free, search, c);
+    relax(costs, lanes, seating, search, c);
 }
 
-/// Shortens the lengths of the unsettled seats that are nearer by way of the job at `q`, and finds
-/// the nearest of them.
-fn relax(costs: &Costs, seating: &Seating, search: &mut Search, q: usize)
+/// Shortens the lengths of the unsettled seats that are nearer than the exit, and nearest so far, by
+/// way of the job at `q`.
+fn relax(costs: &Costs, lanes: &[Lane], seating: &Seating, search: &mut Search, q: usize)
     requires sizes { IsSized seating.now search.old }
+    requires laned { IsLaned (vec_len costs.now.waits) seating.now.seats.items lanes.now }
     requires here { q ≤ vec_len seating.now.seats }
     requires near { slice_index search.old.lengths.items q ≤ UNABLE }
+    requires reach { search.old.exit.length + slice_index seating.now.prices.items q ≤ slice_index search.old.lengths.items q + UNABLE }
     requires settled { slice_index search.old.ranks.items q ≢ UNSETTLED }
     requires rents_low { (c : ℕ) → c < vec_len seating.now.seats → slice_index seating.now.rents.items c ≤ UNABLE }
     requires fair { (c : ℕ) → c < vec_len seating.now.seats
@@ -147,65 +181,103 @@ fn relax(costs: &Costs, seating: &Seating, search: &mut Search, q: usize)
     ensures sizes { IsSized seating.now search.new }
     ensures same { (search.new.ranks ≡ search.old.ranks) × (search.new.exit ≡ search.old.exit) × (search.new.settled ≡ search.old.settled) }
     ensures relaxed { (c : ℕ) → c < vec_len seating.now.seats
-        → IsRelaxed (slice_index search.old.ranks.items c) q
+        → IsRelaxed search.old.exit.length (slice_index search.old.ranks.items c) q
         (slice_index search.old.lengths.items q + (cost_of costs.now (slice_index seating.now.jobs.items q) (slice_index_or seating.now.seats.items c nowhere) + slice_index seating.now.rents.items c - slice_index seating.now.prices.items q))
         (slice_index search.old.lengths.items c) (slice_index search.new.lengths.items c) (slice_index search.old.froms.items c) (slice_index search.new.froms.items c) }
     ensures rest { slice_index search.new.lengths.items (vec_len seating.now.seats) ≡ slice_index search.old.lengths.items (vec_len seating.now.seats) }
-    ensures nearest { IsNearest seating.now search.new }
 {
-    let job = seating.jobs[q];
+    let row = costs.row(seating.jobs[q]);
     let price = seating.prices[q];
     let base = search.lengths[q];
-    let row = costs.row(job);
-    let mut nearest = None;
-    for c in 0..seating.seats.len() {
-        let length = base + (cost(&costs.waits, row, seating.seats[c]) + seating.rents[c] - price);
-        nearest = take_way(search, c, length, q, nearest);
+    let most = (search.exit.length + price).saturating_sub(base);
+    let ways = Ways {
+        origin: q,
+        base,
+        price,
+        most,
+    };
+    for device in 0..lanes.len() {
+        let lane = lanes[device].seats();
+        relax_lane(&costs.waits, row, device, lane, seating, search, ways);
     }
-    search.nearest = nearest;
 }
 
-/// Reaches the seat `c` by way of `q`, over the given length, where it is unsettled and that is
-/// shorter. It gives the nearest unsettled seat up to `c`, given the one before it.
-fn take_way(
+/// Shortens the lengths of one device's seats as [`relax`] does, for a job with these times. Once the
+/// charge of a place is as much as may be, so is that of each place before it.
+fn relax_lane(
+    waits: &[u64],
+    row: &[u64],
+    device: usize,
+    lane: &[usize],
+    seating: &Seating,
     search: &mut Search,
-    c: usize,
-    length: u64,
-    q: usize,
-    nearest: Option<usize>,
-) -> Option<usize>
+    ways: Ways,
+)
+    requires sizes { IsSized seating.now search.old }
+    requires lane { IsLane device seating.now.seats.items lane.now }
+    requires near { ways.base ≤ UNABLE }
+    requires reach { search.old.exit.length + ways.price ≤ ways.base + UNABLE }
+    requires most { ways.most ≡ search.old.exit.length + ways.price - ways.base }
+    requires rents_low { (c : ℕ) → c < vec_len seating.now.seats → slice_index seating.now.rents.items c ≤ UNABLE }
+    requires fair { (c : ℕ) → c < vec_len seating.now.seats
+        → ways.price ≤ cost_at waits.now row.now (slice_index_or seating.now.seats.items c nowhere) + slice_index seating.now.rents.items c }
+    ensures sizes { IsSized seating.now search.new }
+    ensures same { (search.new.ranks ≡ search.old.ranks) × (search.new.exit ≡ search.old.exit) × (search.new.settled ≡ search.old.settled) }
+    ensures relaxed { (c : ℕ) → c < vec_len seating.now.seats → (slice_index_or seating.now.seats.items c nowhere).device ≡ device
+        → IsRelaxed search.old.exit.length (slice_index search.old.ranks.items c) ways.origin
+        (ways.base + (cost_at waits.now row.now (slice_index_or seating.now.seats.items c nowhere) + slice_index seating.now.rents.items c - ways.price))
+        (slice_index search.old.lengths.items c) (slice_index search.new.lengths.items c) (slice_index search.old.froms.items c) (slice_index search.new.froms.items c) }
+    ensures rest { slice_index search.new.lengths.items (vec_len seating.now.seats) ≡ slice_index search.old.lengths.items (vec_len seating.now.seats) }
+    ensures others { (c : ℕ) → c < vec_len seating.now.seats → (slice_index_or seating.now.seats.items c nowhere).device ≢ device
+        → (slice_index search.new.lengths.items c ≡ slice_index search.old.lengths.items c) × (slice_index search.new.froms.items c ≡ slice_index search.old.froms.items c) }
+{
+    let time = on_device(row, device);
+    let mut charge = on_device(waits, device);
+    for after in 0..lane.len() {
+        charge = charge.saturating_add(time);
+        if charge >= ways.most {
+            return;
+        }
+        let c = lane[after];
+        let length = ways.base + (charge + seating.rents[c] - ways.price);
+        take_way(search, c, length, ways.origin);
+    }
+}
+
+/// Reaches the seat `c` by way of `q`, over the given length, where that is nearer than the exit.
+#[inline]
+fn take_way(search: &mut Search, c: usize, length: u64, q: usize)
     requires lengths_in { c < vec_len search.old.lengths }
     requires froms_in { c < vec_len search.old.froms }
     requires ranks_in { c < vec_len search.old.ranks }
-    requires before { IsNearestOf search.old.lengths.items search.old.ranks.items c nearest }
     ensures sizes { (vec_len search.new.lengths ≡ vec_len search.old.lengths) × (vec_len search.new.froms ≡ vec_len search.old.froms) }
     ensures same { (search.new.ranks ≡ search.old.ranks) × (search.new.exit ≡ search.old.exit) × (search.new.settled ≡ search.old.settled) }
-    ensures relaxed { IsRelaxed (slice_index search.old.ranks.items c) q length
+    ensures relaxed { IsRelaxed search.old.exit.length (slice_index search.old.ranks.items c) q length
         (slice_index search.old.lengths.items c) (slice_index search.new.lengths.items c) (slice_index search.old.froms.items c) (slice_index search.new.froms.items c) }
     ensures others { (k : ℕ) → k ≢ c
         → (slice_index search.new.lengths.items k ≡ slice_index search.old.lengths.items k) × (slice_index search.new.froms.items k ≡ slice_index search.old.froms.items k) }
-    ensures nearest { IsNearestOf search.new.lengths.items search.new.ranks.items (c + 1) result }
 {
-    if search.ranks[c] != UNSETTLED {
-        return nearest;
+    if length < search.exit.length {
+        reach_seat(search, c, length, q);
     }
-    if length < search.lengths[c] {
-        search.lengths[c] = length;
-        search.froms[c] = q;
-    }
-    nearer(search, nearest, c)
 }
 
-/// The nearest unsettled seat up to the unsettled seat `c`, given the one before it.
-fn nearer(search: &Search, nearest: Option<usize>, c: usize) -> Option<usize>
-    requires here { c < vec_len search.now.lengths }
-    requires unsettled { slice_index search.now.ranks.items c ≡ UNSETTLED }
-    requires before { IsNearestOf search.now.lengths.items search.now.ranks.items c nearest }
-    ensures { IsNearestOf search.now.lengths.items search.now.ranks.items (c + 1) result }
+/// Reaches the seat `c` by way of `q`, over the given length, where it is unsettled and that is
+/// shorter.
+fn reach_seat(search: &mut Search, c: usize, length: u64, q: usize)
+    requires lengths_in { c < vec_len search.old.lengths }
+    requires froms_in { c < vec_len search.old.froms }
+    requires ranks_in { c < vec_len search.old.ranks }
+    ensures sizes { (vec_len search.new.lengths ≡ vec_len search.old.lengths) × (vec_len search.new.froms ≡ vec_len search.old.froms) }
+    ensures same { (search.new.ranks ≡ search.old.ranks) × (search.new.exit ≡ search.old.exit) × (search.new.settled ≡ search.old.settled) }
+    ensures reached { IsReached (slice_index search.old.ranks.items c) q length
+        (slice_index search.old.lengths.items c) (slice_index search.new.lengths.items c) (slice_index search.old.froms.items c) (slice_index search.new.froms.items c) }
+    ensures others { (k : ℕ) → k ≢ c
+        → (slice_index search.new.lengths.items k ≡ slice_index search.old.lengths.items k) × (slice_index search.new.froms.items k ≡ slice_index search.old.froms.items k) }
 {
-    match nearest {
-        Some(before) if search.lengths[before] <= search.lengths[c] => nearest,
-        _ => Some(c),
+    if search.ranks[c] == UNSETTLED && length < search.lengths[c] {
+        search.lengths[c] = length;
+        search.froms[c] = q;
     }
 }
 

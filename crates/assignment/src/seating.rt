@@ -2,10 +2,12 @@
 ghost use Rattle.std.specs.Prelude.{◌≡◌, ◌≢◌, ℕ, ◌+◌, ◌-◌, ◌<◌, ◌≤◌, length, slice_index, slice_index_or, slice_set, vec_len, [], ◌∷◌, ◌++◌, IfOk, OnOk};
 ghost use Rattle.std.specs.List.Sorted.{IsPermutation};
 ghost use Rattle.assignment.specs.Costs.{cost_of, nowhere};
+ghost use Rattle.assignment.specs.Lanes.{IsLaned};
 ghost use Rattle.assignment.specs.Seating.{AreMoved, HasRoom, IsFair, IsSeated};
 ghost use Rattle.assignment.specs.Search.{IsSized};
 
 use crate::costs::{Costs, Place, UNABLE, cost};
+use crate::lanes::Lane;
 use crate::search::{Search, search_exit};
 use std::alloc::{AllocError, Global};
 
@@ -25,11 +27,13 @@ pub(crate) struct Seating {
 pub(crate) fn insert(
     alloc: Global,
     costs: &Costs,
+    lanes: &[Lane],
     seating: &mut Seating,
     free: &[Place],
     slacks: &mut [u64],
     job: usize,
 ) -> Result<usize, AllocError>
+    requires laned { IsLaned (vec_len costs.now.waits) seating.old.seats.items lanes.now }
     requires seated { IsSeated (cost_of costs.now) seating.old free.now }
     requires some { 0 < length free.now }
     requires few { length slacks.old ≤ length free.now }
@@ -44,7 +48,7 @@ pub(crate) fn insert(
     let last = seating.seats.len();
     seating.jobs.push(job)?;
     seating.prices.push(0)?;
-    let mut search = search_exit(alloc, costs, seating, free)?;
+    let mut search = search_exit(alloc, costs, lanes, seating, free)?;
     raise_all(seating, &search);
     tighten(costs, seating, &search, free, slacks);
     let place = free[search.exit.place];

@@ -4,9 +4,11 @@ ghost use Rattle.std.specs.List.{range_with_len};
 ghost use Rattle.std.specs.List.Sorted.{IsPermutation};
 ghost use Rattle.assignment.specs.Costs.{cost_of, nowhere};
 ghost use Rattle.assignment.specs.Seating.{HasRoom, IsSeated};
+ghost use Rattle.assignment.specs.Lanes.{IsLaned};
 ghost use Rattle.assignment.specs.Layout.{IsFilled, IsLaid, ShowsNext, place_before};
 
 use crate::costs::{Costs, Place, UNABLE};
+use crate::lanes::{Lane, add_to_lane, empty_lanes};
 use crate::order::longest_first;
 use crate::seating::{Seating, insert, lift, slack};
 use std::alloc::{AllocError, Global};
@@ -20,6 +22,7 @@ pub(crate) fn solve(alloc: Global, costs: &Costs) -> Result<Seating, AllocError>
     let order = longest_first(alloc, costs)?;
     let mut free = last_places(alloc, costs.waits.len())?;
     let mut slacks = vec![in alloc; UNABLE; costs.waits.len()]?;
+    let mut lanes = empty_lanes(alloc, costs.waits.len())?;
     let mut seating = Seating {
         seats: Vec::new(alloc),
         rents: Vec::new(alloc),
@@ -30,6 +33,7 @@ pub(crate) fn solve(alloc: Global, costs: &Costs) -> Result<Seating, AllocError>
         seat(
             alloc,
             costs,
+            &mut lanes,
             &mut seating,
             &mut free,
             &mut slacks,
@@ -43,6 +47,7 @@ pub(crate) fn solve(alloc: Global, costs: &Costs) -> Result<Seating, AllocError>
 fn seat(
     alloc: Global,
     costs: &Costs,
+    lanes: &mut [Lane],
     seating: &mut Seating,
     free: &mut [Place],
     slacks: &mut [u64],
@@ -51,17 +56,21 @@ fn seat(
     requires some { 0 < vec_len costs.now.waits }
     requires seated { IsSeated (cost_of costs.now) seating.old free.old }
     requires laid { IsLaid (vec_len costs.now.waits) seating.old.seats.items }
+    requires laned { IsLaned (vec_len costs.now.waits) seating.old.seats.items lanes.old }
     requires shows { ShowsNext (vec_len costs.now.waits) seating.old.seats.items free.old }
     requires one_each { length slacks.old ≡ vec_len costs.now.waits }
     requires room { HasRoom (cost_of costs.now) seating.old.jobs.items seating.old.prices.items free.old slacks.old }
     ensures seated { OnOk result (IsSeated (cost_of costs.now) seating.new free.new) }
     ensures laid { OnOk result (IsLaid (vec_len costs.now.waits) seating.new.seats.items) }
+    ensures laned { OnOk result (IsLaned (vec_len costs.now.waits) seating.new.seats.items lanes.new) }
     ensures shows { OnOk result (ShowsNext (vec_len costs.now.waits) seating.new.seats.items free.new) }
     ensures one_each { OnOk result (length slacks.new ≡ vec_len costs.now.waits) }
     ensures room { OnOk result (HasRoom (cost_of costs.now) seating.new.jobs.items seating.new.prices.items free.new slacks.new) }
     ensures jobs { OnOk result (IsPermutation (seating.old.jobs.items ++ job ∷ []) seating.new.jobs.items) }
 {
-    let device = insert(alloc, costs, seating, free, slacks, job)?;
+    let seat = seating.seats.len();
+    let device = insert(alloc, costs, lanes, seating, free, slacks, job)?;
+    add_to_lane(lanes, device, seat)?;
     advance(free, device);
     slacks[device] = slack(costs, seating, free[device]);
     lift(costs, seating, free, slacks);

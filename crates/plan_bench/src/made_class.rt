@@ -4,6 +4,18 @@ use base_types::JobId;
 use cost_table::{ClassProblem, Row, is_class};
 use std::alloc::{AllocError, Global};
 
+/// The longest of the times that are uniform at random, in ms.
+const LONGEST: u64 = 1_000_000;
+
+/// How the times of a class are made.
+#[derive(Clone, Copy, PartialEq, Eq)]
+pub(crate) enum Kind {
+    /// From the impressions of a job and the speed of a device, as the server makes them.
+    Speeds,
+    /// Each uniform at random.
+    Uniform,
+}
+
 /// How fast a device prints, in ms.
 #[derive(Drop)]
 struct Speed {
@@ -11,11 +23,21 @@ struct Speed {
     impression: u64,
 }
 
-/// A class of jobs 1, 2, .. on devices of different speeds: about one pair in eight isn't able, but
-/// each job has a device.
+impl Speed {
+    /// How long a job of so many impressions takes.
+    fn time(&self, impressions: u64) -> u64 {
+        impressions
+            .saturating_mul(self.impression)
+            .saturating_add(self.setup)
+    }
+}
+
+/// A class of jobs 1, 2, .. on devices: about one pair in eight isn't able, but each job has a
+/// device.
 pub(crate) fn made_class(
     alloc: Global,
     random: &mut Random,
+    kind: Kind,
     jobs: u32,
     devices: usize,
 ) -> Result<ClassProblem, Error> {
@@ -29,7 +51,7 @@ pub(crate) fn made_class(
     let mut rows = Vec::new(alloc);
     for job in 0..jobs {
         ids.push(JobId::new(job.wrapping_add(1)).context("too many jobs")?)?;
-        rows.push(made_row(alloc, random, job as usize, &speeds)?)?;
+        rows.push(made_row(alloc, random, kind, job as usize, &speeds)?)?;
     }
     if !is_class(&ids, &rows, &waits) {
         bail!("beyond the limits of a class");
@@ -48,6 +70,7 @@ fn made_speed(random: &mut Random) -> Speed {
 fn made_row(
     alloc: Global,
     random: &mut Random,
+    kind: Kind,
     job: usize,
     speeds: &[Speed],
 ) -> Result<Row, AllocError> {
@@ -56,9 +79,10 @@ fn made_row(
     let mut times = Vec::new(alloc);
     for (place, speed) in speeds.iter().enumerate() {
         let able = random.below(8) != 0 || place == own;
-        let time = impressions
-            .saturating_mul(speed.impression)
-            .saturating_add(speed.setup);
+        let time = match kind {
+            Kind::Speeds => speed.time(impressions),
+            Kind::Uniform => random.below(LONGEST).saturating_add(1),
+        };
         times.push(if able { Some(time) } else { None })?;
     }
     Ok(Row::new(times))

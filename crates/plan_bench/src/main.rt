@@ -3,13 +3,15 @@
 //! `plan_bench lazy JOBS DEVICES SEED COUNT` makes so many class problems, plans each by `Lazy` and
 //! writes its total in ms; `dense` does so by `Dense`. `plan_bench compare ..` makes problems of up to
 //! so many jobs and devices, plans each by both, and where there are few jobs tries all ways too; it
-//! stops where two totals differ. The same arguments give the same totals.
+//! stops where two totals differ. Times are made of impressions and speeds, as the server makes them,
+//! or with the word `uniform` after the others each uniform at random. The same arguments give the
+//! same totals.
 #![tactic(auto)]
 
 mod made_class;
 mod random;
 
-use crate::made_class::made_class;
+use crate::made_class::{Kind, made_class};
 use crate::random::Random;
 use anyhow::{Context, Error, bail};
 use assignment::{Dense, Lazy, Planner, each_able};
@@ -33,6 +35,7 @@ enum Mode {
 #[derive(Drop)]
 struct Asked {
     mode: Mode,
+    kind: Kind,
     jobs: u32,
     devices: usize,
     seed: u64,
@@ -49,6 +52,15 @@ fn read_mode(word: &str) -> Result<Mode, Error> {
     }
 }
 
+/// How a word, if there is one, says that times are made.
+fn read_kind(word: Option<&str>) -> Result<Kind, Error> {
+    match word {
+        None => Ok(Kind::Speeds),
+        Some("uniform") => Ok(Kind::Uniform),
+        Some(_) => bail!("expected uniform, or nothing"),
+    }
+}
+
 /// The arguments, read.
 fn read_asked(rt: &HostRuntime) -> Result<Asked, Error> {
     let mut words = env::args(rt)?.skip(1);
@@ -57,12 +69,19 @@ fn read_asked(rt: &HostRuntime) -> Result<Asked, Error> {
             .next()
             .context("expected MODE JOBS DEVICES SEED COUNT")
     };
+    let mode = read_mode(next()?.as_str())?;
+    let jobs = next()?.parse()?;
+    let devices = next()?.parse()?;
+    let seed = next()?.parse()?;
+    let count = next()?.parse()?;
+    let kind = read_kind(words.next().as_deref())?;
     Ok(Asked {
-        mode: read_mode(next()?.as_str())?,
-        jobs: next()?.parse()?,
-        devices: next()?.parse()?,
-        seed: next()?.parse()?,
-        count: next()?.parse()?,
+        mode,
+        kind,
+        jobs,
+        devices,
+        seed,
+        count,
     })
 }
 
@@ -75,7 +94,7 @@ fn next_class(alloc: Global, random: &mut Random, asked: &Asked) -> Result<Class
             usize::try_from(random.below(asked.devices as u64))?.saturating_add(1),
         ),
     };
-    made_class(alloc, random, jobs, devices)
+    made_class(alloc, random, asked.kind, jobs, devices)
 }
 
 /// The total of the way that a planner finds.

@@ -1,7 +1,7 @@
-use Rattle.std.proofs.Common.{◌≡◌, ℕ, vec_len, ap, subst, inl, inr, ◌∙◌, arith}
+use Rattle.std.proofs.Common.{◌≡◌, ℕ, vec_len, get_or, ap, subst, inl, inr, ◌∙◌, arith}
 use Rattle.std.specs.Global.{Vec}
 use Rattle.assignment.specs.declared.search.Search.{Search}
-use Rattle.assignment.specs.Costs.{cost_of}
+use Rattle.assignment.specs.Costs.{cost_of, nowhere}
 use Rattle.assignment.specs.Search.{IsBlank}
 use Rattle.assignment.proofs.Opening.{Begins, begun}
 use Rattle.assignment.proofs.Charges.{cost_of-low}
@@ -11,16 +11,18 @@ pub returns-clause-searched : goal.returns-clause-searched
 returns-clause-searched c =
     let s = c.args.seating.now in
     let x = c.in_ok-search.search in
-    let y = c.relax.new.search in
-    let z = c.leave.new.search in
+    let y = c.leave.new.search in
+    let z = c.relax.new.search in
     let r = c.requires in
     let n = vec_len s.seats in
     let en : c.len-new.result ≡ n = c.len-new.ensures in
     let b : IsBlank n x = subst (λ (k : ℕ). IsBlank k x) en (c.in_ok-search.ensures {u = tt}) in
-    let el = ap (λ (v : Search). v.lengths.items) c.leave.ensures.same in
-    let ef = ap (λ (v : Search). v.froms.items) c.leave.ensures.same in
-    let es = ap (λ (v : Search). v.settled) c.leave.ensures.same ∙ c.relax.ensures.same.2 in
-    let er : z.ranks.items ≡ x.ranks.items = ap (λ (v : Search). v.ranks.items) c.leave.ensures.same ∙ ap (λ (v : Vec ℕ). v.items) c.relax.ensures.same.0 in
+    let el : y.lengths.items ≡ x.lengths.items = ap (λ (v : Search). v.lengths.items) c.leave.ensures.same in
+    let ef : y.froms.items ≡ x.froms.items = ap (λ (v : Search). v.froms.items) c.leave.ensures.same in
+    let ey : y.ranks.items ≡ x.ranks.items = ap (λ (v : Search). v.ranks.items) c.leave.ensures.same in
+    let es = c.relax.ensures.same.2 ∙ ap (λ (v : Search). v.settled) c.leave.ensures.same in
+    let er : z.ranks.items ≡ x.ranks.items = ap (λ (v : Vec ℕ). v.items) c.relax.ensures.same.0 ∙ ey in
+    let ex : z.exit ≡ y.exit = c.relax.ensures.same.1 in
     let h : Begins (cost_of c.args.costs.now) s.jobs.items s.prices.items s.seats.items s.rents.items c.args.free.now x.lengths.items x.froms.items z.lengths.items z.froms.items z.ranks.items x.exit z.exit n = record {
       low = cost_of-low c.args.costs.now;
       rents_low = r.rents_low;
@@ -28,13 +30,14 @@ returns-clause-searched c =
       some = r.some;
       far = b.far;
       root = b.root;
+      from_root = b.from_root;
       unsettled = rw er b.unsettled;
       root_rank = rw er b.root_rank;
       far_exit = b.far_exit;
-      relaxed = λ k lt. rw (el, ef, er, ← en) (c.relax.ensures.relaxed k lt);
-      rest = rw el c.relax.ensures.rest;
-      exit_every = λ f lt. rw (el, ← en) (c.leave.ensures.every f lt);
-      exit_edge = elim c.leave.ensures.edge [ inl e ↦ inl (e ∙ c.relax.ensures.same.1) | inr k ↦ inr (k.0, rw (el, ← en) k.1, k.2 ∙ en) ];
+      relaxed = λ k lt. rw (er, ex, ← ey, ← el, ← ef, ← en) (c.relax.ensures.relaxed k lt);
+      rest = rw (← el) c.relax.ensures.rest;
+      exit_every = λ f lt. rw (ex, ← en) (c.leave.ensures.every f lt);
+      exit_edge = elim c.leave.ensures.edge [ inl e ↦ inl (ex ∙ e) | inr k ↦ inr (rw (ex, ← en) (k.0, k.1, k.2)) ];
     } in
     rw (es, b.settled) (begun h)
 
@@ -44,6 +47,15 @@ returns-clause-counted c =
     let x = c.in_ok-search.search in
     let en : c.len-new.result ≡ n = c.len-new.ensures in
     let b : IsBlank n x = subst (λ (k : ℕ). IsBlank k x) en (c.in_ok-search.ensures {u = tt}) in
-    let es = ap (λ (v : Search). v.settled) c.leave.ensures.same ∙ c.relax.ensures.same.2 in
-    let ranks = ap (λ (v : Search). v.ranks) c.leave.ensures.same ∙ c.relax.ensures.same.0 in
+    let es = c.relax.ensures.same.2 ∙ ap (λ (v : Search). v.settled) c.leave.ensures.same in
+    let ranks = c.relax.ensures.same.0 ∙ ap (λ (v : Search). v.ranks) c.leave.ensures.same in
     rw (es, ranks) (omega (arith, b.settled, b.counted, b.ranks))
+
+pub relax-requires-clause-reach : goal.relax-requires-clause-reach
+relax-requires-clause-reach c =
+    let s = c.args.seating.now in
+    let r = c.requires in
+    let en : c.len-new.result ≡ vec_len s.seats = c.len-new.ensures in
+    let price : get_or s.prices.items c.len-new.result 0 ≡ 0 = rw en r.new_job.uncharged in
+    let lengths = ap (λ (v : Search). get_or v.lengths.items c.len-new.result 0) c.leave.ensures.same in
+    omega (arith, price, lengths, c.leave.ensures.every 0 r.some, cost_of-low c.args.costs.now (get_or s.jobs.items c.len-new.result 0) (get_or c.args.free.now 0 nowhere))

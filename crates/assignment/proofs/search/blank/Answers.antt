@@ -24,6 +24,7 @@ returns c =
     let gave_r = c.in_ok-ranks.ensures {u = tt} in
     let el : ls.items ≡ replicate c.args.len FAR = gave_l.items_if_clones_equal (λ y e. e) in
     let er : rs.items ≡ replicate c.args.len UNSETTLED = gave_r.items_if_clones_equal (λ y e. e) in
+    let ef : fs.items ≡ replicate c.args.len c.args.new = gave_f.items_if_clones_equal (λ y e. e) in
     let ll : length ls.items ≡ c.args.len = omega (arith, ls.ok.0, gave_l.len) in
     let lr : length rs.items ≡ c.args.len = omega (arith, rs.ok.0, gave_r.len) in
     let at : get_or rs.items c.args.new 0 ≡ UNSETTLED = rw er (get_or-replicate c.args.len c.args.new UNSETTLED 0 (omega (arith, c.requires))) in
@@ -34,6 +35,7 @@ returns c =
       ranks = omega (arith, gave_r.len, c.requires);
       far = λ k lt. others ls.items c.args.new c.args.len FAR 0 k el c.requires lt;
       root = at_end ls.items c.args.new c.args.len 0 ll c.requires;
+      from_root = λ k lt. rw ef (get_or-replicate c.args.len k c.args.new 0 (omega (arith, c.requires)));
       unsettled = λ k lt. others rs.items c.args.new c.args.len UNSETTLED 0 k er c.requires lt;
       root_rank = at_end rs.items c.args.new c.args.len 0 lr c.requires;
       far_exit = search rules;

@@ -1,15 +1,18 @@
-use Rattle.std.proofs.Common.{◌≡◌, ℕ, ◌+◌, ◌-◌, ◌<◌, ◌≤◌, get_or}
+use Rattle.std.proofs.Common.{◌≡◌, ℕ, ◌+◌, ◌-◌, ◌<◌, ◌≤◌, vec_len, get_or}
 use Rattle.assignment.specs.Costs.{cost_of, nowhere}
-use Rattle.assignment.specs.Search.{IsNearestOf, IsRelaxed, IsSized}
+use Rattle.assignment.specs.Search.{IsRelaxed, IsSized}
 use Rattle.assignment.proofs.search.relax.Given as goal
 
-abbrev pub invariant-loop-c : goal.invariant-loop-c
-invariant-loop-c l = record {
+abbrev pub invariant-loop-device : goal.invariant-loop-device
+invariant-loop-device l = record {
   sizes : IsSized l.seating l.search;
   ranks : l.search.ranks ≡ l.fn.search.ranks;
   exit : l.search.exit ≡ l.fn.search.exit;
   settled : l.search.settled ≡ l.fn.search.settled;
-  done : (k : ℕ) → k < l.c → IsRelaxed (get_or l.fn.search.ranks.items k 0) l.q (l.base + (cost_of l.costs l.job (get_or l.seating.seats.items k nowhere) + get_or l.seating.rents.items k 0 - l.price)) (get_or l.fn.search.lengths.items k 0) (get_or l.search.lengths.items k 0) (get_or l.fn.search.froms.items k 0) (get_or l.search.froms.items k 0);
-  nearest : IsNearestOf l.search.lengths.items l.search.ranks.items l.c l.nearest;
-  rest : (k : ℕ) → l.c ≤ k → (get_or l.search.lengths.items k 0 ≡ get_or l.fn.search.lengths.items k 0) × (get_or l.search.froms.items k 0 ≡ get_or l.fn.search.froms.items k 0);
+  root : get_or l.search.lengths.items (vec_len l.seating.seats) 0 ≡ get_or l.fn.search.lengths.items (vec_len l.seating.seats) 0;
+  own : get_or l.search.lengths.items l.q 0 ≡ get_or l.fn.search.lengths.items l.q 0;
+  done : (c : ℕ) → c < vec_len l.seating.seats → (get_or l.seating.seats.items c nowhere).device < l.device
+      → IsRelaxed l.fn.search.exit.length (get_or l.fn.search.ranks.items c 0) l.q (get_or l.fn.search.lengths.items l.q 0 + (cost_of l.costs (get_or l.seating.jobs.items l.q 0) (get_or l.seating.seats.items c nowhere) + get_or l.seating.rents.items c 0 - get_or l.seating.prices.items l.q 0)) (get_or l.fn.search.lengths.items c 0) (get_or l.search.lengths.items c 0) (get_or l.fn.search.froms.items c 0) (get_or l.search.froms.items c 0);
+  rest : (c : ℕ) → c < vec_len l.seating.seats → l.device ≤ (get_or l.seating.seats.items c nowhere).device
+      → (get_or l.search.lengths.items c 0 ≡ get_or l.fn.search.lengths.items c 0) × (get_or l.search.froms.items c 0 ≡ get_or l.fn.search.froms.items c 0);
 }

@@ -2,25 +2,26 @@ use Rattle.std.proofs.Common.{◌≡◌, ◌≢◌, ℕ, ◌<◌, length, vec_le
 use Rattle.std.specs.Global.{Vec}
 use Rattle.std.proofs.lemmas.List.{get_or-set_same, get_or-set_other}
 use Rattle.assignment.specs.declared.search.Search.{Search}
-use Rattle.assignment.specs.declared.search.Exit.{Exit}
-use Rattle.assignment.specs.Costs.{cost_of}
-use Rattle.assignment.proofs.Step.{Settles, searched_now, relaxed_settled}
+use Rattle.assignment.specs.Costs.{cost_of, nowhere}
+use Rattle.assignment.proofs.Charges.{cost_of-low}
+use Rattle.assignment.proofs.Step.{Settles, searched_now}
 use Rattle.assignment.proofs.search.settle.Goals as goal
 
 pub returns-clause-searched : goal.returns-clause-searched
 returns-clause-searched c =
     let s = c.args.seating.now in
     let x = c.args.search.now in
-    let y = c.relax.new.search in
-    let z = c.leave.new.search in
+    let y = c.leave.new.search in
+    let z = c.relax.new.search in
     let r = c.requires in
-    let el = ap (λ (v : Search). v.lengths.items) c.leave.ensures.same in
-    let ef = ap (λ (v : Search). v.froms.items) c.leave.ensures.same in
-    let es = ap (λ (v : Search). v.settled) c.leave.ensures.same ∙ c.relax.ensures.same.2 in
-    let er : z.ranks.items ≡ set x.ranks.items c.args.c x.settled = ap (λ (v : Search). v.ranks.items) c.leave.ensures.same ∙ ap (λ (v : Vec ℕ). v.items) c.relax.ensures.same.0 in
+    let el : y.lengths.items ≡ x.lengths.items = ap (λ (v : Search). v.lengths.items) c.leave.ensures.same in
+    let ef : y.froms.items ≡ x.froms.items = ap (λ (v : Search). v.froms.items) c.leave.ensures.same in
+    let ey : y.ranks.items ≡ set x.ranks.items c.args.c x.settled = ap (λ (v : Search). v.ranks.items) c.leave.ensures.same in
+    let es = c.relax.ensures.same.2 ∙ ap (λ (v : Search). v.settled) c.leave.ensures.same in
+    let er : z.ranks.items ≡ set x.ranks.items c.args.c x.settled = ap (λ (v : Vec ℕ). v.items) c.relax.ensures.same.0 ∙ ey in
+    let ex : z.exit ≡ y.exit = c.relax.ensures.same.1 in
     let in_ranks : c.args.c < length x.ranks.items = omega (arith, x.ranks.ok.0, r.sizes.ranks, r.here) in
     let top : get_or (set x.ranks.items c.args.c x.settled) c.args.c 0 ≡ x.settled = get_or-set_same _ _ _ _ in_ranks in
-    let here : get_or y.lengths.items c.args.c 0 ≡ get_or x.lengths.items c.args.c 0 = relaxed_settled _ _ _ _ _ _ _ (c.relax.ensures.relaxed c.args.c r.here) (λ e. omega (arith, top, r.room)) in
     let h : Settles (cost_of c.args.costs.now) s.jobs.items s.prices.items s.seats.items s.rents.items c.args.free.now x.lengths.items x.froms.items x.ranks.items z.lengths.items z.froms.items z.ranks.items x.exit z.exit x.settled c.args.c (vec_len s.seats) = record {
       fair = λ q k le lt. r.fair.at q k (omega (arith, s.jobs.ok.0, r.sizes.jobs)) (omega (arith, s.seats.ok.0));
       fair_free = λ q k le lt. omega (arith, r.fair_free.at q k (omega (arith, s.jobs.ok.0, r.sizes.jobs)) lt);
@@ -32,11 +33,20 @@ returns-clause-searched c =
       room = r.room;
       rank_same = rw er top;
       rank_other = λ q ne. rw er (get_or-set_other x.ranks.items c.args.c q x.settled 0 ne);
-      relaxed = λ k lt. rw (el, ef, er) (c.relax.ensures.relaxed k lt);
-      rest = rw el c.relax.ensures.rest;
-      exit_le = omega (arith, c.leave.ensures.nearer, ap (λ (e : Exit). e.length) c.relax.ensures.same.1);
-      exit_every = λ f lt. omega (arith, here, c.leave.ensures.every f lt);
-      exit_edge = elim c.leave.ensures.edge [ inl e ↦ inl (e ∙ c.relax.ensures.same.1) | inr k ↦ inr (k.0, omega (arith, k.1, here), k.2) ];
+      relaxed = λ k lt. rw (er, ex, ← ey, ← el, ← ef) (c.relax.ensures.relaxed k lt);
+      rest = rw (← el) c.relax.ensures.rest;
+      exit_le = rw ex c.leave.ensures.nearer;
+      exit_every = λ f lt. rw ex (c.leave.ensures.every f lt);
+      exit_edge = elim c.leave.ensures.edge [ inl e ↦ inl (ex ∙ e) | inr k ↦ inr (rw ex (k.0, k.1, k.2)) ];
     } in
     let apart : vec_len s.seats ≢ c.args.c = omega (arith, r.here) in
     rw es (searched_now h (rw er (get_or-set_other x.ranks.items c.args.c (vec_len s.seats) x.settled 0 apart ∙ r.searched.root_rank)))
+
+pub relax-requires-clause-reach : goal.relax-requires-clause-reach
+relax-requires-clause-reach c =
+    let s = c.args.seating.now in
+    let r = c.requires in
+    let f = c.args.search.now.exit.place in
+    let lengths = ap (λ (v : Search). get_or v.lengths.items c.args.c 0) c.leave.ensures.same in
+    let fair = r.fair_free.at c.args.c f (omega (arith, r.here, s.jobs.ok.0, r.sizes.jobs)) r.searched.exit_place in
+    omega (arith, fair, lengths, c.leave.ensures.every f r.searched.exit_place, cost_of-low c.args.costs.now (get_or s.jobs.items c.args.c 0) (get_or c.args.free.now f nowhere))

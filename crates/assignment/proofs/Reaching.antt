@@ -1,0 +1,45 @@
+-- What the places of a device cost a job, the last place first.
+use Rattle.std.proofs.Common.{◌≡◌, ℕ, ◌+◌, ◌-◌, ◌*◌, ◌<◌, ◌≤◌, List, suc, add-one, length, min, get_or, refl, arith}
+use Rattle.std.proofs.Math.Nat.{mul-le-mul_right, suc-mul}
+use Rattle.assignment.specs.declared.costs.Place.{Place}
+use Rattle.assignment.specs.declared.costs.TheConstants.{UNABLE}
+use Rattle.assignment.specs.Costs.{cost_at, nowhere}
+use Rattle.assignment.specs.Lanes.{IsLane}
+use Rattle.assignment.specs.AllPlaces.{place_on}
+
+pub times_more : (after time : ℕ) → (after + 1) * time ≡ after * time + time
+times_more after time = rw add-one (omega (arith, suc-mul after time))
+
+times_le : (after k time : ℕ) → after ≤ k → (after + 1) * time ≤ suc k * time
+times_le after k time le = mul-le-mul_right time (let more : after + 1 ≤ suc k = omega arith in more)
+
+-- the cost at a place of this device
+cost_here : (waits row : List ℕ) (place : Place) (device : ℕ) → place.device ≡ device → cost_at waits row place ≡ min (get_or waits device UNABLE + suc place.after * get_or row device UNABLE) UNABLE
+unfolding cost_at
+cost_here waits row place device e = rw e refl
+
+too_dear : (wait work more charge base price rent E cost : ℕ) → charge ≤ wait + work → work ≤ more → (E + price) - base ≤ charge → E + price ≤ base + UNABLE → cost ≡ min (wait + more) UNABLE → price ≤ cost + rent → E ≤ base + (cost + rent - price)
+too_dear wait work more charge base price rent E cost low grows dear reach is fair = omega arith
+
+-- once a place is too dear, so is each place before it
+pub dear_on : (waits row : List ℕ) (place : Place) (device after charge base price rent E : ℕ) → place.device ≡ device → after ≤ place.after → charge ≤ get_or waits device UNABLE + (after + 1) * get_or row device UNABLE → (E + price) - base ≤ charge → E + price ≤ base + UNABLE → price ≤ cost_at waits row place + rent → E ≤ base + (cost_at waits row place + rent - price)
+dear_on waits row place device after charge base price rent E on le low dear reach fair =
+    too_dear _ _ _ charge base price rent E _ low (times_le after place.after (get_or row device UNABLE) le) dear reach (cost_here waits row place device on) fair
+
+-- a place that isn't costs just its charge
+cost_is : (waits row : List ℕ) (place : Place) (device after charge : ℕ) → place ≡ place_on device after → charge ≡ get_or waits device UNABLE + (after + 1) * get_or row device UNABLE → charge ≤ UNABLE → cost_at waits row place ≡ charge
+unfolding cost_at
+cost_is waits row place device after charge is e low = rw (is, ← add-one) (omega arith)
+
+-- the place that a lane comes to, where it isn't too dear
+pub placed : (waits row : List ℕ) (seats : List Place) (lane : List ℕ) (device after n charge time next base price E : ℕ) → IsLane device seats lane → after < length lane → length seats ≡ n
+    → charge ≡ get_or waits device UNABLE + after * get_or row device UNABLE → time ≡ get_or row device UNABLE → next ≡ min (charge + time) 18446744073709551615 → next < (E + price) - base → E + price ≤ base + UNABLE
+    → (get_or lane after 0 < n) × (get_or seats (get_or lane after 0) nowhere ≡ place_on device after) × (next ≡ get_or waits device UNABLE + (after + 1) * get_or row device UNABLE) × (next ≤ UNABLE) × (cost_at waits row (get_or seats (get_or lane after 0) nowhere) ≡ next)
+placed waits row seats lane device after n charge time next base price E h lt len ec et en less reach =
+    let sum : next ≡ get_or waits device UNABLE + (after + 1) * get_or row device UNABLE = omega (arith, times_more after (get_or row device UNABLE)) in
+    let low : next ≤ UNABLE = omega arith in
+    (omega (arith, h.known after lt), h.places after lt, sum, low, cost_is waits row (get_or seats (get_or lane after 0) nowhere) device after next (h.places after lt) sum low)
+
+-- the charge up to a place, whether it fits or not
+pub charged : (waits row : List ℕ) (device after charge time next : ℕ) → charge ≡ get_or waits device UNABLE + after * get_or row device UNABLE → time ≡ get_or row device UNABLE → next ≡ min (charge + time) 18446744073709551615 → next ≤ get_or waits device UNABLE + (after + 1) * get_or row device UNABLE
+charged waits row device after charge time next ec et en = omega (arith, times_more after (get_or row device UNABLE))
