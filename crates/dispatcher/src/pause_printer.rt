@@ -33,7 +33,11 @@ pub(crate) fn set_paused(
 }
 
 /// The printer, or the first reason against it.
-fn paused_of(alloc: Global, room: &PrintRoom, request: &PrinterRequest) -> Result<PrinterId, Refusal>
+fn paused_of(
+    alloc: Global,
+    room: &PrintRoom,
+    request: &PrinterRequest,
+) -> Result<PrinterId, Refusal>
     ensures { result ≡ paused_of request.now room.now }
 {
     let printer = named_printer(alloc, room, &request.target)?;

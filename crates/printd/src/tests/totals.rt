@@ -7,6 +7,7 @@ use std::test::Fail;
 /// A device that is as slow as one can be, at the last moment.
 const SLOW_DEVICE: &str = "version = 1\n\
 uri_base = \"ipp://localhost:631\"\n\
+operators = [\"root\"]\n\
 [[device]]\n\
 name = \"A\"\n\
 rate_one = 60000\n\
@@ -61,6 +62,46 @@ fn largest_totals(rt: HostRuntime) -> Result<(), Fail> {
     assert!(rt; output.as_slice().ends_with(LAST.as_bytes()));
     assert_eq!(rt; lines_with(output.as_slice(), b"reply 01010000"), 512);
     assert_eq!(rt; lines_with(output.as_slice(), b"plan "), 513);
+    assert_eq!(rt; lines_with(output.as_slice(), b"start "), 1);
+    Ok(())
+}
+
+/// An operator pauses the printer.
+const PAUSE: &str =
+    "ipp 010100100000000101470012617474726962757465732d6368617273657400057574662d3848001b617474726962757465732d6e61747572616c2d6c616e67756167650002656e45000b7072696e7465722d75726900206970703a2f2f6c6f63616c686f73743a3633312f7072696e746572732f6c616242001472657175657374696e672d757365722d6e616d650004726f6f7403\n";
+
+/// An operator ends the pause.
+const RESUME: &str =
+    "ipp 010100110000000201470012617474726962757465732d6368617273657400057574662d3848001b617474726962757465732d6e61747572616c2d6c616e67756167650002656e45000b7072696e7465722d75726900206970703a2f2f6c6f63616c686f73743a3633312f7072696e746572732f6c616242001472657175657374696e672d757365722d6e616d650004726f6f7403\n";
+
+/// Once the pause ends, all 512 jobs are planned: 1 + 2 + .. + 512 = 131,328 times the time of one. The
+/// device begins one of them.
+const RESUMED: &str =
+    "reply 010105070000000101470012617474726962757465732d6368617273657400057574662d3848001b617474726962757465732d6e61747572616c2d6c616e67756167650002656e03\n\
+reply 010100000000000201470012617474726962757465732d6368617273657400057574662d3848001b617474726962757465732d6e61747572616c2d6c616e67756167650002656e03\n\
+plan 50:78718475980800000\n\
+start ";
+
+#[test]
+fn largest_totals_after_a_pause(rt: HostRuntime) -> Result<(), Fail> {
+    let mut trace = String::from_str(rt.alloc(), SLOW_DEVICE)?;
+    trace.push_str(PAUSE)?;
+    for _ in 0..513 {
+        trace.push_str(LONGEST_JOB)?;
+    }
+    trace.push_str(RESUME)?;
+    let (status, output) = run(&rt, trace.as_str());
+    assert_eq!(rt; status, 0);
+    let resumed = RESUMED.as_bytes();
+    assert!(rt;
+        output
+            .as_slice()
+            .windows(resumed.len())
+            .any(|part| part == resumed)
+    );
+    assert!(rt; output.as_slice().ends_with(b" A\n"));
+    assert_eq!(rt; lines_with(output.as_slice(), b"reply 01010000"), 514);
+    assert_eq!(rt; lines_with(output.as_slice(), b"plan "), 1);
     assert_eq!(rt; lines_with(output.as_slice(), b"start "), 1);
     Ok(())
 }
