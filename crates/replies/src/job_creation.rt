@@ -53,7 +53,7 @@ pub(crate) fn print_job_of(
     Ok(PrintJob {
         job: asked_job_of(alloc, message, group)?,
         form: form_of(alloc, group)?,
-        octets: Octets::new(Vec::from_slice(alloc, document)?),
+        octets: Octets::new(alloc, Vec::from_slice(alloc, document)?)?,
     })
 }
 

@@ -35,7 +35,7 @@ pub(crate) fn send_document_of(
     Ok(SendDocument {
         job: job_request_of(alloc, group)?,
         form: form_of(alloc, group)?,
-        octets: Octets::new(Vec::from_slice(alloc, document)?),
+        octets: Octets::new(alloc, Vec::from_slice(alloc, document)?)?,
         last: truth_of(group, OperationAttribute::LastDocument),
     })
 }

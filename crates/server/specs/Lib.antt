@@ -1,5 +1,8 @@
 pub mod Polls
 pub mod Session
+pub mod Talks
+pub mod Hearing
+pub mod Output
 pub mod Ledger
 pub mod Rel
 pub mod Keeping
@@ -11,6 +14,7 @@ pub mod Queues
 pub mod Polling
 pub mod Turn
 pub mod State
+pub mod Newcomers
 pub mod Stands
 pub mod CoreStep
 pub mod NoteLog

@@ -150,7 +150,7 @@ impl<P: Planner + Drop> Engine<P> {
     }
 
     /// One report of a device. Whether a growth was refused.
-    fn report_now<N: Notes>(
+    pub(crate) fn report_now<N: Notes>(
         &mut self,
         moment: Moment,
         device: DeviceId,

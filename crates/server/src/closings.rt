@@ -1,18 +1,20 @@
 //! Connections are closed.
-ghost use Rattle.std.specs.Prelude.{◌≡◌, false, ℕ, IfSome, IfNone};
-ghost use Rattle.server.specs.Polls.{silent};
+ghost use Rattle.std.specs.Prelude.{◌≡◌, false, ℕ, [], Some, IfSome, IfNone};
+ghost use Rattle.server.specs.Polls.{both};
+ghost use Rattle.server.specs.Ledger.{Fate, Drained};
 ghost use Rattle.server.specs.Rel.{Then};
 ghost use Rattle.server.specs.Keeping.{Breaks};
 ghost use Rattle.server.specs.Closing.{Settles};
 ghost use Rattle.server.specs.Polling.{EndsOne};
-ghost use Rattle.server.specs.State.{IsFirstBroken, LeavesAs, broken_at, with_slots};
-ghost use Rattle.server.specs.Stands.{Does, Aside};
+ghost use Rattle.server.specs.State.{ConnectionState, IsFirstBroken, broken_at, slot_at};
+ghost use Rattle.server.specs.Stands.{Does, Aside, Closed};
 
 use crate::engine::Engine;
+use crate::notes::Notes;
 use crate::table::{break_off, close, is_broken, is_done};
 use crate::wire::Wire;
 use assignment::Planner;
-use base_types::Moment;
+use base_types::{Moment, Report};
 
 /// Closings: of connections that broke, and of those that are done.
 impl<P: Planner + Drop> Engine<P> {
@@ -29,38 +31,62 @@ impl<P: Planner + Drop> Engine<P> {
         None
     }
 
-    /// Closes the connection under a key, which no device has.
-    fn close<W: Wire>(&mut self, key: usize, wire: &mut W)
-        ensures leaves { LeavesAs W.polled key wire.old self.old.slots wire.new self.new.slots }
-        ensures rest { self.new ≡ with_slots self.new.slots self.old }
+    /// Closes the connection under a key. Where a device said its name on it, the device is gone.
+    fn close<W: Wire, N: Notes>(
+        &mut self,
+        moment: Moment,
+        key: usize,
+        wire: &mut W,
+        notes: &mut N,
+    )
+        ensures { (fate : Fate) (c : ConnectionState) → slot_at self.old key ≡ Some c → (fate ≡ Drained → c.output ≡ []) → Closed (both W.polled N.told) moment fate key (wire.old, notes.old) self.old (wire.new, notes.new) self.new }
     {
-        close(&mut self.connections, key, wire);
+        if let Some(device) = close(&mut self.connections, key, wire) {
+            self.report_now(moment, device, Report::Gone, notes);
+        }
     }
 
     /// Closes the broken connections, by rising key.
-    pub(crate) fn settle<W: Wire>(&mut self, moment: Moment, wire: &mut W)
-        ensures { Aside (silent W.polled) (Settles moment) wire.old self.old wire.new self.new }
+    pub(crate) fn settle<W: Wire, N: Notes>(
+        &mut self,
+        moment: Moment,
+        wire: &mut W,
+        notes: &mut N,
+    )
+        ensures { Aside (both W.polled N.told) (Settles moment) (wire.old, notes.old) self.old (wire.new, notes.new) self.new }
     {
         while let Some(key) = self.first_broken() {
-            self.close(key, wire);
+            self.close(moment, key, wire, notes);
         }
     }
 
     /// The connection under a key breaks, and is closed.
-    pub(crate) fn fail<W: Wire>(&mut self, moment: Moment, key: usize, wire: &mut W)
-        ensures { Aside (silent W.polled) (Then (Breaks key) (Settles moment)) wire.old self.old wire.new self.new }
+    pub(crate) fn fail<W: Wire, N: Notes>(
+        &mut self,
+        moment: Moment,
+        key: usize,
+        wire: &mut W,
+        notes: &mut N,
+    )
+        ensures { Aside (both W.polled N.told) (Then (Breaks key) (Settles moment)) (wire.old, notes.old) self.old (wire.new, notes.new) self.new }
     {
         break_off(&mut self.connections, key);
-        self.settle(moment, wire);
+        self.settle(moment, wire, notes);
     }
 
     /// The connection under a key is closed, if it is done.
-    pub(crate) fn end_one<W: Wire>(&mut self, moment: Moment, key: usize, wire: &mut W)
-        ensures { Does (silent W.polled) (EndsOne moment key) wire.old self.old wire.new self.new }
+    pub(crate) fn end_one<W: Wire, N: Notes>(
+        &mut self,
+        moment: Moment,
+        key: usize,
+        wire: &mut W,
+        notes: &mut N,
+    )
+        ensures { Does (both W.polled N.told) (EndsOne moment key) (wire.old, notes.old) self.old (wire.new, notes.new) self.new }
     {
         if is_done(&self.connections, key) {
-            self.close(key, wire);
-            self.settle(moment, wire);
+            self.close(moment, key, wire, notes);
+            self.settle(moment, wire, notes);
         }
     }
 }

@@ -1,8 +1,9 @@
 //! Bytes that become due on a connection.
+ghost use Rattle.std.specs.Prelude.{◌≡◌};
 ghost use Rattle.server.specs.Polls.{alone};
 ghost use Rattle.server.specs.Keeping.{Keeps};
 ghost use Rattle.server.specs.Exchange.{http_status, http_reply, refusal_head};
-ghost use Rattle.server.specs.Stands.{Aside, ToldOf};
+ghost use Rattle.server.specs.Stands.{Aside, ToldOf, is_refused};
 
 use crate::engine::Engine;
 use crate::notes::{Notes, Place};
@@ -62,11 +63,16 @@ impl<P: Planner + Drop> Engine<P> {
     }
 }
 
-/// Tells of a growth of due bytes that was refused.
-fn tell<N: Notes>(kept: Kept, notes: &mut N)
-    ensures { ToldOf N.told kept notes.old notes.new }
+/// Tells of a growth of due bytes that was refused. Whether one was.
+pub(crate) fn tell<N: Notes>(kept: Kept, notes: &mut N) -> bool
+    ensures told { ToldOf N.told kept notes.old notes.new }
+    ensures refused { result ≡ is_refused kept }
 {
-    if let Kept::Refused(id) = kept {
-        notes.refused(Place::Keep, Some(id));
+    match kept {
+        Kept::Refused(id) => {
+            notes.refused(Place::Keep, Some(id));
+            true
+        }
+        _ => false,
     }
 }

@@ -5,10 +5,12 @@ ghost use Rattle.server.specs.Happening.{Sends, Follows, Dispatches};
 ghost use Rattle.server.specs.Exchange.{RepliesWith, LosesReply, Happens};
 ghost use Rattle.server.specs.Stands.{Aside, Openly};
 
-use crate::core_step::dispatch_core;
+use crate::core_step::{Made, dispatch_core};
+use crate::due::tell;
 use crate::engine::Engine;
 use crate::notes::{Notes, Place};
-use crate::table::break_off;
+use crate::starting::start_all;
+use crate::table::{break_off, keep_cancel, key_of};
 use crate::wire::WireId;
 use assignment::Planner;
 use base_types::Moment;
@@ -26,27 +28,39 @@ pub(crate) struct Asker {
 
 /// Events of connections. What any of them does is told as it happens.
 impl<P: Planner + Drop> Engine<P> {
-    /// Dispatches; the listener is told. No device has a connection yet, so no job's bytes are due.
-    /// Whether a growth was refused.
+    /// Dispatches; the listener is told, and the bytes of the jobs that begin become due. Whether a
+    /// growth was refused.
     fn dispatch<N: Notes>(&mut self, moment: Moment, notes: &mut N) -> bool
         ensures { Openly (alone N.told) (Dispatches moment) notes.old self.old notes.new self.new result }
     {
-        if dispatch_core(&mut self.core, moment, notes) {
-            self.undispatched = false;
-            false
-        } else {
-            notes.refused(Place::Dispatch, None);
-            self.undispatched = true;
-            true
+        match dispatch_core(&mut self.core, moment, notes) {
+            Made::Planned => {
+                self.undispatched = false;
+                start_all(&self.core, &mut self.connections, notes)
+            }
+            Made::Idle => {
+                self.undispatched = false;
+                false
+            }
+            Made::Refused => {
+                notes.refused(Place::Dispatch, None);
+                self.undispatched = true;
+                true
+            }
         }
     }
 
-    /// A cancel is sent. Whether a growth was refused.
+    /// A cancel is sent, to the device's connection if it has one. Whether a growth was refused.
     fn send<N: Notes>(&mut self, cancel: Cancel, notes: &mut N) -> bool
         ensures { Openly (alone N.told) (Sends cancel) notes.old self.old notes.new self.new result }
     {
+        let Cancel { job, device } = cancel;
         notes.canceled(cancel);
-        false
+        let Some(key) = key_of(&self.connections, device) else {
+            return false;
+        };
+        let kept = keep_cancel(&mut self.connections, key, job);
+        tell(kept, notes)
     }
 
     /// Sends these cancels. Whether a growth was refused.

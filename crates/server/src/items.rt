@@ -1,15 +1,16 @@
-//! What the items of a client's stream do.
+//! What comes of what connections bring: the items of a client's stream.
 ghost use Rattle.std.specs.Prelude.{◌≡◌, true, Some, IsTrue, IsFalse};
 ghost use Rattle.server.specs.Polls.{alone};
 ghost use Rattle.server.specs.Keeping.{Keeps};
 ghost use Rattle.server.specs.Exchange.{refusal_head, AsksFor, closes_with};
-ghost use Rattle.server.specs.State.{Slots, OnSlot, IsHeard, HearsNothing, IsWholeOf, changed_at, is_over, with_slots};
+ghost use Rattle.server.specs.State.{Slots, OnSlot, IsBrought, IsHeard, HearsNothing, IsWholeOf, changed_at, is_over, with_slots};
 ghost use Rattle.server.specs.Stands.{Aside, Heard};
 
 use crate::engine::Engine;
 use crate::events::Asker;
 use crate::notes::{Notes, Place};
-use crate::table::{Whole, begin, finish, next_item, take_body, take_part};
+use crate::table::{Whole, begin, break_off, finish, lose, next, take_body, take_part};
+use crate::talk::Brought;
 use crate::wire::WireId;
 use assignment::Planner;
 use base_types::Moment;
@@ -17,26 +18,42 @@ use dispatcher::{Event, Status};
 use http_front::{HttpItem, Refusal, continue_head};
 use replies::{Asked, ipp_event, request_id};
 
-/// The items of an HTTP stream, acted on one at a time.
+/// What connections bring, acted on one at a time.
 impl<P: Planner + Drop> Engine<P> {
-    /// Acts on the next item of the connection under a key: whether there was one.
+    /// Acts on what the connection under a key brings next: whether there was something.
     pub(crate) fn hear<N: Notes>(&mut self, moment: Moment, key: usize, notes: &mut N) -> bool
         ensures heard { IsTrue result → Heard (alone N.told) moment key notes.old self.old notes.new self.new }
         ensures none { IsFalse result → HearsNothing key self.old self.new }
         ensures still { IsFalse result → notes.new ≡ notes.old }
     {
-        match next_item(&mut self.connections, key) {
+        match next(&mut self.connections, key) {
             None => false,
-            Some(item) => {
-                self.hear_item(moment, key, item, notes);
+            Some(what) => {
+                self.act_next(moment, key, what, notes);
                 true
+            }
+        }
+    }
+
+    /// What comes of what was just taken off.
+    fn act_next<N: Notes>(&mut self, moment: Moment, key: usize, what: Brought, notes: &mut N)
+        ensures { (before : Slots) → OnSlot key (IsBrought (Some what)) before self.old.slots → Heard (alone N.told) moment key notes.old (with_slots before self.old) notes.new self.new }
+    {
+        match what {
+            Brought::Item(item) => self.hear_item(moment, key, item, notes),
+            Brought::Report(report) => self.hear_report(moment, key, report, notes),
+            Brought::Fault => break_off(&mut self.connections, key),
+            Brought::OutOfMemory => {
+                if let Some(id) = lose(&mut self.connections, key) {
+                    notes.refused(Place::Feed, Some(id));
+                }
             }
         }
     }
 
     /// What an item does that was just taken off.
     fn hear_item<N: Notes>(&mut self, moment: Moment, key: usize, item: HttpItem, notes: &mut N)
-        ensures { (before : Slots) → OnSlot key (IsHeard (Some item)) before self.old.slots → Heard (alone N.told) moment key notes.old (with_slots before self.old) notes.new self.new }
+        ensures { (before : Slots) → OnSlot key (IsHeard item) before self.old.slots → Heard (alone N.told) moment key notes.old (with_slots before self.old) notes.new self.new }
     {
         match item {
             HttpItem::Head { closes } => begin(&mut self.connections, key, closes),
@@ -56,7 +73,7 @@ impl<P: Planner + Drop> Engine<P> {
 
     /// Acts on the body that is whole now.
     fn end_body<N: Notes>(&mut self, moment: Moment, key: usize, notes: &mut N)
-        ensures { (before : Slots) → OnSlot key (IsHeard (Some HttpItem.BodyEnd)) before self.old.slots → Heard (alone N.told) moment key notes.old (with_slots before self.old) notes.new self.new }
+        ensures { (before : Slots) → OnSlot key (IsHeard HttpItem.BodyEnd) before self.old.slots → Heard (alone N.told) moment key notes.old (with_slots before self.old) notes.new self.new }
     {
         if let Some(whole) = take_body(&mut self.connections, key) {
             self.act_on(moment, key, &whole, notes);

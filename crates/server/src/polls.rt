@@ -1,11 +1,14 @@
 //! The polls of one connection, and of a door.
-ghost use Rattle.server.specs.Polls.{both, silent};
+ghost use Rattle.server.specs.Polls.{both};
+ghost use Rattle.server.specs.Hearing.{IsNewTalk};
 ghost use Rattle.server.specs.Polling.{AcceptsAt, AcceptsOne, Opens, Serves, FeedsOne, ReadsOne, WritesOne};
 ghost use Rattle.server.specs.Stands.{Does};
 
 use crate::engine::Engine;
 use crate::notes::{Notes, Place};
-use crate::table::{Fed, Offered, end, feed, insert, offer, sent, to_read};
+use crate::output::Offered;
+use crate::table::{Fed, end, feed, insert, offer, to_read};
+use crate::talk::Talk;
 use crate::wire::{Answer, Door, Wire, WireId};
 use assignment::Planner;
 use base_types::{Limits, Moment};
@@ -29,19 +32,18 @@ impl<P: Planner + Drop> Engine<P> {
         ensures { Does (both W.polled N.told) (AcceptsOne door) (wire.old, notes.old) self.old (wire.new, notes.new) self.new }
     {
         if let Answer::Done(id) = wire.poll_accept(door) {
-            match door {
-                Door::Ipp => self.open(id, wire, notes),
-                Door::Lpd => wire.close(id),
-                Door::Devices => wire.close(id),
+            match Talk::new(self.alloc, door) {
+                Some(talk) => self.open(id, talk, wire, notes),
+                None => wire.close(id),
             }
         }
     }
 
     /// A connection has come.
-    fn open<W: Wire, N: Notes>(&mut self, id: WireId, wire: &mut W, notes: &mut N)
-        ensures { Does (both W.polled N.told) (Opens Door.Ipp id) (wire.old, notes.old) self.old (wire.new, notes.new) self.new }
+    fn open<W: Wire, N: Notes>(&mut self, id: WireId, talk: Talk, wire: &mut W, notes: &mut N)
+        ensures { (door : Door) → IsNewTalk door talk → Does (both W.polled N.told) (Opens door id) (wire.old, notes.old) self.old (wire.new, notes.new) self.new }
     {
-        if insert(&mut self.connections, self.alloc, id) {
+        if insert(&mut self.connections, self.alloc, id, talk) {
             return;
         }
         notes.refused(Place::Accept, Some(id));
@@ -66,7 +68,7 @@ impl<P: Planner + Drop> Engine<P> {
             Answer::Done(count) => self.take(moment, key, &piece[..count], wire, notes),
             Answer::Waiting => {}
             Answer::End => end(&mut self.connections, key),
-            Answer::Fault => self.fail(moment, key, wire),
+            Answer::Fault => self.fail(moment, key, wire, notes),
         }
     }
 
@@ -87,7 +89,7 @@ impl<P: Planner + Drop> Engine<P> {
             Fed::Fed => self.serve(moment, key, wire, notes),
             Fed::Refused(id) => {
                 notes.refused(Place::Feed, Some(id));
-                self.settle(moment, wire);
+                self.settle(moment, wire, notes);
             }
         }
     }
@@ -97,19 +99,25 @@ impl<P: Planner + Drop> Engine<P> {
         ensures { Does (both W.polled N.told) (Serves moment key) (wire.old, notes.old) self.old (wire.new, notes.new) self.new }
     {
         while self.hear(moment, key, notes) {
-            self.settle(moment, wire);
+            self.settle(moment, wire, notes);
         }
     }
 
     /// One write of what waits on the connection under a key, if something does.
-    pub(crate) fn write_one<W: Wire>(&mut self, moment: Moment, key: usize, wire: &mut W)
-        ensures { Does (silent W.polled) (WritesOne moment key) wire.old self.old wire.new self.new }
+    pub(crate) fn write_one<W: Wire, N: Notes>(
+        &mut self,
+        moment: Moment,
+        key: usize,
+        wire: &mut W,
+        notes: &mut N,
+    )
+        ensures { Does (both W.polled N.told) (WritesOne moment key) (wire.old, notes.old) self.old (wire.new, notes.new) self.new }
     {
-        match offer(&self.connections, key, wire) {
+        match offer(&mut self.connections, key, wire) {
             Offered::Nothing => {}
-            Offered::Done(count) => sent(&mut self.connections, key, count),
+            Offered::Done(_) => {}
             Offered::Waiting => {}
-            Offered::Ended => self.fail(moment, key, wire),
+            Offered::Ended => self.fail(moment, key, wire, notes),
         }
     }
 }

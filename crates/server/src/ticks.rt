@@ -27,7 +27,7 @@ impl<P: Planner + Drop> Engine<P> {
     {
         if self.is_tick_due(moment) {
             self.tick_now(moment, notes);
-            self.settle(moment, wire);
+            self.settle(moment, wire, notes);
         }
     }
 

@@ -1,6 +1,6 @@
 //! The order of a turn.
 ghost use Rattle.std.specs.Prelude.{◌≡◌, ◌≤◌, ℕ, None};
-ghost use Rattle.server.specs.Polls.{both, silent};
+ghost use Rattle.server.specs.Polls.{both};
 ghost use Rattle.server.specs.Rel.{Each};
 ghost use Rattle.server.specs.Polling.{ReadsOne, WritesOne, EndsOne};
 ghost use Rattle.server.specs.Turn.{Round, Turn};
@@ -24,7 +24,7 @@ impl<P: Planner + Drop> Engine<P> {
     )
         ensures { Does (both W.polled N.told) (Turn moment) (wire.old, notes.old) self.old (wire.new, notes.new) self.new }
     {
-        self.settle(moment, wire);
+        self.settle(moment, wire, notes);
         self.tick_if_due(moment, wire, notes);
         self.accept_at(Door::Ipp, wire, notes);
         self.accept_at(Door::Lpd, wire, notes);
@@ -38,8 +38,8 @@ impl<P: Planner + Drop> Engine<P> {
     {
         let keys = self.keys();
         self.read_all(moment, keys, wire, notes);
-        self.write_all(moment, keys, wire);
-        self.end_all(moment, keys, wire);
+        self.write_all(moment, keys, wire, notes);
+        self.end_all(moment, keys, wire, notes);
     }
 
     /// How many keys there are, at most.
@@ -65,20 +65,32 @@ impl<P: Planner + Drop> Engine<P> {
     }
 
     /// What waits is written.
-    fn write_all<W: Wire>(&mut self, moment: Moment, keys: usize, wire: &mut W)
-        ensures { Does (silent W.polled) (Each keys (WritesOne moment)) wire.old self.old wire.new self.new }
+    fn write_all<W: Wire, N: Notes>(
+        &mut self,
+        moment: Moment,
+        keys: usize,
+        wire: &mut W,
+        notes: &mut N,
+    )
+        ensures { Does (both W.polled N.told) (Each keys (WritesOne moment)) (wire.old, notes.old) self.old (wire.new, notes.new) self.new }
     {
         for key in 0..keys {
-            self.write_one(moment, key, wire);
+            self.write_one(moment, key, wire, notes);
         }
     }
 
     /// The connections that are done are closed.
-    fn end_all<W: Wire>(&mut self, moment: Moment, keys: usize, wire: &mut W)
-        ensures { Does (silent W.polled) (Each keys (EndsOne moment)) wire.old self.old wire.new self.new }
+    fn end_all<W: Wire, N: Notes>(
+        &mut self,
+        moment: Moment,
+        keys: usize,
+        wire: &mut W,
+        notes: &mut N,
+    )
+        ensures { Does (both W.polled N.told) (Each keys (EndsOne moment)) (wire.old, notes.old) self.old (wire.new, notes.new) self.new }
     {
         for key in 0..keys {
-            self.end_one(moment, key, wire);
+            self.end_one(moment, key, wire, notes);
         }
     }
 }

@@ -1,15 +1,18 @@
 //! The octets of a document.
-ghost use Rattle.std.specs.Prelude.{◌≡◌, ◌≤◌, ◌<◌, ◌↔◌, [], IsTrue, length, drop};
+ghost use Rattle.std.specs.Prelude.{◌≡◌, ◌≤◌, ◌<◌, ◌↔◌, [], IsTrue, IfOk, length, drop};
 ghost use Rattle.spool.specs.Document.{IsFrontOf};
 
+use std::alloc::{AllocError, Global};
 use std::marker::Model;
+use std::rc::Rc;
 
-/// The octets of a document. In clauses it is their list.
+/// The octets of a document, which several may own. In clauses it is their list.
 ///
-/// How they lie in memory is no one's business: whoever sends them takes piece after piece.
+/// How they lie in memory is no one's business: whoever sends them takes piece after piece, and may
+/// keep them for as long as that takes.
 #[derive(Debug, Drop)]
 pub struct Octets {
-    bytes: Vec<u8>,
+    shared: Rc<Vec<u8>>,
 }
 
 impl Model for Octets {
@@ -17,29 +20,38 @@ impl Model for Octets {
 
     ghost Value = { List ℕ };
 
-    ghost view = { λ o. o.bytes.items };
+    ghost view = { λ o. o.shared.value.items };
 }
 
 impl Octets {
-    /// These octets, which it takes over.
-    pub fn new(bytes: Vec<u8>) -> Octets
-        ensures { result ≡ bytes.items }
+    /// These octets, which it takes over. The error is out of memory.
+    pub fn new(alloc: Global, bytes: Vec<u8>) -> Result<Octets, AllocError>
+        ensures { IfOk result (λ octets. octets ≡ bytes.items) }
     {
-        Octets { bytes }
+        let shared = Rc::new(alloc, bytes)?;
+        Ok(Octets { shared })
+    }
+
+    /// The same octets for another owner, without a copy. The error is out of memory.
+    pub fn share(&self) -> Result<Octets, AllocError>
+        ensures { IfOk result (λ octets. octets ≡ self.now) }
+    {
+        let shared = self.shared.clone()?;
+        Ok(Octets { shared })
     }
 
     /// How many they are.
     pub fn len(&self) -> usize
         ensures { result ≡ length self.now }
     {
-        self.bytes.len()
+        self.shared.len()
     }
 
     /// Whether there are none.
     pub fn is_empty(&self) -> bool
         ensures { IsTrue result ↔ (self.now ≡ []) }
     {
-        self.bytes.is_empty()
+        self.shared.is_empty()
     }
 
     /// Octets from a place on, as many as lie together: none only at the end.
@@ -47,6 +59,6 @@ impl Octets {
         requires { start ≤ length self.now }
         ensures { IsFrontOf result.now (drop start self.now) }
     {
-        &self.bytes[start..]
+        &self.shared[start..]
     }
 }

@@ -1,0 +1,402 @@
+-- A report of a device's connection is heard.
+use Rattle.std.proofs.Common.{◌≡◌, ◌<◌, ◌≤◌, ◌+◌, arith, ℕ, Bool, true, false, List, [], ◌∷◌, ◌++◌, refl, sym, ◌∙◌, ap, subst, Option, Some, None, inl, inr}
+use Rattle.std.specs.Prelude.{◌||◌, ◌==◌, if◌then◌else◌, zero, suc, take, slice_set, slice_index_or}
+use Rattle.std.specs.Option.{option_map_or}
+use Rattle.std.specs.Str.Lines.{strip_carriage_return}
+use Rattle.text.specs.Parts.{words_of}
+use Rattle.http_front.specs.Stream.{HttpState}
+use Rattle.print_room.specs.State.{State}
+use Rattle.base_types.specs.declared.report.Report.{Report}
+use Rattle.base_types.specs.declared.report.Report.TheVariants as reported
+use Rattle.base_types.specs.Report.{ReportRecord, SaysHello, SaysMedia, SaysReady, SaysStop, SaysBusy, SaysPages, SaysDone, SaysFail, IsGone, report_of}
+use Rattle.device_link.specs.Line.{in_turn, said}
+use Rattle.device_link.specs.Stream.{LinkState, SaysFirst}
+use Rattle.device_link.specs.Stream as Link
+use Rattle.dispatcher.specs.declared.event.Event.TheVariants as Is
+use Rattle.server.specs.Polls.{Note, Refused, Happening, Told, alone}
+use Rattle.server.specs.Ledger.{Entry, Ledger, with_entry}
+use Rattle.server.specs.Ledger as Ledger
+use Rattle.server.specs.Rel.{Rel, Nothing, Tells, Then}
+use Rattle.server.specs.Keeping.{Sets, broken, IsAbsent}
+use Rattle.server.specs.Happening.{Unanswered}
+use Rattle.server.specs.Devices.{device_named, linked, Tells as Reports, Greets, HearsReport}
+use Rattle.server.specs.Polling.{ActsNext}
+use Rattle.server.specs.Talks.{LinkTalkState}
+use Rattle.server.specs.Hearing.{Brings, NextItem, NextReport, work, device_of}
+use Rattle.server.specs.Newcomers.{IsAlone, IsNewcomer, IsTurnedAway}
+use Rattle.server.specs.declared.talk.Brought.{Brought}
+use Rattle.server.specs.declared.talk.Brought.TheVariants as brings
+use Rattle.server.specs.declared.talk.Talk.{Talk}
+use Rattle.server.specs.declared.talk.Talk.TheVariants as of
+use Rattle.server.specs.declared.notes.Place.TheVariants as At
+use Rattle.server.specs.State.{ConnectionState, EngineState, Slots, slot_at, with_slots, work_at, load, OnSlot, IsBrought, IsReported, IsFirstReport, changed_at, talking, is_named, is_broken, is_of, device_at}
+use Rattle.server.specs.Stands.{FitsTalk, FitsLink, IsLinked, FitsConnection, Fits, Aside, Openly, Heard}
+use Rattle.server.proofs.Steps.{aside_nothing, quiet_then}
+use Rattle.server.proofs.Slots.{set_there, set_twice, changed_again, quiet_at, work_there}
+use Rattle.server.proofs.Places.{found, fits_set}
+use Rattle.server.proofs.Keeping.{load_within, load_counts}
+use Rattle.server.proofs.Happening.{device_there, device_absent, tells}
+use Rattle.server.proofs.Hearing.{counts_there}
+
+-- ---- what was taken off
+
+report_from : (what : Report) (c d : ConnectionState) → IsBrought (Some (brings.Report what)) c d → (x y : Talk) → c.talk ≡ x → d.talk ≡ y → IsReported what c d
+report_from what c d b (of.Link t) (of.Link u) p q =
+    let it : Brings (Some (brings.Report what)) (of.Link t) (of.Link u) = subst (λ (k : Talk). Brings (Some (brings.Report what)) (of.Link t) k) q (subst (λ (k : Talk). Brings (Some (brings.Report what)) k d.talk) p b.talk) in
+    record { counts = b.counts; before = t; reader = u.reader; talk = p; answers = it.1.0; falls = it.1.1; is = b.is ∙ ap (λ (k : Talk). talking k c) (q ∙ ap of.Link it.0) }
+report_from what c d b (of.Link t) (of.Http u) p q = absurd (subst (λ (k : Talk). Brings (Some (brings.Report what)) (of.Link t) k) q (subst (λ (k : Talk). Brings (Some (brings.Report what)) k d.talk) p b.talk))
+report_from what c d b (of.Http t) (of.Link u) p q = absurd (subst (λ (k : Talk). Brings (Some (brings.Report what)) (of.Http t) k) q (subst (λ (k : Talk). Brings (Some (brings.Report what)) k d.talk) p b.talk))
+report_from what c d b (of.Http t) (of.Http u) p q =
+    let it : Brings (Some (brings.Report what)) (of.Http t) (of.Http u) = subst (λ (k : Talk). Brings (Some (brings.Report what)) (of.Http t) k) q (subst (λ (k : Talk). Brings (Some (brings.Report what)) k d.talk) p b.talk) in
+    absurd it.1
+
+pub report_taken : (key : ℕ) (what : Report) (xs ys : Slots) → OnSlot key (IsBrought (Some (brings.Report what))) xs ys → OnSlot key (IsReported what) xs ys
+report_taken key what xs ys on = record { before = on.before; after = on.after; there = on.there; changes = report_from what on.before on.after on.changes on.before.talk on.after.talk refl refl; slots = on.slots }
+
+-- ---- a device's connection is written
+
+-- what a device's connection is after a report
+abbrev pub told_link : ConnectionState → LinkState → Option ℕ → Bool → ConnectionState
+told_link c reader device off = record c { talk = of.Link (record { reader = reader; device = device }); broken = off }
+
+pub right_false : (x y : Bool) → (x || y) ≡ false → y ≡ false
+right_false true y is = cc
+right_false false y is = is
+
+-- the connection is written, and then comes what the report does
+pub reports : {S : Type 0} (moves : S → Happening → S → Type 0) (u v : S) (a b : EngineState) (slots : Slots) (moment key : ℕ) (c : ConnectionState) (t : LinkTalkState) (reader : LinkState) (device : Option ℕ) (off : Bool)
+    → slot_at a key ≡ Some c → c.talk ≡ of.Link t → slots ≡ slice_set a.slots key (Some (told_link c reader device off))
+    → (c.over || c.broken) ≡ false → (load (told_link c reader device off) < load c)
+    → (Q : Rel) → Aside moves Q u (with_slots slots a) v b
+    → ((l : Ledger) (e : Entry) (given : List ReportRecord) → Fits l a → l.entries key ≡ Some e → FitsConnection e c → e.broken ≡ false → e.talk ≡ Ledger.Link given t.device → IsLinked e.read given t
+        → (e' : Entry) × FitsConnection e' (told_link c reader device off) × ((hs : List Happening) (l' : Ledger) → Q (with_entry key e' l) hs l' → (e.over || e.broken) ≡ false → ActsNext moment key l hs l'))
+    → Heard moves moment key u a v b
+reports moves u v a b slots moment key c t reader device off was speaks is counts less Q does gives =
+    let d : ConnectionState = told_link c reader device off in (
+      record {
+        happenings = does.happenings;
+        leads = does.leads;
+        stands = λ l fits.
+            let f = found l a key c fits was in
+            let e = f.entry in
+            let counts' : (e.over || e.broken) ≡ false = counts_there e c f.fits counts in
+            let whole : e.broken ≡ false = right_false e.over e.broken counts' in
+            let link : FitsLink e.read e.talk e.broken t = subst (λ (k : Talk). FitsTalk e.read e.talk e.broken k) speaks f.fits.talk in
+            let g = gives l e link.reports fits f.there f.fits whole link.is (link.linked whole) in
+            let r = does.stands (with_entry key g.0 l) (fits_set l a slots key c (told_link c reader device off) g.0 fits was is g.1) in
+            (r.0, g.2 does.happenings r.0 r.1 counts', r.2);
+        quiet = quiet_then a (with_slots slots a) b (quiet_at a slots key c d was is (omega (arith, less))) does.quiet;
+      },
+      let there : work_at slots key ≡ load d = work_there slots key d (ap (λ (xs : Slots). slice_index_or xs key None) is ∙ set_there a.slots key c (Some d) was) in
+      omega (arith, less, there, work_there a.slots key c was, does.quiet.work key),
+    )
+
+-- a reader that has less to say makes the connection's load less
+less_to_bring : (c : ConnectionState) (t : LinkTalkState) (reader : LinkState) (device : Option ℕ) → c.talk ≡ of.Link t → (c.over || c.broken) ≡ false → Link.work reader < Link.work t.reader → (off : Bool) → load (told_link c reader device off) < load c
+less_to_bring c t reader device speaks counts falls off =
+    let full : load c ≡ 1 + Link.work t.reader = load_counts c counts ∙ ap (λ (k : Talk). 1 + work k) speaks in
+    omega (arith, full, falls, load_within (told_link c reader device off))
+
+off_bring : (x : Bool) (n : ℕ) → (if x || true then 0 else n) ≡ 0
+off_bring true n = refl
+off_bring false n = refl
+
+-- a broken connection brings nothing
+nothing_to_bring : (c : ConnectionState) (reader : LinkState) (device : Option ℕ) → (c.over || c.broken) ≡ false → load (told_link c reader device true) < load c
+nothing_to_bring c reader device counts =
+    let full : load c ≡ 1 + work c.talk = load_counts c counts in
+    let none : load (told_link c reader device true) ≡ 0 = off_bring c.over (1 + Link.work reader) in
+    omega (arith, full, none)
+
+-- a connection as it was written
+written : (c : ConnectionState) (reader : LinkState) (device : Option ℕ) → (c.over || c.broken) ≡ false → talking (of.Link (record { reader = reader; device = device })) c ≡ told_link c reader device false
+written c reader device counts = ap (λ (o : Bool). told_link c reader device o) (right_false c.over c.broken counts)
+
+-- what the ledger has of a connection that heard a report
+fits_linked : (e : Entry) (c : ConnectionState) (given : List ReportRecord) (reader : LinkState) (place : ℕ) → FitsConnection e c → e.broken ≡ false → Link.Stands e.read given reader → FitsConnection (linked e given (Some place)) (told_link c reader (Some place) false)
+fits_linked e c given reader place f whole stands = record {
+  id = f.id;
+  talk = record { reports = given; is = refl; linked = λ off. record { stands = stands; unnamed = λ none. let never : Some place ≡ None = none in cc } };
+  ended = f.ended;
+  over = f.over;
+  broken = sym whole;
+  due = f.due;
+}
+
+-- ---- reports
+
+-- what a stream says first, as its reader stands
+says_first : (read : List ℕ) (given : List ReportRecord) (reader : LinkState) → Link.Stands read given reader → SaysFirst read given
+says_first read given reader stands = record { next = reader.greeted; left = stands.left; leads = stands.leads }
+
+-- the device under a key, where the connection there was taken off from
+device_taken : (xs ys : Slots) (key : ℕ) (report : Report) (on : OnSlot key (IsReported report) xs ys) → device_at ys key ≡ on.changes.before.device
+device_taken xs ys key report on =
+    ap (λ (vs : Slots). device_at vs key) on.slots ∙ (ap (λ (o : Option ConnectionState). option_map_or (λ c. device_of c.talk) o None) (set_there xs key on.before (Some on.after) on.there) ∙ ap (λ (c : ConnectionState). device_of c.talk) on.changes.is)
+
+-- a device that has said its name reports
+pub hears_report : {N : Type 0} (told : N → Note → N → Type 0) (n n' : N) (a b : EngineState) (mid : Slots) (moment key place : ℕ) (report : Report) (refused : Bool)
+    → OnSlot key (IsReported report) a.slots mid → device_at mid key ≡ Some place → Openly (alone told) (Unanswered moment (Is.Report place report)) n (with_slots mid a) n' b refused → Heard (alone told) moment key n a n' b
+hears_report told n n' a b mid moment key place report refused on at does =
+    let h = on.changes in
+    let t = h.before in
+    let named : t.device ≡ Some place = sym (device_taken a.slots mid key report on) ∙ at in
+    let same : on.after ≡ told_link on.before h.reader (Some place) false = h.is ∙ (written on.before h.reader t.device h.counts ∙ ap (λ (o : Option ℕ). told_link on.before h.reader o false) named) in
+    reports (alone told) n n' a b mid moment key on.before t h.reader (Some place) false on.there h.talk (on.slots ∙ ap (λ (d : ConnectionState). slice_set a.slots key (Some d)) same) h.counts (less_to_bring on.before t h.reader (Some place) h.talk h.counts h.falls false)
+    (Unanswered moment (Is.Report place report)) does.does
+    (λ l e given fits there f whole talk link.
+    let stands : Link.Stands e.read (given ++ report_of report ∷ []) h.reader = h.answers e.read given link.stands in
+    let e' : Entry = linked e (given ++ report_of report ∷ []) (Some place) in (
+      linked e (given ++ report_of report ∷ []) (Some place),
+      fits_linked e on.before (given ++ report_of report ∷ []) h.reader place f whole stands,
+      λ hs l' it counts. inr (inl (record {
+        entry = e;
+        reports = given;
+        device = Some place;
+        there = there;
+        talk = talk ∙ ap (λ (o : Option ℕ). Ledger.Link given o) named;
+        counts = counts;
+        said = report_of report;
+        next = says_first e.read (given ++ report_of report ∷ []) h.reader stands;
+        does = record { mid = with_entry key e' l; front = []; back = hs; whole = refl; first = (refl, refl); second = (report, refl, it) };
+      })),
+    ))
+
+-- ---- the first report
+
+-- no name was said on the connection before
+pub first_report : (xs ys : Slots) (key : ℕ) (report : Report) → OnSlot key (IsReported report) xs ys → device_at ys key ≡ None → OnSlot key (IsFirstReport report) xs ys
+first_report xs ys key report on none = record {
+  before = on.before;
+  after = on.after;
+  there = on.there;
+  changes = record { reported = on.changes; unnamed = ap device_of on.changes.talk ∙ (sym (device_taken xs ys key report on) ∙ none) };
+  slots = on.slots;
+}
+
+-- one connection is written that has the same device
+same_devices : (xs : Slots) (key : ℕ) (c d : ConnectionState) → slice_index_or xs key None ≡ Some c → device_of d.talk ≡ device_of c.talk → (k : ℕ) → device_at (slice_set xs key (Some d)) k ≡ device_at xs k
+same_devices [] key c d is same k = refl
+same_devices (x ∷ xs) zero c d is same zero = same ∙ sym (ap (λ (o : Option ConnectionState). option_map_or (λ v. device_of v.talk) o None) is)
+same_devices (x ∷ xs) zero c d is same (suc k) = refl
+same_devices (x ∷ xs) (suc key) c d is same zero = refl
+same_devices (x ∷ xs) (suc key) c d is same (suc k) = same_devices xs key c d is same k
+
+-- whose connection is whose, before a report was taken off
+is_of_before : (xs ys : Slots) (key : ℕ) (report : Report) → OnSlot key (IsReported report) xs ys → (device k : ℕ) → is_of ys device k ≡ is_of xs device k
+is_of_before xs ys key report on device k =
+    let same : device_of on.after.talk ≡ device_of on.before.talk = ap (λ (c : ConnectionState). device_of c.talk) on.changes.is ∙ sym (ap device_of on.changes.talk) in
+    ap (λ (o : Option ℕ). option_map_or (λ place. place == device) o false) (ap (λ (vs : Slots). device_at vs k) on.slots ∙ same_devices xs key on.before on.after on.there same k)
+
+newcomer_is : (e : EngineState) (report : Report) (place : ℕ) → IsNewcomer e report place → (name : List ℕ) × (report ≡ reported.Hello name) × (device_named name e.core ≡ Some place) × IsAlone e place
+newcomer_is e (reported.Hello name) place (is, alone) = (name, refl, is, alone)
+newcomer_is e (reported.Media names) place it = absurd it
+newcomer_is e reported.Ready place it = absurd it
+newcomer_is e reported.Stop place it = absurd it
+newcomer_is e (reported.Busy time) place it = absurd it
+newcomer_is e (reported.Pages job printed) place it = absurd it
+newcomer_is e (reported.Done job) place it = absurd it
+newcomer_is e (reported.Fail job) place it = absurd it
+newcomer_is e reported.Gone place it = absurd it
+
+-- a device says its name
+pub hears_name : {N : Type 0} (told : N → Note → N → Type 0) (n n' : N) (a b : EngineState) (mid slots : Slots) (moment key place : ℕ) (report : Report) (refused : Bool)
+    → OnSlot key (IsFirstReport report) a.slots mid → IsNewcomer (with_slots mid a) report place → slots ≡ changed_at key (is_named place) mid
+    → Openly (alone told) (Unanswered moment (Is.Report place report)) n (with_slots slots a) n' b refused → Heard (alone told) moment key n a n' b
+hears_name told n n' a b mid slots moment key place report refused first new is does =
+    let on : OnSlot key (IsReported report) a.slots mid = record { before = first.before; after = first.after; there = first.there; changes = first.changes.reported; slots = first.slots } in
+    let h = on.changes in
+    let t = h.before in
+    let unnamed : t.device ≡ None = sym (ap device_of h.talk) ∙ first.changes.unnamed in
+    let who = newcomer_is (with_slots mid a) report place new in
+    let same : is_named place on.after ≡ told_link on.before h.reader (Some place) false = ap (is_named place) h.is ∙ written on.before h.reader (Some place) h.counts in
+    reports (alone told) n n' a b slots moment key on.before t h.reader (Some place) false on.there h.talk
+    (changed_again a.slots mid slots key on.before on.after (is_named place) on.there on.slots is ∙ ap (λ (d : ConnectionState). slice_set a.slots key (Some d)) same)
+    h.counts (less_to_bring on.before t h.reader (Some place) h.talk h.counts h.falls false) (Unanswered moment (Is.Report place report)) does.does
+    (λ l e given fits there f whole talk link.
+    let stands : Link.Stands e.read (given ++ report_of report ∷ []) h.reader = h.answers e.read given link.stands in
+    let e' : Entry = linked e (given ++ report_of report ∷ []) (Some place) in (
+      linked e (given ++ report_of report ∷ []) (Some place),
+      fits_linked e on.before (given ++ report_of report ∷ []) h.reader place f whole stands,
+      λ hs l' it counts.
+      let known : device_named who.0 l.core ≡ Some place = ap (λ (s : State). device_named who.0 s) fits.core ∙ who.2 in
+      let absent : IsAbsent place l = device_absent l a place fits (λ k. sym (is_of_before a.slots mid key report on place k) ∙ who.3 k) in
+      let both_do : Then (Sets key (linked e (given ++ report_of report ∷ []) (Some place))) (Reports moment place (report_of report)) l hs l' = record { mid = with_entry key e' l; front = []; back = hs; whole = refl; first = (refl, refl); second = (report, refl, it) } in
+      let greets : Greets moment key e (given ++ report_of report ∷ []) (report_of report) (device_named who.0 l.core) l hs l' = subst (λ (o : Option ℕ). Greets moment key e (given ++ report_of report ∷ []) (report_of report) o l hs l') (sym known) (inl (absent, both_do)) in
+      let heard : HearsReport moment key e (given ++ report_of report ∷ []) None (report_of report) l hs l' = subst (λ (r : Report). Greets moment key e (given ++ report_of report ∷ []) (report_of report) (device_named who.0 l.core) l hs l' → HearsReport moment key e (given ++ report_of report ∷ []) None (report_of r) l hs l') (sym who.1) (λ g. subst (λ (r : Report). Greets moment key e (given ++ report_of report ∷ []) (report_of r) (device_named who.0 l.core) l hs l') who.1 g) greets in
+      inr (inl (record {
+        entry = e;
+        reports = given;
+        device = None;
+        there = there;
+        talk = talk ∙ ap (λ (o : Option ℕ). Ledger.Link given o) unnamed;
+        counts = counts;
+        said = report_of report;
+        next = says_first e.read (given ++ report_of report ∷ []) h.reader stands;
+        does = heard;
+      })),
+    ))
+
+-- what a connection is that is broken for what it brought
+fits_off : (e : Entry) (c : ConnectionState) (given : List ReportRecord) (t : LinkTalkState) (reader : LinkState) → FitsConnection e c → e.talk ≡ Ledger.Link given t.device → FitsConnection (broken e) (told_link c reader t.device true)
+fits_off e c given t reader f talk = record {
+  id = f.id;
+  talk = record { reports = given; is = talk; linked = λ no. let never : true ≡ false = no in cc };
+  ended = f.ended;
+  over = f.over;
+  broken = refl;
+  due = f.due;
+}
+
+abbrev IsHello : ReportRecord → Type 0
+IsHello (SaysHello name) = Unit {0}
+IsHello _ = ⊥
+
+first_is_hello : (o : Option ReportRecord) (r : ReportRecord) → in_turn false o ≡ Some r → IsHello r
+first_is_hello None r is = cc
+first_is_hello (Some (SaysHello name)) r is = let same : SaysHello name ≡ r = cc in subst IsHello same tt
+first_is_hello (Some (SaysMedia names)) r is = cc
+first_is_hello (Some SaysReady) r is = cc
+first_is_hello (Some SaysStop) r is = cc
+first_is_hello (Some (SaysBusy time)) r is = cc
+first_is_hello (Some (SaysPages job printed)) r is = cc
+first_is_hello (Some (SaysDone job)) r is = cc
+first_is_hello (Some (SaysFail job)) r is = cc
+first_is_hello (Some IsGone) r is = cc
+
+hello_first : (read : List ℕ) (r : ReportRecord) (reader : LinkState) → Link.Stands read (r ∷ []) reader → IsHello r
+hello_first read r reader stands =
+    let front = stands.leads.1 in
+    first_is_hello (said (words_of (strip_carriage_return (take front.count read)))) r front.says
+
+-- what the ledger does with a name that is turned away
+turned_away : (report : Report) (a : EngineState) (mid : Slots) (moment key : ℕ) (e : Entry) (given : List ReportRecord) (l : Ledger) → Fits l a → ((device k : ℕ) → is_of mid device k ≡ is_of a.slots device k) → IsHello (report_of report) → IsTurnedAway (with_slots mid a) report
+    → HearsReport moment key e given None (report_of report) l [] (with_entry key (broken e) l)
+turned_away (reported.Hello name) a mid moment key e given l fits same hello (inl none) =
+    subst (λ (o : Option ℕ). Greets moment key e given (SaysHello name) o l [] (with_entry key (broken e) l)) (sym (ap (λ (s : State). device_named name s) fits.core ∙ none)) (refl, refl)
+turned_away (reported.Hello name) a mid moment key e given l fits same hello (inr (device, is, (other, its))) =
+    subst (λ (o : Option ℕ). Greets moment key e given (SaysHello name) o l [] (with_entry key (broken e) l)) (sym (ap (λ (s : State). device_named name s) fits.core ∙ is)) (inr ((other, device_there l a device other fits (sym (same device other) ∙ its)), (refl, refl)))
+turned_away (reported.Media names) a mid moment key e given l fits same hello it = absurd hello
+turned_away reported.Ready a mid moment key e given l fits same hello it = absurd hello
+turned_away reported.Stop a mid moment key e given l fits same hello it = absurd hello
+turned_away (reported.Busy time) a mid moment key e given l fits same hello it = absurd hello
+turned_away (reported.Pages job printed) a mid moment key e given l fits same hello it = absurd hello
+turned_away (reported.Done job) a mid moment key e given l fits same hello it = absurd hello
+turned_away (reported.Fail job) a mid moment key e given l fits same hello it = absurd hello
+turned_away reported.Gone a mid moment key e given l fits same hello it = absurd hello
+
+-- a name is turned away
+pub hears_stranger : {S : Type 0} (moves : S → Happening → S → Type 0) (u : S) (a : EngineState) (mid slots : Slots) (moment key : ℕ) (report : Report)
+    → OnSlot key (IsFirstReport report) a.slots mid → IsTurnedAway (with_slots mid a) report → slots ≡ changed_at key is_broken mid → Heard moves moment key u a u (with_slots slots a)
+hears_stranger moves u a mid slots moment key report first away is =
+    let on : OnSlot key (IsReported report) a.slots mid = record { before = first.before; after = first.after; there = first.there; changes = first.changes.reported; slots = first.slots } in
+    let h = on.changes in
+    let t = h.before in
+    let unnamed : t.device ≡ None = sym (ap device_of h.talk) ∙ first.changes.unnamed in
+    reports moves u u a (with_slots slots a) slots moment key on.before t h.reader t.device true on.there h.talk
+    (changed_again a.slots mid slots key on.before on.after is_broken on.there on.slots is ∙ ap (λ (d : ConnectionState). slice_set a.slots key (Some (is_broken d))) h.is)
+    h.counts (nothing_to_bring on.before h.reader t.device h.counts) Nothing (aside_nothing moves u (with_slots slots a))
+    (λ l e given fits there f whole talk link.
+    let stands : Link.Stands e.read (given ++ report_of report ∷ []) h.reader = h.answers e.read given link.stands in
+    let only : Link.Stands e.read (report_of report ∷ []) h.reader = subst (λ (rs : List ReportRecord). Link.Stands e.read (rs ++ report_of report ∷ []) h.reader) (link.unnamed unnamed) stands in
+    let done = turned_away report a mid moment key e (given ++ report_of report ∷ []) l fits (λ device k. is_of_before a.slots mid key report on device k) (hello_first e.read (report_of report) h.reader only) away in (
+      broken e,
+      fits_off e on.before given t h.reader f talk,
+      λ hs l' it counts. inr (inl (record {
+        entry = e;
+        reports = given;
+        device = None;
+        there = there;
+        talk = talk ∙ ap (λ (o : Option ℕ). Ledger.Link given o) unnamed;
+        counts = counts;
+        said = report_of report;
+        next = says_first e.read (given ++ report_of report ∷ []) h.reader stands;
+        does = subst (λ (xs : List Happening). HearsReport moment key e (given ++ report_of report ∷ []) None (report_of report) l xs l') (sym it.0) (subst (λ (m : Ledger). HearsReport moment key e (given ++ report_of report ∷ []) None (report_of report) l [] m) (sym it.1) done);
+      })),
+    ))
+
+-- ---- faults
+
+-- a fault was found, or memory for a line is refused
+record IsOff (what : Brought) (c d : ConnectionState) : Type 0 where
+  pub counts : (c.over || c.broken) ≡ false
+  pub before : LinkTalkState
+  pub reader : LinkState
+  pub talk : c.talk ≡ of.Link before
+  pub next : NextReport (Some what) before.reader reader
+  pub is : d ≡ talking (of.Link (record before { reader = reader })) c
+
+abbrev IsEnd : Brought → Type 0
+IsEnd brings.Fault = Unit {0}
+IsEnd brings.OutOfMemory = Unit {0}
+IsEnd _ = ⊥
+
+no_item : (what : Brought) (x y : HttpState) → IsEnd what → NextItem (Some what) x y → ⊥
+no_item brings.Fault x y end it = it
+no_item brings.OutOfMemory x y end it = it
+no_item (brings.Item item) x y end it = end
+no_item (brings.Report report) x y end it = end
+
+off_from : (what : Brought) (c d : ConnectionState) → IsEnd what → IsBrought (Some what) c d → (x y : Talk) → c.talk ≡ x → d.talk ≡ y → IsOff what c d
+off_from what c d end b (of.Link t) (of.Link u) p q =
+    let it : Brings (Some what) (of.Link t) (of.Link u) = subst (λ (k : Talk). Brings (Some what) (of.Link t) k) q (subst (λ (k : Talk). Brings (Some what) k d.talk) p b.talk) in
+    record { counts = b.counts; before = t; reader = u.reader; talk = p; next = it.1; is = b.is ∙ ap (λ (k : Talk). talking k c) (q ∙ ap of.Link it.0) }
+off_from what c d end b (of.Link t) (of.Http u) p q = absurd (subst (λ (k : Talk). Brings (Some what) (of.Link t) k) q (subst (λ (k : Talk). Brings (Some what) k d.talk) p b.talk))
+off_from what c d end b (of.Http t) (of.Link u) p q = absurd (subst (λ (k : Talk). Brings (Some what) (of.Http t) k) q (subst (λ (k : Talk). Brings (Some what) k d.talk) p b.talk))
+off_from what c d end b (of.Http t) (of.Http u) p q =
+    let it : Brings (Some what) (of.Http t) (of.Http u) = subst (λ (k : Talk). Brings (Some what) (of.Http t) k) q (subst (λ (k : Talk). Brings (Some what) k d.talk) p b.talk) in
+    absurd (no_item what t.reader u.reader end it.1)
+
+pub hears_fault : {S : Type 0} (moves : S → Happening → S → Type 0) (u : S) (a : EngineState) (mid slots : Slots) (moment key : ℕ)
+    → OnSlot key (IsBrought (Some brings.Fault)) a.slots mid → slots ≡ changed_at key is_broken mid → Heard moves moment key u a u (with_slots slots a)
+hears_fault moves u a mid slots moment key on is =
+    let h = off_from brings.Fault on.before on.after tt on.changes on.before.talk on.after.talk refl refl in
+    let t = h.before in
+    reports moves u u a (with_slots slots a) slots moment key on.before t h.reader t.device true on.there h.talk
+    (changed_again a.slots mid slots key on.before on.after is_broken on.there on.slots is ∙ ap (λ (d : ConnectionState). slice_set a.slots key (Some (is_broken d))) h.is)
+    h.counts (nothing_to_bring on.before h.reader t.device h.counts) Nothing (aside_nothing moves u (with_slots slots a))
+    (λ l e given fits there f whole talk link. (
+      broken e,
+      fits_off e on.before given t h.reader f talk,
+      λ hs l' it counts. inr (inr (inr (record {
+        entry = e;
+        reports = given;
+        device = t.device;
+        there = there;
+        talk = talk;
+        counts = counts;
+        fault = h.next.0;
+        faulty = (h.next.1.1 e.read given link.stands).0;
+        does = it;
+      }))),
+    ))
+
+same_one : {A : Type 0} (x : Option A) (c d : A) → x ≡ Some c → x ≡ Some d → c ≡ d
+same_one x c d p q = cc
+
+pub hears_lost : {N : Type 0} (told : N → Note → N → Type 0) (n n' : N) (a : EngineState) (mid slots : Slots) (moment key id : ℕ)
+    → OnSlot key (IsBrought (Some brings.OutOfMemory)) a.slots mid → OnSlot key (λ c d. (c.id ≡ id) × (d ≡ is_broken c)) mid slots → told n (Refused At.Feed (Some id)) n' → Heard (alone told) moment key n a n' (with_slots slots a)
+hears_lost told n n' a mid slots moment key id on off tells' =
+    let h = off_from brings.OutOfMemory on.before on.after tt on.changes on.before.talk on.after.talk refl refl in
+    let t = h.before in
+    let there : slice_index_or mid key None ≡ Some on.after = ap (λ (vs : Slots). slice_index_or vs key None) on.slots ∙ set_there a.slots key on.before (Some on.after) on.there in
+    let was : off.before ≡ on.after = same_one (slice_index_or mid key None) off.before on.after off.there there in
+    let now : off.after ≡ told_link on.before h.reader t.device true = off.changes.1 ∙ (ap is_broken was ∙ ap is_broken h.is) in
+    let is : slots ≡ slice_set a.slots key (Some (told_link on.before h.reader t.device true)) =
+        off.slots ∙ (ap (λ (vs : Slots). slice_set vs key (Some off.after)) on.slots ∙ (set_twice a.slots key (Some on.after) (Some off.after) ∙ ap (λ (d : ConnectionState). slice_set a.slots key (Some d)) now)) in
+    let its : on.before.id ≡ id = sym (ap (λ (c : ConnectionState). c.id) (was ∙ h.is)) ∙ off.changes.0 in
+    reports (alone told) n n' a (with_slots slots a) slots moment key on.before t h.reader t.device true on.there h.talk is h.counts (nothing_to_bring on.before h.reader t.device h.counts)
+    (Tells (Refused At.Feed (Some id))) (tells told n n' (with_slots slots a) (Refused At.Feed (Some id)) tells')
+    (λ l e given fits there' f whole talk link. (
+      broken e,
+      fits_off e on.before given t h.reader f talk,
+      λ hs l' it counts. inr (inr (inl (record {
+        entry = e;
+        reports = given;
+        device = t.device;
+        there = there';
+        talk = talk;
+        counts = counts;
+        does = (it.0 ∙ ap (λ (i : ℕ). Told (Refused At.Feed (Some i)) ∷ []) (sym its ∙ f.id), it.1);
+      }))),
+    ))

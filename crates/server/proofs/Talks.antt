@@ -1,0 +1,17 @@
+-- What a device's reader answers.
+use Rattle.std.proofs.Common.{◌≡◌, ◌<◌, subst, sym, refl, Option, Some, None, Result, Ok, Err, IfOk, IsSome}
+use Rattle.base_types.specs.declared.report.Report.{Report}
+use Rattle.device_link.specs.declared.fault.LinkError.{LinkError}
+use Rattle.device_link.specs.declared.fault.LinkError.TheVariants.{Fault, OutOfMemory}
+use Rattle.device_link.specs.Stream.{LinkState, Answers, work}
+use Rattle.server.specs.declared.talk.Brought.{Brought}
+use Rattle.server.specs.Hearing.{NextReport, brought_of}
+
+answered : (old new : LinkState) (answer : Result (Option Report) LinkError) → Answers old answer new → IfOk answer (λ report. IsSome report → work new < work old) → NextReport (brought_of answer) old new
+answered old new (Ok None) answers falls = answers
+answered old new (Ok (Some report)) answers falls = (answers, falls refl)
+answered old new (Err (Fault fault)) answers falls = (fault, answers)
+answered old new (Err OutOfMemory) answers falls = answers
+
+pub next_is : (old new : LinkState) (answer : Result (Option Report) LinkError) (what : Option Brought) → Answers old answer new → IfOk answer (λ report. IsSome report → work new < work old) → what ≡ brought_of answer → NextReport what old new
+next_is old new answer what answers falls is = subst (λ (o : Option Brought). NextReport o old new) (sym is) (answered old new answer answers falls)

@@ -1,0 +1,325 @@
+//! What waits to be taken on a connection.
+ghost use Rattle.std.specs.Prelude.{◌≡◌, ◌<◌, ◌≤◌, ◌++◌, [], IfOk, OnOk, OnErr, ◌==◌, nat_lt, length, drop, slice_index_or};
+ghost use Rattle.std.specs.List.{flat_map, All};
+ghost use Rattle.device_link.specs.Orders.{cancel_line, job_line};
+ghost use Rattle.spool.specs.Document.{IsFrontOf};
+ghost use Rattle.server.specs.Exchange.{http_reply, refusal_head};
+ghost use Rattle.server.specs.Output.{OffersFront, IsSome, joined};
+
+use crate::wire::{Answer, Wire, WireId};
+use base_types::{JobId, Needs};
+use device_link::{write_cancel, write_job};
+use http::StatusCode;
+use http_front::{Refusal, write_head};
+use spool::{Document, Octets};
+use std::alloc::{AllocError, Global};
+use std::marker::Model;
+use text::drop_front;
+
+/// What became of an offer.
+#[derive(Clone, Copy, Debug, PartialEq, Eq)]
+pub(crate) enum Offered {
+    /// Nothing waits, or no connection is there.
+    Nothing,
+    /// So many bytes were taken.
+    Done(usize),
+    Waiting,
+    /// An end or a fault.
+    Ended,
+}
+
+/// The rest of octets that others may own too. In clauses it is the list of them, which isn't empty.
+#[derive(Debug, Drop)]
+struct Rest {
+    octets: Octets,
+    /// How many of them are taken.
+    start: usize,
+}
+
+impl Model for Rest {
+    ghost use Rattle.std.specs.Prelude.{ℕ, List, ◌<◌, drop, length};
+
+    ghost Value = { List ℕ };
+
+    ghost view = { λ r. drop r.start r.octets };
+
+    ghost invariant = { λ r. r.start < length r.octets };
+}
+
+impl Rest {
+    /// All of these octets.
+    fn new(octets: Octets) -> Rest
+        requires { 0 < length octets }
+        ensures { result ≡ octets }
+    {
+        Rest { octets, start: 0 }
+    }
+
+    /// A front of them.
+    fn front(&self) -> &[u8]
+        ensures front { IsFrontOf result.now self.now }
+        ensures some { 0 < length self.now }
+    {
+        self.octets.piece(self.start)
+    }
+
+    /// How many they are.
+    fn len(&self) -> usize
+        ensures { result ≡ length self.now }
+    {
+        self.octets.len() - self.start
+    }
+
+    /// So many are taken, and some are left.
+    fn pass(&mut self, count: usize)
+        requires { count < length self.old }
+        ensures { self.new ≡ drop count self.old }
+    {
+        let left = self.len() - count;
+        self.start = self.octets.len() - left;
+    }
+}
+
+/// The bytes that wait to be taken on a connection. In clauses it is the list of them.
+///
+/// Documents are not copied: the output owns them together with the core, for as long as it needs
+/// them.
+#[derive(Debug, Drop)]
+pub(crate) struct Output {
+    alloc: Global,
+    /// What goes out first.
+    shared: Vec<Rest>,
+    /// What follows it.
+    text: Vec<u8>,
+}
+
+impl Model for Output {
+    ghost use Rattle.std.specs.Prelude.{ℕ, List, ◌++◌};
+    ghost use Rattle.std.specs.List.{All};
+    ghost use Rattle.server.specs.Output.{joined, IsSome};
+
+    ghost Value = { List ℕ };
+
+    ghost view = { λ o. joined o.shared.items ++ o.text.items };
+
+    ghost invariant = { λ o. All IsSome o.shared.items };
+}
+
+impl Output {
+    /// Nothing waits, and there is room for so many bytes.
+    pub(crate) fn with_capacity(alloc: Global, room: usize) -> Result<Output, AllocError>
+        ensures { IfOk result (λ output. output ≡ []) }
+    {
+        Ok(Output {
+            alloc,
+            shared: Vec::new(alloc),
+            text: Vec::with_capacity(alloc, room)?,
+        })
+    }
+
+    /// Whether nothing waits.
+    pub(crate) fn is_empty(&self) -> bool
+        ensures { result ≡ (length self.now == 0) }
+    {
+        self.shared.is_empty() && self.text.is_empty()
+    }
+
+    /// Whether more bytes wait than so many.
+    pub(crate) fn is_above(&self, limit: usize) -> bool
+        ensures { result ≡ nat_lt limit (length self.now) }
+    {
+        let mut room = limit;
+        for rest in &self.shared {
+            if room < rest.len() {
+                return true;
+            }
+            room -= rest.len();
+        }
+        room < self.text.len()
+    }
+
+    /// Bytes follow. The error is out of memory: nothing is added.
+    pub(crate) fn push(&mut self, bytes: &[u8]) -> Result<(), AllocError>
+        ensures ok { OnOk result (self.new ≡ self.old ++ bytes.now) }
+        ensures err { OnErr result (self.new ≡ self.old) }
+    {
+        self.text.extend_from_slice(bytes)
+    }
+
+    /// A line follows, and then documents. The error is out of memory: nothing is added.
+    fn push_documents(
+        &mut self,
+        line: &[u8],
+        documents: &[Document],
+    ) -> Result<(), AllocError>
+        ensures ok { OnOk result (self.new ≡ self.old ++ (line.now ++ flat_map (λ d. d.contents) documents.now)) }
+        ensures err { OnErr result (self.new ≡ self.old) }
+    {
+        let mut added = Vec::new(self.alloc);
+        add(&mut added, text_of(self.alloc, &self.text, line)?)?;
+        add_all(&mut added, documents)?;
+        self.shared.append(&mut added)?;
+        self.text.clear();
+        Ok(())
+    }
+
+    /// A reply of IPP follows. The error is out of memory: nothing is added.
+    pub(crate) fn push_reply(&mut self, closes: bool, bytes: &[u8]) -> Result<(), AllocError>
+        ensures ok { OnOk result (self.new ≡ self.old ++ http_reply closes bytes.now) }
+        ensures err { OnErr result (self.new ≡ self.old) }
+    {
+        append_reply(&mut self.text, closes, bytes)
+    }
+
+    /// The reply to a request that is refused follows. The error is out of memory: nothing is added.
+    pub(crate) fn push_refusal(&mut self, refusal: Refusal) -> Result<(), AllocError>
+        ensures ok { OnOk result (self.new ≡ self.old ++ refusal_head refusal) }
+        ensures err { OnErr result (self.new ≡ self.old) }
+    {
+        append_refusal(&mut self.text, refusal)
+    }
+
+    /// The line that cancels a job follows. The error is out of memory: nothing is added.
+    pub(crate) fn push_cancel(&mut self, job: JobId) -> Result<(), AllocError>
+        ensures ok { OnOk result (self.new ≡ self.old ++ cancel_line job) }
+        ensures err { OnErr result (self.new ≡ self.old) }
+    {
+        write_cancel(self.alloc, job, &mut self.text)
+    }
+
+    /// The line of a job of so many octets follows, and then its documents. The error is out of memory:
+    /// nothing is added.
+    pub(crate) fn push_job(
+        &mut self,
+        job: JobId,
+        octets: usize,
+        needs: &Needs,
+        documents: &[Document],
+    ) -> Result<(), AllocError>
+        ensures ok { OnOk result (self.new ≡ self.old ++ (job_line job octets needs.now ++ flat_map (λ d. d.contents) documents.now)) }
+        ensures err { OnErr result (self.new ≡ self.old) }
+    {
+        let mut line = Vec::new(self.alloc);
+        write_job(self.alloc, job, octets, needs, &mut line)?;
+        self.push_documents(&line, documents)
+    }
+
+    /// Offers a front of what waits to the wire, which may take some of it.
+    pub(crate) fn offer<W: Wire>(&mut self, id: WireId, wire: &mut W) -> Offered
+        ensures { OffersFront W.polled id self.old wire.old result self.new wire.new }
+    {
+        if !self.shared.is_empty() {
+            return offer_first(&mut self.shared, id, wire);
+        }
+        if self.text.is_empty() {
+            return Offered::Nothing;
+        }
+        offer_text(&mut self.text, id, wire)
+    }
+}
+
+/// Offers the front of octets to the wire.
+fn offer_first<W: Wire>(shared: &mut Vec<Rest>, id: WireId, wire: &mut W) -> Offered
+    requires there { 0 < length shared.old.items }
+    requires were { All IsSome shared.old.items }
+    ensures offers { OffersFront W.polled id (joined shared.old.items) wire.old result (joined shared.new.items) wire.new }
+    ensures some { All IsSome shared.new.items }
+{
+    match wire.poll_write(id, shared[0].front()) {
+        Answer::Done(count) => {
+            pass(shared, count);
+            Offered::Done(count)
+        }
+        Answer::Waiting => Offered::Waiting,
+        Answer::End => Offered::Ended,
+        Answer::Fault => Offered::Ended,
+    }
+}
+
+/// So many of the first of octets were taken.
+fn pass(shared: &mut Vec<Rest>, count: usize)
+    requires there { 0 < length shared.old.items }
+    requires were { All IsSome shared.old.items }
+    requires within { count ≤ length (slice_index_or shared.old.items 0 []) }
+    ensures left { joined shared.new.items ≡ drop count (joined shared.old.items) }
+    ensures some { All IsSome shared.new.items }
+{
+    if count < shared[0].len() {
+        shared[0].pass(count);
+    } else {
+        shared.remove(0);
+    }
+}
+
+/// Offers text to the wire.
+fn offer_text<W: Wire>(text: &mut Vec<u8>, id: WireId, wire: &mut W) -> Offered
+    requires { 0 < length text.old.items }
+    ensures { OffersFront W.polled id text.old.items wire.old result text.new.items wire.new }
+{
+    match wire.poll_write(id, text) {
+        Answer::Done(count) => {
+            drop_front(text, count);
+            Offered::Done(count)
+        }
+        Answer::Waiting => Offered::Waiting,
+        Answer::End => Offered::Ended,
+        Answer::Fault => Offered::Ended,
+    }
+}
+
+/// Text that waits, and a line.
+fn text_of(alloc: Global, text: &[u8], line: &[u8]) -> Result<Octets, AllocError>
+    ensures { IfOk result (λ octets. octets ≡ text.now ++ line.now) }
+{
+    let mut joined = Vec::from_slice(alloc, text)?;
+    joined.extend_from_slice(line)?;
+    Octets::new(alloc, joined)
+}
+
+/// Adds octets to those that go out, if there are any.
+fn add(added: &mut Vec<Rest>, octets: Octets) -> Result<(), AllocError>
+    requires were { All IsSome added.old.items }
+    ensures ok { OnOk result (joined added.new.items ≡ joined added.old.items ++ octets) }
+    ensures some { All IsSome added.new.items }
+{
+    if !octets.is_empty() {
+        added.push(Rest::new(octets))?;
+    }
+    Ok(())
+}
+
+/// Adds the contents of documents to what goes out.
+fn add_all(added: &mut Vec<Rest>, documents: &[Document]) -> Result<(), AllocError>
+    requires were { All IsSome added.old.items }
+    ensures ok { OnOk result (joined added.new.items ≡ joined added.old.items ++ flat_map (λ d. d.contents) documents.now) }
+    ensures some { All IsSome added.new.items }
+{
+    for document in documents {
+        add(added, document.contents.share()?)?;
+    }
+    Ok(())
+}
+
+/// Appends a reply of IPP. Where there is no memory, nothing is appended.
+#[tactic(auto, unfolding(crate::specs::Exchange::http_reply))]
+fn append_reply(output: &mut Vec<u8>, closes: bool, bytes: &[u8]) -> Result<(), AllocError>
+    ensures ok { OnOk result (output.new.items ≡ output.old.items ++ http_reply closes bytes.now) }
+    ensures err { OnErr result (output.new.items ≡ output.old.items) }
+{
+    let before = output.len();
+    write_head(StatusCode::OK, bytes.len(), closes, output)?;
+    let appended = output.extend_from_slice(bytes);
+    if appended.is_err() {
+        output.truncate(before);
+    }
+    appended
+}
+
+/// Appends the reply to a request that is refused. Where there is no memory, nothing is appended.
+#[tactic(auto, unfolding(crate::specs::Exchange::refusal_head))]
+fn append_refusal(output: &mut Vec<u8>, refusal: Refusal) -> Result<(), AllocError>
+    ensures ok { OnOk result (output.new.items ≡ output.old.items ++ refusal_head refusal) }
+    ensures err { OnErr result (output.new.items ≡ output.old.items) }
+{
+    write_head(refusal.status(), 0, true, output)
+}

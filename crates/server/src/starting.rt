@@ -1,0 +1,67 @@
+//! The bytes of the jobs that begin.
+ghost use Rattle.std.specs.Prelude.{◌≡◌};
+ghost use Rattle.server.specs.Polls.{alone};
+ghost use Rattle.server.specs.Ledger.{job_bytes};
+ghost use Rattle.server.specs.Rel.{EachOf};
+ghost use Rattle.server.specs.Happening.{Starts};
+ghost use Rattle.server.specs.State.{EngineState, KeepsAs, with_slots};
+ghost use Rattle.server.specs.Stands.{Openly};
+
+use crate::connection::Connection;
+use crate::due::tell;
+use crate::notes::Notes;
+use crate::table::{Kept, keep, keep_job, key_of};
+use assignment::Planner;
+use base_types::JobId;
+use dispatcher::{Core, Started};
+use slab::Slab;
+
+/// The bytes of what began with the last plan become due, by device. Whether a growth was refused.
+pub(crate) fn start_all<P: Planner + Drop, N: Notes>(
+    core: &Core<P>,
+    connections: &mut Slab<Connection>,
+    notes: &mut N,
+) -> bool
+    ensures { (a : EngineState) → a.core ≡ core.now → a.slots ≡ connections.old.slots → Openly (alone N.told) (EachOf core.now.begun Starts) notes.old a notes.new (with_slots connections.new.slots a) result }
+{
+    let mut refused = false;
+    for started in core.begun() {
+        refused |= start(core, connections, *started, notes);
+    }
+    refused
+}
+
+/// The bytes of a job that begins become due on the device's connection, if it has one. Whether a growth
+/// was refused.
+fn start<P: Planner + Drop, N: Notes>(
+    core: &Core<P>,
+    connections: &mut Slab<Connection>,
+    started: Started,
+    notes: &mut N,
+) -> bool
+    ensures { (a : EngineState) → a.core ≡ core.now → a.slots ≡ connections.old.slots → Openly (alone N.told) (Starts started) notes.old a notes.new (with_slots connections.new.slots a) result }
+{
+    let Some(key) = key_of(connections, started.device) else {
+        return false;
+    };
+    let kept = keep_started(core, connections, key, started.job);
+    tell(kept, notes)
+}
+
+/// The bytes of the job of an id become due on the connection under a key.
+fn keep_started<P: Planner + Drop>(
+    core: &Core<P>,
+    connections: &mut Slab<Connection>,
+    key: usize,
+    id: JobId,
+) -> Kept
+    ensures { KeepsAs (job_bytes core.now id) key result connections.old.slots connections.new.slots }
+{
+    let Some(job) = core.job(id) else {
+        return keep(connections, key, &[]);
+    };
+    let Some(documents) = core.documents(id) else {
+        return keep(connections, key, &[]);
+    };
+    keep_job(connections, key, id, job, documents)
+}
