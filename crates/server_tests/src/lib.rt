@@ -4,6 +4,8 @@
 #[cfg(test)]
 mod between_turns;
 #[cfg(test)]
+mod device_sessions;
+#[cfg(test)]
 mod exchanges;
 #[cfg(test)]
 mod in_memory;

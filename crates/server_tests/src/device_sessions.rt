@@ -1,0 +1,247 @@
+//! Devices over a wire in memory: what they write, and what they get.
+use crate::exchanges::{CANCEL, PLAIN, TWO};
+use crate::in_memory::{CUTS, TURNS, client, got, is_closed, serve};
+use server::memory_wire::Memory;
+use server::{Door, NoteLog};
+use std::alloc::{AllocError, Global};
+use std::test::Fail;
+
+/// What a device writes to a server that has just started and to which a client prints, and what it
+/// gets.
+#[derive(Clone, Copy)]
+struct Session {
+    written: &'static [u8],
+    got: &'static [u8],
+    /// Whether the server closes the connection.
+    closes: bool,
+}
+
+/// The bytes of the client's job.
+const JOB: &[u8] = b"JOB 1 5 1 1 iso_a4_210x297mm\nhello";
+
+const SESSIONS: [Session; 8] = [
+    // It runs, and gets the job.
+    Session {
+        written: b"HELLO A\nREADY\n",
+        got: JOB,
+        closes: false,
+    },
+    // It is done, or the job can't be printed, before all of it went out.
+    Session {
+        written: b"HELLO A\r\nREADY\r\nPAGES 1 1\r\nDONE 1\r\n",
+        got: JOB,
+        closes: false,
+    },
+    Session {
+        written: b"HELLO A\nREADY\nFAIL 1\n",
+        got: JOB,
+        closes: false,
+    },
+    // It doesn't run, or has another medium than the job's.
+    Session {
+        written: b"HELLO A\n",
+        got: b"",
+        closes: false,
+    },
+    Session {
+        written: b"HELLO A\nMEDIA\nREADY\n",
+        got: b"",
+        closes: false,
+    },
+    // No device has this name.
+    Session {
+        written: b"HELLO B\nREADY\n",
+        got: b"",
+        closes: true,
+    },
+    // Its name comes first, and once.
+    Session {
+        written: b"READY\n",
+        got: b"",
+        closes: true,
+    },
+    Session {
+        written: b"HELLO A\nHELLO A\n",
+        got: b"",
+        closes: true,
+    },
+];
+
+/// A client that prints, and devices that write these.
+fn print_room(
+    alloc: Global,
+    printed: &[u8],
+    written: &[&[u8]],
+    cut: (usize, usize),
+) -> Result<Memory, AllocError> {
+    let mut peers = Vec::new(alloc);
+    peers.push(client(alloc, Door::Ipp, printed, cut)?)?;
+    for lines in written {
+        peers.push(client(alloc, Door::Devices, lines, cut)?)?;
+    }
+    Ok(Memory::new(peers))
+}
+
+/// Whether a device gets just what it is to get, and is closed where it is to be.
+fn is_kept(alloc: Global, session: Session, cut: (usize, usize)) -> Result<bool, AllocError> {
+    let mut wire = print_room(alloc, PLAIN.sent, &[session.written], cut)?;
+    let mut notes = NoteLog::new(alloc);
+    Ok(
+        serve(alloc, &mut wire, &mut notes, TURNS)
+            && got(&wire, 0, PLAIN.answered)
+            && got(&wire, 1, session.got)
+            && is_closed(&wire, 1) == session.closes,
+    )
+}
+
+/// However the bytes are cut.
+#[test]
+fn sessions_in_pieces(rt: HostRuntime) -> Result<(), Fail> {
+    for session in SESSIONS {
+        for cut in CUTS {
+            let kept = is_kept(rt.alloc(), session, cut)?;
+            assert!(rt; kept);
+        }
+    }
+    Ok(())
+}
+
+/// Whether a device that is done with each job in the piece in which it said that it runs gets both,
+/// where the wire takes so many bytes a write.
+fn gets_both(alloc: Global, most: usize) -> Result<bool, AllocError> {
+    let written = b"HELLO A\nREADY\nDONE 1\nDONE 2\n".as_slice();
+    let mut wire = print_room(alloc, TWO.sent, &[written], (4096, most))?;
+    let mut notes = NoteLog::new(alloc);
+    Ok(
+        serve(alloc, &mut wire, &mut notes, TURNS)
+            && got(
+                &wire,
+                1,
+                b"JOB 1 5 1 1 iso_a4_210x297mm\nhelloJOB 2 5 1 1 iso_a4_210x297mm\nhello",
+            ),
+    )
+}
+
+/// The rest of a job goes out, once, after the device was done with it.
+#[test]
+fn done_before_all_went_out(rt: HostRuntime) -> Result<(), Fail> {
+    for most in [1, 3, 4096] {
+        let both = gets_both(rt.alloc(), most)?;
+        assert!(rt; both);
+    }
+    Ok(())
+}
+
+/// Whether of two that say the same name the second is turned away, and the first gets the job.
+fn is_one_of_two(alloc: Global) -> Result<bool, AllocError> {
+    let lines = b"HELLO A\nREADY\n".as_slice();
+    let mut wire = print_room(alloc, PLAIN.sent, &[lines, lines], (4096, 4096))?;
+    let mut notes = NoteLog::new(alloc);
+    Ok(
+        serve(alloc, &mut wire, &mut notes, TURNS)
+            && got(&wire, 1, JOB)
+            && !is_closed(&wire, 1)
+            && got(&wire, 2, b"")
+            && is_closed(&wire, 2),
+    )
+}
+
+#[test]
+fn one_connection_a_device(rt: HostRuntime) -> Result<(), Fail> {
+    let one = is_one_of_two(rt.alloc())?;
+    assert!(rt; one);
+    Ok(())
+}
+
+/// Whether the device that has a canceled job is told so.
+fn is_told_of_cancel(alloc: Global) -> Result<bool, AllocError> {
+    let lines = b"HELLO A\nREADY\n".as_slice();
+    let mut wire = print_room(alloc, PLAIN.sent, &[lines], (4096, 4096))?;
+    wire.peers
+        .push(client(alloc, Door::Ipp, CANCEL, (1, 4096))?)?;
+    let mut notes = NoteLog::new(alloc);
+    Ok(
+        serve(alloc, &mut wire, &mut notes, TURNS)
+            && got(&wire, 1, b"JOB 1 5 1 1 iso_a4_210x297mm\nhelloCANCEL 1\n"),
+    )
+}
+
+#[test]
+fn cancel_of_a_job_on_a_device(rt: HostRuntime) -> Result<(), Fail> {
+    let told = is_told_of_cancel(rt.alloc())?;
+    assert!(rt; told);
+    Ok(())
+}
+
+/// Whether a device whose input ends gets what was due and is closed, and gets the next job where it
+/// comes back: the first is aborted.
+fn comes_back(alloc: Global) -> Result<bool, AllocError> {
+    let lines = b"HELLO A\nREADY\n".as_slice();
+    let mut wire = print_room(alloc, TWO.sent, &[lines], (4096, 4096))?;
+    if let Some(device) = wire.peers.get_mut(1) {
+        device.ended = true;
+    }
+    wire.peers
+        .push(client(alloc, Door::Devices, lines, (1, 4096))?)?;
+    let mut notes = NoteLog::new(alloc);
+    Ok(
+        serve(alloc, &mut wire, &mut notes, TURNS)
+            && got(&wire, 1, JOB)
+            && is_closed(&wire, 1)
+            && got(&wire, 2, b"JOB 2 5 1 1 iso_a4_210x297mm\nhello"),
+    )
+}
+
+#[test]
+fn device_comes_back(rt: HostRuntime) -> Result<(), Fail> {
+    let back = comes_back(rt.alloc())?;
+    assert!(rt; back);
+    Ok(())
+}
+
+/// Whether a line that doesn't end closes the connection.
+fn is_too_long(alloc: Global, length: usize) -> Result<bool, AllocError> {
+    let mut line = Vec::new(alloc);
+    for _byte in 0..length {
+        line.push(b'A')?;
+    }
+    let mut wire = print_room(alloc, PLAIN.sent, &[&line], (4096, 4096))?;
+    let mut notes = NoteLog::new(alloc);
+    Ok(serve(alloc, &mut wire, &mut notes, TURNS) && is_closed(&wire, 1))
+}
+
+#[test]
+fn line_without_end(rt: HostRuntime) -> Result<(), Fail> {
+    let within = is_too_long(rt.alloc(), 1023)?;
+    assert!(rt; !within);
+    let beyond = is_too_long(rt.alloc(), 1024)?;
+    assert!(rt; beyond);
+    Ok(())
+}
+
+/// Whether a device got a front of the job where a poll faults, and all of it unless it is closed.
+fn is_front(wire: &Memory) -> bool {
+    match wire.peers.get(1) {
+        Some(peer) => JOB.starts_with(peer.taken.as_slice())
+            && (peer.closed || peer.taken.as_slice() == JOB || is_closed(wire, 0)),
+        None => false,
+    }
+}
+
+fn is_cut_off(alloc: Global, fault_at: u64) -> Result<bool, AllocError> {
+    let lines = b"HELLO A\nREADY\n".as_slice();
+    let mut wire = print_room(alloc, PLAIN.sent, &[lines], (64, 10))?;
+    wire.fault_at = fault_at;
+    let mut notes = NoteLog::new(alloc);
+    Ok(serve(alloc, &mut wire, &mut notes, 60) && is_front(&wire))
+}
+
+/// A fault at any poll: what was taken is a front of what was due.
+#[test]
+fn fault_at_each_poll(rt: HostRuntime) -> Result<(), Fail> {
+    for fault_at in 0..60 {
+        let cut_off = is_cut_off(rt.alloc(), fault_at)?;
+        assert!(rt; cut_off);
+    }
+    Ok(())
+}
