@@ -1,4 +1,4 @@
-use Rattle.std.proofs.Common.{◌≡◌, ◌∙◌, ◌∷◌, [], List, ℕ, Result, MatchResult, ap, subst, sym}
+use Rattle.std.proofs.Common.{rules, ◌≡◌, ◌∙◌, ◌∷◌, [], List, ℕ, Result, MatchResult, ap, subst, sym}
 use Rattle.ipp_codec.specs.Message.{IppGroup}
 use Rattle.job_objects.specs.Job.{JobRecord}
 use Rattle.listings.specs.Groups.{job_group}

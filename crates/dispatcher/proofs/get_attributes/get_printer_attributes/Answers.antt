@@ -1,4 +1,4 @@
-use Rattle.std.proofs.Common.{◌≡◌, ◌∙◌, ◌∷◌, [], List, ℕ, Result, MatchResult, ap, subst, sym}
+use Rattle.std.proofs.Common.{rules, ◌≡◌, ◌∙◌, ◌∷◌, [], List, ℕ, Result, MatchResult, ap, subst, sym}
 use Rattle.ipp_codec.specs.Message.{IppGroup}
 use Rattle.listings.specs.Groups.{printer_group}
 use Rattle.print_room.specs.State.{State}
