@@ -1,6 +1,7 @@
 //! Events that come to the core, and what a dispatch after each comes to.
 mod best;
 mod formats;
+mod lpd;
 mod reports;
 mod runs;
 
@@ -196,7 +197,7 @@ fn is_answered(reply: &Reply, happens: Happens) -> bool {
     let documents = reply.documents.len();
     match (happens, &reply.answer) {
         (Happens::Print(_), Answer::Ipp(answer)) => answer.status == Status::Ok && documents == 0,
-        (Happens::Print(_), Answer::Nothing) | (_, Answer::Ipp(_)) => false,
+        (Happens::Print(_), _) | (_, Answer::Ipp(_) | Answer::Lpd(_)) => false,
         (Happens::Done(..), Answer::Nothing) => documents == 1,
         (_, Answer::Nothing) => documents == 0,
     }

@@ -1,16 +1,15 @@
 -- A step leaves the documents of jobs that devices have.
-use Rattle.std.proofs.Common.{◌≡◌, ◌∙◌, ℕ, Bool, true, false, List, [], ◌∷◌, length, Option, Some, None, Result, Ok, Err, refl, sym, ap, subst}
-use Rattle.std.specs.Prelude.{MatchResult}
+use Rattle.std.proofs.Common.{◌≡◌, ℕ, Bool, true, false, List, [], ◌∷◌, length, Option, Some, None, Result, Ok, Err, refl, sym, ap, subst}
+use Rattle.std.specs.Prelude.{MatchOption, MatchResult}
 use Rattle.text.specs.Steps.{◌>>=◌}
 use Rattle.base_types.specs.declared.report.Report.{Report}
-use Rattle.job_objects.specs.Job.{JobRecord}
 use Rattle.job_objects.specs.declared.job_change.JobChange.{JobChange}
 use Rattle.job_objects.specs.declared.job_change.JobChange.TheVariants as Change
 use Rattle.spool.specs.Document.{DocumentRecord}
 use Rattle.spool.specs.Submission.{Submission}
 use Rattle.spool.specs.declared.refusal.SpoolRefusal.{SpoolRefusal}
 use Rattle.print_room.specs.State.{State}
-use Rattle.print_room.specs.Jobs.{with_job_taken, sending_refusal, sending, changing, canceling, pausing, expiring}
+use Rattle.print_room.specs.Jobs.{with_job_taken, sending_refusal, sending, changing, canceling, canceling_each, pausing, expiring}
 use Rattle.print_room.specs.Report.{Reports}
 use Rattle.print_room.specs.DeviceJobs.{AllKeep, KeepsOrEnds}
 use Rattle.ipp_codec.specs.Message.{IppAttribute, IppGroup}
@@ -23,7 +22,6 @@ use Rattle.dispatcher.specs.declared.event.HoldUntil.{HoldUntil}
 use Rattle.dispatcher.specs.declared.event.HoldUntil.TheVariants.{NoHold, Indefinite, Unsupported}
 use Rattle.dispatcher.specs.declared.submission.Accepted.{Accepted}
 use Rattle.dispatcher.specs.declared.send_document.Sent.{Sent}
-use Rattle.dispatcher.specs.declared.checks.NamedPrinter.{NamedPrinter}
 use Rattle.dispatcher.specs.declared.checks.Refusal.{Refusal}
 use Rattle.dispatcher.specs.declared.reply.Reply.{Reply}
 use Rattle.dispatcher.specs.Answers.{Refuses, Shows}
@@ -34,8 +32,15 @@ use Rattle.dispatcher.specs.ValidateJob.{Validates, validated_of}
 use Rattle.dispatcher.specs.CreateJob.{CreatesIt, created_of}
 use Rattle.dispatcher.specs.SendDocument.{SendsIt, sent_group, sent_in_format, sent_to_printer, sent_to_job, sent_of}
 use Rattle.dispatcher.specs.CancelJob.{CancelsIt, canceled_of}
-use Rattle.dispatcher.specs.HoldJob.{ChangesIt, ChangesJob, HoldsUntil, changed_of}
+use Rattle.dispatcher.specs.HoldJob.{ChangesIt, HoldsUntil, changed_of}
 use Rattle.dispatcher.specs.PausePrinter.{PausesIt, paused_of}
+use Rattle.dispatcher.specs.SubmitFiles.{FilesJob, FilesNothing, filed_of}
+use Rattle.dispatcher.specs.ListQueue.{ListsIt, ListsNothing}
+use Rattle.dispatcher.specs.RemoveJobs.{RemovesJobs}
+use Rattle.queues.specs.declared.request.ListQueue.{ListQueue}
+use Rattle.queues.specs.declared.request.RemoveJobs.{RemoveJobs}
+use Rattle.queues.specs.Queue.{queue_of}
+use Rattle.queues.specs.Removal.{removed_jobs}
 use Rattle.dispatcher.specs.Step.{StepAt}
 use Rattle.dispatcher.specs.Keeping.{StepKeeps}
 
@@ -45,6 +50,7 @@ pub record RoomKeeps (old : State) : Type 0 where
   pub sends : (now id : ℕ) (name : List ℕ) (document : DocumentRecord) (last : Bool) → sending_refusal id name (length document.contents) last old ≡ None → AllKeep old (sending now id document last old)
   pub changes : (now id : ℕ) (change : JobChange) → AllKeep old (changing now id change old)
   pub cancels : (now id : ℕ) (name : List ℕ) → AllKeep old (canceling now id name old)
+  pub removes : (now : ℕ) (name ids : List ℕ) → AllKeep old (canceling_each now name ids old)
   pub pauses : (now place : ℕ) (paused : Bool) → AllKeep old (pausing now place paused old)
   pub expires : (now : ℕ) → AllKeep old (expiring now old)
   pub reports : (now place : ℕ) (report : Report) (documents : List DocumentRecord) (new : State) → Reports now place report old documents new → KeepsOrEnds place old documents new
@@ -125,6 +131,17 @@ module _ (old : State) (room : RoomKeeps old) where
   shown now reply new groups (Ok a) is = (only_later now new is.state, is.replies.documents)
   shown now reply new groups (Err refusal) refuses = refusing now reply new refusal refuses
 
+  filed : (now : ℕ) (reply : Reply) (new : State) (o : Option Submission) → MatchOption o (FilesNothing now old reply new) (λ job. FilesJob now old job reply new) → AllKeep old new × (reply.documents.items ≡ [])
+  filed now reply new None is = (only_later now new is.state, is.answers.documents)
+  filed now reply new (Some job) is = (becomes new (with_job_taken now job false old) is.state (room.submits now job false), is.answers.documents)
+
+  queue_listed : (now : ℕ) (request : ListQueue) (reply : Reply) (new : State) (o : Option ℕ) → MatchOption o (ListsNothing now old reply new) (λ place. ListsIt now old request place reply new) → AllKeep old new × (reply.documents.items ≡ [])
+  queue_listed now request reply new None is = (only_later now new is.state, is.answers.documents)
+  queue_listed now request reply new (Some place) is = (only_later now new is.state, is.documents)
+
+  removed : (now : ℕ) (request : RemoveJobs) (reply : Reply) (new : State) → RemovesJobs now request old reply new → AllKeep old new × (reply.documents.items ≡ [])
+  removed now request reply new is = (becomes new (canceling_each now request.agent (removed_jobs request old) old) is.state (room.removes now request.agent (removed_jobs request old)), is.documents)
+
   pub step_keeps : (event : Event) (now : ℕ) (reply : Reply) (new : State) → StepAt event now old reply new → StepKeeps event old reply.documents.items new
   step_keeps (Is.PrintJob request) now reply new step = printed now reply new (asked_of request now old) step
   step_keeps (Is.ValidateJob request) now reply new step = validated now reply new (validated_of request old) step
@@ -138,5 +155,8 @@ module _ (old : State) (room : RoomKeeps old) where
   step_keeps (Is.ReleaseJob request) now reply new step = changed now Change.Release [] reply new (changed_of request Change.Release now old) step
   step_keeps (Is.PausePrinter request) now reply new step = paused now true reply new (paused_of request old) step
   step_keeps (Is.ResumePrinter request) now reply new step = paused now false reply new (paused_of request old) step
+  step_keeps (Is.SubmitFiles request) now reply new step = filed now reply new (filed_of request now old) step
+  step_keeps (Is.ListQueue request) now reply new step = queue_listed now request reply new (queue_of request.queue old) step
+  step_keeps (Is.RemoveJobs request) now reply new step = removed now request reply new step
   step_keeps (Is.Report device report) now reply new step = room.reports now device report reply.documents.items new step.reports
   step_keeps Is.Tick now reply new step = (becomes new (expiring now old) step.state (room.expires now), step.documents)

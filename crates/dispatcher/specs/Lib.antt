@@ -15,6 +15,9 @@ pub mod PausePrinter
 pub mod GetPrinterAttributes
 pub mod GetJobAttributes
 pub mod GetJobs
+pub mod SubmitFiles
+pub mod ListQueue
+pub mod RemoveJobs
 pub mod Step
 pub mod Keeping
 pub mod Run

@@ -26,6 +26,9 @@ is_query (Is.HoldJob request) = false
 is_query (Is.ReleaseJob request) = false
 is_query (Is.PausePrinter request) = false
 is_query (Is.ResumePrinter request) = false
+is_query (Is.SubmitFiles request) = false
+is_query (Is.ListQueue request) = true
+is_query (Is.RemoveJobs request) = false
 is_query (Is.Report device report) = false
 is_query Is.Tick = false
 

@@ -1,5 +1,5 @@
 -- A step: what an event does to the state, and what it is answered.
-use Rattle.std.specs.Prelude.{ℕ, ◌≡◌, max, true, false, [], IsErr}
+use Rattle.std.specs.Prelude.{ℕ, ◌≡◌, max, true, false, [], None, IsErr}
 use Rattle.base_types.specs.declared.report.Report.{Report}
 use Rattle.dispatcher.specs.declared.event.Event.{Event}
 use Rattle.dispatcher.specs.declared.event.Event.TheVariants as Is
@@ -16,6 +16,10 @@ use Rattle.dispatcher.specs.PausePrinter.{SetsPaused}
 use Rattle.dispatcher.specs.GetPrinterAttributes.{ShowsPrinter}
 use Rattle.dispatcher.specs.GetJobAttributes.{ShowsJob}
 use Rattle.dispatcher.specs.GetJobs.{ListsJobs, wanted_of}
+use Rattle.dispatcher.specs.SubmitFiles.{SubmitsFiles, filed_of}
+use Rattle.dispatcher.specs.ListQueue.{ListsQueue}
+use Rattle.dispatcher.specs.RemoveJobs.{RemovesJobs, told_of}
+use Rattle.queues.specs.Queue.{queue_of}
 use Rattle.print_room.specs.Report.{Reports}
 use Rattle.print_room.specs.State.{State}
 use Rattle.print_room.specs.Jobs.{expiring}
@@ -48,14 +52,17 @@ StepAt (Is.HoldJob request) now old reply new = HoldsJob now request old reply n
 StepAt (Is.ReleaseJob request) now old reply new = ReleasesJob now request old reply new
 StepAt (Is.PausePrinter request) now old reply new = SetsPaused now request true old reply new
 StepAt (Is.ResumePrinter request) now old reply new = SetsPaused now request false old reply new
+StepAt (Is.SubmitFiles request) now old reply new = SubmitsFiles now request old reply new
+StepAt (Is.ListQueue request) now old reply new = ListsQueue now request old reply new
+StepAt (Is.RemoveJobs request) now old reply new = RemovesJobs now request old reply new
 StepAt (Is.Report device report) now old reply new = Reported now device report old reply new
 StepAt Is.Tick now old reply new = Ticks now old reply new
 
 abbrev pub Step : State → Event → ℕ → Reply → State → Type 0
 Step old event moment reply new = StepAt event (max moment old.last) old reply new
 
--- an event that is acted on without memory: all but a request that is answered more than a status, and a
--- cancel that a device is told
+-- an event that is acted on without memory: all but a request that is answered more than a status, a job of
+-- files that is taken, a queue that is listed, and a cancel that a device is told
 abbrev pub TakesNoMemoryAt : Event → ℕ → State → Type 0
 TakesNoMemoryAt (Is.PrintJob request) now old = IsErr (asked_of request now old)
 TakesNoMemoryAt (Is.ValidateJob request) now old = Unit {0}
@@ -69,6 +76,9 @@ TakesNoMemoryAt (Is.HoldJob request) now old = Unit {0}
 TakesNoMemoryAt (Is.ReleaseJob request) now old = Unit {0}
 TakesNoMemoryAt (Is.PausePrinter request) now old = Unit {0}
 TakesNoMemoryAt (Is.ResumePrinter request) now old = Unit {0}
+TakesNoMemoryAt (Is.SubmitFiles request) now old = filed_of request now old ≡ None
+TakesNoMemoryAt (Is.ListQueue request) now old = queue_of request.queue old ≡ None
+TakesNoMemoryAt (Is.RemoveJobs request) now old = told_of request old ≡ []
 TakesNoMemoryAt (Is.Report device report) now old = Unit {0}
 TakesNoMemoryAt Is.Tick now old = Unit {0}
 

@@ -8,10 +8,13 @@ use crate::event::Event;
 use crate::get_attributes::{get_job_attributes, get_printer_attributes};
 use crate::get_jobs::get_jobs;
 use crate::hold_job::{hold_job, release_job};
+use crate::list_queue::list_queue;
 use crate::pause_printer::set_paused;
 use crate::print_job::print_job;
+use crate::remove_jobs::remove_jobs;
 use crate::reply::Reply;
 use crate::send_document::send_document;
+use crate::submit_files::submit_files;
 use crate::validate_job::validate_job;
 use base_types::{DeviceId, Moment, Report};
 use print_room::PrintRoom;
@@ -20,7 +23,8 @@ use std::alloc::{AllocError, Global};
 /// Acts on an event, at a moment or, where that is earlier, at the last one.
 ///
 /// Out of memory, the event is dropped and the room is as it was. Only a request that is answered more
-/// than a status, and a cancel that a device is told, take memory.
+/// than a status, a job of files that is taken, a queue that is listed, and a cancel that a device is
+/// told, take memory.
 pub(crate) fn apply(
     alloc: Global,
     room: &mut PrintRoom,
@@ -47,6 +51,9 @@ pub(crate) fn apply(
         Event::ReleaseJob(request) => Ok(release_job(alloc, room, request, now)),
         Event::PausePrinter(request) => Ok(set_paused(alloc, room, &request, true, now)),
         Event::ResumePrinter(request) => Ok(set_paused(alloc, room, &request, false, now)),
+        Event::SubmitFiles(request) => submit_files(alloc, room, request, now),
+        Event::ListQueue(request) => list_queue(alloc, room, &request, now),
+        Event::RemoveJobs(request) => remove_jobs(alloc, room, &request, now),
         Event::Report(device, report) => Ok(act_on(alloc, room, device, &report, now)),
         Event::Tick => Ok(tick(alloc, room, now)),
     }

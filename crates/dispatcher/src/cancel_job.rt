@@ -1,5 +1,5 @@
 //! What a Cancel-Job does (RFC 8011, section 4.3.3).
-ghost use Rattle.std.specs.Prelude.{◌≡◌, ◌≤◌, IfOk, IsOk, IsErr, OnErr, None};
+ghost use Rattle.std.specs.Prelude.{◌≡◌, ◌≢◌, ◌≤◌, [], IfOk, IsOk, IsErr, OnErr, None};
 ghost use Rattle.print_room.specs.Jobs.{canceling_refusal};
 ghost use Rattle.dispatcher.specs.CancelJob.{CancelsIt, CancelsJob, canceled_of, cancels_of};
 
@@ -59,8 +59,13 @@ fn cancel(
 }
 
 /// The cancel that is sent: to the device that has the job.
-fn cancels_of(alloc: Global, room: &PrintRoom, job: JobId) -> Result<Vec<Cancel>, AllocError>
-    ensures { IfOk result (λ cancels. cancels.items ≡ cancels_of job room.now) }
+pub(crate) fn cancels_of(
+    alloc: Global,
+    room: &PrintRoom,
+    job: JobId,
+) -> Result<Vec<Cancel>, AllocError>
+    ensures ok { IfOk result (λ cancels. cancels.items ≡ cancels_of job room.now) }
+    ensures err { OnErr result (cancels_of job room.now ≢ []) }
 {
     let mut cancels = Vec::new(alloc);
     if let Some(device) = room.device_of(job) {

@@ -6,8 +6,9 @@ ghost use Rattle.dispatcher.specs.Target.{names};
 use base_types::{DeviceId, JobId, Report, Text};
 use job_template::RequestAttributes;
 use printer_objects::Requested;
+use queues::{ListQueue, RemoveJobs};
 use settings_file::PrinterSettings;
-use spool::Octets;
+use spool::{Document, Octets};
 
 /// Which printer a request's printer-uri names.
 #[derive(Debug, Drop)]
@@ -167,6 +168,17 @@ pub struct GetJobs {
     pub requested: Requested,
 }
 
+/// A job of files that an LPD client sent (RFC 1179, section 6).
+#[derive(Drop)]
+pub struct SubmitFiles {
+    /// The name of the printer.
+    pub queue: Text,
+    pub owner: Text,
+    pub name: Text,
+    /// One for each file that is printed, in order.
+    pub documents: Vec<Document>,
+}
+
 /// What the core acts on: one request that is complete, or one report of a device.
 #[derive(Drop)]
 pub enum Event {
@@ -187,6 +199,11 @@ pub enum Event {
     PausePrinter(PrinterRequest),
     /// Resume-Printer (RFC 8011, section 4.2.8).
     ResumePrinter(PrinterRequest),
+    SubmitFiles(SubmitFiles),
+    /// What LPD's queue commands ask (RFC 1179, sections 5.3 and 5.4).
+    ListQueue(ListQueue),
+    /// What LPD's removal asks (RFC 1179, section 5.5).
+    RemoveJobs(RemoveJobs),
     Report(DeviceId, Report),
     /// Time goes on.
     Tick,
@@ -199,10 +216,11 @@ impl Event {
     {
         match self {
             Event::ValidateJob(_) | Event::GetPrinterAttributes(_) => true,
-            Event::GetJobAttributes(_) | Event::GetJobs(_) => true,
+            Event::GetJobAttributes(_) | Event::GetJobs(_) | Event::ListQueue(_) => true,
             Event::PrintJob(_) | Event::CreateJob(_) | Event::SendDocument(_) => false,
             Event::CancelJob(_) | Event::HoldJob(_) | Event::ReleaseJob(_) => false,
             Event::PausePrinter(_) | Event::ResumePrinter(_) => false,
+            Event::SubmitFiles(_) | Event::RemoveJobs(_) => false,
             Event::Report(_, _) | Event::Tick => false,
         }
     }

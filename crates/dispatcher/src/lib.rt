@@ -6,6 +6,8 @@
 //! times among all ways to assign its ready jobs to capable devices and order them; its prices prove
 //! this to the checker alone, and every job without a capable device is named.
 //!
+//! A client may speak IPP or LPD: what it asks is an event all the same.
+//!
 //! Nothing here reads a clock, a socket or a byte of a protocol: an event comes with its moment, and
 //! all that a request says stands in it. Real times are not spoken of, only estimates.
 //!
@@ -22,24 +24,28 @@ mod get_attributes;
 mod get_jobs;
 mod hold_job;
 mod law;
+mod list_queue;
 mod pause_printer;
 mod print_job;
+mod remove_jobs;
 mod reply;
 mod run;
 mod send_document;
 mod server_core;
 mod status;
 mod submission;
+mod submit_files;
 mod validate_job;
 
 pub use dispatch::Dispatched;
 pub use event::{
     AskedJob, DocumentForm, Event, GetJobAttributes, GetJobs, GetPrinterAttributes, HoldJob,
-    HoldUntil, JobRequest, JobTarget, PrintJob, PrinterRequest, SendDocument, Target, ValidateJob,
-    WhichJobs,
+    HoldUntil, JobRequest, JobTarget, PrintJob, PrinterRequest, SendDocument, SubmitFiles, Target,
+    ValidateJob, WhichJobs,
 };
 pub use print_room::Started;
-pub use reply::{Answer, Cancel, IppAnswer, Reply};
+pub use queues::{ListQueue, QueueEntry, QueueForm, QueueListing, RemoveJobs};
+pub use reply::{Answer, Cancel, IppAnswer, LpdAnswer, Reply};
 pub use run::{Listener, Outcome, Timed};
 pub use server_core::Core;
 pub use status::Status;

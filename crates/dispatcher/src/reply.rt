@@ -9,6 +9,7 @@ use base_types::{DeviceId, JobId, Moment};
 use ipp_codec::Group;
 use job_template::RequestAttributes;
 use print_room::PrintRoom;
+use queues::QueueListing;
 use spool::Document;
 use std::alloc::{AllocError, Global};
 
@@ -29,11 +30,23 @@ pub struct IppAnswer {
     pub groups: Vec<Group>,
 }
 
+/// The answer to an LPD client.
+#[derive(Drop)]
+pub enum LpdAnswer {
+    /// Whether the job of its files was taken.
+    Taken(bool),
+    /// What is shown of the queue that it lists.
+    Queue(QueueListing),
+    /// The queue that it lists isn't known.
+    NoQueue,
+}
+
 /// What an event is answered.
 #[derive(Drop)]
 pub enum Answer {
     Ipp(IppAnswer),
-    /// A device's report and a tick are not answered.
+    Lpd(LpdAnswer),
+    /// A removal by an LPD client, a device's report and a tick are not answered.
     Nothing,
 }
 
@@ -92,6 +105,32 @@ impl Reply {
                 unsupported: RequestAttributes::new(alloc),
                 groups: Vec::new(alloc),
             }),
+            cancels,
+            documents: Vec::new(alloc),
+        }
+    }
+
+    /// This answer to an LPD client; nothing else.
+    pub(crate) fn to_lpd(alloc: Global, answer: LpdAnswer) -> Reply
+        ensures answer { result.answer ≡ Answer.Lpd answer }
+        ensures cancels { result.cancels.items ≡ [] }
+        ensures documents { result.documents.items ≡ [] }
+    {
+        Reply {
+            answer: Answer::Lpd(answer),
+            cancels: Vec::new(alloc),
+            documents: Vec::new(alloc),
+        }
+    }
+
+    /// No answer, and these cancels to send.
+    pub(crate) fn removed(alloc: Global, cancels: Vec<Cancel>) -> Reply
+        ensures answer { result.answer ≡ Answer.Nothing }
+        ensures cancels { result.cancels.items ≡ cancels.items }
+        ensures documents { result.documents.items ≡ [] }
+    {
+        Reply {
+            answer: Answer::Nothing,
             cancels,
             documents: Vec::new(alloc),
         }

@@ -55,7 +55,8 @@ impl<P: Planner + Drop> Core<P> {
     /// Acts on an event, at a moment or, where that is earlier, at the last one.
     ///
     /// Out of memory, the event is dropped and the state is as it was. Only a request that is answered
-    /// more than a status, and a cancel that a device is told, take memory.
+    /// more than a status, a job of files that is taken, a queue that is listed, and a cancel that a
+    /// device is told, take memory.
     pub fn apply(&mut self, event: Event, moment: Moment) -> Result<Reply, AllocError>
         ensures ok { IfOk result (λ reply. Step self.old event moment reply self.new) }
         ensures err { OnErr result (self.new ≡ self.old) }

@@ -7,7 +7,8 @@ use Rattle.ipp_codec.specs.Message.{IppGroup}
 use Rattle.job_objects.specs.Job.{JobRecord}
 use Rattle.spool.specs.Spooled.{SpooledRecord}
 use Rattle.spool.specs.Calls.{is_unfinished, paused_at}
-use Rattle.printer_objects.specs.PrinterState.{is_busy_with}
+use Rattle.printer_objects.specs.PrinterState.{is_busy_with, printer_state_of}
+use Rattle.printer_objects.specs.declared.state.PrinterState.{PrinterState}
 use Rattle.printer_objects.specs.Offer.{OfferRecord}
 use Rattle.printer_objects.specs.JobShown.{ShownJob, job_attributes}
 use Rattle.printer_objects.specs.PrinterShown.{ShownPrinter, printer_attributes}
@@ -19,6 +20,10 @@ use Rattle.listings.specs.Listing.{WantedJobs, listing}
 -- whether some job of the printer at a place is on a device
 abbrev pub is_busy : ℕ → State → Bool
 is_busy place state = list_any (λ s. is_busy_with place s.job) state.spool.jobs
+
+-- the state of the printer at a place (section 5.4.11)
+abbrev pub state_of_printer : ℕ → State → PrinterState
+state_of_printer place state = printer_state_of (is_busy place state) (paused_at state.paused place)
 
 -- whether a job of the printer at a place is unfinished
 abbrev pub is_queued : ℕ → SpooledRecord → Bool

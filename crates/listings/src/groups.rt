@@ -4,7 +4,7 @@ ghost use Rattle.std.specs.List.{list_any};
 ghost use Rattle.std.specs.Option.{option_map_or};
 ghost use Rattle.job_objects.specs.JobState.{is_finished};
 ghost use Rattle.printer_objects.specs.PrinterState.{is_busy_with};
-ghost use Rattle.listings.specs.Groups.{is_queued, job_group, job_groups, printer_group};
+ghost use Rattle.listings.specs.Groups.{is_queued, job_group, job_groups, printer_group, state_of_printer};
 
 use crate::listing::listed;
 use crate::wanted::Wanted;
@@ -13,7 +13,8 @@ use ipp_codec::Group;
 use job_objects::{Job, Printer};
 use print_room::PrintRoom;
 use printer_objects::{
-    JobShown, Offer, PrinterShown, job_attributes, keeps_busy, printer_attributes,
+    JobShown, Offer, PrinterShown, PrinterState, job_attributes, keeps_busy, printer_attributes,
+    printer_state,
 };
 use settings_file::{PrinterSettings, Settings};
 use spool::Spool;
@@ -60,6 +61,15 @@ fn printer_at<'a>(printers: &'a [Printer], place: usize, otherwise: &'a Printer)
         Some(printer) => printer,
         None => otherwise,
     }
+}
+
+/// The state of the printer at a place (RFC 8011, section 5.4.11).
+pub fn state_of_printer(room: &PrintRoom, place: usize) -> PrinterState
+    ensures { result ≡ state_of_printer place room.now }
+{
+    let running = Printer::new();
+    let printer = printer_at(room.printers(), place, &running);
+    printer_state(printer, is_busy(room.spool(), place))
 }
 
 /// Whether some job of the printer at a place is on a device.

@@ -19,7 +19,7 @@ mod turn;
 mod wanted;
 
 pub use entry::Entry;
-pub use groups::{job_group, job_groups, printer_group};
+pub use groups::{job_group, job_groups, printer_group, state_of_printer};
 pub use law::listing_is_ordered;
 pub use listing::listed;
 pub use wanted::Wanted;

@@ -16,7 +16,7 @@ use Rattle.spool.specs.Jobs.{spooled_at, with_job, documents_told}
 use Rattle.spool.specs.OnDevice.{is_on_device, documents_at, AllStay}
 use Rattle.spool.specs.Submission.{Submission, spooled_of}
 use Rattle.spool.specs.Kept.{retained}
-use Rattle.print_room.specs.Jobs.{is_operator, with_job_taken, sending_refusal, sending, changing, cancel_by, canceling, expiring}
+use Rattle.print_room.specs.Jobs.{is_operator, with_job_taken, sending_refusal, sending, changing, cancel_by, canceling, canceling_each, expiring}
 use Rattle.spool.specs.Calls.{or_else, asking_refusal, taking_refusal, document_refusal, adds, is_too_large, with_document, closed_if}
 use Rattle.spool.specs.declared.refusal.SpoolRefusal.{SpoolRefusal}
 use Rattle.spool.specs.declared.refusal.SpoolRefusal.TheVariants as Why
@@ -28,7 +28,7 @@ use Rattle.print_room.specs.Activity.{job_on}
 use Rattle.print_room.specs.State.{State, with_device}
 use Rattle.print_room.specs.Report.{said_of_job, activity_after, refitted, jobs_after, documents_out, state_after, Reports}
 use Rattle.print_room.specs.DeviceJobs.{job_of, Agree, KeepsAt, AllKeep, HandsOut, KeepsOrEnds}
-use Rattle.print_room.proofs.DeviceJobs.{Leaves, report_leaves, job_elsewhere, job_here, job_found, not_some}
+use Rattle.print_room.proofs.DeviceJobs.{Leaves, report_leaves, job_elsewhere, job_here, job_found, not_some, agree_stay}
 
 -- the devices' jobs are the same, and those in the spool stay
 pub keep_from : (old new : State) → ((place id : ℕ) → job_of old.devices place ≡ Some id → job_of new.devices place ≡ Some id) → AllStay old.spool.jobs new.spool.jobs → Agree old.devices old.spool.jobs → AllKeep old new
@@ -115,11 +115,23 @@ submits_keep now job incoming old agree = keep_from old (with_job_taken now job 
 pub changes_keep : (now id : ℕ) (change : JobChange) (old : State) → Agree old.devices old.spool.jobs → AllKeep old (changing now id change old)
 changes_keep now id change old agree = keep_from old (changing now id change old) (λ place one has. has) (stay_with id (changed change now) (changed_on change now) old.spool.jobs) agree
 
-pub cancels_keep : (now id : ℕ) (name : List ℕ) (old : State) → Agree old.devices old.spool.jobs → AllKeep old (canceling now id name old)
-cancels_keep now id name old agree =
+-- a cancel leaves what devices have
+cancels_stay : (now id : ℕ) (name : List ℕ) (old : State) → AllStay old.spool.jobs (canceling now id name old).spool.jobs
+cancels_stay now id name old =
     let change = cancel_by id name old in
     let after = with_job id (changed change now) old.spool.jobs in
-    keep_from old (canceling now id name old) (λ place one has. has) (stay_then old.spool.jobs after (retained after) (stay_with id (changed change now) (changed_on change now) old.spool.jobs) (stay_retained after)) agree
+    stay_then old.spool.jobs after (retained after) (stay_with id (changed change now) (changed_on change now) old.spool.jobs) (stay_retained after)
+
+pub cancels_keep : (now id : ℕ) (name : List ℕ) (old : State) → Agree old.devices old.spool.jobs → AllKeep old (canceling now id name old)
+cancels_keep now id name old agree = keep_from old (canceling now id name old) (λ place one has. has) (cancels_stay now id name old) agree
+
+-- so do cancels one after the other
+pub removes_keep : (now : ℕ) (name ids : List ℕ) (old : State) → Agree old.devices old.spool.jobs → AllKeep old (canceling_each now name ids old)
+removes_keep now name [] old agree = λ place id has. (has, refl)
+removes_keep now name (id ∷ ids) old agree =
+    let mid = canceling now id name old in
+    let agree_mid : Agree mid.devices mid.spool.jobs = agree_stay old.devices old.spool.jobs mid.spool.jobs (cancels_stay now id name old) agree in
+    keep_then old mid (canceling_each now name ids mid) (cancels_keep now id name old agree) (removes_keep now name ids mid agree_mid)
 
 -- ---- a document that someone sends
 

@@ -72,6 +72,11 @@ cancel_by id name state = cancel_of name (spooled_at id state.spool.jobs)
 abbrev pub canceling : ℕ → ℕ → List ℕ → State → State
 canceling now id name old = with_jobs now (retained (with_job id (changed (cancel_by id name old) now) old.spool.jobs)) old
 
+-- the jobs of these ids are canceled by someone, one after the other
+abbrev pub canceling_each : ℕ → List ℕ → List ℕ → State → State
+canceling_each now name [] old = record old { last = now }
+canceling_each now name (id ∷ ids) old = canceling_each now name ids (canceling now id name old)
+
 -- ---- a printer that someone wants paused, or no longer
 
 -- the printer at a place is paused, or isn't any longer

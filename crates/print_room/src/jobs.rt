@@ -1,7 +1,8 @@
 //! Jobs that come, jobs that someone wants changed, and jobs that stop coming.
 ghost use Rattle.std.specs.Prelude.{◌≡◌, ◌≤◌, [], true, false, None, Some, IfOk, IfErr, OnOk, OnErr, length};
 ghost use Rattle.job_objects.specs.declared.job_change.JobChange.TheVariants as Change;
-ghost use Rattle.spool.specs.Calls.{new_refusal, IsRefusal};
+ghost use Rattle.spool.specs.Calls.{new_refusal, cancel_refusal, IsRefusal};
+ghost use Rattle.spool.specs.Jobs.{spooled_at};
 ghost use Rattle.print_room.specs.Jobs.{Submits, is_operator, sending_refusal, sending, asked_refusal, changing, canceling_refusal, canceling, expiring};
 ghost use Rattle.print_room.specs.DeviceJobs.{AllKeep};
 
@@ -136,6 +137,25 @@ impl PrintRoom {
     {
         let is_operator = self.is_operator(name);
         let asker = Asker { name, is_operator };
+        self.cancel_for(id, asker, now)
+    }
+
+    /// Cancels a job that isn't finished, for someone of whom it is told whether they are an operator.
+    /// A device that has it keeps it until it says that it is done. It takes no memory.
+    ///
+    /// Refused in this order: not found, not authorized, not possible.
+    pub fn cancel_for(
+        &mut self,
+        id: JobId,
+        asker: Asker<'_>,
+        now: Moment,
+    ) -> Result<(), SpoolRefusal>
+        requires { self.old.last ≤ now }
+        ensures ok { OnOk result ((cancel_refusal asker.entry.name.now asker.entry.is_operator (spooled_at id self.old.spool.jobs) ≡ None) × (self.new ≡ canceling now id asker.entry.name.now self.old)) }
+        ensures kept { OnErr result (self.new ≡ self.old) }
+        ensures keep { OnOk result (AllKeep self.old self.new) }
+        ensures refused { IfErr result (λ refusal. cancel_refusal asker.entry.name.now asker.entry.is_operator (spooled_at id self.old.spool.jobs) ≡ Some refusal) }
+    {
         self.spool.cancel(id, asker, now)?;
         self.advance(now);
         Ok(())

@@ -7,7 +7,7 @@ ghost use Rattle.spool.specs.Document.{DocumentRecord};
 ghost use Rattle.spool.specs.Submission.{Submission};
 ghost use Rattle.print_room.specs.declared.started.Started.{Started};
 ghost use Rattle.print_room.specs.State.{State};
-ghost use Rattle.print_room.specs.Jobs.{with_job_taken, sending_refusal, sending, changing, canceling, pausing, expiring};
+ghost use Rattle.print_room.specs.Jobs.{with_job_taken, sending_refusal, sending, changing, canceling, canceling_each, pausing, expiring};
 ghost use Rattle.print_room.specs.Report.{Reports};
 ghost use Rattle.print_room.specs.Dispatch.{Dispatches};
 ghost use Rattle.print_room.specs.DeviceJobs.{AllKeep, KeepsOrEnds};
@@ -22,6 +22,7 @@ impl PrintRoom {
         ensures sends { (now id : ℕ) (name : List ℕ) (document : DocumentRecord) (last : Bool) → sending_refusal id name (length document.contents) last self.now ≡ None → AllKeep self.now (sending now id document last self.now) }
         ensures changes { (now id : ℕ) (change : JobChange) → AllKeep self.now (changing now id change self.now) }
         ensures cancels { (now id : ℕ) (name : List ℕ) → AllKeep self.now (canceling now id name self.now) }
+        ensures removes { (now : ℕ) (name ids : List ℕ) → AllKeep self.now (canceling_each now name ids self.now) }
         ensures pauses { (now place : ℕ) (paused : Bool) → AllKeep self.now (pausing now place paused self.now) }
         ensures expires { (now : ℕ) → AllKeep self.now (expiring now self.now) }
         ensures reports { (now place : ℕ) (report : Report) (documents : List DocumentRecord) (new : State) → Reports now place report self.now documents new → KeepsOrEnds place self.now documents new }

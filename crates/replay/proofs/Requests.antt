@@ -6,6 +6,7 @@ use Rattle.printer_objects.specs.declared.operation.Operation.{Operation}
 use Rattle.printer_objects.specs.declared.operation.Operation.TheVariants as operation
 use Rattle.dispatcher.specs.declared.event.Event.{Event}
 use Rattle.dispatcher.specs.declared.event.Event.TheVariants as Is
+use Rattle.dispatcher.specs.declared.reply.Answer.{Answer}
 use Rattle.dispatcher.specs.declared.reply.Answer.TheVariants as Says
 use Rattle.dispatcher.specs.declared.reply.Reply.{Reply}
 use Rattle.dispatcher.specs.declared.status.Status.{Status}
@@ -34,59 +35,67 @@ use Rattle.replies.specs.Asked.{Asks, AsksUnder, Requests, answered, header_of, 
 use Rattle.replies.specs.Event.{event_of, asked_in, event_in, are_tagged, is_complete}
 use Rattle.replies.specs.Request.{operation_group, job_attributes, is_utf8}
 use Rattle.replay.specs.Acting.{IsRequest}
-use Rattle.replay.specs.Replay.{Standing, Happens}
+use Rattle.replay.specs.Replay.{Standing, Happens, IsOfIpp}
 
-says : (status : Status) (unsupported : List IppAttribute) (groups : List IppGroup) (reply : Reply) → IsAnswer status unsupported groups reply.answer → reply.answer ≡ Says.Nothing → ⊥
-says status unsupported groups reply answer nothing = subst (λ a. IsAnswer status unsupported groups a) nothing answer
+says_so : (status : Status) (unsupported : List IppAttribute) (groups : List IppGroup) (answer : Answer) → IsAnswer status unsupported groups answer → IsOfIpp answer
+says_so status unsupported groups (Says.Ipp answer) is = tt
+says_so status unsupported groups (Says.Lpd answer) is = is
+says_so status unsupported groups Says.Nothing is = is
 
-says_something : (status : Status) (unsupported : List IppAttribute) (groups : List IppGroup) (reply : Reply) → Replies status unsupported groups reply → reply.answer ≡ Says.Nothing → ⊥
-says_something status unsupported groups reply replies nothing = says status unsupported groups reply replies.answer nothing
+says : (status : Status) (unsupported : List IppAttribute) (groups : List IppGroup) (reply : Reply) → IsAnswer status unsupported groups reply.answer → IsOfIpp reply.answer
+says status unsupported groups reply answer = says_so status unsupported groups reply.answer answer
+
+says_something : (status : Status) (unsupported : List IppAttribute) (groups : List IppGroup) (reply : Reply) → Replies status unsupported groups reply → IsOfIpp reply.answer
+says_something status unsupported groups reply replies = says status unsupported groups reply replies.answer
 
 -- what comes of checks has an answer, where what is done if none fails has one
-answers : {A : Type 0} (Done : A → Type 0) (now : ℕ) (old : State) (reply : Reply) (new : State) → ((a : A) → Done a → reply.answer ≡ Says.Nothing → ⊥)
-    → (asked : Result A _) → MatchResult asked Done (λ refusal. Refuses now old refusal reply new) → reply.answer ≡ Says.Nothing → ⊥
-answers Done now old reply new each (Ok a) is nothing = each a is nothing
-answers Done now old reply new each (Err refusal) refused nothing = says_something _ _ _ reply refused.replies nothing
+answers : {A : Type 0} (Done : A → Type 0) (now : ℕ) (old : State) (reply : Reply) (new : State) → ((a : A) → Done a → IsOfIpp reply.answer)
+    → (asked : Result A _) → MatchResult asked Done (λ refusal. Refuses now old refusal reply new) → IsOfIpp reply.answer
+answers Done now old reply new each (Ok a) is = each a is
+answers Done now old reply new each (Err refusal) refused = says_something _ _ _ reply refused.replies
 
-changed_answer : (request : JobRequest) (change : JobChange) (unsupported : List IppAttribute) (now : ℕ) (old : State) (reply : Reply) (new : State) → ChangesJob now request change unsupported old reply new → reply.answer ≡ Says.Nothing → ⊥
-changed_answer request change unsupported now old reply new step nothing =
-    answers (λ id. ChangesIt now old change unsupported id reply new) now old reply new (λ id is. says_something _ _ _ reply is.replies) (changed_of request change now old) step nothing
+changed_answer : (request : JobRequest) (change : JobChange) (unsupported : List IppAttribute) (now : ℕ) (old : State) (reply : Reply) (new : State) → ChangesJob now request change unsupported old reply new → IsOfIpp reply.answer
+changed_answer request change unsupported now old reply new step =
+    answers (λ id. ChangesIt now old change unsupported id reply new) now old reply new (λ id is. says_something _ _ _ reply is.replies) (changed_of request change now old) step
 
-held_answer : (request : JobRequest) (until : HoldUntil) (now : ℕ) (old : State) (reply : Reply) (new : State) → HoldsUntil now request until old reply new → reply.answer ≡ Says.Nothing → ⊥
-held_answer request NoHold now old reply new step nothing = changed_answer request Change.Release [] now old reply new step nothing
-held_answer request Indefinite now old reply new step nothing = changed_answer request Change.Hold [] now old reply new step nothing
-held_answer request (Unsupported attribute) now old reply new step nothing = changed_answer request Change.Hold attribute now old reply new step nothing
+held_answer : (request : JobRequest) (until : HoldUntil) (now : ℕ) (old : State) (reply : Reply) (new : State) → HoldsUntil now request until old reply new → IsOfIpp reply.answer
+held_answer request NoHold now old reply new step = changed_answer request Change.Release [] now old reply new step
+held_answer request Indefinite now old reply new step = changed_answer request Change.Hold [] now old reply new step
+held_answer request (Unsupported attribute) now old reply new step = changed_answer request Change.Hold attribute now old reply new step
 
-paused_answer : (request : PrinterRequest) (paused : Bool) (now : ℕ) (old : State) (reply : Reply) (new : State) → SetsPaused now request paused old reply new → reply.answer ≡ Says.Nothing → ⊥
-paused_answer request paused now old reply new step nothing =
-    answers (λ place. PausesIt now old paused place reply new) now old reply new (λ place is. says_something _ _ _ reply is.replies) (paused_of request old) step nothing
+paused_answer : (request : PrinterRequest) (paused : Bool) (now : ℕ) (old : State) (reply : Reply) (new : State) → SetsPaused now request paused old reply new → IsOfIpp reply.answer
+paused_answer request paused now old reply new step =
+    answers (λ place. PausesIt now old paused place reply new) now old reply new (λ place is. says_something _ _ _ reply is.replies) (paused_of request old) step
 
-shown_answer : {A : Type 0} (groups : A → List IppGroup) (now : ℕ) (old : State) (reply : Reply) (new : State) (asked : Result A _) → MatchResult asked (λ a. Shows now old (groups a) reply new) (λ refusal. Refuses now old refusal reply new) → reply.answer ≡ Says.Nothing → ⊥
-shown_answer groups now old reply new asked step nothing =
-    answers (λ a. Shows now old (groups a) reply new) now old reply new (λ a is. says_something _ _ _ reply is.replies) asked step nothing
+shown_answer : {A : Type 0} (groups : A → List IppGroup) (now : ℕ) (old : State) (reply : Reply) (new : State) (asked : Result A _) → MatchResult asked (λ a. Shows now old (groups a) reply new) (λ refusal. Refuses now old refusal reply new) → IsOfIpp reply.answer
+shown_answer groups now old reply new asked step =
+    answers (λ a. Shows now old (groups a) reply new) now old reply new (λ a is. says_something _ _ _ reply is.replies) asked step
 
-stepped_answer : (event : Event) (now : ℕ) (old : State) (reply : Reply) (new : State) → IsRequest event → StepAt event now old reply new → reply.answer ≡ Says.Nothing → ⊥
-stepped_answer (Is.PrintJob request) now old reply new is step nothing = answers (λ accepted. TakesJob now old accepted reply new) now old reply new (λ accepted done. says_something _ _ _ reply done.replies) (asked_of request now old) step nothing
-stepped_answer (Is.ValidateJob request) now old reply new is step nothing = answers (λ unsupported. Validates now old unsupported reply new) now old reply new (λ unsupported done. says_something _ _ _ reply done.replies) (validated_of request old) step nothing
-stepped_answer (Is.CreateJob request) now old reply new is step nothing = answers (λ accepted. CreatesIt now old accepted reply new) now old reply new (λ accepted done. says_something _ _ _ reply done.replies) (created_of request now old) step nothing
-stepped_answer (Is.SendDocument request) now old reply new is step nothing = answers (λ sent. SendsIt now old request sent reply new) now old reply new (λ sent done. says_something _ _ _ reply done.replies) (sent_of request old) step nothing
-stepped_answer (Is.CancelJob request) now old reply new is step nothing = answers (λ id. CancelsIt now old request.user id reply new) now old reply new (λ id done. says _ _ _ reply done.answer) (canceled_of request old) step nothing
-stepped_answer (Is.GetJobAttributes request) now old reply new is step nothing = shown_answer (λ job. job_group now request.requested old job ∷ []) now old reply new (named_job request.target old) step nothing
-stepped_answer (Is.GetJobs request) now old reply new is step nothing = shown_answer (λ wanted. job_groups wanted now request.requested old) now old reply new (wanted_of request old) step nothing
-stepped_answer (Is.GetPrinterAttributes request) now old reply new is step nothing = shown_answer (λ printer. printer_group printer.place printer.offer now request.requested old ∷ []) now old reply new (named_printer request.target old) step nothing
-stepped_answer (Is.HoldJob request) now old reply new is step nothing = held_answer request.job request.until now old reply new step nothing
-stepped_answer (Is.ReleaseJob request) now old reply new is step nothing = changed_answer request Change.Release [] now old reply new step nothing
-stepped_answer (Is.PausePrinter request) now old reply new is step nothing = paused_answer request true now old reply new step nothing
-stepped_answer (Is.ResumePrinter request) now old reply new is step nothing = paused_answer request false now old reply new step nothing
-stepped_answer (Is.Report device report) now old reply new is step nothing = absurd is
-stepped_answer Is.Tick now old reply new is step nothing = absurd is
+stepped_answer : (event : Event) (now : ℕ) (old : State) (reply : Reply) (new : State) → IsRequest event → StepAt event now old reply new → IsOfIpp reply.answer
+stepped_answer (Is.PrintJob request) now old reply new is step = answers (λ accepted. TakesJob now old accepted reply new) now old reply new (λ accepted done. says_something _ _ _ reply done.replies) (asked_of request now old) step
+stepped_answer (Is.ValidateJob request) now old reply new is step = answers (λ unsupported. Validates now old unsupported reply new) now old reply new (λ unsupported done. says_something _ _ _ reply done.replies) (validated_of request old) step
+stepped_answer (Is.CreateJob request) now old reply new is step = answers (λ accepted. CreatesIt now old accepted reply new) now old reply new (λ accepted done. says_something _ _ _ reply done.replies) (created_of request now old) step
+stepped_answer (Is.SendDocument request) now old reply new is step = answers (λ sent. SendsIt now old request sent reply new) now old reply new (λ sent done. says_something _ _ _ reply done.replies) (sent_of request old) step
+stepped_answer (Is.CancelJob request) now old reply new is step = answers (λ id. CancelsIt now old request.user id reply new) now old reply new (λ id done. says _ _ _ reply done.answer) (canceled_of request old) step
+stepped_answer (Is.GetJobAttributes request) now old reply new is step = shown_answer (λ job. job_group now request.requested old job ∷ []) now old reply new (named_job request.target old) step
+stepped_answer (Is.GetJobs request) now old reply new is step = shown_answer (λ wanted. job_groups wanted now request.requested old) now old reply new (wanted_of request old) step
+stepped_answer (Is.GetPrinterAttributes request) now old reply new is step = shown_answer (λ printer. printer_group printer.place printer.offer now request.requested old ∷ []) now old reply new (named_printer request.target old) step
+stepped_answer (Is.HoldJob request) now old reply new is step = held_answer request.job request.until now old reply new step
+stepped_answer (Is.ReleaseJob request) now old reply new is step = changed_answer request Change.Release [] now old reply new step
+stepped_answer (Is.PausePrinter request) now old reply new is step = paused_answer request true now old reply new step
+stepped_answer (Is.ResumePrinter request) now old reply new is step = paused_answer request false now old reply new step
+stepped_answer (Is.SubmitFiles request) now old reply new is step = absurd is
+stepped_answer (Is.ListQueue request) now old reply new is step = absurd is
+stepped_answer (Is.RemoveJobs request) now old reply new is step = absurd is
+stepped_answer (Is.Report device report) now old reply new is step = absurd is
+stepped_answer Is.Tick now old reply new is step = absurd is
 
 -- what happens by a request has an answer
 pub request_is_answered : (texts : Bool) (names : List (List ℕ)) (event : Event) (old : Standing) (reply : Reply) (text : List ℕ) (new : Standing)
-    → IsRequest event → Happens texts names event old reply text new → reply.answer ≡ Says.Nothing → ⊥
-request_is_answered texts names event old reply text new is happens nothing = elim happens.answers [
-  | inl queried ↦ stepped_answer event (max old.moment old.state.last) old.state reply _ is queried.1 nothing
-  | inr dispatched ↦ stepped_answer event (max old.moment old.state.last) old.state reply _ is dispatched.2 nothing
+    → IsRequest event → Happens texts names event old reply text new → IsOfIpp reply.answer
+request_is_answered texts names event old reply text new is happens = elim happens.answers [
+  | inl queried ↦ stepped_answer event (max old.moment old.state.last) old.state reply _ is queried.1
+  | inr dispatched ↦ stepped_answer event (max old.moment old.state.last) old.state reply _ is dispatched.2
 ]
 
 -- ---- the event of a body

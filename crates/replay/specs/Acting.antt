@@ -16,7 +16,7 @@ Acts log bytes old output true log' new output' =
     (log' ≡ log) × (line : Line) × (text : List ℕ) × IsLine log.names bytes line × Gives log.texts log.names line old text new × (output' ≡ output ++ text)
 Acts log bytes old output false log' new output' = (log' ≡ log) × (new ≡ old) × IsNoLine log.names bytes × (output' ≡ output)
 
--- an event that is a request, and so is answered
+-- an event that is a request of IPP, and so is answered
 abbrev pub IsRequest : Event → Type 0
 IsRequest (Is.PrintJob request) = Unit {0}
 IsRequest (Is.ValidateJob request) = Unit {0}
@@ -30,6 +30,9 @@ IsRequest (Is.HoldJob request) = Unit {0}
 IsRequest (Is.ReleaseJob request) = Unit {0}
 IsRequest (Is.PausePrinter request) = Unit {0}
 IsRequest (Is.ResumePrinter request) = Unit {0}
+IsRequest (Is.SubmitFiles request) = ⊥
+IsRequest (Is.ListQueue request) = ⊥
+IsRequest (Is.RemoveJobs request) = ⊥
 IsRequest (Is.Report device report) = ⊥
 IsRequest Is.Tick = ⊥
 

@@ -52,9 +52,16 @@ pub record Happens (texts : Bool) (names : List (List ℕ)) (event : Event) (old
   pub moment : new.moment ≡ old.moment
   pub printed : text ≡ cancel_lines names reply.cancels.items ++ heard
 
+-- an answer to a request of IPP
+abbrev pub IsOfIpp : Answer → Type 0
+IsOfIpp (Says.Ipp answer) = Unit {0}
+IsOfIpp (Says.Lpd answer) = ⊥
+IsOfIpp Says.Nothing = ⊥
+
 -- the bytes that answer the request of this id
 abbrev pub IsReplyOf : Answer → ℕ → List ℕ → Type 0
 IsReplyOf (Says.Ipp answer) request_id bytes = IsReply answer request_id bytes
+IsReplyOf (Says.Lpd answer) request_id bytes = ⊥
 IsReplyOf Says.Nothing request_id bytes = ⊥
 
 -- a request that is an event: its reply first

@@ -1,5 +1,5 @@
 //! A trace, run.
-ghost use Rattle.std.specs.Prelude.{◌≡◌, ◌≤◌, ◌+◌, ◌++◌, ◌≢◌, [], Ok, Some, IfOk, IfErr, IfSome, IsNone, OnOk, OnErr, List, ℕ, suc, length, codes};
+ghost use Rattle.std.specs.Prelude.{◌≡◌, ◌≤◌, ◌+◌, ◌++◌, [], Ok, Some, IfOk, IfErr, IfSome, IsNone, OnOk, OnErr, List, ℕ, suc, length, codes};
 ghost use Rattle.std.specs.Option.{ForSome};
 ghost use Rattle.std.specs.Str.{IsUtf8};
 ghost use Rattle.std.specs.Fmt.{decimal};
@@ -14,7 +14,7 @@ ghost use Rattle.streams.specs.Said.{Said, refused_as};
 ghost use Rattle.replay.specs.Printed.{reply_line};
 ghost use Rattle.replay.specs.Log.{Hears};
 ghost use Rattle.replay.specs.Acting.{Acts, IsRequest, IsStart};
-ghost use Rattle.replay.specs.Replay.{Answers, Happens, Serves, ComesTo, IsReplyOf, Gives, LinesGive, LinesLeave, names_of, settings_refused, SettingsGive, SettingsLeave, TraceGives, TraceLeaves, InputGives, InputLeaves, Replays};
+ghost use Rattle.replay.specs.Replay.{Answers, Happens, Serves, ComesTo, IsOfIpp, IsReplyOf, Gives, LinesGive, LinesLeave, names_of, settings_refused, SettingsGive, SettingsLeave, TraceGives, TraceLeaves, InputGives, InputLeaves, Replays};
 
 use crate::lines::{next_line, split_settings};
 use crate::log::Log;
@@ -206,12 +206,12 @@ fn reply_line(alloc: Global, bytes: &[u8]) -> Result<Vec<u8>, AllocError>
 
 /// The line of the reply that is an answer to a request.
 fn answer_line(alloc: Global, answer: Answer, request_id: u32) -> Result<Vec<u8>, AllocError>
-    requires { answer ≢ Answer.Nothing }
+    requires { IsOfIpp answer }
     ensures { IfOk result (λ line. (bytes : List ℕ) × IsReplyOf answer request_id bytes × (line.items ≡ reply_line bytes)) }
 {
     match answer {
         Answer::Ipp(answer) => reply_line(alloc, &ipp_reply(alloc, answer, request_id)?),
-        Answer::Nothing => unreachable!(),
+        Answer::Lpd(_) | Answer::Nothing => unreachable!(),
     }
 }
 

@@ -10,3 +10,4 @@ pub mod PrinterRequests
 pub mod Event
 pub mod Asked
 pub mod Reply
+pub mod QueueText

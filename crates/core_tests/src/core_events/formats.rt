@@ -43,7 +43,7 @@ fn answered(alloc: Global, format: &[u8]) -> Result<Option<Status>, Fail> {
     let reply = core.apply(event, at(0))?;
     match &reply.answer {
         Answer::Ipp(answer) => Ok(Some(answer.status)),
-        Answer::Nothing => Ok(None),
+        Answer::Lpd(_) | Answer::Nothing => Ok(None),
     }
 }
 

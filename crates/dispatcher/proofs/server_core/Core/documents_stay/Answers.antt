@@ -20,6 +20,7 @@ returns-clause-steps g c =
       sends = c.documents_stay.ensures.sends;
       changes = c.documents_stay.ensures.changes;
       cancels = c.documents_stay.ensures.cancels;
+      removes = c.documents_stay.ensures.removes;
       pauses = c.documents_stay.ensures.pauses;
       expires = c.documents_stay.ensures.expires;
       reports = c.documents_stay.ensures.reports;

@@ -1,0 +1,10 @@
+use Rattle.std.proofs.Common.{◌≡◌, ◌++◌, map, filter, drop}
+use Rattle.queues.specs.Removal.{is_named, named_jobs}
+use Rattle.dispatcher.specs.RemoveJobs.{cancels_of_each}
+use Rattle.dispatcher.proofs.remove_jobs.told_of_named.Given as goal
+
+-- those added, and those of the jobs that are left, are all
+abbrev pub invariant-loop-spooled : goal.invariant-loop-spooled
+invariant-loop-spooled l =
+    l.cancels.items ++ cancels_of_each (map (λ s. s.job.id) (filter (λ s. is_named l.place l.request s.job) (drop l.spooled-index l.spooled-items))) l.room
+    ≡ cancels_of_each (named_jobs l.place l.request l.room) l.room

@@ -1,0 +1,30 @@
+//! What an LPD client that lists a queue is answered (RFC 1179, sections 5.3 and 5.4).
+ghost use Rattle.std.specs.Prelude.{◌≡◌, ◌≤◌, IfOk, IsOk, OnErr, None};
+ghost use Rattle.queues.specs.Queue.{queue_of};
+ghost use Rattle.dispatcher.specs.ListQueue.{ListsQueue};
+
+use crate::reply::{LpdAnswer, Reply};
+use base_types::Moment;
+use print_room::PrintRoom;
+use queues::{ListQueue, queue_listing, queue_of};
+use std::alloc::{AllocError, Global};
+
+/// Answers what the queue shows, or that it isn't known, which takes no memory.
+pub(crate) fn list_queue(
+    alloc: Global,
+    room: &mut PrintRoom,
+    request: &ListQueue,
+    now: Moment,
+) -> Result<Reply, AllocError>
+    requires { room.old.last ≤ now }
+    ensures ok { IfOk result (λ reply. ListsQueue now request.now room.old reply room.new) }
+    ensures err { OnErr result (room.new ≡ room.old) }
+    ensures light { queue_of request.now.queue room.old ≡ None → IsOk result }
+{
+    let answer = match queue_of(room, &request.queue) {
+        Some(place) => LpdAnswer::Queue(queue_listing(alloc, room, place, request, now)?),
+        None => LpdAnswer::NoQueue,
+    };
+    room.advance(now);
+    Ok(Reply::to_lpd(alloc, answer))
+}

@@ -1,0 +1,99 @@
+//! What an LPD client that removes jobs from a queue comes to (RFC 1179, section 5.5).
+ghost use Rattle.std.specs.Prelude.{◌≡◌, ◌≢◌, ◌≤◌, ◌++◌, [], IfOk, OnOk, IsOk, OnErr, option_to_list};
+ghost use Rattle.queues.specs.Removal.{active_job, named_jobs};
+ghost use Rattle.dispatcher.specs.RemoveJobs.{RemovesJobs, cancels_if_named, cancels_of_each, told_of};
+
+use crate::cancel_job::cancels_of;
+use crate::reply::{Cancel, Reply};
+use base_types::{Moment, Text};
+use job_objects::Job;
+use print_room::PrintRoom;
+use queues::{RemoveJobs, active_job, is_named, queue_of, remove};
+use std::alloc::{AllocError, Global};
+
+/// Removes jobs. Only a cancel that a device is told takes memory.
+pub(crate) fn remove_jobs(
+    alloc: Global,
+    room: &mut PrintRoom,
+    request: &RemoveJobs,
+    now: Moment,
+) -> Result<Reply, AllocError>
+    requires { room.old.last ≤ now }
+    ensures ok { IfOk result (λ reply. RemovesJobs now request.now room.old reply room.new) }
+    ensures err { OnErr result (room.new ≡ room.old) }
+    ensures light { told_of request.now room.old ≡ [] → IsOk result }
+{
+    let cancels = told_of(alloc, room, request)?;
+    remove(room, request, now);
+    Ok(Reply::removed(alloc, cancels))
+}
+
+/// The cancels that are sent for the jobs that are removed.
+fn told_of(alloc: Global, room: &PrintRoom, request: &RemoveJobs) -> Result<Vec<Cancel>, AllocError>
+    ensures ok { IfOk result (λ cancels. cancels.items ≡ told_of request.now room.now) }
+    ensures err { OnErr result (told_of request.now room.now ≢ []) }
+{
+    let Some(place) = queue_of(room, &request.queue) else {
+        return Ok(Vec::new(alloc));
+    };
+    if request.operands.is_empty() {
+        told_of_active(alloc, room, place, &request.agent)
+    } else {
+        told_of_named(alloc, room, place, request)
+    }
+}
+
+/// The cancel that is sent for the job that is removed where none is named.
+fn told_of_active(
+    alloc: Global,
+    room: &PrintRoom,
+    place: usize,
+    agent: &Text,
+) -> Result<Vec<Cancel>, AllocError>
+    ensures ok { IfOk result (λ cancels. cancels.items ≡ cancels_of_each (option_to_list (active_job place agent.now room.now)) room.now) }
+    ensures err { OnErr result (cancels_of_each (option_to_list (active_job place agent.now room.now)) room.now ≢ []) }
+{
+    match active_job(room, place, agent) {
+        Some(id) => cancels_of(alloc, room, id),
+        None => Ok(Vec::new(alloc)),
+    }
+}
+
+/// The cancels that are sent for the jobs that are named.
+fn told_of_named(
+    alloc: Global,
+    room: &PrintRoom,
+    place: usize,
+    request: &RemoveJobs,
+) -> Result<Vec<Cancel>, AllocError>
+    ensures ok { IfOk result (λ cancels. cancels.items ≡ cancels_of_each (named_jobs place request.now room.now) room.now) }
+    ensures err { OnErr result (cancels_of_each (named_jobs place request.now room.now) room.now ≢ []) }
+{
+    let mut cancels = Vec::new(alloc);
+    for spooled in room.spool().jobs() {
+        add_cancel(&mut cancels, room, place, request, spooled.job())?;
+    }
+    Ok(cancels)
+}
+
+/// Adds the cancel that is sent for a job, if it is named and a device has it.
+fn add_cancel(
+    cancels: &mut Vec<Cancel>,
+    room: &PrintRoom,
+    place: usize,
+    request: &RemoveJobs,
+    job: &Job,
+) -> Result<(), AllocError>
+    ensures ok { OnOk result (cancels.new.items ≡ cancels.old.items ++ cancels_if_named place request.now room.now job.now) }
+    ensures err { OnErr result (cancels_if_named place request.now room.now job.now ≢ []) }
+{
+    if is_named(place, request, job) {
+        if let Some(device) = room.device_of(job.id) {
+            cancels.push(Cancel {
+                job: job.id,
+                device,
+            })?;
+        }
+    }
+    Ok(())
+}

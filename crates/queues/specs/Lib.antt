@@ -1,0 +1,4 @@
+pub mod Queue
+pub mod Operand
+pub mod Listing
+pub mod Removal

@@ -1,0 +1,40 @@
+//! A job as a queue's listing shows it.
+ghost use Rattle.std.specs.Prelude.{◌≡◌, IfOk};
+ghost use Rattle.queues.specs.Listing.{entry_of};
+
+use base_types::{JobId, Text};
+use job_objects::{Job, JobReasons, JobState, reasons};
+use print_room::PrintRoom;
+use std::alloc::{AllocError, Global};
+
+/// A job of a queue, as it is when the queue is listed.
+#[derive(Drop)]
+pub struct QueueEntry {
+    pub id: JobId,
+    pub state: JobState,
+    pub reasons: JobReasons,
+    pub owner: Text,
+    /// Of all its documents together.
+    pub octets: usize,
+    /// Of one copy, as given or else as estimated.
+    pub impressions: u32,
+    pub copies: u32,
+    pub name: Text,
+}
+
+/// What is shown of a job.
+pub(crate) fn entry_of(alloc: Global, room: &PrintRoom, job: &Job) -> Result<QueueEntry, AllocError>
+    ensures { IfOk result (λ entry. entry ≡ entry_of room.now job.now) }
+{
+    let needs = &job.needs;
+    Ok(QueueEntry {
+        id: job.id,
+        state: job.state,
+        reasons: reasons(job, room.is_paused(needs.printer)),
+        owner: job.owner.copied(alloc)?,
+        octets: job.octets,
+        impressions: needs.impressions,
+        copies: needs.copies,
+        name: job.name.copied(alloc)?,
+    })
+}
