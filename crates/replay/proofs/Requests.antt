@@ -29,7 +29,7 @@ use Rattle.dispatcher.specs.HoldJob.{ChangesIt, ChangesJob, HoldsUntil, changed_
 use Rattle.dispatcher.specs.PausePrinter.{PausesIt, SetsPaused, paused_of}
 use Rattle.dispatcher.specs.GetJobs.{wanted_of}
 use Rattle.print_room.specs.State.{State}
-use Rattle.dispatcher.specs.Step.{Step, StepAt}
+use Rattle.dispatcher.specs.Step.{StepAt}
 use Rattle.replies.specs.declared.asked.Asked.TheVariants as Body
 use Rattle.replies.specs.Asked.{Asks, AsksUnder, Requests, answered, header_of, operation_of}
 use Rattle.replies.specs.Event.{event_of, asked_in, event_in, are_tagged, is_complete}
