@@ -17,6 +17,8 @@ mod expiring;
 mod forgetting;
 mod new_job;
 mod octets;
+mod page;
+mod paged;
 mod ready;
 mod refusal;
 mod sending;

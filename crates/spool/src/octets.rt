@@ -1,45 +1,80 @@
 //! The octets of a document.
-ghost use Rattle.std.specs.Prelude.{◌≡◌, ◌≤◌, ◌<◌, ◌↔◌, [], IsTrue, length, drop};
+ghost use Rattle.std.specs.Prelude.{◌≡◌, ◌≤◌, ◌<◌, ◌↔◌, ◌++◌, [], IsTrue, IfOk, OnOk, OnErr, length, drop};
 ghost use Rattle.spool.specs.Document.{IsFrontOf};
 
+use crate::page::{PAGE_BYTES, Page};
+use crate::paged::{Paged, in_pages};
+use std::alloc::{AllocError, Global};
 use std::marker::Model;
 
 /// The octets of a document. In clauses it is their list.
 ///
-/// How they lie in memory is no one's business: whoever sends them takes piece after piece.
+/// They lie in pages, so that none is moved when more come. How they lie is no one's business:
+/// whoever sends them takes piece after piece.
 #[derive(Debug, Drop)]
 pub struct Octets {
-    bytes: Vec<u8>,
+    alloc: Global,
+    paged: Paged,
+    len: usize,
 }
 
 impl Model for Octets {
-    ghost use Rattle.std.specs.Prelude.{ℕ, List};
+    ghost use Rattle.std.specs.Prelude.{ℕ, List, ◌≡◌, length};
+    ghost use Rattle.spool.specs.Pages.{octets_in, IsPaged};
 
     ghost Value = { List ℕ };
 
-    ghost view = { λ o. o.bytes.items };
+    ghost view = { λ o. octets_in o.paged };
+
+    ghost invariant = { λ o. IsPaged o.paged × (o.len ≡ length (octets_in o.paged)) };
 }
 
 impl Octets {
-    /// These octets, which it takes over.
-    pub fn new(bytes: Vec<u8>) -> Octets
-        ensures { result ≡ bytes.items }
+    /// No octets yet. It takes no memory.
+    pub fn new(alloc: Global) -> Octets
+        ensures { result ≡ [] }
     {
-        Octets { bytes }
+        Octets {
+            alloc,
+            paged: Paged {
+                pages: Vec::new(alloc),
+                last: Page::new(alloc),
+            },
+            len: 0,
+        }
+    }
+
+    /// Adds octets behind those that are there. Where there is no memory, nothing is added.
+    pub fn push(&mut self, piece: &[u8]) -> Result<(), AllocError>
+        ensures ok { OnOk result (self.new ≡ self.old ++ piece.now) }
+        ensures err { OnErr result (self.new ≡ self.old) }
+    {
+        let Some(len) = self.len.checked_add(piece.len()) else {
+            return Err(AllocError);
+        };
+        let room = PAGE_BYTES - self.paged.last.octets().len();
+        if piece.len() < room {
+            self.paged.last.append(piece)?;
+        } else {
+            let (front, behind) = piece.split_at(room);
+            self.paged.go_on(front, in_pages(self.alloc, behind)?)?;
+        }
+        self.len = len;
+        Ok(())
     }
 
     /// How many they are.
     pub fn len(&self) -> usize
         ensures { result ≡ length self.now }
     {
-        self.bytes.len()
+        self.len
     }
 
     /// Whether there are none.
     pub fn is_empty(&self) -> bool
         ensures { IsTrue result ↔ (self.now ≡ []) }
     {
-        self.bytes.is_empty()
+        self.len == 0
     }
 
     /// Octets from a place on, as many as lie together: none only at the end.
@@ -47,6 +82,18 @@ impl Octets {
         requires { start ≤ length self.now }
         ensures { IsFrontOf result.now (drop start self.now) }
     {
-        &self.bytes[start..]
+        &self.paged.page_at(start).octets()[start % PAGE_BYTES..]
+    }
+
+    /// The same octets once more. Where there is no memory for all of them, there is no copy.
+    pub fn copied(&self, alloc: Global) -> Result<Octets, AllocError>
+        ensures { IfOk result (λ octets. octets ≡ self.now) }
+    {
+        let mut copy = Octets::new(alloc);
+        for page in &self.paged.pages {
+            copy.push(page.octets())?;
+        }
+        copy.push(self.paged.last.octets())?;
+        Ok(copy)
     }
 }
