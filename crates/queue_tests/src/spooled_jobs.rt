@@ -8,9 +8,11 @@ use std::alloc::{AllocError, Global};
 use std::test::Fail;
 
 fn document(alloc: Global, bytes: &[u8]) -> Result<Document, AllocError> {
+    let mut contents = Octets::new(alloc);
+    contents.push(bytes)?;
     Ok(Document {
         format: Text::copy_of(alloc, b"text/plain")?,
-        contents: Octets::new(Vec::from_slice(alloc, bytes)?),
+        contents,
     })
 }
 

@@ -9,4 +9,5 @@ pub mod JobRequests
 pub mod PrinterRequests
 pub mod Event
 pub mod Asked
+pub mod Reader
 pub mod Reply
