@@ -1,8 +1,8 @@
 -- What a decoder knows of the bytes that it was fed, in pieces of any length.
-use Rattle.std.specs.Prelude.{◌≡◌, ◌≢◌, ◌<◌, ◌≤◌, ℕ, ◌+◌, max, nat_le, ◌==◌, List, [], ◌++◌, length, take, drop, get_or, if◌then◌else◌, Option, Some, None, Result, Ok, Err}
+use Rattle.std.specs.Prelude.{◌≡◌, ◌≢◌, ◌<◌, ◌≤◌, ℕ, ◌+◌, max, nat_le, ◌==◌, List, ◌++◌, length, take, drop, get_or, if◌then◌else◌, Option, Some, None, Result, Ok, Err}
 use Rattle.base_types.specs.declared.limits.TheConstants.Limits.{IPP_HEAD_BYTES}
 use Rattle.ipp_codec.specs.declared.fault.CodecFault.{CodecFault}
-use Rattle.ipp_codec.specs.declared.fault.CodecFault.TheVariants.{Short, TooLarge}
+use Rattle.ipp_codec.specs.declared.fault.CodecFault.TheVariants.{Short}
 use Rattle.ipp_codec.specs.declared.fault.DecodeError.{DecodeError}
 use Rattle.ipp_codec.specs.declared.fault.DecodeError.TheVariants.{Fault, OutOfMemory}
 use Rattle.ipp_codec.specs.declared.place.Place.{Place}

@@ -1,8 +1,7 @@
 -- Octets in pages: all but the last are full.
-use Rattle.std.specs.Prelude.{ℕ, ◌≡◌, ◌<◌, List, [], ◌∷◌, ◌++◌, length, Vec}
+use Rattle.std.specs.Prelude.{ℕ, ◌≡◌, ◌<◌, List, [], ◌∷◌, ◌++◌, length}
 use Rattle.std.specs.List.{AllByRecursion}
 use Rattle.spool.specs.declared.page.TheConstants.{PAGE_BYTES}
-use Rattle.spool.specs.declared.page.Page.{Page}
 use Rattle.spool.specs.declared.paged.Paged.{Paged}
 
 -- pages one after the other

@@ -1,6 +1,6 @@
-use Rattle.std.proofs.Common.{◌≡◌, ◌≤◌, ◌-◌, ℕ, length, refl, sym, ap, subst, ◌∙◌, arith, rules}
+use Rattle.std.proofs.Common.{◌≡◌, ◌-◌, ℕ, length, refl, ap, arith, rules}
 use Rattle.ipp_codec.specs.declared.stage.Stage.TheVariants.{Awaiting}
-use Rattle.ipp_codec.specs.Decoder.{TakesIn, MayCome, Feeds}
+use Rattle.ipp_codec.specs.Decoder.{TakesIn}
 use Rattle.ipp_codec.proofs.Fields.{IsBytes}
 use Rattle.ipp_codec.proofs.Pieces.{fed_by, stays}
 use Rattle.ipp_codec.proofs.decoder.Decoder.feed.Goals as goal

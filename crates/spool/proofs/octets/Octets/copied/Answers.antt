@@ -1,5 +1,4 @@
-use Rattle.std.proofs.Common.{◌≡◌, ◌++◌, ◌∷◌, ◌+◌, [], List, ℕ, take, ap, sym, ◌∙◌}
-use Rattle.spool.specs.Pages.{joined}
+use Rattle.std.proofs.Common.{◌++◌, List, ℕ, ap, ◌∙◌}
 use Rattle.spool.proofs.PageLemmas.{copied_more}
 use Rattle.spool.proofs.octets.Octets.copied.Goals as goal
 

@@ -1,7 +1,6 @@
-use Rattle.std.proofs.Common.{◌≡◌, ◌++◌, ◌∷◌, ◌+◌, ◌-◌, ◌<◌, List, ℕ, length, take, drop, ap, subst, sym, ◌∙◌, append_assoc, arith}
+use Rattle.std.proofs.Common.{◌≡◌, ◌++◌, ◌∷◌, ◌+◌, ◌-◌, ◌<◌, List, ℕ, length, ap, subst, sym, ◌∙◌, append_assoc, arith}
 use Rattle.std.proofs.lemmas.List.{length-append, take-append-drop}
 use Rattle.spool.specs.declared.page.TheConstants.{PAGE_BYTES}
-use Rattle.spool.specs.declared.paged.Paged.{Paged}
 use Rattle.spool.specs.Pages.{joined, octets_in, IsFull, IsPaged}
 use Rattle.spool.proofs.PageLemmas.{gone_on, full-append}
 use Rattle.spool.proofs.octets.Octets.push.Goals as goal
