@@ -1,7 +1,8 @@
 //! A whole body, and a reply of a status alone.
 use dispatcher::{Event, IppAnswer, PrintJob, Status, Target};
 use job_template::RequestAttributes;
-use replies::{Asked, ipp_event, ipp_refusal, ipp_reply};
+use replies::{Asked, AskedReader, ipp_event, ipp_refusal, ipp_reply};
+use std::alloc::{AllocError, Global};
 use std::test::*;
 
 const BODY: &[u8] =
@@ -19,6 +20,56 @@ fn is_request(request: &PrintJob) -> bool {
         && request.job.user.is(b"anonymous")
         && request.job.name.is(b"untitled")
         && request.octets.piece(0) == b"hello".as_slice()
+}
+
+/// Whether the answer is the request of the body, under its id.
+fn is_asked(asked: &Asked) -> bool {
+    match asked {
+        Asked::Event(1, Event::PrintJob(request)) => is_request(request),
+        _ => false,
+    }
+}
+
+/// What the body asks, cut into two pieces at a place.
+fn asked_in_two(alloc: Global, cut: usize) -> Result<Asked, AllocError> {
+    let (front, behind) = BODY.split_at(cut.min(BODY.len()));
+    let mut reader = AskedReader::new(alloc);
+    reader.feed(front)?;
+    reader.feed(behind)?;
+    reader.finish()
+}
+
+/// What the body asks that comes byte by byte.
+fn asked_by_bytes(alloc: Global) -> Result<Asked, AllocError> {
+    let mut reader = AskedReader::new(alloc);
+    for byte in BODY {
+        reader.feed(&[*byte])?;
+    }
+    reader.finish()
+}
+
+/// The first place at which a cut of the body changes what it asks.
+fn first_cut_that_counts(alloc: Global) -> Result<Option<usize>, AllocError> {
+    for cut in 0..=BODY.len() {
+        let asked = asked_in_two(alloc, cut)?;
+        if !is_asked(&asked) {
+            return Ok(Some(cut));
+        }
+    }
+    Ok(None)
+}
+
+#[test]
+fn body_in_two_pieces(rt: HostRuntime) -> Result<(), Fail> {
+    assert_eq!(rt; first_cut_that_counts(rt.alloc())?, None);
+    Ok(())
+}
+
+#[test]
+fn body_byte_by_byte(rt: HostRuntime) -> Result<(), Fail> {
+    let asked = asked_by_bytes(rt.alloc())?;
+    assert!(rt; is_asked(&asked));
+    Ok(())
 }
 
 #[test]

@@ -154,7 +154,7 @@ fn print_job(alloc: Global, asked: Asked) -> Result<Event, AllocError> {
     let user = Text::copy_of(alloc, b"anna")?;
     let name = Text::copy_of(alloc, b"letter")?;
     let template = job_group(alloc, asked)?;
-    let bytes = Vec::from_slice(alloc, b"hello")?;
+    let octets = Octets::copy_of(alloc, b"hello")?;
     Ok(Event::PrintJob(PrintJob {
         job: AskedJob {
             target,
@@ -168,7 +168,7 @@ fn print_job(alloc: Global, asked: Asked) -> Result<Event, AllocError> {
             compression: None,
             format: None,
         },
-        octets: Octets::new(bytes),
+        octets,
     }))
 }
 

@@ -132,11 +132,11 @@ end_of (Begun d) = end_begun d
 end_of (Naming d) = let rest = end_within d in (plainly 0x13 [] [] ∷ rest.0, ((refl, (omega arith, no_plain)), rest.1), rest.2)
 end_of (Within d) = end_within d
 
-Follows-append : (place : Place) (es fs : List Element) → Follows place es → Follows (place_from place es) fs → Follows place (es ++ fs)
+pub Follows-append : (place : Place) (es fs : List Element) → Follows place es → Follows (place_from place es) fs → Follows place (es ++ fs)
 Follows-append place [] fs begins follows = follows
 Follows-append place (e ∷ es) fs begins follows = (begins.0, Follows-append (after place e) es fs begins.1 follows)
 
-place_from-append : (place : Place) (es fs : List Element) → place_from place (es ++ fs) ≡ place_from (place_from place es) fs
+pub place_from-append : (place : Place) (es fs : List Element) → place_from place (es ++ fs) ≡ place_from (place_from place es) fs
 place_from-append place [] fs = refl
 place_from-append place (e ∷ es) fs = place_from-append (after place e) es fs
 

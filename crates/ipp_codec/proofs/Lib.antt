@@ -12,3 +12,4 @@ pub mod Once
 pub mod Staying
 pub mod Viewing
 pub mod Writing
+pub mod Pieces

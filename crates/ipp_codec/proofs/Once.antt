@@ -80,7 +80,7 @@ no_field place part P y at is =
 no_value_there : (place : Place) (part : List ℕ) (f : CodecFault) (y : List ℕ) → AtValue place part f → part ≡ 3 ∷ y → ⊥
 no_value_there place part f y at is = omega (arith, starts part at.tag _ y at.whole.joined is, at.whole.admitted.0)
 
-not_end : (place : Place) (part : List ℕ) (f : CodecFault) (y : List ℕ) → depth place ≡ 0 → First place part f → part ≡ 3 ∷ y → ⊥
+pub not_end : (place : Place) (part : List ℕ) (f : CodecFault) (y : List ℕ) → depth place ≡ 0 → First place part f → part ≡ 3 ∷ y → ⊥
 not_end place part Short y d (inl none) is = let h = sym none ∙ is in absurd cc
 not_end place part Short y d (inr at) is = no_field place part IsCut y at is
 not_end place part BadLength y d at is = no_field place part IsTooLong y at is

@@ -107,18 +107,18 @@ Follows-push place [] e follows allowed = (allowed, tt)
 Follows-push place (x ∷ es) e follows allowed = (follows.0, Follows-push (after place x) es e follows.1 allowed)
 
 -- what the loop keeps
-abbrev pub Walked : List ℕ → List ℕ → Place → Type 0
-Walked bytes rest place = (es : List Element) × Follows Outside es × (bytes ≡ bytes_of es ++ rest) × (place ≡ place_from Outside es)
+abbrev pub Walked : Place → List ℕ → List ℕ → Place → Type 0
+Walked start bytes rest place = (es : List Element) × Follows start es × (bytes ≡ bytes_of es ++ rest) × (place ≡ place_from start es)
 
-pub goes_on : (bytes rest : List ℕ) (place : Place) (next_place : Place) (e : Element) (others : List ℕ) → Walked bytes rest place → IsAllowed place e → next_place ≡ after place e → rest ≡ element_bytes e ++ others → Walked bytes others next_place
-goes_on bytes rest place next_place e others walked allowed is joined =
+pub goes_on : (start : Place) (bytes rest : List ℕ) (place : Place) (next_place : Place) (e : Element) (others : List ℕ) → Walked start bytes rest place → IsAllowed place e → next_place ≡ after place e → rest ≡ element_bytes e ++ others → Walked start bytes others next_place
+goes_on start bytes rest place next_place e others walked allowed is joined =
     let es = walked.0 in
-    let allowed' : IsAllowed (place_from Outside es) e = subst (λ (p : Place). IsAllowed p e) walked.3 allowed in (
+    let allowed' : IsAllowed (place_from start es) e = subst (λ (p : Place). IsAllowed p e) walked.3 allowed in (
       es ++ e ∷ [],
-      Follows-push Outside es e walked.1 allowed',
+      Follows-push start es e walked.1 allowed',
       walked.2 ∙ ap (λ (t : List ℕ). bytes_of es ++ t) joined ∙ sym (append_assoc (bytes_of es) (element_bytes e) others)
           ∙ ap (λ (t : List ℕ). t ++ others) (ap (λ (t : List ℕ). bytes_of es ++ t) (sym (append-nil (element_bytes e))) ∙ sym (flat_map-append element_bytes es (e ∷ []))),
-      is ∙ ap (λ (p : Place). after p e) walked.3 ∙ sym (place_from-push Outside es e),
+      is ∙ ap (λ (p : Place). after p e) walked.3 ∙ sym (place_from-push start es e),
     )
 
 -- ---- a slice's first byte and the others

@@ -29,7 +29,7 @@ body_is m =
     ap (λ (n : ℕ). take n (bytes_of (elements m.groups) ++ 3 ∷ [])) long ∙ take_at (bytes_of (elements m.groups)) (3 ∷ []) (length (bytes_of (elements m.groups))) refl
 
 -- a head has nine bytes at least
-long_head : (bytes : List ℕ) (m : IppMessage) → Spells bytes m → 9 ≤ length bytes
+pub long_head : (bytes : List ℕ) (m : IppMessage) → Spells bytes m → 9 ≤ length bytes
 long_head bytes m spells = omega (arith, ap length spells.1, length-append (bytes_of (elements m.groups)) (3 ∷ []))
 
 pub view_shown : (bytes : List ℕ) (code id : ℕ) (body : List ℕ) → code ≡ from_be_bytes w16 (get_or bytes 2 0 ∷ get_or bytes 3 0 ∷ [])

@@ -1,11 +1,14 @@
 -- What the reader of a head promises before its limit is counted.
-use Rattle.std.specs.Prelude.{◌≡◌, ℕ, List, ◌++◌, length, Result, Ok, Err, Bool, true}
+use Rattle.std.specs.Prelude.{◌≡◌, ◌≤◌, ℕ, List, ◌++◌, length, take, Result, Ok, Err, Bool, true}
+use Rattle.base_types.specs.declared.limits.TheConstants.Limits.{IPP_HEAD_BYTES}
 use Rattle.ipp_codec.specs.declared.fault.CodecFault.{CodecFault}
 use Rattle.ipp_codec.specs.declared.fault.CodecFault.TheVariants.{Short, TooLarge}
 use Rattle.ipp_codec.specs.Message.{IppMessage}
 use Rattle.ipp_codec.specs.Spelling.{spelling}
-use Rattle.ipp_codec.specs.Grammar.{IsMessage}
-use Rattle.ipp_codec.specs.FirstFault.{FirstFault}
+use Rattle.ipp_codec.specs.declared.view.MessageView.{MessageView}
+use Rattle.ipp_codec.specs.Grammar.{IsMessage, Spells}
+use Rattle.ipp_codec.specs.FirstFault.{FirstFault, HeadFault}
+use Rattle.ipp_codec.specs.Views.{message_shown}
 
 -- the length of the message at the front, or the first fault
 abbrev pub Lengths : List ℕ → Result ℕ CodecFault → Type 0
@@ -16,3 +19,8 @@ Lengths bytes (Err f) = FirstFault bytes f
 abbrev pub fault_within : CodecFault → Bool → CodecFault
 fault_within Short true = TooLarge
 fault_within f _ = f
+
+-- the message that so many of the first bytes spell, or the first fault
+abbrev pub Decodes : List ℕ → Result (MessageView × ℕ) CodecFault → Type 0
+Decodes bytes (Ok x) = (x.1 ≤ IPP_HEAD_BYTES) × (x.1 ≤ length bytes) × Spells (take x.1 bytes) (message_shown x.0)
+Decodes bytes (Err f) = HeadFault bytes f

@@ -10,6 +10,7 @@ pub mod Reading
 pub mod Shown
 pub mod Views
 pub mod Decoding
+pub mod Decoder
 pub mod Owned
 pub mod Typed
 pub mod Written

@@ -7,6 +7,7 @@ use Rattle.ipp_codec.specs.declared.element.ElementView.{ElementView}
 use Rattle.ipp_codec.specs.declared.element.ElementView.TheVariants as views
 use Rattle.ipp_codec.specs.declared.place.Place.{Place}
 use Rattle.ipp_codec.specs.declared.place.Place.TheVariants.{Outside}
+use Rattle.ipp_codec.specs.declared.place.Walk.{Walk}
 use Rattle.ipp_codec.specs.Spelling.{Element, opening, plainly, begin, named, finish, element_bytes, bytes_of}
 use Rattle.ipp_codec.specs.Grammar.{HasShape}
 use Rattle.ipp_codec.specs.Place.{depth, after, place_from, Takes, IsAllowed, Follows}
@@ -80,6 +81,21 @@ abbrev pub Steps : {X : Type 0} → (X → Place × List ℕ) → Place → List
 Steps view place bytes (Err f) = First place bytes f
 Steps view place bytes (Ok None) = (depth place ≡ 0) × ((tail : List ℕ) × (bytes ≡ 3 ∷ tail))
 Steps view place bytes (Ok (Some x)) = (e : Element) × IsAllowed place e × ((view x).0 ≡ after place e) × (bytes ≡ element_bytes e ++ (view x).1)
+
+-- Behind elements stands the end byte, or what has this first fault.
+abbrev pub EndsAt : Option CodecFault → Place → List ℕ → Type 0
+EndsAt None place part = (depth place ≡ 0) × ((tail : List ℕ) × (part ≡ 3 ∷ tail))
+EndsAt (Some f) place part = First place part f
+
+-- The elements from a place on, as far as they go.
+pub record WalksFrom (place : Place) (bytes : List ℕ) (walk : Walk) : Type 0 where
+  pub es : List Element
+  pub part : List ℕ
+  pub follows : Follows place es
+  pub joined : bytes ≡ bytes_of es ++ part
+  pub length : walk.length ≡ length (bytes_of es)
+  pub reached : walk.place ≡ place_from place es
+  pub ends : EndsAt walk.fault walk.place part
 
 -- The elements from a head's first on: all of them before the end byte, or as many as keep the rules.
 abbrev pub Walks : List ℕ → Result ℕ CodecFault → Type 0

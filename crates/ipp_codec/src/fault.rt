@@ -1,3 +1,4 @@
+use std::alloc::AllocError;
 use thiserror::Error;
 
 /// Why bytes begin with no head of a message: the first fault from left to right.
@@ -27,6 +28,28 @@ pub enum CodecFault {
     /// The head has more than [`Limits::IPP_HEAD_BYTES`] bytes.
     #[error("the head has too many bytes")]
     TooLarge,
+}
+
+/// Why a piece of a body doesn't lead to a head.
+#[derive(Clone, Copy, Debug, PartialEq, Eq, Error)]
+pub enum DecodeError {
+    /// The first fault of the whole body. From now on there is no other answer.
+    #[error("{0}")]
+    Fault(CodecFault),
+    /// Memory was refused. No byte of the piece was taken.
+    #[error("memory was refused")]
+    OutOfMemory,
+}
+
+impl From<AllocError> for DecodeError {
+    ghost use Rattle.std.specs.Prelude.{◌≡◌};
+    ghost use Rattle.ipp_codec.specs.declared.fault.DecodeError.TheVariants.{OutOfMemory};
+
+    ghost from_gives = { λ _ error. error ≡ OutOfMemory };
+
+    fn from(_: AllocError) -> DecodeError {
+        DecodeError::OutOfMemory
+    }
 }
 
 /// Why a message was not encoded.

@@ -67,7 +67,7 @@ fn any_length(bytes: &[u8]) -> Result<usize, CodecFault>
 }
 
 /// The fault of bytes that may go on behind the limit.
-fn limited_fault(fault: CodecFault, is_long: bool) -> CodecFault
+pub(crate) fn limited_fault(fault: CodecFault, is_long: bool) -> CodecFault
     ensures { result ≡ fault_within fault is_long }
 {
     match fault {

@@ -8,6 +8,7 @@
 //! Tests stand in `reader_tests`.
 #![tactic(auto)]
 
+mod decoder;
 mod element;
 mod fault;
 mod head;
@@ -18,18 +19,21 @@ mod owning;
 mod place;
 mod shape;
 mod spelling;
+mod stage;
 mod tag;
 mod typed;
 mod value;
 mod view;
 mod walk;
 
-pub use fault::{CodecFault, EncodeFault};
+pub use decoder::Decoder;
+pub use fault::{CodecFault, DecodeError, EncodeFault};
 pub use head::{decode, head_length, view_of};
 pub use law::{fault_stays, one_first_fault, one_spelling};
 pub use member_view::{MemberView, Members};
 pub use message::{Attribute, Group, Message};
 pub use spelling::encode;
+pub use stage::{Fed, Reached, Stage};
 pub use tag::{GroupTag, ValueTag};
 pub use value::{Member, Value};
 pub use view::{

@@ -2,7 +2,7 @@
 ghost use Rattle.std.specs.Prelude.{◌≡◌, MatchResult, ◌↔◌, IsTrue};
 ghost use Rattle.ipp_codec.specs.Place.{depth, after, Takes, TakesValue, TakesMember};
 ghost use Rattle.ipp_codec.specs.FirstFault.{Breaks, Exceeds};
-ghost use Rattle.ipp_codec.specs.Reading.{seen, Keeps, Stands, Steps, Walks};
+ghost use Rattle.ipp_codec.specs.Reading.{seen, Keeps, Stands, Steps, Walks, WalksFrom};
 
 use crate::element::{END, ElementView, FIRST_VALUE_TAG, fields_of, kind_of};
 use crate::fault::CodecFault;
@@ -165,15 +165,54 @@ fn next_of(place: Place, bytes: &[u8]) -> Result<Option<(Place, &[u8])>, CodecFa
     Ok(Some((next_place, rest)))
 }
 
+/// How far elements go that stand one after the other.
+#[derive(Clone, Copy, Debug, PartialEq, Eq)]
+pub struct Walk {
+    /// What stands before what follows them.
+    pub place: Place,
+    /// How many bytes they are.
+    pub length: usize,
+    /// What is first wrong with what follows them: nothing where that is the end byte.
+    pub fault: Option<CodecFault>,
+}
+
+/// The elements from a place on, as far as they go.
+pub(crate) fn walk_from(place: Place, bytes: &[u8]) -> Walk
+    ensures { WalksFrom place bytes.now result }
+{
+    let mut rest = bytes;
+    let mut reached = place;
+    loop {
+        match next_of(reached, rest) {
+            Ok(Some((next_place, behind))) => {
+                reached = next_place;
+                rest = behind;
+            }
+            Ok(None) => {
+                return Walk {
+                    place: reached,
+                    length: bytes.len() - rest.len(),
+                    fault: None,
+                };
+            }
+            Err(fault) => {
+                return Walk {
+                    place: reached,
+                    length: bytes.len() - rest.len(),
+                    fault: Some(fault),
+                };
+            }
+        }
+    }
+}
+
 /// How many bytes of groups stand before the end byte.
 pub(crate) fn body_len(bytes: &[u8]) -> Result<usize, CodecFault>
     ensures { Walks bytes.now result }
 {
-    let mut rest = bytes;
-    let mut place = Place::Outside;
-    while let Some((next_place, behind)) = next_of(place, rest)? {
-        place = next_place;
-        rest = behind;
+    let walk = walk_from(Place::Outside, bytes);
+    match walk.fault {
+        None => Ok(walk.length),
+        Some(fault) => Err(fault),
     }
-    Ok(bytes.len() - rest.len())
 }

@@ -6,4 +6,6 @@ mod attributes;
 #[cfg(test)]
 mod job_states;
 #[cfg(test)]
+mod pages;
+#[cfg(test)]
 mod spooled_jobs;

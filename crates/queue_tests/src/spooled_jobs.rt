@@ -10,7 +10,7 @@ use std::test::Fail;
 fn document(alloc: Global, bytes: &[u8]) -> Result<Document, AllocError> {
     Ok(Document {
         format: Text::copy_of(alloc, b"text/plain")?,
-        contents: Octets::new(Vec::from_slice(alloc, bytes)?),
+        contents: Octets::copy_of(alloc, bytes)?,
     })
 }
 

@@ -1,5 +1,6 @@
 //! Heads of IPP requests, read and written.
 mod clients;
+mod pieces;
 
 use ipp_codec::*;
 use std::alloc::AllocError;

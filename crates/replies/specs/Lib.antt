@@ -9,5 +9,6 @@ pub mod JobRequests
 pub mod PrinterRequests
 pub mod Event
 pub mod Asked
+pub mod Reader
 pub mod Reply
 pub mod QueueText

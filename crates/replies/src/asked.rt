@@ -1,12 +1,15 @@
 //! What a body asks.
-ghost use Rattle.std.specs.Prelude.{◌≡◌, IfOk};
-ghost use Rattle.replies.specs.Asked.{Asks, AsksBy, AsksUnder, Requests, status_of};
+ghost use Rattle.std.specs.Prelude.{◌≡◌, IfOk, OnErr};
+ghost use Rattle.replies.specs.Asked.{Asks, status_of};
+ghost use Rattle.replies.specs.Reader.{AsksOf, AsksUnderOf, AsksByOf, RequestsOf};
 
+use crate::asked_reader::AskedReader;
 use crate::event::event_of;
 use crate::header::{Header, header_of, operation_of};
 use dispatcher::{Event, Status};
-use ipp_codec::{CodecFault, decode};
+use ipp_codec::{CodecFault, Decoder};
 use printer_objects::Operation;
+use spool::Pages;
 use std::alloc::{AllocError, Global};
 
 /// What an IPP body comes to.
@@ -25,18 +28,39 @@ pub enum Asked {
 pub fn ipp_event(alloc: Global, body: &[u8]) -> Result<Asked, AllocError>
     ensures { IfOk result (λ asked. Asks body.now asked) }
 {
-    match header_of(body) {
-        Some(header) => asked_under(alloc, header, body),
+    let mut reader = AskedReader::new(alloc);
+    reader.feed(body)?;
+    reader.finish()
+}
+
+/// What a body asks whose head was fed to a decoder. Its document goes to the event, if all memory
+/// that is needed is there.
+pub(crate) fn asked_of(
+    alloc: Global,
+    decoder: &Decoder,
+    document: &mut Pages,
+) -> Result<Asked, AllocError>
+    ensures asked { IfOk result (λ asked. AsksOf decoder.now document.old asked) }
+    ensures err { OnErr result (document.new ≡ document.old) }
+{
+    match header_of(decoder.head()) {
+        Some(header) => asked_under(alloc, header, decoder, document),
         None => Ok(Asked::TooShort),
     }
 }
 
 /// What a body with this header asks.
-fn asked_under(alloc: Global, header: Header, body: &[u8]) -> Result<Asked, AllocError>
-    ensures { IfOk result (λ asked. AsksUnder header body.now asked) }
+fn asked_under(
+    alloc: Global,
+    header: Header,
+    decoder: &Decoder,
+    document: &mut Pages,
+) -> Result<Asked, AllocError>
+    ensures asked { IfOk result (λ asked. AsksUnderOf header decoder.now document.old asked) }
+    ensures err { OnErr result (document.new ≡ document.old) }
 {
     match operation_of(header) {
-        Ok(operation) => asked_by(alloc, header.request_id, operation, body),
+        Ok(operation) => asked_by(alloc, header.request_id, operation, decoder, document),
         Err(status) => Ok(Asked::Refused(status, header.request_id)),
     }
 }
@@ -46,11 +70,13 @@ fn asked_by(
     alloc: Global,
     request_id: u32,
     operation: Operation,
-    body: &[u8],
+    decoder: &Decoder,
+    document: &mut Pages,
 ) -> Result<Asked, AllocError>
-    ensures { IfOk result (λ asked. AsksBy operation request_id body.now asked) }
+    ensures asked { IfOk result (λ asked. AsksByOf operation request_id decoder.now document.old asked) }
+    ensures err { OnErr result (document.new ≡ document.old) }
 {
-    match event_by(alloc, operation, body)? {
+    match event_by(alloc, operation, decoder, document)? {
         Ok(event) => Ok(Asked::Event(request_id, event)),
         Err(status) => Ok(Asked::Refused(status, request_id)),
     }
@@ -60,12 +86,14 @@ fn asked_by(
 fn event_by(
     alloc: Global,
     operation: Operation,
-    body: &[u8],
+    decoder: &Decoder,
+    document: &mut Pages,
 ) -> Result<Result<Event, Status>, AllocError>
-    ensures { IfOk result (λ event. Requests operation body.now event) }
+    ensures requests { IfOk result (λ event. RequestsOf operation decoder.now document.old event) }
+    ensures err { OnErr result (document.new ≡ document.old) }
 {
-    match decode(body) {
-        Ok((message, length)) => event_of(alloc, operation, &message, &body[length..]),
+    match decoder.finish() {
+        Ok((message, _)) => event_of(alloc, operation, &message, document),
         Err(fault) => Ok(Err(status_of(fault))),
     }
 }

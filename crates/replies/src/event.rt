@@ -1,5 +1,5 @@
 //! What a message asks, by its operation.
-ghost use Rattle.std.specs.Prelude.{◌≡◌, IfOk};
+ghost use Rattle.std.specs.Prelude.{◌≡◌, IfOk, OnErr};
 ghost use Rattle.ipp_codec.specs.Views.{group_shown, message_shown};
 ghost use Rattle.replies.specs.Request.{job_attributes};
 ghost use Rattle.replies.specs.Event.{is_complete, asked_in, event_in, event_of};
@@ -14,6 +14,7 @@ use crate::target::names_job;
 use dispatcher::{Event, Status};
 use ipp_codec::{GroupView, MessageView};
 use printer_objects::Operation;
+use spool::Pages;
 use std::alloc::{AllocError, Global};
 
 /// The event of a message and a document, or the status of the first check that fails.
@@ -21,9 +22,10 @@ pub(crate) fn event_of(
     alloc: Global,
     operation: Operation,
     message: &MessageView<'_>,
-    document: &[u8],
+    document: &mut Pages,
 ) -> Result<Result<Event, Status>, AllocError>
-    ensures { IfOk result (λ event. event ≡ event_of operation (message_shown message.now) document.now) }
+    ensures event { IfOk result (λ event. event ≡ event_of operation (message_shown message.now) document.old) }
+    ensures err { OnErr result (document.new ≡ document.old) }
 {
     match operation_group(message) {
         Some(group) => asked_in(alloc, operation, message, &group, document),
@@ -37,9 +39,10 @@ fn asked_in(
     operation: Operation,
     message: &MessageView<'_>,
     group: &GroupView<'_>,
-    document: &[u8],
+    document: &mut Pages,
 ) -> Result<Result<Event, Status>, AllocError>
-    ensures { IfOk result (λ event. event ≡ asked_in operation (group_shown group.now) (job_attributes (message_shown message.now)) document.now) }
+    ensures event { IfOk result (λ event. event ≡ asked_in operation (group_shown group.now) (job_attributes (message_shown message.now)) document.old) }
+    ensures err { OnErr result (document.new ≡ document.old) }
 {
     if !is_utf8(group) {
         return Ok(Err(Status::CharsetNotSupported));
@@ -72,9 +75,10 @@ fn event_in(
     operation: Operation,
     message: &MessageView<'_>,
     group: &GroupView<'_>,
-    document: &[u8],
+    document: &mut Pages,
 ) -> Result<Event, AllocError>
-    ensures { IfOk result (λ event. event ≡ event_in operation (group_shown group.now) (job_attributes (message_shown message.now)) document.now) }
+    ensures event { IfOk result (λ event. event ≡ event_in operation (group_shown group.now) (job_attributes (message_shown message.now)) document.old) }
+    ensures err { OnErr result (document.new ≡ document.old) }
 {
     Ok(match operation {
         Operation::PrintJob => Event::PrintJob(print_job_of(alloc, message, group, document)?),

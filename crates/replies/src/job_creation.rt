@@ -1,5 +1,5 @@
 //! What is read of a request for a new job: Print-Job, Validate-Job and Create-Job.
-ghost use Rattle.std.specs.Prelude.{◌≡◌, IfOk};
+ghost use Rattle.std.specs.Prelude.{◌≡◌, IfOk, OnErr};
 ghost use Rattle.ipp_codec.specs.Views.{group_shown, message_shown};
 ghost use Rattle.replies.specs.JobCreation.{asked_job_of, form_of, print_job_of, validate_job_of};
 ghost use Rattle.replies.specs.Request.{job_attributes};
@@ -10,7 +10,7 @@ use crate::request::{job_attributes, user_of};
 use crate::target::printer_target;
 use dispatcher::{AskedJob, DocumentForm, PrintJob, ValidateJob};
 use ipp_codec::{GroupView, MessageView};
-use spool::Octets;
+use spool::{Octets, Pages};
 use std::alloc::{AllocError, Global};
 
 /// The job that is asked for, with the message's job group as its template.
@@ -41,19 +41,23 @@ pub(crate) fn form_of(alloc: Global, group: &GroupView<'_>) -> Result<DocumentFo
     })
 }
 
-/// What is read of a Print-Job.
+/// What is read of a Print-Job. The document goes to it, if all memory that is needed is there.
 pub(crate) fn print_job_of(
     alloc: Global,
     message: &MessageView<'_>,
     group: &GroupView<'_>,
-    document: &[u8],
+    document: &mut Pages,
 ) -> Result<PrintJob, AllocError>
-    ensures { IfOk result (λ request. request ≡ print_job_of (group_shown group.now) (job_attributes (message_shown message.now)) document.now) }
+    ensures request { IfOk result (λ request. request ≡ print_job_of (group_shown group.now) (job_attributes (message_shown message.now)) document.old) }
+    ensures err { OnErr result (document.new ≡ document.old) }
 {
+    let job = asked_job_of(alloc, message, group)?;
+    let form = form_of(alloc, group)?;
+    let octets = Octets::take(alloc, document)?;
     Ok(PrintJob {
-        job: asked_job_of(alloc, message, group)?,
-        form: form_of(alloc, group)?,
-        octets: Octets::new(alloc, Vec::from_slice(alloc, document)?)?,
+        job,
+        form,
+        octets,
     })
 }
 

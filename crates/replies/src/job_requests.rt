@@ -1,5 +1,5 @@
 //! What is read of a request about one job.
-ghost use Rattle.std.specs.Prelude.{◌≡◌, IfOk};
+ghost use Rattle.std.specs.Prelude.{◌≡◌, IfOk, OnErr};
 ghost use Rattle.ipp_codec.specs.Views.{group_shown};
 ghost use Rattle.replies.specs.JobRequests.{job_request_of, send_document_of, hold_until_of, hold_job_of, get_job_attributes_of};
 
@@ -11,7 +11,7 @@ use crate::requested::requested_of;
 use crate::target::job_target;
 use dispatcher::{GetJobAttributes, HoldJob, HoldUntil, JobRequest, SendDocument};
 use ipp_codec::GroupView;
-use spool::Octets;
+use spool::{Octets, Pages};
 use std::alloc::{AllocError, Global};
 
 /// The job that a request is about, and who asks.
@@ -24,18 +24,22 @@ pub(crate) fn job_request_of(alloc: Global, group: &GroupView<'_>) -> Result<Job
     })
 }
 
-/// What is read of a Send-Document.
+/// What is read of a Send-Document. The document goes to it, if all memory that is needed is there.
 pub(crate) fn send_document_of(
     alloc: Global,
     group: &GroupView<'_>,
-    document: &[u8],
+    document: &mut Pages,
 ) -> Result<SendDocument, AllocError>
-    ensures { IfOk result (λ request. request ≡ send_document_of (group_shown group.now) document.now) }
+    ensures request { IfOk result (λ request. request ≡ send_document_of (group_shown group.now) document.old) }
+    ensures err { OnErr result (document.new ≡ document.old) }
 {
+    let job = job_request_of(alloc, group)?;
+    let form = form_of(alloc, group)?;
+    let octets = Octets::take(alloc, document)?;
     Ok(SendDocument {
-        job: job_request_of(alloc, group)?,
-        form: form_of(alloc, group)?,
-        octets: Octets::new(alloc, Vec::from_slice(alloc, document)?)?,
+        job,
+        form,
+        octets,
         last: truth_of(group, OperationAttribute::LastDocument),
     })
 }

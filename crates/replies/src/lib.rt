@@ -12,6 +12,7 @@
 #![tactic(auto)]
 
 mod asked;
+mod asked_reader;
 mod attributes;
 mod event;
 mod header;
@@ -29,6 +30,7 @@ mod syntax;
 mod target;
 
 pub use asked::{Asked, ipp_event};
+pub use asked_reader::AskedReader;
 pub use header::request_id;
 pub use law::one_asked;
 pub use queue_text::{lpd_ack, lpd_queue_text};

@@ -11,7 +11,7 @@ use base_types::{JobId, Needs};
 use device_link::{write_cancel, write_job};
 use http::StatusCode;
 use http_front::{Refusal, write_head};
-use spool::{Document, Octets};
+use spool::{Document, Octets, Pages};
 use std::alloc::{AllocError, Global};
 use std::marker::Model;
 use text::drop_front;
@@ -271,9 +271,10 @@ fn offer_text<W: Wire>(text: &mut Vec<u8>, id: WireId, wire: &mut W) -> Offered
 fn text_of(alloc: Global, text: &[u8], line: &[u8]) -> Result<Octets, AllocError>
     ensures { IfOk result (λ octets. octets ≡ text.now ++ line.now) }
 {
-    let mut joined = Vec::from_slice(alloc, text)?;
-    joined.extend_from_slice(line)?;
-    Octets::new(alloc, joined)
+    let mut joined = Pages::new(alloc);
+    joined.push(text)?;
+    joined.push(line)?;
+    Octets::take(alloc, &mut joined)
 }
 
 /// Adds octets to those that go out, if there are any.

@@ -8,3 +8,4 @@ pub mod Rising
 pub mod RisingIds
 pub mod Removing
 pub mod Mapping
+pub mod PageLemmas

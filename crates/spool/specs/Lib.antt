@@ -1,3 +1,4 @@
+pub mod Pages
 pub mod Document
 pub mod Asker
 pub mod Spooled

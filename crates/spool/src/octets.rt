@@ -1,9 +1,11 @@
 //! The octets of a document.
-ghost use Rattle.std.specs.Prelude.{◌≡◌, ◌≤◌, ◌<◌, ◌↔◌, [], IsTrue, IfOk, length, drop};
+ghost use Rattle.std.specs.Prelude.{◌≡◌, ◌≤◌, ◌<◌, ◌↔◌, [], IsTrue, IfOk, OnErr, length, drop};
 ghost use Rattle.spool.specs.Document.{IsFrontOf};
 
+use crate::pages::Pages;
 use std::alloc::{AllocError, Global};
 use std::marker::Model;
+use std::mem;
 use std::rc::Rc;
 
 /// The octets of a document, which several may own. In clauses it is their list.
@@ -12,7 +14,7 @@ use std::rc::Rc;
 /// keep them for as long as that takes.
 #[derive(Debug, Drop)]
 pub struct Octets {
-    shared: Rc<Vec<u8>>,
+    shared: Rc<Pages>,
 }
 
 impl Model for Octets {
@@ -20,16 +22,33 @@ impl Model for Octets {
 
     ghost Value = { List ℕ };
 
-    ghost view = { λ o. o.shared.value.items };
+    ghost view = { λ o. o.shared.value };
 }
 
 impl Octets {
-    /// These octets, which it takes over. The error is out of memory.
-    pub fn new(alloc: Global, bytes: Vec<u8>) -> Result<Octets, AllocError>
-        ensures { IfOk result (λ octets. octets ≡ bytes.items) }
+    /// The octets of these pages, which are taken from them. Where there is no memory for an owner, they
+    /// stay.
+    pub fn take(alloc: Global, pages: &mut Pages) -> Result<Octets, AllocError>
+        ensures ok { IfOk result (λ octets. octets ≡ pages.old) }
+        ensures err { OnErr result (pages.new ≡ pages.old) }
     {
-        let shared = Rc::new(alloc, bytes)?;
-        Ok(Octets { shared })
+        let taken = mem::replace(pages, Pages::new(alloc));
+        match Rc::new(alloc, taken) {
+            Ok(shared) => Ok(Octets { shared }),
+            Err(failed) => {
+                *pages = failed.value;
+                Err(AllocError)
+            }
+        }
+    }
+
+    /// A copy of these bytes.
+    pub fn copy_of(alloc: Global, bytes: &[u8]) -> Result<Octets, AllocError>
+        ensures { IfOk result (λ octets. octets ≡ bytes.now) }
+    {
+        let mut pages = Pages::new(alloc);
+        pages.push(bytes)?;
+        Octets::take(alloc, &mut pages)
     }
 
     /// The same octets for another owner, without a copy. The error is out of memory.
@@ -59,6 +78,6 @@ impl Octets {
         requires { start ≤ length self.now }
         ensures { IsFrontOf result.now (drop start self.now) }
     {
-        &self.shared[start..]
+        self.shared.piece(start)
     }
 }

@@ -122,7 +122,7 @@ fn submit(alloc: Global, queue: &[u8], owner: &[u8], name: &[u8]) -> Result<Even
     let owner = Text::copy_of(alloc, owner)?;
     let name = Text::copy_of(alloc, name)?;
     let format = Text::copy_of(alloc, b"text/plain")?;
-    let contents = Octets::new(Vec::from_slice(alloc, b"hello")?);
+    let contents = Octets::copy_of(alloc, b"hello")?;
     let mut documents = Vec::new(alloc);
     documents.push(Document { format, contents })?;
     Ok(Event::SubmitFiles(SubmitFiles {

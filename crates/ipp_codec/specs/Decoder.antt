@@ -1,0 +1,124 @@
+-- What a decoder knows of the bytes that it was fed, in pieces of any length.
+use Rattle.std.specs.Prelude.{◌≡◌, ◌≢◌, ◌<◌, ◌≤◌, ℕ, ◌+◌, max, nat_le, ◌==◌, List, ◌++◌, length, take, drop, get_or, if◌then◌else◌, Option, Some, None, Result, Ok, Err}
+use Rattle.base_types.specs.declared.limits.TheConstants.Limits.{IPP_HEAD_BYTES}
+use Rattle.ipp_codec.specs.declared.fault.CodecFault.{CodecFault}
+use Rattle.ipp_codec.specs.declared.fault.CodecFault.TheVariants.{Short}
+use Rattle.ipp_codec.specs.declared.fault.DecodeError.{DecodeError}
+use Rattle.ipp_codec.specs.declared.fault.DecodeError.TheVariants.{Fault, OutOfMemory}
+use Rattle.ipp_codec.specs.declared.place.Place.{Place}
+use Rattle.ipp_codec.specs.declared.place.Place.TheVariants.{Outside}
+use Rattle.ipp_codec.specs.declared.place.Walk.{Walk}
+use Rattle.ipp_codec.specs.declared.stage.Stage.{Stage}
+use Rattle.ipp_codec.specs.declared.stage.Stage.TheVariants.{Awaiting, Whole, Faulty}
+use Rattle.ipp_codec.specs.declared.stage.Fed.{Fed}
+use Rattle.ipp_codec.specs.declared.stage.Fed.TheVariants.{More, Head}
+use Rattle.ipp_codec.specs.declared.stage.Reached.{Reached}
+use Rattle.ipp_codec.specs.Message.{IppMessage}
+use Rattle.ipp_codec.specs.Spelling.{Element, bytes_of}
+use Rattle.ipp_codec.specs.Grammar.{Spells}
+use Rattle.ipp_codec.specs.Place.{place_from, Follows}
+use Rattle.ipp_codec.specs.FirstFault.{First, HeadFault}
+use Rattle.ipp_codec.specs.Decoding.{fault_within}
+
+-- a decoder: the bytes that it keeps, how many of them are read, the place behind those, and how far it is
+pub record DecoderState : Type 0 where
+  pub head : List ℕ
+  pub walked : ℕ
+  pub place : Place
+  pub stage : Stage
+
+-- numbers of eight bits
+abbrev pub IsBytes : List ℕ → Type 0
+IsBytes bytes = (i : ℕ) → get_or bytes i 0 < 256
+
+-- the bytes begin with elements that lead to the place, and then these are left
+abbrev pub Leads : List ℕ → Place → List ℕ → Type 0
+Leads bytes place rest = (es : List Element) × Follows Outside es × (bytes ≡ bytes_of es ++ rest) × (place ≡ place_from Outside es)
+
+-- nothing is read before the header is whole, and behind it whole elements, behind which bytes are missing
+abbrev pub IsRead : DecoderState → Type 0
+IsRead d = (d.walked < 8 → d.place ≡ Outside) × (8 ≤ d.walked → Leads (drop 8 d.head) d.place (drop d.walked d.head) × First d.place (drop d.walked d.head) Short)
+
+-- what `decode` would answer, and what is kept for it: all bytes while more are awaited, and else those of the head
+abbrev pub StandsAt : Stage → List ℕ → DecoderState → Type 0
+StandsAt Awaiting fed d = (d.head ≡ fed) × HeadFault fed Short × IsRead d
+StandsAt Whole fed d = (length d.head ≤ IPP_HEAD_BYTES) × ((m : IppMessage) × Spells d.head m)
+StandsAt (Faulty fault) fed d = (fault ≢ Short) × HeadFault fed fault × (8 ≤ length d.head)
+
+-- The decoder was fed these bytes. What it keeps is the front of them, their header at least.
+pub record Stands (fed : List ℕ) (d : DecoderState) : Type 0 where
+  pub bytes : IsBytes fed
+  pub front : (rest : List ℕ) × (fed ≡ d.head ++ rest)
+  pub header : take 8 d.head ≡ take 8 fed
+  pub known : StandsAt d.stage fed d
+
+-- a piece is taken in
+abbrev pub TakesIn : DecoderState → List ℕ → DecoderState → Type 0
+TakesIn old piece new = (fed : List ℕ) → Stands fed old → Stands (fed ++ piece) new
+
+-- what feeding a piece comes to
+abbrev pub Feeds : DecoderState → List ℕ → Result Fed DecodeError → DecoderState → Type 0
+Feeds old piece (Ok More) new = TakesIn old piece new × (new.stage ≡ Awaiting)
+Feeds old piece (Ok (Head count)) new = TakesIn old piece new × (new.stage ≡ Whole) × (length new.head ≡ length old.head + count) × (count ≤ length piece)
+Feeds old piece (Err (Fault fault)) new = TakesIn old piece new × (new.stage ≡ Faulty fault)
+Feeds old piece (Err OutOfMemory) new = new ≡ old
+
+-- ---- steps
+
+-- how far a decoder is, as it may be brought back there
+abbrev pub reached_of : DecoderState → Reached
+reached_of d = record { length = length d.head; walked = d.walked; place = d.place; stage = d.stage }
+
+-- as a decoder was that had come so far
+abbrev pub returned : DecoderState → Reached → DecoderState
+returned d reached = record { head = take reached.length d.head; walked = reached.walked; place = reached.place; stage = reached.stage }
+
+-- A decoder may have come so far.
+pub record CanReach (reached : Reached) : Type 0 where
+  pub within : reached.walked ≤ reached.length
+  pub header : reached.walked < 8 → reached.length < 8
+  pub whole : reached.stage ≡ Whole → 9 ≤ reached.length
+
+-- more bytes of the head are awaited, and may come
+abbrev pub MayCome : DecoderState → Type 0
+MayCome d = (d.stage ≡ Awaiting) × (length d.head < IPP_HEAD_BYTES)
+
+-- what is answered at a stage to a piece of which so many bytes are kept
+abbrev pub answer_at : Stage → ℕ → Result Fed DecodeError
+answer_at Awaiting count = Ok More
+answer_at Whole count = Ok (Head count)
+answer_at (Faulty fault) count = Err (Fault fault)
+
+-- bytes of the header are kept; it is read once it is whole
+abbrev pub with_header : DecoderState → List ℕ → DecoderState
+with_header d front = record d { head = d.head ++ front; walked = if length (d.head ++ front) == 8 then 8 else d.walked }
+
+-- bytes are missing, or there is a fault
+abbrev pub stage_of : CodecFault → Stage
+stage_of Short = Awaiting
+stage_of fault = Faulty fault
+
+-- the stage behind elements that the end byte or a fault follows, where so many bytes are kept
+abbrev pub stage_at : Option CodecFault → ℕ → Stage
+stage_at None kept = Whole
+stage_at (Some fault) kept = stage_of (fault_within fault (nat_le IPP_HEAD_BYTES kept))
+
+-- how many are kept of so many bytes whose elements have this length
+abbrev pub kept_of : Option CodecFault → ℕ → ℕ → ℕ
+kept_of None length all = length + 1
+kept_of (Some Short) length all = all
+kept_of (Some fault) length all = length
+
+-- what is kept of bytes of which so many stand before the end byte, and so many were kept before
+abbrev pub ended : Option CodecFault → ℕ → ℕ → List ℕ → List ℕ
+ended None kept length head = take (max kept (length + 1)) head
+ended (Some fault) kept length head = head
+
+-- what a walk over the bytes behind those that were read makes of a decoder
+abbrev pub settled : DecoderState → Walk → ℕ → DecoderState
+settled d walk kept = record {
+  head = ended walk.fault kept (d.walked + walk.length) d.head;
+  walked = d.walked + walk.length;
+  place = walk.place;
+  stage = stage_at walk.fault (length d.head);
+}

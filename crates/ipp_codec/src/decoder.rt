@@ -1,0 +1,363 @@
+//! Heads whose bytes come in pieces.
+ghost use Rattle.std.specs.Prelude.{◌≡◌, ◌<◌, ◌≤◌, ◌+◌, ◌++◌, ◌↔◌, ℕ, [], List, IfOk, IfSome, IsSome, IsTrue, None, OnOk, OnErr, ◌-◌, ◌^◌, length, take, drop};
+ghost use Rattle.ipp_codec.specs.Message.{IppMessage};
+ghost use Rattle.ipp_codec.specs.Grammar.{Spells};
+ghost use Rattle.ipp_codec.specs.Reading.{WalksFrom};
+ghost use Rattle.ipp_codec.specs.Decoding.{Decodes};
+ghost use Rattle.ipp_codec.specs.Decoder.{Stands, TakesIn, Feeds, CanReach, MayCome, reached_of, returned, answer_at, with_header, settled, stage_at, kept_of};
+ghost use Rattle.ipp_codec.specs.Views.{message_shown};
+
+use crate::fault::{CodecFault, DecodeError};
+use crate::head::{limited_fault, view_of};
+use crate::place::{Place, Walk, walk_from};
+use crate::stage::{Fed, Reached, Stage};
+use crate::view::MessageView;
+use base_types::Limits;
+use std::alloc::{AllocError, Global};
+use std::marker::Model;
+
+/// The bytes of a header (RFC 8010, section 3.1.1).
+const HEADER_BYTES: usize = 8;
+
+/// A decoder of a head whose bytes come in pieces of any length. In clauses it is a record of the
+/// bytes of the head that it keeps, how far they are read, and its stage.
+///
+/// It answers as [`crate::decode`] does on all pieces joined, however they are cut. It keeps the
+/// bytes of the head alone, and reads each of them once.
+#[derive(Debug, Drop)]
+pub struct Decoder {
+    head: Vec<u8>,
+    /// How many bytes of the head are read: its header, and whole elements.
+    walked: usize,
+    /// What stands before the bytes that aren't read.
+    place: Place,
+    stage: Stage,
+}
+
+impl Model for Decoder {
+    ghost use Rattle.std.specs.Prelude.{length};
+    ghost use Rattle.ipp_codec.specs.Decoder.{DecoderState, CanReach};
+
+    ghost Value = { DecoderState };
+
+    ghost view = { λ d. record { head = d.head.items; walked = d.walked; place = d.place; stage = d.stage } };
+
+    ghost invariant = { λ d. CanReach (record { length = length d.head.items; walked = d.walked; place = d.place; stage = d.stage }) };
+}
+
+impl Decoder {
+    /// A decoder of a new body.
+    pub fn new(alloc: Global) -> Decoder
+        ensures { Stands [] result }
+    {
+        Decoder {
+            head: Vec::new(alloc),
+            walked: 0,
+            place: Place::Outside,
+            stage: Stage::Awaiting,
+        }
+    }
+
+    /// Takes the next bytes of the body. After the head, and after a fault, they are dropped.
+    ///
+    /// Where there is no memory for those of the head, none of them is taken.
+    pub fn feed(&mut self, piece: &[u8]) -> Result<Fed, DecodeError>
+        ensures fed { Feeds self.old piece.now result self.new }
+        ensures grows { take (length self.old.head) self.new.head ≡ self.old.head }
+        ensures over { ¬ (self.old.stage ≡ Stage.Awaiting) → self.new ≡ self.old }
+    {
+        let reached = self.reached();
+        if self.stage() != Stage::Awaiting {
+            return self.answer(reached.length);
+        }
+        if self.take(piece).is_err() {
+            self.back_to(reached);
+            return Err(DecodeError::OutOfMemory);
+        }
+        self.answer(reached.length)
+    }
+
+    /// How far it is.
+    pub fn reached(&self) -> Reached
+        ensures reached { result ≡ reached_of self.now }
+        ensures sound { CanReach result }
+    {
+        Reached {
+            length: self.head.len(),
+            walked: self.walked,
+            place: self.place,
+            stage: self.stage,
+        }
+    }
+
+    /// Goes back to where it was, and forgets what it was fed since.
+    pub fn back_to(&mut self, reached: Reached)
+        requires sound { CanReach reached }
+        requires grown { reached.length ≤ length self.old.head }
+        ensures { self.new ≡ returned self.old reached }
+    {
+        self.head.truncate(reached.length);
+        self.walked = reached.walked;
+        self.place = reached.place;
+        self.stage = reached.stage;
+    }
+
+    /// Whether the head is whole, or what is wrong.
+    pub fn stage(&self) -> Stage
+        ensures { result ≡ self.now.stage }
+    {
+        self.stage
+    }
+
+    /// The bytes of the head that came so far; after a fault, its first bytes, the header among them.
+    pub fn head(&self) -> &[u8]
+        ensures { result.now ≡ self.now.head }
+    {
+        &self.head
+    }
+
+    /// The message, once its head is whole.
+    pub fn view(&self) -> Option<MessageView<'_>>
+        ensures whole { IsSome result ↔ (self.now.stage ≡ Stage.Whole) }
+        ensures shown { IfSome result (λ view. (m : IppMessage) → Spells self.now.head m → message_shown view ≡ m) }
+    {
+        if self.stage == Stage::Whole {
+            Some(view_of(&self.head))
+        } else {
+            None
+        }
+    }
+
+    /// What `decode` answers on all that it was fed: the message and how many bytes spell it, or the
+    /// first fault.
+    pub fn finish(&self) -> Result<(MessageView<'_>, usize), CodecFault>
+        ensures decoded { (fed : List ℕ) → Stands fed self.now → Decodes fed result }
+        ensures length { IfOk result (λ x. x.1 ≡ length self.now.head) }
+        ensures whole { IfOk result (λ _. self.now.stage ≡ Stage.Whole) }
+    {
+        match self.stage {
+            Stage::Whole => Ok((view_of(&self.head), self.head.len())),
+            Stage::Awaiting => Err(CodecFault::Short),
+            Stage::Faulty(fault) => Err(fault),
+        }
+    }
+
+    /// What it answers to a piece before which it kept so many bytes.
+    fn answer(&self, kept: usize) -> Result<Fed, DecodeError>
+        requires { kept ≤ length self.now.head }
+        ensures { result ≡ answer_at self.now.stage (length self.now.head - kept) }
+    {
+        match self.stage {
+            Stage::Awaiting => Ok(Fed::More),
+            Stage::Whole => Ok(Fed::Head(self.head.len() - kept)),
+            Stage::Faulty(fault) => Err(DecodeError::Fault(fault)),
+        }
+    }
+
+    /// Takes in the bytes of a piece, until nothing more is awaited.
+    fn take(&mut self, piece: &[u8]) -> Result<(), AllocError>
+        ensures taken { OnOk result (TakesIn self.old piece.now self.new) }
+        ensures grows { take (length self.old.head) self.new.head ≡ self.old.head }
+        ensures bounded { length self.new.head ≤ length self.old.head + length piece.now }
+    {
+        let mut rest = piece;
+        while !rest.is_empty() && self.awaits() {
+            let count = self.take_some(rest)?;
+            rest = &rest[count..];
+        }
+        Ok(())
+    }
+
+    /// Whether more bytes of the head are awaited, and may come.
+    fn awaits(&self) -> bool
+        ensures { IsTrue result ↔ MayCome self.now }
+    {
+        self.stage == Stage::Awaiting && self.head.len() < Limits::IPP_HEAD_BYTES
+    }
+
+    /// Takes in some bytes of a piece: those of the header, those that an element lacks that has
+    /// begun, or else the elements of the piece, which are read where they lie.
+    fn take_some(&mut self, piece: &[u8]) -> Result<usize, AllocError>
+        requires awaits { MayCome self.old }
+        requires some { 0 < length piece.now }
+        ensures count { IfOk result (λ count. (0 < count) × (count ≤ length piece.now)) }
+        ensures taken { IfOk result (λ count. TakesIn self.old (take count piece.now) self.new) }
+        ensures grows { take (length self.old.head) self.new.head ≡ self.old.head }
+        ensures bounded { IfOk result (λ count. length self.new.head ≤ length self.old.head + count) }
+        ensures err { OnErr result (self.new ≡ self.old) }
+    {
+        if self.walked() < HEADER_BYTES {
+            self.take_header(piece)
+        } else if self.walked() < self.head().len() {
+            self.take_lacking(piece)
+        } else {
+            self.take_elements(piece)
+        }
+    }
+
+    /// Takes in bytes of the header.
+    fn take_header(&mut self, piece: &[u8]) -> Result<usize, AllocError>
+        requires awaits { MayCome self.old }
+        requires some { 0 < length piece.now }
+        requires header { self.old.walked < HEADER_BYTES }
+        ensures count { IfOk result (λ count. (0 < count) × (count ≤ length piece.now)) }
+        ensures taken { IfOk result (λ count. (length self.old.head + count ≤ 8) × (self.new ≡ with_header self.old (take count piece.now))) }
+        ensures err { OnErr result (self.new ≡ self.old) }
+    {
+        let count = piece.len().min(HEADER_BYTES - self.head.len());
+        self.head.extend_from_slice(&piece[..count])?;
+        if self.head.len() == HEADER_BYTES {
+            self.walked = HEADER_BYTES;
+        }
+        Ok(count)
+    }
+
+    /// Takes in bytes that the element lacks that has begun.
+    fn take_lacking(&mut self, piece: &[u8]) -> Result<usize, AllocError>
+        requires awaits { MayCome self.old }
+        requires some { 0 < length piece.now }
+        requires read { HEADER_BYTES ≤ self.old.walked }
+        requires begun { self.old.walked < length self.old.head }
+        ensures count { IfOk result (λ count. (0 < count) × (count ≤ length piece.now)) }
+        ensures taken { IfOk result (λ count. TakesIn self.old (take count piece.now) self.new) }
+        ensures grows { take (length self.old.head) self.new.head ≡ self.old.head }
+        ensures bounded { IfOk result (λ count. length self.new.head ≤ length self.old.head + count) }
+        ensures err { OnErr result (self.new ≡ self.old) }
+    {
+        let kept = self.head().len();
+        let count = self.lacking().min(self.room()).min(piece.len());
+        self.append(&piece[..count])?;
+        let walk = walk_from(self.place(), self.unread());
+        self.settle(walk, kept);
+        Ok(count)
+    }
+
+    /// Takes in the elements of a piece, and the beginning of one that goes on in the next piece.
+    fn take_elements(&mut self, piece: &[u8]) -> Result<usize, AllocError>
+        requires awaits { MayCome self.old }
+        requires some { 0 < length piece.now }
+        requires read { HEADER_BYTES ≤ self.old.walked }
+        requires between { self.old.walked ≡ length self.old.head }
+        ensures count { IfOk result (λ count. (0 < count) × (count ≤ length piece.now)) }
+        ensures taken { IfOk result (λ count. TakesIn self.old (take count piece.now) self.new) }
+        ensures grows { take (length self.old.head) self.new.head ≡ self.old.head }
+        ensures bounded { IfOk result (λ count. length self.new.head ≤ length self.old.head + count) }
+        ensures err { OnErr result (self.new ≡ self.old) }
+    {
+        let limited = &piece[..piece.len().min(self.room())];
+        let walk = walk_from(self.place(), limited);
+        let kept = self.head().len();
+        self.append(&limited[..kept_of(walk, limited.len())])?;
+        self.settle(walk, kept);
+        Ok(limited.len())
+    }
+
+    /// How many bytes are read.
+    fn walked(&self) -> usize
+        ensures walked { result ≡ self.now.walked }
+        ensures within { result ≤ length self.now.head }
+    {
+        self.walked
+    }
+
+    /// What stands before the bytes that aren't read.
+    fn place(&self) -> Place
+        ensures { result ≡ self.now.place }
+    {
+        self.place
+    }
+
+    /// The bytes that aren't read.
+    fn unread(&self) -> &[u8]
+        ensures { result.now ≡ drop self.now.walked self.now.head }
+    {
+        &self.head[self.walked..]
+    }
+
+    /// How many bytes the element lacks at least that has begun.
+    fn lacking(&self) -> usize
+        ensures { 0 < result }
+    {
+        lacking_of(self.unread())
+    }
+
+    /// How many bytes a head may still have.
+    fn room(&self) -> usize
+        ensures { result ≡ Limits.IPP_HEAD_BYTES - length self.now.head }
+    {
+        Limits::IPP_HEAD_BYTES.saturating_sub(self.head.len())
+    }
+
+    /// Keeps bytes of the head behind its header.
+    fn append(&mut self, front: &[u8]) -> Result<(), AllocError>
+        requires { HEADER_BYTES ≤ self.old.walked }
+        ensures ok { OnOk result (self.new ≡ record self.old { head = self.old.head ++ front.now }) }
+        ensures err { OnErr result (self.new ≡ self.old) }
+    {
+        self.head.extend_from_slice(front)
+    }
+
+    /// Goes past the elements of a walk over the bytes that weren't read. Nothing is kept behind the
+    /// end byte, which stands behind so many bytes as were kept before.
+    fn settle(&mut self, walk: Walk, kept: usize)
+        requires read { HEADER_BYTES ≤ self.old.walked }
+        requires within { self.old.walked + walk.length ≤ length self.old.head }
+        requires end { walk.fault ≡ None → self.old.walked + walk.length < length self.old.head }
+        ensures { self.new ≡ settled self.old walk kept }
+    {
+        self.walked = self.walked + walk.length;
+        self.place = walk.place;
+        self.stage = stage_at(walk.fault, self.head.len());
+        if walk.fault.is_none() {
+            self.head.truncate(kept.max(self.walked + 1));
+        }
+    }
+}
+
+/// The stage behind elements that have this fault, where so many bytes are kept.
+fn stage_at(fault: Option<CodecFault>, kept: usize) -> Stage
+    ensures { result ≡ stage_at fault kept }
+{
+    let Some(fault) = fault else {
+        return Stage::Whole;
+    };
+    match limited_fault(fault, kept >= Limits::IPP_HEAD_BYTES) {
+        CodecFault::Short => Stage::Awaiting,
+        fault => Stage::Faulty(fault),
+    }
+}
+
+/// How many bytes are kept of so many that a walk went over: up to the end byte, all of them where
+/// the last element goes on behind them, or else the elements without fault.
+fn kept_of(walk: Walk, len: usize) -> usize
+    requires within { walk.length ≤ len }
+    requires end { walk.fault ≡ None → walk.length < len }
+    ensures { result ≡ kept_of walk.fault walk.length len }
+{
+    match walk.fault {
+        None => walk.length + 1,
+        Some(CodecFault::Short) => len,
+        Some(_) => walk.length,
+    }
+}
+
+/// How many bytes a value lacks at least that begins so, and goes on: its tag, two bytes of each
+/// length, its name and its bytes, as far as their lengths are there.
+fn lacking_of(begun: &[u8]) -> usize
+    ensures { 0 < result }
+{
+    let name = length_at(begun, 1);
+    let value = length_at(begun, 3 + name);
+    (5 + name + value).saturating_sub(begun.len()).max(1)
+}
+
+/// The length of two bytes at a place, 0 where they aren't there.
+fn length_at(bytes: &[u8], place: usize) -> usize
+    requires { place ≤ 70000 }
+    ensures { result < 2 ^ 16 }
+{
+    if bytes.len() < place + 2 {
+        return 0;
+    }
+    usize::from(u16::from_be_bytes([bytes[place], bytes[place + 1]]))
+}
