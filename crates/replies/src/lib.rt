@@ -11,6 +11,7 @@
 
 mod asked;
 mod attributes;
+mod copied;
 mod event;
 mod header;
 mod job_creation;
