@@ -2,13 +2,13 @@
 ghost use Rattle.std.specs.Prelude.{◌≡◌, ◌<◌, length, IfOk};
 ghost use Rattle.ipp_codec.specs.Message.{members_in};
 ghost use Rattle.ipp_codec.specs.Owned.{value_owned, values_owned, members_owned};
-ghost use Rattle.ipp_codec.specs.Views.{level, value_shown, group_shown, message_shown};
+ghost use Rattle.ipp_codec.specs.Views.{level, value_shown, attribute_shown, group_shown, message_shown};
 
 use crate::element::BEGIN_COLLECTION;
 use crate::message::{Attribute, Group, Message};
 use crate::tag::{GroupTag, ValueTag};
 use crate::value::{Member, Value};
-use crate::view::{GroupView, MessageView, ValueView};
+use crate::view::{AttributeView, GroupView, MessageView, ValueView};
 use crate::walk::{next_attribute, next_group, next_member, next_value};
 use std::alloc::{AllocError, Global};
 
@@ -65,14 +65,7 @@ fn own_attributes(alloc: Global, bytes: &[u8]) -> Result<Vec<Attribute>, AllocEr
     let mut rest = bytes;
     while let Some(attribute) = next_attribute(rest) {
         rest = attribute.rest;
-        let name = Vec::from_slice(alloc, attribute.name)?;
-        let first = own_value(alloc, attribute.first)?;
-        let others = own_values(alloc, attribute.rest)?;
-        owned.push(Attribute {
-            name,
-            first,
-            others,
-        })?;
+        owned.push(attribute.to_owned(alloc)?)?;
     }
     Ok(owned)
 }
@@ -89,6 +82,19 @@ fn own_groups(alloc: Global, bytes: &[u8]) -> Result<Vec<Group>, AllocError>
         owned.push(Group { tag, attributes })?;
     }
     Ok(owned)
+}
+
+impl<'a> AttributeView<'a> {
+    /// An attribute of its own that says the same. The error is out of memory.
+    pub fn to_owned(&self, alloc: Global) -> Result<Attribute, AllocError>
+        ensures { IfOk result (λ attribute. attribute ≡ attribute_shown self.now) }
+    {
+        Ok(Attribute {
+            name: Vec::from_slice(alloc, self.name)?,
+            first: own_value(alloc, self.first)?,
+            others: own_values(alloc, self.rest)?,
+        })
+    }
 }
 
 impl<'a> GroupView<'a> {

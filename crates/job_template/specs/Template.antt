@@ -127,11 +127,11 @@ is_supported offer attribute = supports offer attribute (template_name attribute
 
 -- ---- what a job becomes by the group
 
--- the first of a name
+-- the one of a name
 abbrev pub named : TemplateName → List IppAttribute → Option IppAttribute
 named which attributes = find (λ a. bytes_eq (name_of which) a.name) attributes
 
--- what the first attribute of a name asks for, if it is supported
+-- what the attribute of a name asks for, if it is supported
 abbrev pub asked_by : {X : Type 0} → TemplateName → (IppAttribute → Option X) → List IppAttribute → Option X
 asked_by which value attributes = option_and_then value (named which attributes)
 

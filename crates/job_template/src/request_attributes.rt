@@ -1,8 +1,8 @@
 //! The attributes of a request's job group, and what of them is returned (RFC 8011, section 4.1.7).
-ghost use Rattle.std.specs.Prelude.{◌≡◌, ◌==◌, ◌<◌, [], map, filter, not, length};
+ghost use Rattle.std.specs.Prelude.{◌≡◌, ◌==◌, [], map, filter, not, length};
 ghost use Rattle.std.specs.Option.{option_copied};
 ghost use Rattle.job_template.specs.Template.{named, is_supported};
-ghost use Rattle.job_template.specs.Unsupported.{is_among, is_again, first_ones, returned, unsupported_of};
+ghost use Rattle.job_template.specs.Unsupported.{returned, unsupported_of};
 
 use crate::request_attribute::make_returned;
 use crate::template::is_unsupported;
@@ -12,7 +12,8 @@ use printer_objects::Offer;
 use std::alloc::Global;
 use std::marker::Model;
 
-/// Attributes of a request, in their order. In clauses they are the list of what they say.
+/// Attributes of a request, of different names, in their order. In clauses they are the list of what
+/// they say.
 #[derive(Drop)]
 pub struct RequestAttributes {
     attributes: Vec<Attribute>,
@@ -41,7 +42,7 @@ impl RequestAttributes {
         }
     }
 
-    /// These.
+    /// These, which have different names.
     pub fn from_vec(attributes: Vec<Attribute>) -> RequestAttributes
         ensures { result ≡ attributes.items }
     {
@@ -62,7 +63,7 @@ impl RequestAttributes {
         self.attributes.is_empty()
     }
 
-    /// The first of a name.
+    /// The one of a name.
     pub(crate) fn named(&self, which: TemplateName) -> Option<&Attribute>
         ensures { option_copied result ≡ named which self.now }
     {
@@ -77,33 +78,8 @@ impl RequestAttributes {
     pub fn make_unsupported(&mut self, alloc: Global, offer: &Offer<'_>)
         ensures { self.new ≡ unsupported_of offer.now self.old }
     {
-        self.keep_first_ones();
         self.keep_unsupported(offer);
         self.make_returned(alloc);
-    }
-
-    /// Keeps the first of each name.
-    fn keep_first_ones(&mut self)
-        ensures { self.new ≡ first_ones self.old }
-    {
-        let mut place = self.attributes.len();
-        while place > 0 {
-            place -= 1;
-            if self.is_again(place) {
-                self.attributes.remove(place);
-            }
-        }
-    }
-
-    /// Whether the attribute at a place has the name of one before it.
-    fn is_again(&self, place: usize) -> bool
-        requires { place < length self.now }
-        ensures { result ≡ is_again self.now place }
-    {
-        match self.attributes.get(place) {
-            Some(attribute) => is_among(attribute.name(), &self.attributes[..place]),
-            None => false,
-        }
     }
 
     /// Keeps what the printer doesn't support.
@@ -129,11 +105,4 @@ fn make_each_returned(attributes: &mut [Attribute], alloc: Global)
     for attribute in attributes.iter_mut() {
         make_returned(attribute, alloc);
     }
-}
-
-/// Whether one of these attributes has a name.
-fn is_among(name: &[u8], attributes: &[Attribute]) -> bool
-    ensures { result ≡ is_among name.now attributes.now }
-{
-    attributes.iter().any(|attribute| name == attribute.name())
 }

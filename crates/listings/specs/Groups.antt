@@ -10,6 +10,7 @@ use Rattle.spool.specs.Calls.{is_unfinished, paused_at}
 use Rattle.printer_objects.specs.PrinterState.{is_busy_with, printer_state_of}
 use Rattle.printer_objects.specs.declared.state.PrinterState.{PrinterState}
 use Rattle.printer_objects.specs.Offer.{OfferRecord}
+use Rattle.printer_objects.specs.JobAttribute.{wanted_of}
 use Rattle.printer_objects.specs.JobShown.{ShownJob, job_attributes}
 use Rattle.printer_objects.specs.PrinterShown.{ShownPrinter, printer_attributes}
 use Rattle.print_room.specs.State.{State}
@@ -59,7 +60,7 @@ shown_job now state job = record {
 }
 
 abbrev pub job_group : ℕ → List (List ℕ) → State → JobRecord → IppGroup
-job_group now requested state job = job_attributes (shown_job now state job) requested
+job_group now requested state job = job_attributes (shown_job now state job) (wanted_of requested)
 
 -- a group for each job that is listed, in this order
 abbrev pub job_groups : WantedJobs → ℕ → List (List ℕ) → State → List IppGroup

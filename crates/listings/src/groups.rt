@@ -4,7 +4,8 @@ ghost use Rattle.std.specs.List.{list_any};
 ghost use Rattle.std.specs.Option.{option_map_or};
 ghost use Rattle.job_objects.specs.JobState.{is_finished};
 ghost use Rattle.printer_objects.specs.PrinterState.{is_busy_with};
-ghost use Rattle.listings.specs.Groups.{is_queued, job_group, job_groups, printer_group, state_of_printer};
+ghost use Rattle.printer_objects.specs.JobShown.{job_attributes};
+ghost use Rattle.listings.specs.Groups.{is_queued, job_group, job_groups, printer_group, shown_job, state_of_printer};
 
 use crate::listing::listed;
 use crate::wanted::Wanted;
@@ -13,8 +14,8 @@ use ipp_codec::Group;
 use job_objects::{Job, Printer};
 use print_room::PrintRoom;
 use printer_objects::{
-    JobShown, Offer, PrinterShown, PrinterState, job_attributes, keeps_busy, printer_attributes,
-    printer_state,
+    JobAttribute, JobShown, Offer, PrinterShown, PrinterState, job_attributes, keeps_busy,
+    printer_attributes, printer_state,
 };
 use settings_file::{PrinterSettings, Settings};
 use spool::Spool;
@@ -120,6 +121,20 @@ pub fn job_group(
 ) -> Result<Group, AllocError>
     ensures { IfOk result (λ group. group ≡ job_group now requested.now room.now job.now) }
 {
+    let wanted = JobAttribute::wanted(alloc, requested)?;
+    group_of(alloc, room, job, now, &wanted)
+}
+
+/// The group of these attributes of a job.
+fn group_of(
+    alloc: Global,
+    room: &PrintRoom,
+    job: &Job,
+    now: Moment,
+    attributes: &[JobAttribute],
+) -> Result<Group, AllocError>
+    ensures { IfOk result (λ group. group ≡ job_attributes (shown_job now room.now job.now) attributes.now) }
+{
     let settings = room.settings();
     let printer = job.needs.printer;
     let nameless = Text::new(Vec::new(alloc));
@@ -130,7 +145,7 @@ pub fn job_group(
         printer_paused: room.is_paused(printer),
         moment: now,
     };
-    job_attributes(alloc, &shown, requested)
+    job_attributes(alloc, &shown, attributes)
 }
 
 /// The name of a printer of the settings, or this one where there is no such printer.
@@ -156,10 +171,11 @@ pub fn job_groups(
 ) -> Result<Vec<Group>, AllocError>
     ensures { IfOk result (λ groups. groups.items ≡ job_groups wanted.now now requested.now room.now) }
 {
+    let attributes = JobAttribute::wanted(alloc, requested)?;
     let listed = listed(alloc, room, wanted, now)?;
     let mut groups = Vec::with_capacity(alloc, listed.len())?;
     for entry in &listed {
-        groups.push(job_group(alloc, room, entry.job(), now, requested)?)?;
+        groups.push(group_of(alloc, room, entry.job(), now, &attributes)?)?;
     }
     Ok(groups)
 }

@@ -17,7 +17,7 @@ pub struct Example {
     pub status: ExitStatus,
 }
 
-pub const EXAMPLES: [Example; 33] = [
+pub const EXAMPLES: [Example; 36] = [
     Example {
         input: "two_devices.trace",
         output: "two_devices.out",
@@ -123,6 +123,24 @@ pub const EXAMPLES: [Example; 33] = [
     Example {
         input: "malformed_messages.trace",
         output: "malformed_messages.out",
+        program: Program::Replay,
+        status: ExitStatus::Done,
+    },
+    Example {
+        input: "heads_at_the_limit.trace",
+        output: "heads_at_the_limit.out",
+        program: Program::Replay,
+        status: ExitStatus::Done,
+    },
+    Example {
+        input: "collections_returned.trace",
+        output: "collections_returned.out",
+        program: Program::Replay,
+        status: ExitStatus::Done,
+    },
+    Example {
+        input: "names_repeated.trace",
+        output: "names_repeated.out",
         program: Program::Replay,
         status: ExitStatus::Done,
     },

@@ -1,5 +1,5 @@
 -- The attributes of a job: their order, names and groups (RFC 8011, sections 5.3 and 5.2).
-use Rattle.std.specs.Prelude.{ℕ, Bool, List, [], ◌∷◌, codes}
+use Rattle.std.specs.Prelude.{ℕ, Bool, List, [], ◌∷◌, codes, filter}
 use Rattle.printer_objects.specs.declared.job_attribute.JobAttribute.{JobAttribute}
 use Rattle.printer_objects.specs.declared.job_attribute.JobAttribute.TheVariants.{Uri, Id, PrinterUri, Name, OriginatingUserName, State, StateReasons, NumberOfDocuments, KOctets, Impressions, TimeAtCreation, TimeAtProcessing, TimeAtCompleted, PrinterUpTime, Copies, HoldUntil, Priority, Media, Sides, Finishings}
 use Rattle.printer_objects.specs.Requested.{is_requested}
@@ -56,3 +56,7 @@ job_attribute_group Finishings = codes "job-template"
 -- whether requested-attributes asks for it
 abbrev pub is_wanted : List (List ℕ) → JobAttribute → Bool
 is_wanted requested which = is_requested (job_attribute_name which) (job_attribute_group which) requested
+
+-- those that it asks for, in the table's order
+abbrev pub wanted_of : List (List ℕ) → List JobAttribute
+wanted_of requested = filter (is_wanted requested) job_table

@@ -1,5 +1,5 @@
 -- The attributes of a job and their values (RFC 8011, sections 5.3 and 5.2).
-use Rattle.std.specs.Prelude.{ℕ, ◌+◌, ◌-◌, ◌/◌, Bool, true, false, List, ◌++◌, map, filter, Option, Some, None, codes}
+use Rattle.std.specs.Prelude.{ℕ, ◌+◌, ◌-◌, ◌/◌, Bool, true, false, List, ◌++◌, map, Option, Some, None, codes}
 use Rattle.std.specs.Fmt.{decimal}
 use Rattle.base_types.specs.declared.needs.Sides.{Sides}
 use Rattle.base_types.specs.declared.needs.Sides.TheVariants as side
@@ -13,7 +13,7 @@ use Rattle.printer_objects.specs.declared.job_attribute.JobAttribute.{JobAttribu
 use Rattle.printer_objects.specs.declared.job_attribute.JobAttribute.TheVariants.{Uri, Id, PrinterUri, Name, OriginatingUserName, State, StateReasons, NumberOfDocuments, KOctets, Impressions, TimeAtCreation, TimeAtProcessing, TimeAtCompleted, PrinterUpTime, Copies, HoldUntil, Priority, Media, Sides as SidesOf, Finishings}
 use Rattle.printer_objects.specs.Attribute.{alone, number, enumerated, keyword, time, reasons_attribute}
 use Rattle.printer_objects.specs.Finishing.{each_finishing, finishings_attribute}
-use Rattle.printer_objects.specs.JobAttribute.{job_attribute_name, job_table, is_wanted}
+use Rattle.printer_objects.specs.JobAttribute.{job_attribute_name}
 
 -- what the attributes of a job are made of
 pub record ShownJob : Type 0 where
@@ -82,6 +82,6 @@ valued name shown Finishings = finishings_attribute name (each_finishing shown.j
 abbrev pub job_shown : ShownJob → JobAttribute → IppAttribute
 job_shown shown which = valued (job_attribute_name which) shown which
 
--- the job group of a reply: the attributes that are asked for, in the table's order
-abbrev pub job_attributes : ShownJob → List (List ℕ) → IppGroup
-job_attributes shown requested = record { tag = tags.job_attributes; attributes = map (job_shown shown) (filter (is_wanted requested) job_table) }
+-- the job group of a reply with these attributes
+abbrev pub job_attributes : ShownJob → List JobAttribute → IppGroup
+job_attributes shown attributes = record { tag = tags.job_attributes; attributes = map (job_shown shown) attributes }

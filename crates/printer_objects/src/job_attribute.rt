@@ -1,9 +1,10 @@
 //! The attributes of a job, as a table (RFC 8011, section 5.3).
-ghost use Rattle.std.specs.Prelude.{◌≡◌};
-ghost use Rattle.printer_objects.specs.JobAttribute.{job_attribute_name, job_attribute_group, job_table, is_wanted};
+ghost use Rattle.std.specs.Prelude.{◌≡◌, IfOk};
+ghost use Rattle.printer_objects.specs.JobAttribute.{job_attribute_name, job_attribute_group, job_table, is_wanted, wanted_of};
 
 use crate::requested::is_requested;
 use base_types::Text;
+use std::alloc::{AllocError, Global};
 
 /// An attribute of a job (RFC 8011, sections 5.3 and 5.2).
 #[derive(Clone, Copy, Debug, PartialEq, Eq)]
@@ -102,8 +103,21 @@ impl JobAttribute {
         }
     }
 
+    /// Those that requested-attributes asks for, in the table's order.
+    pub fn wanted(alloc: Global, requested: &[Text]) -> Result<Vec<JobAttribute>, AllocError>
+        ensures { IfOk result (λ wanted. wanted.items ≡ wanted_of requested.now) }
+    {
+        let mut wanted = Vec::new(alloc);
+        for which in JobAttribute::all() {
+            if which.is_wanted(requested) {
+                wanted.push(which)?;
+            }
+        }
+        Ok(wanted)
+    }
+
     /// Whether requested-attributes asks for it.
-    pub(crate) fn is_wanted(self, requested: &[Text]) -> bool
+    fn is_wanted(self, requested: &[Text]) -> bool
         ensures { result ≡ is_wanted requested.now self }
     {
         is_requested(self.name(), self.group(), requested)

@@ -1,6 +1,5 @@
 //! The attributes of a job, with their values.
 ghost use Rattle.std.specs.Prelude.{◌≡◌, ◌++◌, IfOk, None, Some};
-ghost use Rattle.printer_objects.specs.JobAttribute.{is_wanted};
 ghost use Rattle.printer_objects.specs.JobShown.{job_uri, printer_uri, hold_until, sides_keyword, k_octets, impressions_shown, job_shown, job_attributes};
 
 use crate::attribute::{bytes, enumerated, keyword, number, reasons, time};
@@ -43,20 +42,17 @@ impl<'a> Model for JobShown<'a> {
     } };
 }
 
-/// The job group of a reply: the attributes of a job that are asked for, in the table's order.
+/// The job group of a reply: these attributes of a job.
 pub fn job_attributes(
     alloc: Global,
     shown: &JobShown<'_>,
-    requested: &[Text],
+    attributes: &[JobAttribute],
 ) -> Result<Group, AllocError>
-    ensures { IfOk result (λ group. group ≡ job_attributes shown.now requested.now) }
+    ensures { IfOk result (λ group. group ≡ job_attributes shown.now attributes.now) }
 {
     let mut group = Group::new(alloc, GroupTag::JOB);
-    for which in JobAttribute::all() {
-        if which.is_wanted(requested) {
-            let attribute = which.shown(alloc, shown)?;
-            group.push(attribute)?;
-        }
+    for which in attributes {
+        group.push(which.shown(alloc, shown)?)?;
     }
     Ok(group)
 }

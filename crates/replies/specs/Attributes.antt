@@ -1,5 +1,5 @@
 -- What the attributes of a group say (RFC 8011, sections 4.1.4 and 5.1).
-use Rattle.std.specs.Prelude.{ℕ, ◌+◌, ◌*◌, ◌==◌, Bool, true, false, if◌then◌else◌, List, [], ◌∷◌, drop, find, Option, is_some, option_map, option_to_list, unwrap_or}
+use Rattle.std.specs.Prelude.{ℕ, ◌+◌, ◌*◌, ◌==◌, not, Bool, true, false, if◌then◌else◌, List, [], ◌∷◌, drop, filter, find, Option, is_some, option_map, option_to_list, unwrap_or}
 use Rattle.std.specs.List.{list_all}
 use Rattle.std.specs.Option.{option_map_or, option_and_then}
 use Rattle.std.specs.Str.{bytes_eq}
@@ -32,6 +32,11 @@ is_tagged group which = option_map_or (λ attribute. list_all (has_syntax (attri
 -- it as it came, with all its values
 abbrev pub as_it_came : OperationAttribute → IppGroup → List IppAttribute
 as_it_came which group = option_to_list (attribute_of which group)
+
+-- the first of each name: the first attribute, and of those behind it the first of each other name
+abbrev pub first_of_each : List IppAttribute → List IppAttribute
+first_of_each [] = []
+first_of_each (attribute ∷ later) = attribute ∷ filter (λ other. not (bytes_eq other.name attribute.name)) (first_of_each later)
 
 -- what stands behind two bytes of length, so many bytes, and two bytes of length
 abbrev pub behind_language : List ℕ → List ℕ

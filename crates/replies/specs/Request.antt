@@ -5,7 +5,7 @@ use Rattle.std.specs.Str.{bytes_eq, str_eq_ignore_ascii_case}
 use Rattle.ipp_codec.specs.Message.{tag_of, bytes_in, IppAttribute, IppGroup, IppMessage}
 use Rattle.ipp_codec.specs.Tag as tags
 use Rattle.replies.specs.declared.operation_attribute.OperationAttribute.TheVariants.{RequestingUserName}
-use Rattle.replies.specs.Attributes.{first_named, name_or}
+use Rattle.replies.specs.Attributes.{first_named, first_of_each, name_or}
 
 -- a request-id is from 1 to 2,147,483,647
 abbrev pub is_request_id : ℕ → Bool
@@ -39,9 +39,9 @@ first_job_group groups = find (λ group. group.tag == tags.job_attributes) group
 abbrev pub job_group : IppMessage → Option IppGroup
 job_group message = first_job_group message.groups
 
--- the attributes of the job group, as they came; none where there is no such group
+-- the attributes of the job group, as they came, the first of each name; none where there is no such group
 abbrev pub job_attributes : IppMessage → List IppAttribute
-job_attributes message = option_map_or (λ group. group.attributes) (job_group message) []
+job_attributes message = option_map_or (λ group. first_of_each group.attributes) (job_group message) []
 
 -- the charset is utf-8, in any case of ASCII letters
 abbrev pub is_utf8 : IppGroup → Bool

@@ -1,16 +1,15 @@
 //! What the attributes of a group say.
-ghost use Rattle.std.specs.Prelude.{◌≡◌, ◌∷◌, [], option_map, IfOk};
+ghost use Rattle.std.specs.Prelude.{◌≡◌, option_map, IfOk};
 ghost use Rattle.std.specs.List.{list_all};
 ghost use Rattle.ipp_codec.specs.Views.{attribute_shown, value_shown, group_shown};
-ghost use Rattle.replies.specs.Attributes.{first_named, attribute_of, has, value_of, is_tagged, as_it_came, behind_language, name_in, name_or, bytes_of, number_of, truth_of};
+ghost use Rattle.replies.specs.Attributes.{first_named, attribute_of, has, value_of, is_tagged, behind_language, name_in, name_or, bytes_of, number_of, truth_of};
 ghost use Rattle.replies.specs.OperationAttribute.{values_in_order};
 ghost use Rattle.replies.specs.Syntax.{has_syntax};
 
 use crate::operation_attribute::OperationAttribute;
 use crate::syntax::Syntax;
 use base_types::Text;
-use ipp_codec::{Attribute, AttributeView, GroupView, ValueTag, ValueView};
-use job_template::RequestAttributes;
+use ipp_codec::{AttributeView, GroupView, ValueTag, ValueView};
 use std::alloc::{AllocError, Global};
 
 /// The first attribute of a name.
@@ -89,33 +88,6 @@ pub(crate) fn are_tagged(group: &GroupView<'_>, read: &[OperationAttribute]) -> 
         }
     }
     true
-}
-
-/// An attribute as it came, with all its values; none where it isn't there.
-pub(crate) fn as_it_came(
-    alloc: Global,
-    group: &GroupView<'_>,
-    which: OperationAttribute,
-) -> Result<RequestAttributes, AllocError>
-    ensures { IfOk result (λ attributes. attributes ≡ as_it_came which (group_shown group.now)) }
-{
-    let name = which.name();
-    let owned = group.to_owned(alloc)?;
-    for attribute in owned.attributes {
-        if attribute.name() == name {
-            return alone(alloc, attribute);
-        }
-    }
-    Ok(RequestAttributes::new(alloc))
-}
-
-/// One attribute.
-fn alone(alloc: Global, attribute: Attribute) -> Result<RequestAttributes, AllocError>
-    ensures { IfOk result (λ attributes. attributes ≡ attribute ∷ []) }
-{
-    let mut attributes = Vec::new(alloc);
-    attributes.push(attribute)?;
-    Ok(RequestAttributes::from_vec(attributes))
 }
 
 /// What stands behind a language, which is counted, and the count of the text.

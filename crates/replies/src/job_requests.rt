@@ -3,7 +3,8 @@ ghost use Rattle.std.specs.Prelude.{◌≡◌, IfOk, OnErr};
 ghost use Rattle.ipp_codec.specs.Views.{group_shown};
 ghost use Rattle.replies.specs.JobRequests.{job_request_of, send_document_of, hold_until_of, hold_job_of, get_job_attributes_of};
 
-use crate::attributes::{as_it_came, truth_of, value_of};
+use crate::attributes::{truth_of, value_of};
+use crate::copied::as_it_came;
 use crate::job_creation::form_of;
 use crate::operation_attribute::OperationAttribute;
 use crate::request::user_of;

@@ -14,6 +14,7 @@
 mod asked;
 mod asked_reader;
 mod attributes;
+mod copied;
 mod event;
 mod header;
 mod job_creation;

@@ -3,7 +3,8 @@ ghost use Rattle.std.specs.Prelude.{◌≡◌, IfOk};
 ghost use Rattle.ipp_codec.specs.Views.{group_shown};
 ghost use Rattle.replies.specs.PrinterRequests.{printer_request_of, get_printer_attributes_of, which_of, limit_of, get_jobs_of};
 
-use crate::attributes::{as_it_came, number_of, truth_of, value_of};
+use crate::attributes::{number_of, truth_of, value_of};
+use crate::copied::as_it_came;
 use crate::operation_attribute::OperationAttribute;
 use crate::request::user_of;
 use crate::requested::requested_of;

@@ -4,9 +4,10 @@ ghost use Rattle.ipp_codec.specs.Views.{attribute_shown, group_shown, message_sh
 ghost use Rattle.replies.specs.Request.{is_request_id, is_named, begins_request, is_operation_group, operation_group, job_group, job_attributes, is_utf8, user_of};
 
 use crate::attributes::{first_named, name_or};
+use crate::copied::first_of_each;
 use crate::operation_attribute::OperationAttribute;
 use base_types::Text;
-use ipp_codec::{AttributeView, Group, GroupTag, GroupView, MessageView, ValueTag};
+use ipp_codec::{AttributeView, GroupTag, GroupView, MessageView, ValueTag};
 use job_template::RequestAttributes;
 use std::alloc::{AllocError, Global};
 
@@ -51,7 +52,7 @@ fn job_group<'a>(message: &MessageView<'a>) -> Option<GroupView<'a>>
     None
 }
 
-/// The attributes of the job group, as they came.
+/// The attributes of the job group, as they came, the first of each name.
 pub(crate) fn job_attributes(
     alloc: Global,
     message: &MessageView<'_>,
@@ -59,16 +60,9 @@ pub(crate) fn job_attributes(
     ensures { IfOk result (λ attributes. attributes ≡ job_attributes (message_shown message.now)) }
 {
     match job_group(message) {
-        Some(group) => Ok(request_attributes(group.to_owned(alloc)?)),
+        Some(group) => first_of_each(alloc, &group),
         None => Ok(RequestAttributes::new(alloc)),
     }
-}
-
-/// The attributes of a group.
-fn request_attributes(group: Group) -> RequestAttributes
-    ensures { result ≡ group.attributes }
-{
-    RequestAttributes::from_vec(group.attributes)
 }
 
 /// Whether the group begins with the charset and the natural language.

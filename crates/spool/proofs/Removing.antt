@@ -126,3 +126,35 @@ retained_gone (s ∷ jobs) i found = let at = found_out (s ∷ jobs) i s found i
 
 pub spool_is : (now : SpoolRecord) (jobs : List SpooledRecord) (next : ℕ) → now.jobs ≡ jobs → now.next ≡ next → now ≡ record { jobs = jobs; next = next }
 spool_is now jobs next of_jobs of_next = λ i. record { jobs = of_jobs i; next = of_next i }
+
+-- ---- where so few are finished that all are kept
+
+-- one that isn't kept is settled
+out_settled : (b c : Bool) → (not b || c) ≡ false → b ≡ true
+out_settled true c is = refl
+out_settled false c is = absurd (true≢false is)
+
+later_settled : (a b : Bool) → (a && b) ≡ true → a ≡ true
+later_settled true b is = refl
+later_settled false b is = absurd (true≢false (sym is))
+
+-- one that isn't kept has more settled ones beside it than are kept
+more_settled : (jobs : List SpooledRecord) (i : ℕ) (d : SpooledRecord) → i < length jobs → is_kept jobs (get_or jobs i d) ≡ false → FINISHED_JOBS_KEPT < count_by is_settled jobs
+more_settled jobs i d inside out =
+    let x = get_or jobs i d in
+    let of_x : later_jobs (remove jobs i) x + one_if (later_than x x) ≡ later_jobs jobs x = count_removed (λ o. later_than o x) jobs i d inside in
+    let all : count_by is_settled (remove jobs i) + one_if (is_settled x) ≡ count_by is_settled jobs = count_removed is_settled jobs i d inside in
+    let many : FINISHED_JOBS_KEPT ≤ later_jobs jobs x = not_below (later_jobs jobs x) FINISHED_JOBS_KEPT (is_settled x) out in
+    let others : later_jobs (remove jobs i) x ≤ count_by is_settled (remove jobs i) = count_more (λ o. later_than o x) is_settled (λ z zx. later_settled (is_settled z) (is_later z x) zx) (remove jobs i) in
+    omega (arith, of_x, all, many, others, ap one_if (not_later_than_itself x), ap one_if (out_settled (is_settled x) (nat_lt (later_jobs jobs x) FINISHED_JOBS_KEPT) out))
+
+none_out : (jobs : List SpooledRecord) (d : SpooledRecord) (o : Option ℕ) → position (λ s. not (is_kept jobs s)) jobs ≡ o → count_by is_settled jobs ≤ FINISHED_JOBS_KEPT → o ≡ None
+none_out jobs d None is few = refl
+none_out jobs d (Some i) is few =
+    let at = found_out jobs i d is in
+    absurd (omega (arith, few, more_settled jobs i d at.0 at.1))
+
+-- no search finds one
+pub few_kept : (jobs : List SpooledRecord) → count_by is_settled jobs ≤ FINISHED_JOBS_KEPT → position (λ s. not (is_kept jobs s)) jobs ≡ None
+few_kept [] few = refl
+few_kept (s ∷ jobs) few = none_out (s ∷ jobs) s (position (λ t. not (is_kept (s ∷ jobs) t)) (s ∷ jobs)) refl few

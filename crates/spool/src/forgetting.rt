@@ -1,6 +1,7 @@
 //! Which finished jobs are kept.
-ghost use Rattle.std.specs.Prelude.{◌≡◌, not, position};
+ghost use Rattle.std.specs.Prelude.{◌≡◌, count_by, not, position};
 ghost use Rattle.spool.specs.Calls.{is_unfinished, unfinished_jobs};
+ghost use Rattle.spool.specs.Spooled.{is_settled};
 ghost use Rattle.spool.specs.Kept.{end_of, is_later, later_jobs, is_kept, retained};
 
 use crate::spool::Spool;
@@ -66,8 +67,29 @@ impl Spool {
         !spooled.is_settled() || self.later_jobs(spooled) < Limits::FINISHED_JOBS_KEPT
     }
 
-    /// Where the first job stands that isn't kept.
+    /// How many jobs are finished that no device has.
+    fn settled(&self) -> usize
+        ensures { result ≡ count_by is_settled self.now.jobs }
+    {
+        self.jobs()
+            .iter()
+            .filter(|spooled| spooled.is_settled())
+            .count()
+    }
+
+    /// Where the first job stands that isn't kept. There is none where few are finished, and so none
+    /// is looked for.
     fn outdated(&self) -> Option<usize>
+        ensures { result ≡ position (λ s. not (is_kept self.now.jobs s)) self.now.jobs }
+    {
+        if self.settled() <= Limits::FINISHED_JOBS_KEPT {
+            return None;
+        }
+        self.first_outdated()
+    }
+
+    /// The same, by looking at each job.
+    fn first_outdated(&self) -> Option<usize>
         ensures { result ≡ position (λ s. not (is_kept self.now.jobs s)) self.now.jobs }
     {
         self.jobs()

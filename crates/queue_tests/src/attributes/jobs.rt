@@ -2,7 +2,9 @@
 use super::{reply, reply_of, rows, texts};
 use base_types::{Finishings, JobId, Limits, Moment, Needs, PrinterId, Priority, Sides, Text};
 use job_objects::{Job, JobState, Printer};
-use printer_objects::{JobShown, job_attributes, keeps_busy, printer_reason, printer_state};
+use printer_objects::{
+    JobAttribute, JobShown, job_attributes, keeps_busy, printer_reason, printer_state,
+};
 use std::alloc::{AllocError, Global};
 use std::test::Fail;
 
@@ -120,7 +122,8 @@ fn shown(alloc: Global, which: Which, asked: &[&[u8]]) -> Result<Vec<u8>, Fail> 
         printer_paused: false,
         moment: Moment::start(),
     };
-    let group = job_attributes(alloc, &shown, &requested)?;
+    let wanted = JobAttribute::wanted(alloc, &requested)?;
+    let group = job_attributes(alloc, &shown, &wanted)?;
     reply_of(alloc, group)
 }
 

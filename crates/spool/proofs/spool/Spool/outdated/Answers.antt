@@ -1,0 +1,7 @@
+use Rattle.std.proofs.Common.{sym, arith}
+use Rattle.spool.proofs.Removing.{few_kept}
+use Rattle.spool.proofs.spool.Spool.outdated.Goals as goal
+
+pub returns-then-settled-le-FINISHED_JOBS_KEPT : goal.returns-then-settled-le-FINISHED_JOBS_KEPT
+returns-then-settled-le-FINISHED_JOBS_KEPT c =
+    sym (few_kept c.args.self.now.jobs (omega (arith, c.settled.ensures, c.if-settled-le-FINISHED_JOBS_KEPT.true)))
