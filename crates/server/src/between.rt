@@ -120,7 +120,8 @@ impl<P: Planner + Drop> Engine<P> {
         ensures { BytesAs N.told request answer notes.old result notes.new }
     {
         match answer {
-            Says::Lpd(_) | Says::Nothing => Ok(Vec::new(self.alloc)),
+            Says::Lpd(_) => Ok(Vec::new(self.alloc)),
+            Says::Nothing => Ok(Vec::new(self.alloc)),
             Says::Ipp(answer) => match ipp_reply(self.alloc, answer, request) {
                 Ok(bytes) => Ok(bytes),
                 Err(error) => {

@@ -104,12 +104,13 @@ impl<P: Planner + Drop> Engine<P> {
     )
         ensures { Aside (alone N.told) (RepliesWith key asker.id asker.closes asker.request query answer) notes.old self.old notes.new self.new }
     {
-        let Says::Ipp(answer) = answer else {
-            return;
-        };
-        match ipp_reply(self.alloc, answer, asker.request) {
-            Ok(bytes) => self.keep_reply(key, asker.closes, &bytes, notes),
-            Err(_) => self.lose_reply(key, asker, query, notes),
+        match answer {
+            Says::Ipp(answer) => match ipp_reply(self.alloc, answer, asker.request) {
+                Ok(bytes) => self.keep_reply(key, asker.closes, &bytes, notes),
+                Err(_) => self.lose_reply(key, asker, query, notes),
+            },
+            Says::Lpd(_) => {}
+            Says::Nothing => {}
         }
     }
 
