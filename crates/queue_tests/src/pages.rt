@@ -23,10 +23,15 @@ fn document(alloc: Global, octets: &[u8], piece: usize) -> Result<Octets, AllocE
 
 /// Whether the document is these octets, a first page of 4,096 and a second one.
 fn is_in_two_pages(document: &Octets, octets: &[u8]) -> bool {
-    document.len() == octets.len()
-        && octets.len() > 4096
-        && document.piece(0) == &octets[..4096]
-        && document.piece(4096) == &octets[4096..]
+    if octets.len() <= 4096 {
+        return false;
+    }
+    if document.len() != octets.len() {
+        return false;
+    }
+    let (first, second) = octets.split_at(4096);
+    document.piece(0) == first
+        && document.piece(4096) == second
         && document.piece(octets.len()).is_empty()
 }
 
