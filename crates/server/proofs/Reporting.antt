@@ -69,7 +69,7 @@ pub reports : {S : Type 0} (moves : S → Happening → S → Type 0) (u v : S) 
     → (c.over || c.broken) ≡ false → (load (told_link c reader device off) < load c)
     → (Q : Rel) → Aside moves Q u (with_slots slots a) v b
     → ((l : Ledger) (e : Entry) (given : List ReportRecord) → Fits l a → l.entries key ≡ Some e → FitsConnection e c → e.broken ≡ false → e.talk ≡ Ledger.Link given t.device → IsLinked e.read given t
-        → (e' : Entry) × FitsConnection e' (told_link c reader device off) × ((hs : List Happening) (l' : Ledger) → Q (with_entry key e' l) hs l' → (e.over || e.broken) ≡ false → ActsNext moment key l hs l'))
+    → (e' : Entry) × FitsConnection e' (told_link c reader device off) × ((hs : List Happening) (l' : Ledger) → Q (with_entry key e' l) hs l' → (e.over || e.broken) ≡ false → ActsNext moment key l hs l'))
     → Heard moves moment key u a v b
 reports moves u v a b slots moment key c t reader device off was speaks is counts less Q does gives =
     let d : ConnectionState = told_link c reader device off in (
@@ -88,7 +88,7 @@ reports moves u v a b slots moment key c t reader device off was speaks is count
         quiet = quiet_then a (with_slots slots a) b (quiet_at a slots key c d was is (omega (arith, less))) does.quiet;
       },
       let there : work_at slots key ≡ load d = work_there slots key d (ap (λ (xs : Slots). slice_index_or xs key None) is ∙ set_there a.slots key c (Some d) was) in
-      omega (arith, less, there, work_there a.slots key c was, does.quiet.work key),
+          omega (arith, less, there, work_there a.slots key c was, does.quiet.work key),
     )
 
 -- a reader that has less to say makes the connection's load less
@@ -219,22 +219,22 @@ hears_name told n n' a b mid slots moment key place report refused first new is 
       linked e (given ++ report_of report ∷ []) (Some place),
       fits_linked e on.before (given ++ report_of report ∷ []) h.reader place f whole stands,
       λ hs l' it counts.
-      let known : device_named who.0 l.core ≡ Some place = ap (λ (s : State). device_named who.0 s) fits.core ∙ who.2 in
-      let absent : IsAbsent place l = device_absent l a place fits (λ k. sym (is_of_before a.slots mid key report on place k) ∙ who.3 k) in
-      let both_do : Then (Sets key (linked e (given ++ report_of report ∷ []) (Some place))) (Reports moment place (report_of report)) l hs l' = record { mid = with_entry key e' l; front = []; back = hs; whole = refl; first = (refl, refl); second = (report, refl, it) } in
-      let greets : Greets moment key e (given ++ report_of report ∷ []) (report_of report) (device_named who.0 l.core) l hs l' = subst (λ (o : Option ℕ). Greets moment key e (given ++ report_of report ∷ []) (report_of report) o l hs l') (sym known) (inl (absent, both_do)) in
-      let heard : HearsReport moment key e (given ++ report_of report ∷ []) None (report_of report) l hs l' = subst (λ (r : Report). Greets moment key e (given ++ report_of report ∷ []) (report_of report) (device_named who.0 l.core) l hs l' → HearsReport moment key e (given ++ report_of report ∷ []) None (report_of r) l hs l') (sym who.1) (λ g. subst (λ (r : Report). Greets moment key e (given ++ report_of report ∷ []) (report_of r) (device_named who.0 l.core) l hs l') who.1 g) greets in
-      inr (inl (record {
-        entry = e;
-        reports = given;
-        device = None;
-        there = there;
-        talk = talk ∙ ap (λ (o : Option ℕ). Ledger.Link given o) unnamed;
-        counts = counts;
-        said = report_of report;
-        next = says_first e.read (given ++ report_of report ∷ []) h.reader stands;
-        does = heard;
-      })),
+          let known : device_named who.0 l.core ≡ Some place = ap (λ (s : State). device_named who.0 s) fits.core ∙ who.2 in
+          let absent : IsAbsent place l = device_absent l a place fits (λ k. sym (is_of_before a.slots mid key report on place k) ∙ who.3 k) in
+          let both_do : Then (Sets key (linked e (given ++ report_of report ∷ []) (Some place))) (Reports moment place (report_of report)) l hs l' = record { mid = with_entry key e' l; front = []; back = hs; whole = refl; first = (refl, refl); second = (report, refl, it) } in
+          let greets : Greets moment key e (given ++ report_of report ∷ []) (report_of report) (device_named who.0 l.core) l hs l' = subst (λ (o : Option ℕ). Greets moment key e (given ++ report_of report ∷ []) (report_of report) o l hs l') (sym known) (inl (absent, both_do)) in
+          let heard : HearsReport moment key e (given ++ report_of report ∷ []) None (report_of report) l hs l' = subst (λ (r : Report). Greets moment key e (given ++ report_of report ∷ []) (report_of report) (device_named who.0 l.core) l hs l' → HearsReport moment key e (given ++ report_of report ∷ []) None (report_of r) l hs l') (sym who.1) (λ g. subst (λ (r : Report). Greets moment key e (given ++ report_of report ∷ []) (report_of r) (device_named who.0 l.core) l hs l') who.1 g) greets in
+          inr (inl (record {
+            entry = e;
+            reports = given;
+            device = None;
+            there = there;
+            talk = talk ∙ ap (λ (o : Option ℕ). Ledger.Link given o) unnamed;
+            counts = counts;
+            said = report_of report;
+            next = says_first e.read (given ++ report_of report ∷ []) h.reader stands;
+            does = heard;
+          })),
     ))
 
 -- what a connection is that is broken for what it brought
@@ -383,7 +383,7 @@ hears_lost told n n' a mid slots moment key id on off tells' =
     let was : off.before ≡ on.after = same_one (slice_index_or mid key None) off.before on.after off.there there in
     let now : off.after ≡ told_link on.before h.reader t.device true = off.changes.1 ∙ (ap is_broken was ∙ ap is_broken h.is) in
     let is : slots ≡ slice_set a.slots key (Some (told_link on.before h.reader t.device true)) =
-        off.slots ∙ (ap (λ (vs : Slots). slice_set vs key (Some off.after)) on.slots ∙ (set_twice a.slots key (Some on.after) (Some off.after) ∙ ap (λ (d : ConnectionState). slice_set a.slots key (Some d)) now)) in
+    off.slots ∙ (ap (λ (vs : Slots). slice_set vs key (Some off.after)) on.slots ∙ (set_twice a.slots key (Some on.after) (Some off.after) ∙ ap (λ (d : ConnectionState). slice_set a.slots key (Some d)) now)) in
     let its : on.before.id ≡ id = sym (ap (λ (c : ConnectionState). c.id) (was ∙ h.is)) ∙ off.changes.0 in
     reports (alone told) n n' a (with_slots slots a) slots moment key on.before t h.reader t.device true on.there h.talk is h.counts (nothing_to_bring on.before h.reader t.device h.counts)
     (Tells (Refused At.Feed (Some id))) (tells told n n' (with_slots slots a) (Refused At.Feed (Some id)) tells')

@@ -32,13 +32,7 @@ impl<P: Planner + Drop> Engine<P> {
     }
 
     /// Closes the connection under a key. Where a device said its name on it, the device is gone.
-    fn close<W: Wire, N: Notes>(
-        &mut self,
-        moment: Moment,
-        key: usize,
-        wire: &mut W,
-        notes: &mut N,
-    )
+    fn close<W: Wire, N: Notes>(&mut self, moment: Moment, key: usize, wire: &mut W, notes: &mut N)
         ensures { (fate : Fate) (c : ConnectionState) → slot_at self.old key ≡ Some c → (fate ≡ Drained → c.output ≡ []) → Closed (both W.polled N.told) moment fate key (wire.old, notes.old) self.old (wire.new, notes.new) self.new }
     {
         if let Some(device) = close(&mut self.connections, key, wire) {
@@ -47,12 +41,7 @@ impl<P: Planner + Drop> Engine<P> {
     }
 
     /// Closes the broken connections, by rising key.
-    pub(crate) fn settle<W: Wire, N: Notes>(
-        &mut self,
-        moment: Moment,
-        wire: &mut W,
-        notes: &mut N,
-    )
+    pub(crate) fn settle<W: Wire, N: Notes>(&mut self, moment: Moment, wire: &mut W, notes: &mut N)
         ensures { Aside (both W.polled N.told) (Settles moment) (wire.old, notes.old) self.old (wire.new, notes.new) self.new }
     {
         while let Some(key) = self.first_broken() {

@@ -1,8 +1,9 @@
 //! What an event does: a step of the core, its reply, its cancels, and the dispatch that follows.
+ghost use Rattle.std.specs.Prelude.{◌≡◌};
 ghost use Rattle.server.specs.Polls.{alone};
 ghost use Rattle.server.specs.Rel.{Then, EachOf};
 ghost use Rattle.server.specs.Happening.{Sends, Follows, Dispatches};
-ghost use Rattle.server.specs.Exchange.{RepliesWith, LosesReply, Happens};
+ghost use Rattle.server.specs.Exchange.{RepliesWith, LosesReply, Happens, ipp_answer};
 ghost use Rattle.server.specs.Stands.{Aside, Openly};
 
 use crate::core_step::{Made, dispatch_core};
@@ -14,7 +15,7 @@ use crate::table::{break_off, keep_cancel, key_of};
 use crate::wire::WireId;
 use assignment::Planner;
 use base_types::Moment;
-use dispatcher::{Answer as Says, Cancel, Event, Reply, Status};
+use dispatcher::{Answer as Says, Cancel, Event, IppAnswer, Reply, Status};
 use replies::ipp_reply;
 
 /// Who asks, and how the reply goes.
@@ -104,13 +105,12 @@ impl<P: Planner + Drop> Engine<P> {
     )
         ensures { Aside (alone N.told) (RepliesWith key asker.id asker.closes asker.request query answer) notes.old self.old notes.new self.new }
     {
-        match answer {
-            Says::Ipp(answer) => match ipp_reply(self.alloc, answer, asker.request) {
-                Ok(bytes) => self.keep_reply(key, asker.closes, &bytes, notes),
-                Err(_) => self.lose_reply(key, asker, query, notes),
-            },
-            Says::Lpd(_) => {}
-            Says::Nothing => {}
+        let Some(answer) = ipp_answer(answer) else {
+            return;
+        };
+        match ipp_reply(self.alloc, answer, asker.request) {
+            Ok(bytes) => self.keep_reply(key, asker.closes, &bytes, notes),
+            Err(_) => self.lose_reply(key, asker, query, notes),
         }
     }
 
@@ -179,5 +179,16 @@ impl<P: Planner + Drop> Engine<P> {
         } = reply;
         self.reply_with(key, asker, query, answer, notes);
         self.follow(moment, query, &cancels, notes);
+    }
+}
+
+/// The answer to an IPP request, where it is one.
+fn ipp_answer(answer: Says) -> Option<IppAnswer>
+    ensures { result ≡ ipp_answer answer }
+{
+    match answer {
+        Says::Ipp(answer) => Some(answer),
+        Says::Lpd(_) => None,
+        Says::Nothing => None,
     }
 }

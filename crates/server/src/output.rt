@@ -147,11 +147,7 @@ impl Output {
     }
 
     /// A line follows, and then documents. The error is out of memory: nothing is added.
-    fn push_documents(
-        &mut self,
-        line: &[u8],
-        documents: &[Document],
-    ) -> Result<(), AllocError>
+    fn push_documents(&mut self, line: &[u8], documents: &[Document]) -> Result<(), AllocError>
         ensures ok { OnOk result (self.new ≡ self.old ++ (line.now ++ flat_map (λ d. d.contents) documents.now)) }
         ensures err { OnErr result (self.new ≡ self.old) }
     {

@@ -17,6 +17,6 @@ returns-in-Some g c = λ before first.
 pub returns-in-None : goal.returns-in-None
 returns-in-None g c = λ before first.
     let off = hears_stranger (alone g.N.Notes.told) c.args.notes.now (with_slots before c.args.self.now) c.args.self.now.slots c.break_off.new.connections.slots c.args.moment c.args.key c.args.report first c.in-None.ensures.none
-        (c.break_off.ensures ∙ ap (λ (e : EngineState). changed_at c.args.key is_broken e.slots) c.self.view_is) in
+    (c.break_off.ensures ∙ ap (λ (e : EngineState). changed_at c.args.key is_broken e.slots) c.self.view_is) in
     let now : c.match-report.self ≡ with_slots c.break_off.new.connections.slots c.args.self.now = elim c.match-report.branch [ in-Hello-1 w ↦ w.self-is ∙ ap (λ (e : EngineState). with_slots c.break_off.new.connections.slots e) c.self.view_is | in-Media-1 w ↦ w.self-is ∙ ap (λ (e : EngineState). with_slots c.break_off.new.connections.slots e) c.self.view_is | in-Ready-1 w ↦ w.self-is ∙ ap (λ (e : EngineState). with_slots c.break_off.new.connections.slots e) c.self.view_is ] in
     subst (λ (e : EngineState). Heard (alone g.N.Notes.told) c.args.moment c.args.key c.args.notes.now (with_slots before c.args.self.now) c.args.notes.now e) (sym now) off
