@@ -54,11 +54,7 @@ pub(crate) fn print_job_of(
     let job = asked_job_of(alloc, message, group)?;
     let form = form_of(alloc, group)?;
     let octets = Octets::take(alloc, document)?;
-    Ok(PrintJob {
-        job,
-        form,
-        octets,
-    })
+    Ok(PrintJob { job, form, octets })
 }
 
 /// What is read of a Validate-Job; what follows its attributes isn't looked at.

@@ -1,5 +1,5 @@
 //! Devices over a wire in memory: what they write, and what they get.
-use crate::exchanges::{CANCEL, PLAIN, TWO};
+use crate::exchanges::{CANCEL, PLAIN};
 use crate::in_memory::{CUTS, TURNS, client, got, is_closed, serve};
 use server::memory_wire::Memory;
 use server::{Door, NoteLog};
@@ -106,42 +106,6 @@ fn sessions_in_pieces(rt: HostRuntime) -> Result<(), Fail> {
     Ok(())
 }
 
-/// The bytes of the client's second job.
-const SECOND: &[u8] = b"JOB 2 5 1 1 iso_a4_210x297mm\nhello";
-
-/// Whether these bytes are those of both jobs, in the order of either plan: the jobs take as long.
-fn are_both(front: &[u8], rest: &[u8]) -> bool {
-    (front == JOB && rest == SECOND) || (front == SECOND && rest == JOB)
-}
-
-/// Whether just both jobs were taken for a peer.
-fn got_both(wire: &Memory, place: usize) -> bool {
-    match wire.peers.get(place) {
-        Some(peer) => peer.taken.len() == JOB.len() + SECOND.len()
-            && are_both(&peer.taken[..JOB.len()], &peer.taken[JOB.len()..]),
-        None => false,
-    }
-}
-
-/// Whether a device that is done with each job in the piece in which it said that it runs gets both,
-/// where the wire takes so many bytes a write.
-fn gets_both(alloc: Global, most: usize) -> Result<bool, AllocError> {
-    let written = b"HELLO A\nREADY\nDONE 2\nDONE 1\nDONE 2\n".as_slice();
-    let mut wire = print_room(alloc, TWO.sent, &[written], (4096, most))?;
-    let mut notes = NoteLog::new(alloc);
-    Ok(serve(alloc, &mut wire, &mut notes, TURNS) && got_both(&wire, 1))
-}
-
-/// The rest of a job goes out, once, after the device was done with it.
-#[test]
-fn done_before_all_went_out(rt: HostRuntime) -> Result<(), Fail> {
-    for most in [1, 3, 4096] {
-        let both = gets_both(rt.alloc(), most)?;
-        assert!(rt; both);
-    }
-    Ok(())
-}
-
 /// Whether of two that say the same name the second is turned away, and the first gets the job.
 fn is_one_of_two(alloc: Global) -> Result<bool, AllocError> {
     let lines = b"HELLO A\nREADY\n".as_slice();
@@ -180,39 +144,6 @@ fn is_told_of_cancel(alloc: Global) -> Result<bool, AllocError> {
 fn cancel_of_a_job_on_a_device(rt: HostRuntime) -> Result<(), Fail> {
     let told = is_told_of_cancel(rt.alloc())?;
     assert!(rt; told);
-    Ok(())
-}
-
-/// Whether one job was taken for one peer, and the other for another.
-fn got_one_each(wire: &Memory, first: usize, second: usize) -> bool {
-    match (wire.peers.get(first), wire.peers.get(second)) {
-        (Some(one), Some(other)) => are_both(&one.taken, &other.taken),
-        _ => false,
-    }
-}
-
-/// Whether a device whose input ends gets what was due and is closed, and gets the other job where it
-/// comes back: the one that it had is aborted.
-fn comes_back(alloc: Global) -> Result<bool, AllocError> {
-    let lines = b"HELLO A\nREADY\n".as_slice();
-    let mut wire = print_room(alloc, TWO.sent, &[lines], (4096, 4096))?;
-    if let Some(device) = wire.peers.get_mut(1) {
-        device.ended = true;
-    }
-    wire.peers
-        .push(client(alloc, Door::Devices, lines, (1, 4096))?)?;
-    let mut notes = NoteLog::new(alloc);
-    Ok(
-        serve(alloc, &mut wire, &mut notes, TURNS)
-            && is_closed(&wire, 1)
-            && got_one_each(&wire, 1, 2),
-    )
-}
-
-#[test]
-fn device_comes_back(rt: HostRuntime) -> Result<(), Fail> {
-    let back = comes_back(rt.alloc())?;
-    assert!(rt; back);
     Ok(())
 }
 
