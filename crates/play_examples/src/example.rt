@@ -17,10 +17,16 @@ pub struct Example {
     pub status: ExitStatus,
 }
 
-pub const EXAMPLES: [Example; 36] = [
+pub const EXAMPLES: [Example; 37] = [
     Example {
         input: "two_devices.trace",
         output: "two_devices.out",
+        program: Program::Replay,
+        status: ExitStatus::Done,
+    },
+    Example {
+        input: "equal_jobs_in_order.trace",
+        output: "equal_jobs_in_order.out",
         program: Program::Replay,
         status: ExitStatus::Done,
     },
