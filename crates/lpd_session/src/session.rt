@@ -1,5 +1,5 @@
 //! What is received for a queue.
-ghost use Rattle.std.specs.Prelude.{◌≡◌, IfOk, OnErr, true};
+ghost use Rattle.std.specs.Prelude.{◌≡◌, IfOk, OnErr, IsSome, true};
 ghost use Rattle.lpd_reader.specs.Control.{control_in};
 ghost use Rattle.lpd_session.specs.Pending.{first_complete, with_file};
 ghost use Rattle.lpd_session.specs.Session.{opened, aborted, admits, announced, settled, keeps, kept, is_kept, file_kept, says_job, control_kept, sent_by, sent_at, without_job};
@@ -92,7 +92,8 @@ impl Session {
     /// The job of the control file at a place, if there is one. Its documents are those of the session,
     /// without a copy. The error is out of memory.
     pub fn job_at(&self, place: usize) -> Result<Option<SentJob>, AllocError>
-        ensures { IfOk result (λ job. job ≡ sent_at place self.now) }
+        ensures ok { IfOk result (λ job. job ≡ sent_at place self.now) }
+        ensures err { OnErr result (IsSome (sent_at place self.now)) }
     {
         match self.pending.control(place) {
             Some(control) => Ok(Some(self.job_of(control)?)),

@@ -1,6 +1,6 @@
 -- A report of a device's connection is heard.
 use Rattle.std.proofs.Common.{◌≡◌, ◌<◌, ◌≤◌, ◌+◌, arith, ℕ, Bool, true, false, List, [], ◌∷◌, ◌++◌, refl, sym, ◌∙◌, ap, subst, Option, Some, None, inl, inr}
-use Rattle.std.specs.Prelude.{◌||◌, ◌==◌, if◌then◌else◌, zero, suc, take, slice_set, slice_index_or}
+use Rattle.std.specs.Prelude.{◌||◌, ◌⊎◌, ◌==◌, if◌then◌else◌, zero, suc, take, slice_set, slice_index_or}
 use Rattle.std.specs.Option.{option_map_or}
 use Rattle.std.specs.Str.Lines.{strip_carriage_return}
 use Rattle.text.specs.Parts.{words_of}
@@ -37,6 +37,7 @@ use Rattle.server.proofs.Places.{found, fits_set}
 use Rattle.server.proofs.Keeping.{load_within, load_counts}
 use Rattle.server.proofs.Happening.{device_there, device_absent, tells}
 use Rattle.server.proofs.Hearing.{counts_there}
+use Rattle.server.proofs.Saying.{IsCut, loses_line}
 
 -- ---- what was taken off
 
@@ -48,6 +49,13 @@ report_from what c d b (of.Link t) (of.Http u) p q = absurd (subst (λ (k : Talk
 report_from what c d b (of.Http t) (of.Link u) p q = absurd (subst (λ (k : Talk). Brings (Some (brings.Report what)) (of.Http t) k) q (subst (λ (k : Talk). Brings (Some (brings.Report what)) k d.talk) p b.talk))
 report_from what c d b (of.Http t) (of.Http u) p q =
     let it : Brings (Some (brings.Report what)) (of.Http t) (of.Http u) = subst (λ (k : Talk). Brings (Some (brings.Report what)) (of.Http t) k) q (subst (λ (k : Talk). Brings (Some (brings.Report what)) k d.talk) p b.talk) in
+    absurd it.1
+report_from what c d b (of.Http t) (of.Lpd u) p q = absurd (subst (λ (k : Talk). Brings (Some (brings.Report what)) (of.Http t) k) q (subst (λ (k : Talk). Brings (Some (brings.Report what)) k d.talk) p b.talk))
+report_from what c d b (of.Lpd t) (of.Http u) p q = absurd (subst (λ (k : Talk). Brings (Some (brings.Report what)) (of.Lpd t) k) q (subst (λ (k : Talk). Brings (Some (brings.Report what)) k d.talk) p b.talk))
+report_from what c d b (of.Lpd t) (of.Link u) p q = absurd (subst (λ (k : Talk). Brings (Some (brings.Report what)) (of.Lpd t) k) q (subst (λ (k : Talk). Brings (Some (brings.Report what)) k d.talk) p b.talk))
+report_from what c d b (of.Link t) (of.Lpd u) p q = absurd (subst (λ (k : Talk). Brings (Some (brings.Report what)) (of.Link t) k) q (subst (λ (k : Talk). Brings (Some (brings.Report what)) k d.talk) p b.talk))
+report_from what c d b (of.Lpd t) (of.Lpd u) p q =
+    let it : Brings (Some (brings.Report what)) (of.Lpd t) (of.Lpd u) = subst (λ (k : Talk). Brings (Some (brings.Report what)) (of.Lpd t) k) q (subst (λ (k : Talk). Brings (Some (brings.Report what)) k d.talk) p b.talk) in
     absurd it.1
 
 pub report_taken : (key : ℕ) (what : Report) (xs ys : Slots) → OnSlot key (IsBrought (Some (brings.Report what))) xs ys → OnSlot key (IsReported what) xs ys
@@ -335,22 +343,35 @@ no_item : (what : Brought) (x y : HttpState) → IsEnd what → NextItem (Some w
 no_item brings.Fault x y end it = it
 no_item brings.OutOfMemory x y end it = it
 no_item (brings.Item item) x y end it = end
+no_item (brings.Said item) x y end it = end
 no_item (brings.Report report) x y end it = end
+no_item brings.LpdFault x y end it = end
 
-off_from : (what : Brought) (c d : ConnectionState) → IsEnd what → IsBrought (Some what) c d → (x y : Talk) → c.talk ≡ x → d.talk ≡ y → IsOff what c d
+off_from : (what : Brought) (c d : ConnectionState) → IsEnd what → IsBrought (Some what) c d → (x y : Talk) → c.talk ≡ x → d.talk ≡ y → IsOff what c d ⊎ IsCut what c d
 off_from what c d end b (of.Link t) (of.Link u) p q =
     let it : Brings (Some what) (of.Link t) (of.Link u) = subst (λ (k : Talk). Brings (Some what) (of.Link t) k) q (subst (λ (k : Talk). Brings (Some what) k d.talk) p b.talk) in
-    record { counts = b.counts; before = t; reader = u.reader; talk = p; next = it.1; is = b.is ∙ ap (λ (k : Talk). talking k c) (q ∙ ap of.Link it.0) }
-off_from what c d end b (of.Link t) (of.Http u) p q = absurd (subst (λ (k : Talk). Brings (Some what) (of.Link t) k) q (subst (λ (k : Talk). Brings (Some what) k d.talk) p b.talk))
-off_from what c d end b (of.Http t) (of.Link u) p q = absurd (subst (λ (k : Talk). Brings (Some what) (of.Http t) k) q (subst (λ (k : Talk). Brings (Some what) k d.talk) p b.talk))
+    inl (record { counts = b.counts; before = t; reader = u.reader; talk = p; next = it.1; is = b.is ∙ ap (λ (k : Talk). talking k c) (q ∙ ap of.Link it.0) })
+off_from what c d end b (of.Lpd t) (of.Lpd u) p q =
+    let it : Brings (Some what) (of.Lpd t) (of.Lpd u) = subst (λ (k : Talk). Brings (Some what) (of.Lpd t) k) q (subst (λ (k : Talk). Brings (Some what) k d.talk) p b.talk) in
+    inr (record { counts = b.counts; before = t; reader = u.reader; talk = p; next = it.1; is = b.is ∙ ap (λ (k : Talk). talking k c) (q ∙ ap of.Lpd it.0) })
 off_from what c d end b (of.Http t) (of.Http u) p q =
     let it : Brings (Some what) (of.Http t) (of.Http u) = subst (λ (k : Talk). Brings (Some what) (of.Http t) k) q (subst (λ (k : Talk). Brings (Some what) k d.talk) p b.talk) in
     absurd (no_item what t.reader u.reader end it.1)
+off_from what c d end b (of.Link t) (of.Http u) p q = absurd (subst (λ (k : Talk). Brings (Some what) (of.Link t) k) q (subst (λ (k : Talk). Brings (Some what) k d.talk) p b.talk))
+off_from what c d end b (of.Http t) (of.Link u) p q = absurd (subst (λ (k : Talk). Brings (Some what) (of.Http t) k) q (subst (λ (k : Talk). Brings (Some what) k d.talk) p b.talk))
+off_from what c d end b (of.Http t) (of.Lpd u) p q = absurd (subst (λ (k : Talk). Brings (Some what) (of.Http t) k) q (subst (λ (k : Talk). Brings (Some what) k d.talk) p b.talk))
+off_from what c d end b (of.Lpd t) (of.Http u) p q = absurd (subst (λ (k : Talk). Brings (Some what) (of.Lpd t) k) q (subst (λ (k : Talk). Brings (Some what) k d.talk) p b.talk))
+off_from what c d end b (of.Lpd t) (of.Link u) p q = absurd (subst (λ (k : Talk). Brings (Some what) (of.Lpd t) k) q (subst (λ (k : Talk). Brings (Some what) k d.talk) p b.talk))
+off_from what c d end b (of.Link t) (of.Lpd u) p q = absurd (subst (λ (k : Talk). Brings (Some what) (of.Link t) k) q (subst (λ (k : Talk). Brings (Some what) k d.talk) p b.talk))
+
+-- a device's stream has a fault
+fault_from : (c d : ConnectionState) → IsBrought (Some brings.Fault) c d → IsOff brings.Fault c d
+fault_from c d b = elim (off_from brings.Fault c d tt b c.talk d.talk refl refl) [ inl off ↦ off | inr cut ↦ absurd cut.next ]
 
 pub hears_fault : {S : Type 0} (moves : S → Happening → S → Type 0) (u : S) (a : EngineState) (mid slots : Slots) (moment key : ℕ)
     → OnSlot key (IsBrought (Some brings.Fault)) a.slots mid → slots ≡ changed_at key is_broken mid → Heard moves moment key u a u (with_slots slots a)
 hears_fault moves u a mid slots moment key on is =
-    let h = off_from brings.Fault on.before on.after tt on.changes on.before.talk on.after.talk refl refl in
+    let h = fault_from on.before on.after on.changes in
     let t = h.before in
     reports moves u u a (with_slots slots a) slots moment key on.before t h.reader t.device true on.there h.talk
     (changed_again a.slots mid slots key on.before on.after is_broken on.there on.slots is ∙ ap (λ (d : ConnectionState). slice_set a.slots key (Some (is_broken d))) h.is)
@@ -358,7 +379,7 @@ hears_fault moves u a mid slots moment key on is =
     (λ l e given fits there f whole talk link. (
       broken e,
       fits_off e on.before given t h.reader f talk,
-      λ hs l' it counts. inr (inr (inr (record {
+      λ hs l' it counts. inr (inr (inr (inl (record {
         entry = e;
         reports = given;
         device = t.device;
@@ -368,16 +389,16 @@ hears_fault moves u a mid slots moment key on is =
         fault = h.next.0;
         faulty = (h.next.1.1 e.read given link.stands).0;
         does = it;
-      }))),
+      })))),
     ))
 
 same_one : {A : Type 0} (x : Option A) (c d : A) → x ≡ Some c → x ≡ Some d → c ≡ d
 same_one x c d p q = cc
 
-pub hears_lost : {N : Type 0} (told : N → Note → N → Type 0) (n n' : N) (a : EngineState) (mid slots : Slots) (moment key id : ℕ)
-    → OnSlot key (IsBrought (Some brings.OutOfMemory)) a.slots mid → OnSlot key (λ c d. (c.id ≡ id) × (d ≡ is_broken c)) mid slots → told n (Refused At.Feed (Some id)) n' → Heard (alone told) moment key n a n' (with_slots slots a)
-hears_lost told n n' a mid slots moment key id on off tells' =
-    let h = off_from brings.OutOfMemory on.before on.after tt on.changes on.before.talk on.after.talk refl refl in
+-- memory for a line of a device is refused
+loses_report : {N : Type 0} (told : N → Note → N → Type 0) (n n' : N) (a : EngineState) (mid slots : Slots) (moment key id : ℕ)
+    (on : OnSlot key (IsBrought (Some brings.OutOfMemory)) a.slots mid) → IsOff brings.OutOfMemory on.before on.after → OnSlot key (λ c d. (c.id ≡ id) × (d ≡ is_broken c)) mid slots → told n (Refused At.Feed (Some id)) n' → Heard (alone told) moment key n a n' (with_slots slots a)
+loses_report told n n' a mid slots moment key id on h off tells' =
     let t = h.before in
     let there : slice_index_or mid key None ≡ Some on.after = ap (λ (vs : Slots). slice_index_or vs key None) on.slots ∙ set_there a.slots key on.before (Some on.after) on.there in
     let was : off.before ≡ on.after = same_one (slice_index_or mid key None) off.before on.after off.there there in
@@ -400,3 +421,9 @@ hears_lost told n n' a mid slots moment key id on off tells' =
         does = (it.0 ∙ ap (λ (i : ℕ). Told (Refused At.Feed (Some i)) ∷ []) (sym its ∙ f.id), it.1);
       }))),
     ))
+
+-- memory for a line is refused, of a device or of an LPD client
+pub hears_lost : {N : Type 0} (told : N → Note → N → Type 0) (n n' : N) (a : EngineState) (mid slots : Slots) (moment key id : ℕ)
+    → OnSlot key (IsBrought (Some brings.OutOfMemory)) a.slots mid → OnSlot key (λ c d. (c.id ≡ id) × (d ≡ is_broken c)) mid slots → told n (Refused At.Feed (Some id)) n' → Heard (alone told) moment key n a n' (with_slots slots a)
+hears_lost told n n' a mid slots moment key id on off tells' =
+    elim (off_from brings.OutOfMemory on.before on.after tt on.changes on.before.talk on.after.talk refl refl) [ inl h ↦ loses_report told n n' a mid slots moment key id on h off tells' | inr h ↦ loses_line told n n' a mid slots moment key id on h off tells' ]

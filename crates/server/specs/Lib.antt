@@ -1,5 +1,7 @@
 pub mod Polls
 pub mod Session
+pub mod Commands
+pub mod LpdAsks
 pub mod Talks
 pub mod Hearing
 pub mod Output
@@ -11,6 +13,7 @@ pub mod Closing
 pub mod Exchange
 pub mod Devices
 pub mod Queues
+pub mod Granting
 pub mod Polling
 pub mod Turn
 pub mod State

@@ -1,13 +1,21 @@
 -- What connections bring, as plain data.
-use Rattle.std.specs.Prelude.{ℕ, Bool, List, Option}
+use Rattle.std.specs.Prelude.{ℕ, Bool, Option}
 use Rattle.http_front.specs.Stream.{HttpState}
+use Rattle.lpd_reader.specs.Stream.{LpdState}
+use Rattle.lpd_session.specs.Session.{SessionState}
 use Rattle.device_link.specs.Stream.{LinkState}
+use Rattle.replies.specs.Reader.{ReaderState}
 
 pub record HttpTalkState : Type 0 where
   pub reader : HttpState
   -- of the request that is coming
   pub closes : Bool
-  pub body : List ℕ
+  pub body : ReaderState
+
+pub record LpdTalkState : Type 0 where
+  pub reader : LpdState
+  -- the files of a queue, once they are received
+  pub session : Option SessionState
 
 pub record LinkTalkState : Type 0 where
   pub reader : LinkState

@@ -16,7 +16,7 @@ use assignment::Planner;
 use base_types::Moment;
 use dispatcher::{Event, Status};
 use http_front::{HttpItem, Refusal, continue_head};
-use replies::{Asked, ipp_event, request_id};
+use replies::Asked;
 
 /// What connections bring, acted on one at a time.
 impl<P: Planner + Drop> Engine<P> {
@@ -41,7 +41,9 @@ impl<P: Planner + Drop> Engine<P> {
     {
         match what {
             Brought::Item(item) => self.hear_item(moment, key, item, notes),
+            Brought::Said(item) => self.hear_said(moment, key, item, notes),
             Brought::Report(report) => self.hear_report(moment, key, report, notes),
+            Brought::LpdFault => self.refuse_client(moment, key, notes),
             Brought::Fault => break_off(&mut self.connections, key),
             Brought::OutOfMemory => {
                 if let Some(id) = lose(&mut self.connections, key) {
@@ -75,20 +77,20 @@ impl<P: Planner + Drop> Engine<P> {
     fn end_body<N: Notes>(&mut self, moment: Moment, key: usize, notes: &mut N)
         ensures { (before : Slots) → OnSlot key (IsHeard HttpItem.BodyEnd) before self.old.slots → Heard (alone N.told) moment key notes.old (with_slots before self.old) notes.new self.new }
     {
-        if let Some(whole) = take_body(&mut self.connections, key) {
-            self.act_on(moment, key, &whole, notes);
+        if let Some(mut whole) = take_body(&mut self.connections, key) {
+            self.act_on(moment, key, &mut whole, notes);
         }
     }
 
     /// Acts on a body.
-    fn act_on<N: Notes>(&mut self, moment: Moment, key: usize, whole: &Whole, notes: &mut N)
-        ensures { (before : Slots) → OnSlot key (IsWholeOf whole.now) before self.old.slots → Heard (alone N.told) moment key notes.old (with_slots before self.old) notes.new self.new }
+    fn act_on<N: Notes>(&mut self, moment: Moment, key: usize, whole: &mut Whole, notes: &mut N)
+        ensures { (before : Slots) → OnSlot key (IsWholeOf whole.old) before self.old.slots → Heard (alone N.told) moment key notes.old (with_slots before self.old) notes.new self.new }
     {
-        let Some(request) = request_id(&whole.body) else {
+        let Some(request) = whole.body.request_id() else {
             self.refuse_short(key, notes);
             return;
         };
-        match ipp_event(self.alloc, &whole.body) {
+        match whole.body.finish() {
             Ok(asked) => self.act_on_asked(moment, key, whole.id, whole.closes, asked, notes),
             Err(_) => {
                 finish(&mut self.connections, key, whole.closes);

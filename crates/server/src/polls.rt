@@ -32,10 +32,8 @@ impl<P: Planner + Drop> Engine<P> {
         ensures { Does (both W.polled N.told) (AcceptsOne door) (wire.old, notes.old) self.old (wire.new, notes.new) self.new }
     {
         if let Answer::Done(id) = wire.poll_accept(door) {
-            match Talk::new(self.alloc, door) {
-                Some(talk) => self.open(id, talk, wire, notes),
-                None => wire.close(id),
-            }
+            let talk = Talk::new(self.alloc, door);
+            self.open(id, talk, wire, notes);
         }
     }
 

@@ -1,34 +1,19 @@
-//! What a connection brings: a client's requests over HTTP, or what a device reports.
-ghost use Rattle.std.specs.Prelude.{◌≡◌, ◌++◌, [], IfSome, OnOk, OnErr, Some, is_some};
-ghost use Rattle.server.specs.Polling.{is_served};
-ghost use Rattle.server.specs.Hearing.{IsNewTalk, IsFedHttp, IsFedLink, IsFedTalk, NextItem, NextReport, Brings, http_reads, link_reads, brought_of, begun, with_part, without_body, body_of, closes_of, device_of, named};
+//! What a connection brings: a client's requests over HTTP, an LPD client's commands and files, or what a device reports.
+ghost use Rattle.std.specs.Prelude.{◌≡◌, OnOk, OnErr, Some};
+ghost use Rattle.server.specs.Session.{is_queue};
+ghost use Rattle.server.specs.Hearing.{IsNewTalk, IsFedLink, IsFedTalk, NextReport, Brings, link_reads, brought_of, Begins, HasPart, LosesBody, closes_of, HearsTalk, device_of, named};
 
+use crate::http_talk::HttpTalk;
+use crate::lpd_talk::{LpdAsks, LpdTalk};
 use crate::wire::Door;
 use base_types::{DeviceId, Report};
 use device_link::{LinkError, LinkReader};
-use http_front::{HttpItem, HttpReader};
+use http_front::HttpItem;
+use lpd_reader::LpdItem;
+use replies::AskedReader;
+use settings_file::Settings;
 use std::alloc::{AllocError, Global};
 use std::marker::Model;
-use std::mem;
-
-/// What a client's connection brings.
-#[derive(Drop)]
-pub(crate) struct HttpTalk {
-    alloc: Global,
-    reader: HttpReader,
-    /// Of the request that is coming: whether the connection closes after its reply, and its body so
-    /// far.
-    closes: bool,
-    body: Vec<u8>,
-}
-
-impl Model for HttpTalk {
-    ghost use Rattle.server.specs.Talks.{HttpTalkState};
-
-    ghost Value = { HttpTalkState };
-
-    ghost view = { λ t. record { reader = t.reader; closes = t.closes; body = t.body.items } };
-}
 
 /// What a device's connection brings.
 #[derive(Drop)]
@@ -50,6 +35,7 @@ impl Model for LinkTalk {
 #[derive(Drop)]
 pub(crate) enum Talk {
     Http(HttpTalk),
+    Lpd(LpdTalk),
     Link(LinkTalk),
 }
 
@@ -58,64 +44,16 @@ pub(crate) enum Talk {
 pub(crate) enum Brought {
     /// Of a client's stream.
     Item(HttpItem),
+    /// Of an LPD client's stream.
+    Said(LpdItem),
     /// Of a device's stream.
     Report(Report),
+    /// An LPD client's stream has a fault.
+    LpdFault,
     /// A device's stream has a fault.
     Fault,
     /// There is no memory for what comes next.
     OutOfMemory,
-}
-
-impl HttpTalk {
-    /// Takes the next bytes of the wire. The error is out of memory: none of them is taken.
-    fn feed(&mut self, piece: &[u8]) -> Result<(), AllocError>
-        ensures ok { OnOk result (IsFedHttp piece.now self.old self.new) }
-        ensures err { OnErr result (self.new ≡ self.old) }
-    {
-        self.reader.feed(piece)
-    }
-
-    /// The next item of the stream.
-    fn next(&mut self) -> Option<Brought>
-        ensures next { NextItem result self.old.reader self.new.reader }
-        ensures rest { self.new ≡ http_reads self.new.reader self.old }
-    {
-        match self.reader.next_item() {
-            Some(item) => Some(Brought::Item(item)),
-            None => None,
-        }
-    }
-
-    /// A request begins.
-    fn begin(&mut self, closes: bool)
-        ensures { self.new ≡ record self.old { closes = closes; body = [] } }
-    {
-        self.closes = closes;
-        self.body.clear();
-    }
-
-    /// Adds the part of the body that came last. The error is out of memory.
-    fn take_part(&mut self) -> Result<(), AllocError>
-        ensures ok { OnOk result (self.new ≡ record self.old { body = self.old.body ++ self.old.reader.part }) }
-        ensures err { OnErr result (self.new ≡ self.old) }
-    {
-        self.body.extend_from_slice(self.reader.part())
-    }
-
-    /// Takes the body.
-    fn take_body(&mut self) -> Vec<u8>
-        ensures body { result.items ≡ self.old.body }
-        ensures left { self.new ≡ record self.old { body = [] } }
-    {
-        let empty = Vec::new(self.alloc);
-        mem::replace(&mut self.body, empty)
-    }
-
-    fn closes(&self) -> bool
-        ensures { result ≡ self.now.closes }
-    {
-        self.closes
-    }
 }
 
 impl LinkTalk {
@@ -164,23 +102,17 @@ fn brought_by(answer: Result<Option<Report>, LinkError>) -> Option<Brought>
 }
 
 impl Talk {
-    /// What comes at a door of which nothing was read; nothing where the door isn't served.
-    pub(crate) fn new(alloc: Global, door: Door) -> Option<Talk>
-        ensures new { IfSome result (IsNewTalk door) }
-        ensures served { is_some result ≡ is_served door }
+    /// What comes at a door of which nothing was read.
+    pub(crate) fn new(alloc: Global, door: Door) -> Talk
+        ensures { IsNewTalk door result }
     {
         match door {
-            Door::Ipp => Some(Talk::Http(HttpTalk {
-                alloc,
-                reader: HttpReader::new(alloc),
-                closes: false,
-                body: Vec::new(alloc),
-            })),
-            Door::Lpd => None,
-            Door::Devices => Some(Talk::Link(LinkTalk {
+            Door::Ipp => Talk::Http(HttpTalk::new(alloc)),
+            Door::Lpd => Talk::Lpd(LpdTalk::new(alloc)),
+            Door::Devices => Talk::Link(LinkTalk {
                 reader: LinkReader::new(alloc),
                 device: None,
-            })),
+            }),
         }
     }
 
@@ -191,6 +123,7 @@ impl Talk {
     {
         match self {
             Talk::Http(talk) => talk.feed(piece),
+            Talk::Lpd(talk) => talk.feed(piece),
             Talk::Link(talk) => talk.feed(piece),
         }
     }
@@ -201,38 +134,38 @@ impl Talk {
     {
         match self {
             Talk::Http(talk) => talk.next(),
+            Talk::Lpd(talk) => talk.next(),
             Talk::Link(talk) => talk.next(),
         }
     }
 
     /// A request begins.
     pub(crate) fn begin(&mut self, closes: bool)
-        ensures { self.new ≡ begun closes self.old }
+        ensures { Begins closes self.old self.new }
     {
         if let Talk::Http(talk) = self {
             talk.begin(closes);
         }
     }
 
-    /// Adds the part of a request's body that came last. The error is out of memory.
+    /// Reads the part of a request's body that came last. The error is out of memory.
     pub(crate) fn take_part(&mut self) -> Result<(), AllocError>
-        ensures ok { OnOk result (self.new ≡ with_part self.old) }
+        ensures ok { OnOk result (HasPart self.old self.new) }
         ensures err { OnErr result (self.new ≡ self.old) }
     {
         match self {
             Talk::Http(talk) => talk.take_part(),
-            Talk::Link(_) => Ok(()),
+            Talk::Lpd(_) | Talk::Link(_) => Ok(()),
         }
     }
 
     /// Takes the body of a request.
-    pub(crate) fn take_body(&mut self, alloc: Global) -> Vec<u8>
-        ensures body { result.items ≡ body_of self.old }
-        ensures left { self.new ≡ without_body self.old }
+    pub(crate) fn take_body(&mut self, alloc: Global) -> AskedReader
+        ensures { LosesBody result self.old self.new }
     {
         match self {
             Talk::Http(talk) => talk.take_body(),
-            Talk::Link(_) => Vec::new(alloc),
+            Talk::Lpd(_) | Talk::Link(_) => AskedReader::new(alloc),
         }
     }
 
@@ -242,7 +175,17 @@ impl Talk {
     {
         match self {
             Talk::Http(talk) => talk.closes(),
-            Talk::Link(_) => false,
+            Talk::Lpd(_) | Talk::Link(_) => false,
+        }
+    }
+
+    /// Acts on what an LPD client said.
+    pub(crate) fn hear(&mut self, item: LpdItem, settings: &Settings) -> LpdAsks
+        ensures { HearsTalk (is_queue settings.now) item result self.old self.new }
+    {
+        match self {
+            Talk::Lpd(talk) => talk.hear(item, settings),
+            Talk::Http(_) | Talk::Link(_) => LpdAsks::Goes(None),
         }
     }
 
@@ -251,7 +194,7 @@ impl Talk {
         ensures { result ≡ device_of self.now }
     {
         match self {
-            Talk::Http(_) => None,
+            Talk::Http(_) | Talk::Lpd(_) => None,
             Talk::Link(talk) => talk.device(),
         }
     }

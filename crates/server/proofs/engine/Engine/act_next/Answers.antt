@@ -8,12 +8,22 @@ use Rattle.server.proofs.Slots.{set_there}
 use Rattle.server.proofs.Closing.{never_none}
 use Rattle.server.proofs.Hearing.{item_of}
 use Rattle.server.proofs.Reporting.{report_taken, hears_fault, hears_lost}
+use Rattle.server.proofs.Saying.{said_taken}
 use Rattle.server.proofs.engine.Engine.act_next.Goals as goal
 
 pub returns-in-Item : goal.returns-in-Item
 returns-in-Item g c = λ before on.
     let brought = subst (λ (what : Brought). OnSlot c.args.key (IsBrought (Some what)) before c.args.self.now.slots) c.in-Item.is on in
     c.hear_item.ensures before (item_of c.args.key c.in-Item.item before c.args.self.now.slots brought)
+
+pub returns-in-Said : goal.returns-in-Said
+returns-in-Said g c = λ before on.
+    let brought = subst (λ (what : Brought). OnSlot c.args.key (IsBrought (Some what)) before c.args.self.now.slots) c.in-Said.is on in
+    c.hear_said.ensures before (said_taken c.args.key c.in-Said.item before c.args.self.now.slots brought)
+
+pub returns-in-LpdFault : goal.returns-in-LpdFault
+returns-in-LpdFault g c = λ before on.
+    c.refuse_client.ensures before (subst (λ (what : Brought). OnSlot c.args.key (IsBrought (Some what)) before c.args.self.now.slots) c.in-LpdFault.is on)
 
 pub returns-in-Report : goal.returns-in-Report
 returns-in-Report g c = λ before on.

@@ -1,0 +1,14 @@
+use Rattle.std.proofs.Common.{◌∙◌, refl, List, ℕ, subst, inl, inr}
+use Rattle.server.specs.Keeping.{Keeps}
+use Rattle.server.specs.Polls.{alone}
+use Rattle.server.proofs.Steps.{aside_as, aside_from, aside_then}
+use Rattle.server.proofs.Happening.{tells, breaks}
+use Rattle.server.proofs.engine.Engine.show.Goals as goal
+
+pub returns-in-Ok : goal.returns-in-Ok
+returns-in-Ok g c = aside_as (alone g.N.Notes.told) _ _ _ _ _ _ (λ l hs l' fits fits' it. inl (subst (λ (bytes : List ℕ). Keeps c.args.key bytes l hs l') (c.deref.ensures.value ∙ c.in-Ok.ensures) it)) c.keep.ensures
+
+pub returns-in-Err : goal.returns-in-Err
+returns-in-Err g c =
+    aside_as (alone g.N.Notes.told) _ _ _ _ _ _ (λ l hs l' fits fits' it. inr it)
+    (aside_then (alone g.N.Notes.told) _ _ _ _ _ _ _ _ (tells g.N.Notes.told _ _ _ _ c.refused.ensures) (aside_from _ _ _ _ _ _ _ _ c.self.view_is refl (breaks (alone g.N.Notes.told) _ _ _ _ c.break_off.ensures)))

@@ -1,0 +1,181 @@
+//! What comes of what LPD clients say.
+ghost use Rattle.std.specs.Prelude.{◌≡◌, Some};
+ghost use Rattle.server.specs.Polls.{alone, Refused};
+ghost use Rattle.server.specs.Rel.{Then};
+ghost use Rattle.server.specs.Happening.{Follows};
+ghost use Rattle.replies.specs.QueueText.{text_of};
+ghost use Rattle.server.specs.Queues.{Answers, Declines, IsAnswered, IsTold, Shows};
+ghost use Rattle.server.specs.Granting.{Grants, Submitted, Commanded};
+ghost use Rattle.server.specs.State.{Slots, OnSlot, IsBrought, IsSaid, with_slots};
+ghost use Rattle.server.specs.Stands.{Aside, Heard};
+
+use crate::engine::Engine;
+use crate::lpd_talk::{LpdAsks, REFUSED};
+use crate::notes::{Notes, Place};
+use crate::table::{break_off, finish, hear_said};
+use crate::talk::Brought;
+use crate::wire::WireId;
+use assignment::Planner;
+use base_types::Moment;
+use dispatcher::{Answer as Says, Event, LpdAnswer, Reply};
+use lpd_reader::LpdItem;
+use replies::{lpd_ack, lpd_queue_text};
+
+/// What LPD clients say, acted on one thing at a time.
+impl<P: Planner + Drop> Engine<P> {
+    /// Acts on what an LPD client said that was just taken off.
+    pub(crate) fn hear_said<N: Notes>(
+        &mut self,
+        moment: Moment,
+        key: usize,
+        item: LpdItem,
+        notes: &mut N,
+    )
+        ensures { (before : Slots) → OnSlot key (IsSaid item) before self.old.slots → Heard (alone N.told) moment key notes.old (with_slots before self.old) notes.new self.new }
+    {
+        if let Some(wish) = hear_said(&mut self.connections, key, item, self.core.settings()) {
+            self.grant(moment, key, wish.id, wish.asks, notes);
+        }
+    }
+
+    /// A fault of an LPD client's stream is refused, and the connection closes.
+    pub(crate) fn refuse_client<N: Notes>(&mut self, moment: Moment, key: usize, notes: &mut N)
+        ensures { (before : Slots) → OnSlot key (IsBrought (Some Brought.LpdFault)) before self.old.slots → Heard (alone N.told) moment key notes.old (with_slots before self.old) notes.new self.new }
+    {
+        finish(&mut self.connections, key, true);
+        self.acknowledge(key, Some(REFUSED), notes);
+    }
+
+    /// What an LPD client asks comes about.
+    fn grant<N: Notes>(
+        &mut self,
+        moment: Moment,
+        key: usize,
+        id: WireId,
+        asks: LpdAsks,
+        notes: &mut N,
+    )
+        ensures { Aside (alone N.told) (Grants moment key id asks) notes.old self.old notes.new self.new }
+    {
+        match asks {
+            LpdAsks::Goes(byte) => self.acknowledge(key, byte, notes),
+            LpdAsks::Stops(byte) => self.acknowledge(key, byte, notes),
+            LpdAsks::Submits(event) => self.submit(moment, key, id, event, notes),
+            LpdAsks::JobLost => self.decline(Place::Event, key, id, notes),
+            LpdAsks::FileLost => self.decline(Place::File, key, id, notes),
+            LpdAsks::Commands(event) => self.command(moment, key, id, event, notes),
+        }
+    }
+
+    /// A byte becomes due on the connection under a key, if there is one.
+    fn acknowledge<N: Notes>(&mut self, key: usize, byte: Option<u8>, notes: &mut N)
+        ensures { Aside (alone N.told) (Answers key byte) notes.old self.old notes.new self.new }
+    {
+        if let Some(byte) = byte {
+            self.keep(key, &[byte], notes);
+        }
+    }
+
+    /// Memory for a file or for its job was refused.
+    fn decline<N: Notes>(&mut self, place: Place, key: usize, id: WireId, notes: &mut N)
+        ensures { Aside (alone N.told) (Declines place key id) notes.old self.old notes.new self.new }
+    {
+        notes.refused(place, Some(id));
+        self.acknowledge(key, Some(REFUSED), notes);
+    }
+
+    /// A job of files is submitted.
+    fn submit<N: Notes>(
+        &mut self,
+        moment: Moment,
+        key: usize,
+        id: WireId,
+        event: Event,
+        notes: &mut N,
+    )
+        ensures { Aside (alone N.told) (Submitted moment key id event) notes.old self.old notes.new self.new }
+    {
+        let query = event.is_query();
+        match self.core.apply(event, moment) {
+            Ok(reply) => self.answer_client(moment, key, id, query, reply, notes),
+            Err(_) => self.decline(Place::Event, key, id, notes),
+        }
+    }
+
+    /// A queue is listed, or jobs are removed.
+    fn command<N: Notes>(
+        &mut self,
+        moment: Moment,
+        key: usize,
+        id: WireId,
+        event: Event,
+        notes: &mut N,
+    )
+        ensures { Aside (alone N.told) (Commanded moment key id event) notes.old self.old notes.new self.new }
+    {
+        let query = event.is_query();
+        match self.core.apply(event, moment) {
+            Ok(reply) => self.answer_client(moment, key, id, query, reply, notes),
+            Err(_) => {
+                notes.refused(Place::Event, Some(id));
+                break_off(&mut self.connections, key);
+            }
+        }
+    }
+
+    /// A reply of the core is kept, and what follows comes.
+    fn answer_client<N: Notes>(
+        &mut self,
+        moment: Moment,
+        key: usize,
+        id: WireId,
+        query: bool,
+        reply: Reply,
+        notes: &mut N,
+    )
+        ensures { Aside (alone N.told) (Then (IsAnswered key id reply.answer) (Follows moment query reply.cancels.items)) notes.old self.old notes.new self.new }
+    {
+        let Reply {
+            answer,
+            cancels,
+            ..
+        } = reply;
+        self.tell_answer(key, id, &answer, notes);
+        self.follow(moment, query, &cancels, notes);
+    }
+
+    /// The bytes of an answer to an LPD client become due, if it is one.
+    fn tell_answer<N: Notes>(&mut self, key: usize, id: WireId, answer: &Says, notes: &mut N)
+        ensures { Aside (alone N.told) (IsAnswered key id answer.now) notes.old self.old notes.new self.new }
+    {
+        match answer {
+            Says::Lpd(answer) => self.tell_client(key, id, answer, notes),
+            Says::Ipp(_) => {}
+            Says::Nothing => {}
+        }
+    }
+
+    /// The bytes of an answer to an LPD client become due.
+    fn tell_client<N: Notes>(&mut self, key: usize, id: WireId, answer: &LpdAnswer, notes: &mut N)
+        ensures { Aside (alone N.told) (IsTold key id answer.now) notes.old self.old notes.new self.new }
+    {
+        match answer {
+            LpdAnswer::Taken(_) => self.keep(key, &[lpd_ack(answer)], notes),
+            LpdAnswer::Queue(_) => self.show(key, id, answer, notes),
+            LpdAnswer::NoQueue => self.show(key, id, answer, notes),
+        }
+    }
+
+    /// The text of a queue becomes due; where memory for it is refused, the connection breaks.
+    fn show<N: Notes>(&mut self, key: usize, id: WireId, answer: &LpdAnswer, notes: &mut N)
+        ensures { Aside (alone N.told) (Shows key id (text_of answer.now)) notes.old self.old notes.new self.new }
+    {
+        match lpd_queue_text(self.alloc, answer) {
+            Ok(text) => self.keep(key, &text, notes),
+            Err(_) => {
+                notes.refused(Place::Reply, Some(id));
+                break_off(&mut self.connections, key);
+            }
+        }
+    }
+}
