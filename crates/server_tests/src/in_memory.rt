@@ -229,19 +229,3 @@ fn one_client_too_many(rt: HostRuntime) -> Result<(), Fail> {
     assert_eq!(rt; one_goes, 65);
     Ok(())
 }
-
-/// Whether a client at a door that isn't served yet is closed with nothing said.
-fn is_turned_away(alloc: Global) -> Result<bool, AllocError> {
-    let mut peers = Vec::new(alloc);
-    peers.push(client(alloc, Door::Lpd, b"\x02lab\n", (1, 1))?)?;
-    let mut wire = Memory::new(peers);
-    let mut notes = NoteLog::new(alloc);
-    Ok(serve(alloc, &mut wire, &mut notes, 3) && got(&wire, 0, b"") && is_closed(&wire, 0))
-}
-
-#[test]
-fn other_door_closes(rt: HostRuntime) -> Result<(), Fail> {
-    let turned_away = is_turned_away(rt.alloc())?;
-    assert!(rt; turned_away);
-    Ok(())
-}

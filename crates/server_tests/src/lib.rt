@@ -10,4 +10,6 @@ mod exchanges;
 #[cfg(test)]
 mod in_memory;
 #[cfg(test)]
+mod lpd_sessions;
+#[cfg(test)]
 mod over_sockets;

@@ -7,7 +7,6 @@ use std::io;
 use std::io::{Read, Write};
 use std::net::{IpAddr, Ipv4Addr, Shutdown, SocketAddr, TcpStream};
 use std::test::Fail;
-use std::time::Duration;
 
 /// This machine.
 fn local() -> IpAddr {
@@ -41,7 +40,7 @@ fn connect(rt: &HostRuntime, server: &Server) -> io::Result<TcpStream> {
 fn turns(server: &mut Server, count: usize) -> io::Result<()> {
     for _turn in 0..count {
         server.turn(Moment::start());
-        server.rest(Duration::from_millis(2))?;
+        server.rest(2)?;
     }
     Ok(())
 }
@@ -143,5 +142,52 @@ fn one_client_too_many(rt: HostRuntime) -> Result<(), Fail> {
     let (early, answered) = many(&rt)?;
     assert_eq!(rt; early, 0);
     assert!(rt; answered);
+    Ok(())
+}
+
+/// Turns at a moment so many ms after the start.
+fn turns_at(server: &mut Server, millis: u64) -> io::Result<()> {
+    for _turn in 0..3 {
+        server.turn(Moment::new(millis).unwrap_or(Moment::start()));
+        server.rest(2)?;
+    }
+    Ok(())
+}
+
+/// Whether a client is told that nothing more will come.
+fn has_ended(client: &mut TcpStream) -> bool {
+    let mut piece = [0; 1];
+    match client.read(&mut piece) {
+        Ok(count) => count == 0,
+        Err(_) => false,
+    }
+}
+
+/// Whether a client that sends a part of a head, and then a byte at 30 s, is let go at 59,999 ms, and
+/// whether it is at 60,000.
+fn dribbles(rt: &HostRuntime, server: &mut Server) -> io::Result<(bool, bool)> {
+    let mut client = connect(rt, server)?;
+    client.write_all(b"POST / HT")?;
+    turns_at(server, 0)?;
+    client.write_all(b"T")?;
+    turns_at(server, 30_000)?;
+    client.set_nonblocking(true)?;
+    turns_at(server, 59_999)?;
+    let early = has_ended(&mut client);
+    turns_at(server, 60_000)?;
+    Ok((early, has_ended(&mut client)))
+}
+
+/// The same of a server that has just started.
+fn dribbles_at_first(rt: &HostRuntime) -> io::Result<(bool, bool)> {
+    let mut server = start(rt)?;
+    dribbles(rt, &mut server)
+}
+
+#[test]
+fn unfinished_head_has_a_minute(rt: HostRuntime) -> Result<(), Fail> {
+    let (early, late) = dribbles_at_first(&rt)?;
+    assert!(rt; !early);
+    assert!(rt; late);
     Ok(())
 }

@@ -1,0 +1,178 @@
+//! LPD clients over a wire in memory: what they send, and what they are answered (RFC 1179, sections 5
+//! and 6).
+use crate::in_memory::{CUTS, TURNS, client, got, is_closed, serve};
+use server::memory_wire::Memory;
+use server::{Door, NoteLog};
+use std::alloc::{AllocError, Global};
+use std::test::Fail;
+
+/// What a client sends to a server that has just started.
+#[derive(Clone, Copy)]
+struct Session {
+    sent: &'static [u8],
+    answered: &'static [u8],
+    /// Whether the server closes the connection.
+    closes: bool,
+}
+
+/// A job of one file, the control file first.
+const ONE_JOB: Session = Session {
+    sent: b"\x02lab\n\x0223 cfA001host\nHhost\nPann\nfdfA001host\n\x00\x035 dfA001host\nhello\x00",
+    answered: b"\x00\x00\x00\x00\x00",
+    closes: false,
+};
+
+const SESSIONS: [Session; 12] = [
+    ONE_JOB,
+    // The data file first.
+    Session {
+        sent: b"\x02lab\n\x035 dfA001host\nhello\x00\x0223 cfA001host\nHhost\nPann\nfdfA001host\n\x00",
+        answered: b"\x00\x00\x00\x00\x00",
+        closes: false,
+    },
+    // A control file without an owner isn't kept, and the session goes on; to give up isn't answered.
+    Session {
+        sent: b"\x02lab\n\x0218 cfA001host\nHhost\nfdfA001host\n\x00\x01\n\x035 dfA001host\nhello\x00",
+        answered: b"\x00\x00\x01\x00\x00",
+        closes: false,
+    },
+    // An unknown command, an unknown queue, and one that there is nothing to do for.
+    Session {
+        sent: b"\x09lab\n",
+        answered: b"\x01",
+        closes: true,
+    },
+    Session {
+        sent: b"\x02shop\n",
+        answered: b"\x01",
+        closes: true,
+    },
+    Session {
+        sent: b"\x01lab\n\x03lab\n",
+        answered: b"",
+        closes: true,
+    },
+    Session {
+        sent: b"\x03shop\n\x02lab\n",
+        answered: b"no queue\n",
+        closes: true,
+    },
+    // An empty file, a name of another kind, files that are too large, and one without its end.
+    Session {
+        sent: b"\x02lab\n\x030 dfA001host\n",
+        answered: b"\x00\x01",
+        closes: true,
+    },
+    Session {
+        sent: b"\x02lab\n\x023 xfA001host\n",
+        answered: b"\x00\x01",
+        closes: true,
+    },
+    Session {
+        sent: b"\x02lab\n\x0265537 cfA001host\n",
+        answered: b"\x00\x01",
+        closes: true,
+    },
+    Session {
+        sent: b"\x02lab\n\x0316777217 dfA001host\n",
+        answered: b"\x00\x01",
+        closes: true,
+    },
+    Session {
+        sent: b"\x02lab\n\x0223 cfA001host\nHhost\nPann\nfdfA001host\n\x01",
+        answered: b"\x00\x00\x01",
+        closes: true,
+    },
+];
+
+/// Whether a client gets just its answers, and is closed where it is to be.
+fn is_answered(alloc: Global, session: Session, cut: (usize, usize)) -> Result<bool, AllocError> {
+    let mut peers = Vec::new(alloc);
+    peers.push(client(alloc, Door::Lpd, session.sent, cut)?)?;
+    let mut wire = Memory::new(peers);
+    let mut notes = NoteLog::new(alloc);
+    Ok(
+        serve(alloc, &mut wire, &mut notes, TURNS)
+            && got(&wire, 0, session.answered)
+            && is_closed(&wire, 0) == session.closes,
+    )
+}
+
+/// However the bytes are cut.
+#[test]
+fn lpd_sessions_in_pieces(rt: HostRuntime) -> Result<(), Fail> {
+    for session in SESSIONS {
+        for cut in CUTS {
+            let answered = is_answered(rt.alloc(), session, cut)?;
+            assert!(rt; answered);
+        }
+    }
+    Ok(())
+}
+
+/// A device that runs, the client of a job, and clients that list its queue and remove it, one after
+/// the other: at most one is accepted at a door in a turn.
+fn queue_of_one(alloc: Global) -> Result<Memory, AllocError> {
+    let whole = (4096, 4096);
+    let mut peers = Vec::new(alloc);
+    peers.push(client(alloc, Door::Devices, b"HELLO A\nREADY\n", whole)?)?;
+    for sent in [
+        ONE_JOB.sent,
+        b"\x03lab\n".as_slice(),
+        b"\x04lab bob\n".as_slice(),
+        b"\x05lab ann 1\n".as_slice(),
+    ] {
+        peers.push(client(alloc, Door::Lpd, sent, whole)?)?;
+    }
+    Ok(Memory::new(peers))
+}
+
+/// Whether the device gets the job and its end, and each client its answer.
+fn is_queue_served(alloc: Global) -> Result<bool, AllocError> {
+    let mut wire = queue_of_one(alloc)?;
+    let mut notes = NoteLog::new(alloc);
+    Ok(
+        serve(alloc, &mut wire, &mut notes, 20)
+            && got(&wire, 0, b"JOB 1 5 1 1 iso_a4_210x297mm\nhelloCANCEL 1\n")
+            && got(&wire, 1, ONE_JOB.answered)
+            && got(&wire, 2, b"lab processing\n1 processing ann 5 untitled\n")
+            && got(&wire, 3, b"lab processing\nno entries\n")
+            && got(&wire, 4, b"")
+            && is_closed(&wire, 4),
+    )
+}
+
+#[test]
+fn queue_listed_and_emptied(rt: HostRuntime) -> Result<(), Fail> {
+    let served = is_queue_served(rt.alloc())?;
+    assert!(rt; served);
+    Ok(())
+}
+
+/// Whether a client got a front of its answers where a poll faults.
+fn is_cut_off(alloc: Global, fault_at: u64) -> Result<bool, AllocError> {
+    let mut peers = Vec::new(alloc);
+    peers.push(client(alloc, Door::Lpd, ONE_JOB.sent, (16, 1))?)?;
+    let mut wire = Memory::new(peers);
+    wire.fault_at = fault_at;
+    let mut notes = NoteLog::new(alloc);
+    let turned = serve(alloc, &mut wire, &mut notes, 60);
+    match wire.peers.first() {
+        Some(peer) => Ok(
+            turned
+                && ONE_JOB.answered.starts_with(peer.taken.as_slice())
+                && (peer.closed || peer.taken.as_slice() == ONE_JOB.answered),
+        ),
+        None => Ok(false),
+    }
+}
+
+/// A fault at any poll: what was taken is a front of what was due.
+#[test]
+fn lpd_fault_at_each_poll(rt: HostRuntime) -> Result<(), Fail> {
+    for fault_at in 0..40 {
+        let cut_off = is_cut_off(rt.alloc(), fault_at)?;
+        assert!(rt; cut_off);
+    }
+    Ok(())
+}
