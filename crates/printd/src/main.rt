@@ -1,6 +1,6 @@
-//! The program: `printd serve` is the server over sockets, `printd replay` reads a trace from standard
-//! input and writes what the server does, and `printd check` reads the text of a plan and writes the
-//! verdict on it.
+//! The program: `printd serve` is the server over sockets, `printd settings` judges a file of its
+//! settings, `printd replay` reads a trace from standard input and writes what the server does, and
+//! `printd check` reads the text of a plan and writes the verdict on it.
 #![tactic(auto)]
 
 ghost use Rattle.settings_file.specs.Settings.{MeetsLimits};
@@ -10,7 +10,7 @@ mod words;
 use crate::words::{Asked, Serving, read_words};
 use plan_audit::run_check;
 use replay::run_replay;
-use serve::{Ports, Server, read_serve, serve};
+use serve::{Ports, Server, read_serve, serve, serve_logged};
 use settings_file::Settings;
 use std::alloc::AllocError;
 use std::io::ErrorKind;
@@ -57,9 +57,17 @@ fn announce(rt: &HostRuntime, ports: Ports) -> io::Result<()> {
 }
 
 /// Says where a server listens, and has it take its turns.
-fn announce_and_serve(rt: &HostRuntime, server: &mut Server, turns: u64) -> io::Result<()> {
+fn announce_and_serve(
+    rt: &HostRuntime,
+    server: &mut Server,
+    serving: Serving<'_>,
+) -> io::Result<()> {
     announce(rt, server.ports()?)?;
-    serve(rt, server, turns)
+    if serving.log {
+        serve_logged(rt, server, serving.turns, &mut rt.stderr())
+    } else {
+        serve(rt, server, serving.turns)
+    }
 }
 
 /// Serves with these settings.
@@ -72,7 +80,7 @@ fn serve_settings(
     requires { MeetsLimits settings }
 {
     let mut server = Server::open(rt.alloc(), rt, settings, address, serving.ports)?;
-    match announce_and_serve(rt, &mut server, serving.turns) {
+    match announce_and_serve(rt, &mut server, serving) {
         Ok(()) => Ok(ExitStatus::Done),
         Err(error) => Err(error),
     }
@@ -91,10 +99,23 @@ fn run_serve(rt: &HostRuntime, serving: Serving<'_>) -> io::Result<ExitStatus> {
     }
 }
 
+/// Judges the settings of a file. The error is the system's: of the file or the output.
+fn run_settings(rt: &HostRuntime, file: &str) -> io::Result<ExitStatus> {
+    let bytes = fs::read(rt, file)?;
+    match read_serve(rt.alloc(), &bytes, &mut rt.stderr()) {
+        Ok(_settings) => {
+            println!(rt; "ok")?;
+            Ok(ExitStatus::Done)
+        }
+        Err(status) => Ok(status),
+    }
+}
+
 /// Does what the words ask for, and gives the status.
 fn run(rt: &HostRuntime, asked: Asked<'_>) -> ExitStatus {
     match asked {
         Asked::Serve(serving) => run_serve(rt, serving).unwrap_or(ExitStatus::Failed),
+        Asked::Settings { file } => run_settings(rt, file).unwrap_or(ExitStatus::Failed),
         Asked::Replay { plans } => run_replay(
             rt.alloc(),
             &mut rt.reader(),

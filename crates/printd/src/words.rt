@@ -13,6 +13,8 @@ const MOST_TURNS: u64 = 1_000_000_000_000;
 pub enum Asked<'a> {
     /// Serve over sockets.
     Serve(Serving<'a>),
+    /// Judge the settings of this file.
+    Settings { file: &'a str },
     /// Replay a trace from standard input, and where the plans are asked for write the text of each.
     Replay { plans: bool },
     /// Judge the text of a plan from standard input, and where the starts are asked for tell when
@@ -29,6 +31,8 @@ pub struct Serving<'a> {
     /// The address to listen at, as it was written.
     pub address: &'a str,
     pub turns: u64,
+    /// Whether what happens is written to standard error.
+    pub log: bool,
 }
 
 fn port<'a>(alloc: Global, name: &'a str, help: &'a str) -> Arg<'a> {
@@ -95,7 +99,24 @@ fn serve_command<'a>(alloc: Global) -> Result<Command<'a>, AllocError> {
             "Where devices come in; 0 for any free port",
         ))?
         .arg(address(alloc))?
-        .arg(turns(alloc))
+        .arg(turns(alloc))?
+        .arg(flag(
+            alloc,
+            "log",
+            "Write plans, starts and cancels to standard error",
+        ))
+}
+
+fn settings_command<'a>(alloc: Global) -> Result<Command<'a>, AllocError> {
+    Command::new(alloc, "settings")
+        .about("Judge the settings of a file, as `serve` does: ok, or their first fault")
+        .arg(
+            Arg::new(alloc, "file")
+                .required(true)
+                .action(ArgAction::Set)
+                .value_name("FILE")
+                .help("The settings: devices, printers, operators"),
+        )
 }
 
 fn replay_command<'a>(alloc: Global) -> Result<Command<'a>, AllocError> {
@@ -123,6 +144,7 @@ fn command<'a>(alloc: Global) -> Result<Command<'a>, AllocError> {
         .about("A print server that proves its plans are the best")
         .subcommand_required(true)
         .subcommand(serve_command(alloc)?)?
+        .subcommand(settings_command(alloc)?)?
         .subcommand(replay_command(alloc)?)?
         .subcommand(check_command(alloc)?)
 }
@@ -141,6 +163,7 @@ fn serve_words<'a>(found: &ArgMatches<'a>) -> Option<Serving<'a>> {
         },
         address: found.get_str("address")?,
         turns: found.get_one::<u64>("turns").unwrap_or(MOST_TURNS),
+        log: found.get_flag("log"),
     })
 }
 
@@ -148,6 +171,9 @@ fn meaning<'a>(found: &ArgMatches<'a>) -> Option<Asked<'a>> {
     let (name, inner) = found.subcommand()?;
     match name {
         "serve" => Some(Asked::Serve(serve_words(inner)?)),
+        "settings" => Some(Asked::Settings {
+            file: inner.get_str("file")?,
+        }),
         "replay" => Some(Asked::Replay {
             plans: inner.get_flag("plans"),
         }),

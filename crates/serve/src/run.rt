@@ -2,14 +2,16 @@
 ghost use Rattle.settings_file.specs.Settings.{MeetsLimits};
 
 use crate::clock::moment_since;
+use crate::log::log_lines;
 use crate::sockets::{Ports, Sockets};
 use assignment::Lazy;
-use base_types::Moment;
+use base_types::{Moment, Text};
 use dispatcher::{Cancel, Dispatched};
-use server::{Engine, Notes, Place, WireId};
+use server::{Engine, NoteLog, Notes, Place, WireId};
 use settings_file::Settings;
-use std::alloc::Global;
+use std::alloc::{AllocError, Global};
 use std::io;
+use std::io::Write;
 use std::net::{IpAddr, Net};
 use std::time::{Clock, Duration, Instant};
 
@@ -17,11 +19,22 @@ use std::time::{Clock, Duration, Instant};
 /// late by no more.
 const PAUSE: u64 = 100;
 
-/// A server: its engine, and its sockets.
+/// A server: its engine, its sockets, and the names of its devices.
 #[derive(Drop)]
 pub struct Server {
+    alloc: Global,
     engine: Engine<Lazy>,
     sockets: Sockets,
+    names: Vec<Text>,
+}
+
+/// The names of the devices.
+fn device_names(alloc: Global, settings: &Settings) -> Result<Vec<Text>, AllocError> {
+    let mut names = Vec::with_capacity(alloc, settings.devices.len())?;
+    for device in &settings.devices {
+        names.push(device.name.copied(alloc)?)?;
+    }
+    Ok(names)
 }
 
 impl Server {
@@ -36,8 +49,14 @@ impl Server {
         requires { MeetsLimits settings }
     {
         let sockets = Sockets::bind(alloc, net, address, ports)?;
+        let names = device_names(alloc, &settings)?;
         let engine = Engine::new(alloc, settings, Lazy::new(alloc))?;
-        Ok(Server { engine, sockets })
+        Ok(Server {
+            alloc,
+            engine,
+            sockets,
+            names,
+        })
     }
 
     /// The ports that it listens at.
@@ -47,16 +66,28 @@ impl Server {
 
     /// One turn of its engine.
     pub fn turn(&mut self, moment: Moment) {
+        self.sockets.set_moment(moment);
         self.engine.turn(&mut self.sockets, &mut Untold, moment);
     }
 
-    /// Where the turns since the last call of this found nothing to do, waits until something happens
-    /// at a socket, or for this long.
-    pub fn rest(&mut self, most: Duration) -> io::Result<()> {
-        if self.sockets.take_worked() {
-            return Ok(());
-        }
-        self.sockets.wait(most)
+    /// One turn of its engine: the lines of what was heard of it. The error is that there was no memory
+    /// for them; the turn is taken all the same.
+    pub fn turn_logged(&mut self, moment: Moment) -> Result<Vec<u8>, AllocError> {
+        let mut notes = NoteLog::new(self.alloc);
+        self.sockets.set_moment(moment);
+        self.engine.turn(&mut self.sockets, &mut notes, moment);
+        log_lines(self.alloc, &self.names, moment, &notes.take()?)
+    }
+
+    /// Waits until something happens at a socket or a client has been silent for too long, or for this
+    /// many ms; not at all where the turns since the last call of this found something to do.
+    pub fn rest(&mut self, most: u64) -> io::Result<()> {
+        let pause = if self.sockets.take_worked() {
+            0
+        } else {
+            self.sockets.time_left(most)
+        };
+        self.sockets.wait(Duration::from_millis(pause))
     }
 }
 
@@ -65,9 +96,33 @@ pub fn serve(clock: &impl Clock, server: &mut Server, turns: u64) -> io::Result<
     let start = Instant::now(clock)?;
     for _ in 0..turns {
         server.turn(moment_since(clock, &start)?);
-        server.rest(Duration::from_millis(PAUSE))?;
+        server.rest(PAUSE)?;
     }
     Ok(())
+}
+
+/// The same, with a log of what happens. A log that can't be written stops nothing.
+pub fn serve_logged<W: Write>(
+    clock: &impl Clock,
+    server: &mut Server,
+    turns: u64,
+    log: &mut W,
+) -> io::Result<()> {
+    let start = Instant::now(clock)?;
+    for _ in 0..turns {
+        let heard = server.turn_logged(moment_since(clock, &start)?);
+        put_lines(heard, log);
+        server.rest(PAUSE)?;
+    }
+    Ok(())
+}
+
+/// Writes the lines of a turn, or says that there was no memory for them.
+fn put_lines<W: Write>(heard: Result<Vec<u8>, AllocError>, log: &mut W) {
+    let _written = match heard {
+        Ok(lines) => log.write_all(&lines),
+        Err(AllocError) => log.write_all(b"no memory for the log\n"),
+    };
 }
 
 /// A listener that keeps nothing.

@@ -1,19 +1,28 @@
 //! The system's sockets.
 ghost use Rattle.std.specs.Prelude.{◌≡◌, ◌+◌, false, if◌then◌else◌};
 
-use base_types::Limits;
-use mio::net::{TcpListener, TcpStream};
+use crate::entrance::Entrance;
+use crate::link::Link;
+use base_types::{Limits, Moment};
+use mio::net::TcpStream;
 use mio::{Events, Interest, Poll, Token};
 use server::{Answer, Door, Wire, WireId};
 use slab::Slab;
 use std::alloc::Global;
 use std::io;
-use std::io::{ErrorKind, Read, Write};
+use std::io::ErrorKind;
 use std::net::{IpAddr, Net, SocketAddr};
 use std::time::Duration;
 
-/// How many sockets a wait tells of at most; the others are told of by the next.
+/// How many sockets a wait tells of at most: all that there are.
 const EVENTS: usize = 128;
+
+/// What waits tell of the doors under; of a connection they tell under its number.
+const IPP: Token = Token(usize::MAX);
+
+const LPD: Token = Token(usize::MAX - 1);
+
+const DEVICES: Token = Token(usize::MAX - 2);
 
 /// A port for each door; 0 for any that is free.
 #[derive(Clone, Copy, Debug, PartialEq, Eq)]
@@ -23,26 +32,55 @@ pub struct Ports {
     pub devices: u16,
 }
 
+/// The sockets of the three doors.
+#[derive(Drop)]
+struct Doors {
+    ipp: Entrance,
+    lpd: Entrance,
+    devices: Entrance,
+}
+
 /// Three listeners, and the connections that they accepted.
+///
+/// A client that is silent for a minute, or takes longer than that for 4,096 bytes to which nothing is
+/// answered, is taken as one that has ended. A device never is.
 #[derive(Drop)]
 pub struct Sockets {
-    ipp: TcpListener,
-    lpd: TcpListener,
-    devices: TcpListener,
-    streams: Slab<TcpStream>,
+    doors: Doors,
+    links: Slab<Link>,
     poll: Poll,
     events: Events,
     failures: u64,
     /// Whether a call did more than to find that it has to wait.
     worked: bool,
+    /// The moment by which silence is measured.
+    moment: Moment,
 }
 
-/// A listener at a port, of which waits tell.
-fn listen(net: &impl Net, poll: &Poll, address: IpAddr, port: u16) -> io::Result<TcpListener> {
-    let mut listener = TcpListener::bind(net, SocketAddr::new(address, port))?;
-    poll.registry()
-        .register(&mut listener, Token(0), Interest::READABLE)?;
-    Ok(listener)
+impl Doors {
+    fn accept(&mut self, door: Door) -> io::Result<TcpStream> {
+        match door {
+            Door::Ipp => self.ipp.accept(),
+            Door::Lpd => self.lpd.accept(),
+            Door::Devices => self.devices.accept(),
+        }
+    }
+}
+
+/// Hands each socket what a wait told of it.
+fn tell(events: &Events, doors: &mut Doors, links: &mut Slab<Link>) {
+    for event in events.iter() {
+        match event.token() {
+            IPP => doors.ipp.told(),
+            LPD => doors.lpd.told(),
+            DEVICES => doors.devices.told(),
+            Token(key) => {
+                if let Some(link) = links.get_mut(key) {
+                    link.told(event);
+                }
+            }
+        }
+    }
 }
 
 impl Sockets {
@@ -55,33 +93,54 @@ impl Sockets {
         ports: Ports,
     ) -> io::Result<Sockets> {
         let poll = Poll::new(net)?;
+        let doors = Doors {
+            ipp: Entrance::open(net, &poll, SocketAddr::new(address, ports.ipp), IPP)?,
+            lpd: Entrance::open(net, &poll, SocketAddr::new(address, ports.lpd), LPD)?,
+            devices: Entrance::open(net, &poll, SocketAddr::new(address, ports.devices), DEVICES)?,
+        };
         Ok(Sockets {
-            ipp: listen(net, &poll, address, ports.ipp)?,
-            lpd: listen(net, &poll, address, ports.lpd)?,
-            devices: listen(net, &poll, address, ports.devices)?,
-            streams: Slab::with_capacity(alloc, Limits::CONNECTIONS)?,
+            doors,
+            links: Slab::with_capacity(alloc, Limits::CONNECTIONS)?,
             events: Events::with_capacity(alloc, EVENTS)?,
             poll,
             failures: 0,
             worked: false,
+            moment: Moment::start(),
         })
     }
 
     /// The ports that are listened at.
     pub fn ports(&self) -> io::Result<Ports> {
         Ok(Ports {
-            ipp: self.ipp.local_addr()?.port(),
-            lpd: self.lpd.local_addr()?.port(),
-            devices: self.devices.local_addr()?.port(),
+            ipp: self.doors.ipp.port()?,
+            lpd: self.doors.lpd.port()?,
+            devices: self.doors.devices.port()?,
         })
     }
 
-    /// Waits until something happens at a socket, but no longer than this.
+    /// Has it this moment from now on.
+    pub fn set_moment(&mut self, moment: Moment) {
+        self.moment = moment;
+    }
+
+    /// Waits until something happens at a socket or a client has no time left, but no longer than this.
     ///
-    /// Each change is told of once, so it is to be called only after a round of calls all of which had
-    /// to wait ([`Sockets::take_worked`]): then none of what it was told of before is left undone.
+    /// Each change is told of once, and kept until a call finds that it has to wait.
     pub fn wait(&mut self, most: Duration) -> io::Result<()> {
-        self.poll.poll(&mut self.events, Some(most))
+        self.poll.poll(&mut self.events, Some(most))?;
+        tell(&self.events, &mut self.doors, &mut self.links);
+        Ok(())
+    }
+
+    /// The ms until the first client has no time left, at most so many.
+    pub fn time_left(&self, most: u64) -> u64 {
+        let mut least = most;
+        for key in 0..self.links.capacity() {
+            if let Some(link) = self.links.get(key) {
+                least = link.left(self.moment).unwrap_or(most).min(least);
+            }
+        }
+        least
     }
 
     /// Whether a call since the last one of this did more than to find that it has to wait.
@@ -94,21 +153,19 @@ impl Sockets {
         worked
     }
 
-    /// The next connection of a door: it is never waited for, and what is written to it goes out at
-    /// once.
-    fn accept(&self, door: Door) -> io::Result<TcpStream> {
-        let (mut stream, _peer) = match door {
-            Door::Ipp => self.ipp.accept()?,
-            Door::Lpd => self.lpd.accept()?,
-            Door::Devices => self.devices.accept()?,
-        };
+    /// The next connection of a door, of which waits tell under the next free number: what is written
+    /// to it goes out at once.
+    fn accept(&mut self, door: Door) -> io::Result<Link>
+        ensures { self.new.failures ≡ self.old.failures }
+    {
+        let mut stream = self.doors.accept(door)?;
         stream.set_nodelay(true)?;
         self.poll.registry().register(
             &mut stream,
-            Token(0),
+            Token(self.links.vacant_key()),
             Interest::READABLE | Interest::WRITABLE,
         )?;
-        Ok(stream)
+        Ok(Link::new(stream, self.moment, door != Door::Devices))
     }
 
     /// Counts a failed call, unless it would only have waited or the count is full: whether it was
@@ -135,8 +192,8 @@ impl Wire for Sockets {
     /// A failed accept is no work: where the system has no descriptor left, the next one is tried after
     /// a wait.
     fn poll_accept(&mut self, door: Door) -> Answer<WireId> {
-        let stream = match self.accept(door) {
-            Ok(stream) => stream,
+        let link = match self.accept(door) {
+            Ok(link) => link,
             Err(error) => {
                 return if self.counts_fault(error) {
                     Answer::Fault
@@ -146,7 +203,7 @@ impl Wire for Sockets {
             }
         };
         self.worked = true;
-        let Ok(place) = self.streams.insert(stream) else {
+        let Ok(place) = self.links.insert(link) else {
             return Answer::End;
         };
         match u32::try_from(place) {
@@ -159,10 +216,15 @@ impl Wire for Sockets {
         if buffer.is_empty() {
             return Answer::Waiting;
         }
-        let Some(stream) = self.streams.get_mut(id as usize) else {
+        let moment = self.moment;
+        let Some(link) = self.links.get_mut(id as usize) else {
             return Answer::End;
         };
-        match stream.read(buffer) {
+        if link.is_over(moment) {
+            self.worked = true;
+            return Answer::End;
+        }
+        match link.read(buffer, moment) {
             Ok(0) => {
                 self.worked = true;
                 Answer::End
@@ -180,10 +242,15 @@ impl Wire for Sockets {
     }
 
     fn poll_write(&mut self, id: WireId, bytes: &[u8]) -> Answer<usize> {
-        let Some(stream) = self.streams.get_mut(id as usize) else {
+        let moment = self.moment;
+        let Some(link) = self.links.get_mut(id as usize) else {
             return Answer::End;
         };
-        match stream.write(bytes) {
+        if link.is_over(moment) {
+            self.worked = true;
+            return Answer::End;
+        }
+        match link.write(bytes, moment) {
             Ok(0) => Answer::Waiting,
             Ok(count) => {
                 self.worked = true;
@@ -198,7 +265,7 @@ impl Wire for Sockets {
     }
 
     fn close(&mut self, id: WireId) {
-        let _closed = self.streams.try_remove(id as usize);
+        let _closed = self.links.try_remove(id as usize);
         self.worked = true;
     }
 

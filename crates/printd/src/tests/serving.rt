@@ -29,6 +29,7 @@ fn words_that_are_wanted(rt: HostRuntime) {
         },
         address: "127.0.0.1",
         turns: 1_000_000_000_000,
+        log: false,
     };
     assert_eq!(rt;
         read_words(rt.alloc(), &WORDS, &mut text),
@@ -37,10 +38,21 @@ fn words_that_are_wanted(rt: HostRuntime) {
     assert!(rt; text.is_empty());
 }
 
+#[test]
+fn settings_words(rt: HostRuntime) {
+    let mut text = Vec::new(rt.alloc());
+    assert_eq!(rt;
+        read_words(rt.alloc(), &["printd", "settings", "lab.toml"], &mut text),
+        Ok(Asked::Settings { file: "lab.toml" })
+    );
+    assert!(rt; text.is_empty());
+}
+
 /// A word too few, a port that is none, turns out of range, a word that isn't known.
 #[test]
 fn refused_words(rt: HostRuntime) {
-    let rows: [&[&str]; 5] = [
+    let rows: [&[&str]; 6] = [
+        &["printd", "settings"],
         &[
             "printd",
             "serve",

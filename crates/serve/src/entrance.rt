@@ -1,0 +1,56 @@
+//! A door's socket.
+use mio::net::{TcpListener, TcpStream};
+use mio::{Interest, Poll, Token};
+use std::io;
+use std::io::ErrorKind;
+use std::net::{Net, SocketAddr};
+
+/// A door's listener, and whether someone may wait at it. Where an accept had to wait, none is tried
+/// until someone is told of.
+#[derive(Drop)]
+pub(crate) struct Entrance {
+    listener: TcpListener,
+    ready: bool,
+}
+
+impl Entrance {
+    /// Listens, and has waits tell of who comes under this token.
+    pub(crate) fn open(
+        net: &impl Net,
+        poll: &Poll,
+        address: SocketAddr,
+        token: Token,
+    ) -> io::Result<Entrance> {
+        let mut listener = TcpListener::bind(net, address)?;
+        poll.registry()
+            .register(&mut listener, token, Interest::READABLE)?;
+        Ok(Entrance {
+            listener,
+            ready: true,
+        })
+    }
+
+    /// The port that is listened at.
+    pub(crate) fn port(&self) -> io::Result<u16> {
+        Ok(self.listener.local_addr()?.port())
+    }
+
+    /// Someone may wait at it.
+    pub(crate) fn told(&mut self) {
+        self.ready = true;
+    }
+
+    /// The next who waits at it.
+    pub(crate) fn accept(&mut self) -> io::Result<TcpStream> {
+        if !self.ready {
+            return Err(io::Error::from(ErrorKind::WouldBlock));
+        }
+        match self.listener.accept() {
+            Ok((stream, _peer)) => Ok(stream),
+            Err(error) => {
+                self.ready = error.kind() != ErrorKind::WouldBlock;
+                Err(error)
+            }
+        }
+    }
+}

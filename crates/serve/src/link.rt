@@ -1,0 +1,92 @@
+//! A connection's socket.
+ghost use Rattle.std.specs.Io.{ReadsAtMost, WritesAtMost};
+
+use crate::patience::Patience;
+use base_types::Moment;
+use mio::event::Event;
+use mio::net::TcpStream;
+use std::io;
+use std::io::{ErrorKind, Read, Write};
+
+/// A connection's socket, with what was told of it, and what is left of its peer's time. The system is
+/// asked for nothing that would have to wait: where a call had to, none is made until something is told.
+#[derive(Drop)]
+pub(crate) struct Link {
+    stream: TcpStream,
+    readable: bool,
+    writable: bool,
+    patience: Patience,
+    /// Whether its peer's time is counted: a device may be silent for as long as it likes.
+    timed: bool,
+}
+
+/// A call that has to wait.
+fn waits() -> io::Error {
+    io::Error::from(ErrorKind::WouldBlock)
+}
+
+impl Link {
+    /// The socket of a connection that has just come.
+    pub(crate) fn new(stream: TcpStream, moment: Moment, timed: bool) -> Link {
+        Link {
+            stream,
+            readable: true,
+            writable: true,
+            patience: Patience::new(moment),
+            timed,
+        }
+    }
+
+    /// Takes what a wait told.
+    pub(crate) fn told(&mut self, event: &Event) {
+        self.readable |= event.is_readable() || event.is_read_closed() || event.is_error();
+        self.writable |= event.is_writable() || event.is_write_closed() || event.is_error();
+    }
+
+    /// The ms that its peer has left, if its time is counted.
+    pub(crate) fn left(&self, moment: Moment) -> Option<u64> {
+        if self.timed {
+            Some(self.patience.left(moment))
+        } else {
+            None
+        }
+    }
+
+    /// Whether its peer has no time left.
+    pub(crate) fn is_over(&self, moment: Moment) -> bool {
+        match self.left(moment) {
+            Some(left) => left == 0,
+            None => false,
+        }
+    }
+
+    /// Reads some bytes; the count is 0 where none will come any more.
+    pub(crate) fn read(&mut self, buffer: &mut [u8], moment: Moment) -> io::Result<usize>
+        ensures { ReadsAtMost result buffer.new }
+    {
+        if !self.readable {
+            return Err(waits());
+        }
+        let read = self.stream.read(buffer);
+        match &read {
+            Ok(count) => self.patience.came(*count, moment),
+            Err(error) => self.readable = error.kind() != ErrorKind::WouldBlock,
+        }
+        read
+    }
+
+    /// Writes some bytes.
+    pub(crate) fn write(&mut self, bytes: &[u8], moment: Moment) -> io::Result<usize>
+        ensures { WritesAtMost result bytes.now }
+    {
+        if !self.writable {
+            return Err(waits());
+        }
+        let written = self.stream.write(bytes);
+        match &written {
+            Ok(_) => self.patience.went(moment),
+            Err(error) => self.writable = error.kind() != ErrorKind::WouldBlock,
+        }
+        written
+    }
+}
