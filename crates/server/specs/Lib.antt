@@ -16,6 +16,7 @@ pub mod Queues
 pub mod Granting
 pub mod Polling
 pub mod Turn
+pub mod Law
 pub mod State
 pub mod Newcomers
 pub mod Stands

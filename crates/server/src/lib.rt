@@ -17,6 +17,7 @@ mod engine;
 mod events;
 mod http_talk;
 mod items;
+mod law;
 mod lpd_talk;
 pub mod memory_wire;
 mod note_log;
@@ -33,6 +34,7 @@ mod turns;
 mod wire;
 
 pub use engine::Engine;
+pub use law::{closed_were_given, deed_is_one_event, trace_is_one_run};
 pub use note_log::{Heard, NoteLog};
 pub use notes::{Notes, Place};
 pub use served::Served;

@@ -1,0 +1,28 @@
+//! Laws of traces. Their functions do nothing: their contracts are what they are for.
+ghost use Rattle.print_room.specs.State.{State};
+ghost use Rattle.server.specs.Ledger.{Ledger, opening_ledger};
+ghost use Rattle.server.specs.Law.{IsOneRun, IsAtMostOne, AllTaken};
+ghost use Rattle.server.specs.Turn.{Deed, DoesDeed, Trace, Runs};
+
+/// What happens in a trace is one run of the core: the events of its deeds, in order and each at its
+/// deed's moment, lead the core from where the trace found it to where it leaves it. The plans of that
+/// run, with what began, are just those that the listener is told of, in order, and the cancels that it
+/// is told of just those of the run's replies. An event that is refused memory is `Dropped` there, and
+/// one whose dispatch is refused memory `Undispatched`.
+pub fn trace_is_one_run()
+    ensures { (trace : Trace) (old new : Ledger) → Runs trace old new → IsOneRun trace old.core new.core }
+{}
+
+/// A deed between turns is one event, where no growth was refused: a report or a tick, or what a body
+/// asks, answered with the bytes of its reply. A body that is too short, or is refused, is none, and
+/// changes nothing. The listener is told the cancels of the reply and then, unless it is a query, the
+/// dispatch that follows; and nothing else.
+pub fn deed_is_one_event()
+    ensures { (deed : Deed) (old new : Ledger) → DoesDeed deed old new → IsAtMostOne deed old.core new.core }
+{}
+
+/// Of each connection that was closed after its output went out, all that was due on it was taken; of
+/// one that was closed by a fault, a front of that.
+pub fn closed_were_given()
+    ensures { (opening : State) (trace : Trace) (ledger : Ledger) → Runs trace (opening_ledger opening) ledger → AllTaken ledger.closed }
+{}
