@@ -1,0 +1,417 @@
+-- What deeds are made of: events, closings, and what concerns neither the core nor what was closed.
+use Rattle.std.proofs.Common.{◌≡◌, ℕ, zero, suc, Bool, true, false, List, [], ◌∷◌, ◌++◌, refl, sym, ◌∙◌, ap, subst, Option, Some, None, inl, inr}
+use Rattle.std.specs.Prelude.{◌⊎◌, nat_lt, length, take}
+use Rattle.base_types.specs.declared.limits.TheConstants.Limits.{CONNECTIONS}
+use Rattle.base_types.specs.declared.report.Report.{Report}
+use Rattle.base_types.specs.declared.report.Report.TheVariants as reported
+use Rattle.base_types.specs.Report.{ReportRecord, SaysHello, SaysMedia, SaysReady, SaysStop, SaysBusy, SaysPages, SaysDone, SaysFail, IsGone}
+use Rattle.http_front.specs.Stream.{Said}
+use Rattle.http_front.specs.Reply.{continue_head}
+use Rattle.http_front.specs.declared.refusal.Refusal.TheVariants.{BadRequest}
+use Rattle.http_front.specs.declared.item.HttpItem.{HttpItem}
+use Rattle.http_front.specs.declared.item.HttpItem.TheVariants as item
+use Rattle.lpd_reader.specs.Session.{CommandRecord, ItemRecord, Says, Aborts, Announces, HasFile}
+use Rattle.lpd_session.specs.Session.{SessionState, SentRecord}
+use Rattle.dispatcher.specs.declared.event.Event.{Event}
+use Rattle.dispatcher.specs.declared.event.Event.TheVariants as Is
+use Rattle.dispatcher.specs.declared.reply.Answer.{Answer}
+use Rattle.dispatcher.specs.declared.reply.Answer.TheVariants as answered
+use Rattle.dispatcher.specs.declared.reply.LpdAnswer.{LpdAnswer}
+use Rattle.dispatcher.specs.declared.reply.LpdAnswer.TheVariants as shown
+use Rattle.dispatcher.specs.declared.reply.Reply.{Reply}
+use Rattle.dispatcher.specs.declared.run.Outcome.{Outcome}
+use Rattle.dispatcher.specs.declared.run.Outcome.TheVariants.{Dropped, Queried, Undispatched, Dispatched}
+use Rattle.dispatcher.specs.declared.status.Status.TheVariants.{TemporaryError}
+use Rattle.dispatcher.specs.Run.{is_query, Comes}
+use Rattle.replies.specs.declared.asked.Asked.{Asked}
+use Rattle.replies.specs.declared.asked.Asked.TheVariants as asks
+use Rattle.replies.specs.QueueText.{ack_of, text_of}
+use Rattle.server.specs.Polls.{Poll, Accepts, Reads, Writes, Closes, Refused, Happening, Polled, Told}
+use Rattle.server.specs.Ledger.{Entry, Ledger, Fate, Drained, Broken, opening_entry, with_new, with_entry, device_of, waiting}
+use Rattle.server.specs.Rel.{Rel, Nothing, Polls, Tells, Then, If, Or, Times, Many, Each}
+use Rattle.server.specs.Keeping.{Sets, broken, Breaks, Drops, DropsOne, Keeps}
+use Rattle.server.specs.Happening.{now_at, Steps, IsDropped, Follows, Unanswered}
+use Rattle.server.specs.Closing as Closing
+use Rattle.server.specs.Closing.{Leaves, ClosesAs, ClosesFirst, Settles}
+use Rattle.server.specs.Exchange as Http
+use Rattle.server.specs.Devices as Links
+use Rattle.server.specs.Queues as Queues
+use Rattle.server.specs.Session.{Hearing, Goes, Stops, Submits, Commands, heard, nack, file_lost, is_queue}
+use Rattle.server.specs.Polling.{Opens, AcceptsAs, AcceptsOne, AcceptsAt, ActsNext, Acts, Serves, Feeds, FeedsAt, FeedsOne, Fails, ReadsAs, ReadsOpen, ReadsAt, is_read, ReadsOne, WritesAs, WritesOpen, WritesAt, WritesOne, is_done, EndsAt, EndsOne}
+use Rattle.server.specs.Turn as Between
+use Rattle.server.specs.Turn.{Notes, Ticks, is_tick_due, TicksIfDue, Covers, Rounds, Round, Turn, has_refusal, Deed, Turned, Served_body, Reported, Ticked, DoesDeed}
+use Rattle.server.specs.Law.{Dispatch, plans_told, cancels_told, Collects, cancels_of, moment_of, happenings_of, IsAnswered}
+use Rattle.server.specs.declared.wire.Answer.TheVariants as wire
+use Rattle.server.specs.declared.wire.Answer.{Answer as WireAnswer}
+use Rattle.server.specs.declared.wire.Door.{Door}
+use Rattle.server.specs.declared.wire.Door.TheVariants.{Ipp, Lpd, Devices}
+use Rattle.server.specs.declared.notes.Place.{Place}
+use Rattle.server.specs.declared.notes.Place.TheVariants as At
+use Rattle.server.proofs.Speaking.{plans_of, cancels_are, Calmly, calm_nothing, calm_then, calm_if, calm_or, calm_refusal, calm_sets, calm_drops, calm_drops_one, calm_breaks, calm_keeps, core_notes, IsUnpolled, Happened, happens, between_nothing}
+
+-- it stays, and so does what was closed; neither plan nor cancel is told
+pub record IsCalm (l : Ledger) (hs : List Happening) (l' : Ledger) : Type 0 where
+  pub core : l'.core ≡ l.core
+  pub closed : l'.closed ≡ l.closed
+  pub plans : plans_told hs ≡ []
+  pub cancels : cancels_told hs ≡ []
+
+-- one event comes
+pub record IsEvent (moment : ℕ) (l : Ledger) (hs : List Happening) (l' : Ledger) : Type 0 where
+  pub event : Event
+  pub outcome : Outcome
+  pub comes : Comes Collects l.core [] (record { event = event; moment = moment }) outcome l'.core (plans_told hs)
+  pub cancels : cancels_told hs ≡ cancels_of outcome
+  pub closed : l'.closed ≡ l.closed
+
+-- this holds of each part, and of parts one after the other
+pub record Holds (moment : ℕ) (P : Rel) : Type 0 where
+  pub calm : (l : Ledger) (hs : List Happening) (l' : Ledger) → IsCalm l hs l' → P l hs l'
+  pub event : (l : Ledger) (hs : List Happening) (l' : Ledger) → IsEvent moment l hs l' → P l hs l'
+  pub leaves : (fate : Fate) (key : ℕ) (e : Entry) (l : Ledger) (hs : List Happening) (l' : Ledger) → Leaves fate key e l hs l' → P l hs l'
+  pub chain : (l : Ledger) (front : List Happening) (mid : Ledger) (back : List Happening) (l' : Ledger) → P l front mid → P mid back l' → P l (front ++ back) l'
+
+abbrev pub Within : Rel → Rel → Type 0
+Within P R = (l : Ledger) (hs : List Happening) (l' : Ledger) → R l hs l' → P l hs l'
+
+calmly : (R : Rel) → Calmly R → Within IsCalm R
+calmly R calm l hs l' it = let said = calm l hs l' it in record { core = said.core; closed = said.closed; plans = plans_of hs [] [] said.notes; cancels = cancels_are hs [] [] said.notes }
+
+calm_as : (ks : List Happening) (m l : Ledger) (hs : List Happening) (l' : Ledger) → plans_told ks ≡ [] → cancels_told ks ≡ [] → m.core ≡ l.core → m.closed ≡ l.closed → (hs ≡ ks) × (l' ≡ m) → IsCalm l hs l'
+calm_as ks m l hs l' plans cancels core closed (is, after) = record {
+  core = ap (λ (x : Ledger). x.core) after ∙ core;
+  closed = ap (λ (x : Ledger). x.closed) after ∙ closed;
+  plans = ap plans_told is ∙ plans;
+  cancels = ap cancels_told is ∙ cancels;
+}
+
+event_by : (moment : ℕ) (event : Event) (reply : Reply) (dispatches : List Dispatch) (l : Ledger) (hs : List Happening) (l' : Ledger) → plans_told hs ≡ dispatches → cancels_told hs ≡ reply.cancels.items → l'.closed ≡ l.closed
+    → IsAnswered (record { event = event; moment = moment }) reply l.core dispatches l'.core ⊎ (Comes Collects l.core [] (record { event = event; moment = moment }) (Undispatched reply) l'.core dispatches × (has_refusal hs ≡ true)) → IsEvent moment l hs l'
+event_by moment event reply dispatches l hs l' plans cancels closed (inl (inl it)) =
+    record { event = event; outcome = Queried reply; comes = subst (λ (ds : List Dispatch). Comes Collects l.core [] (record { event = event; moment = moment }) (Queried reply) l'.core ds) (sym plans) it; cancels = cancels; closed = closed }
+event_by moment event reply dispatches l hs l' plans cancels closed (inl (inr it)) =
+    record { event = event; outcome = Dispatched reply; comes = subst (λ (ds : List Dispatch). Comes Collects l.core [] (record { event = event; moment = moment }) (Dispatched reply) l'.core ds) (sym plans) it; cancels = cancels; closed = closed }
+event_by moment event reply dispatches l hs l' plans cancels closed (inr (it, refused)) =
+    record { event = event; outcome = Undispatched reply; comes = subst (λ (ds : List Dispatch). Comes Collects l.core [] (record { event = event; moment = moment }) (Undispatched reply) l'.core ds) (sym plans) it; cancels = cancels; closed = closed }
+
+event_as : (moment : ℕ) (event : Event) (reply : Reply) → Within (IsEvent moment) (Happened moment event reply)
+event_as moment event reply l hs l' it =
+    event_by moment event reply it.dispatches l hs l' (plans_of hs reply.cancels.items it.dispatches it.notes) (cancels_are hs reply.cancels.items it.dispatches it.notes) it.closed it.comes
+
+dropped_as : (moment : ℕ) (event : Event) (id : Option ℕ) → Within (IsEvent moment) (IsDropped moment event id)
+dropped_as moment event id l hs l' it = record {
+  event = event;
+  outcome = Dropped;
+  comes = (ap (λ (x : Ledger). x.core) it.after, ap plans_told it.told, it.heavy);
+  cancels = ap cancels_told it.told;
+  closed = ap (λ (x : Ledger). x.closed) it.after;
+}
+
+-- ---- what lies between a step and what follows it
+
+pub calm_notes : (now : ℕ) → Calmly (Notes now)
+calm_notes now l hs l' (none, after) = record { core = ap (λ (x : Ledger). x.core) after; closed = ap (λ (x : Ledger). x.closed) after; unpolled = subst IsUnpolled (sym none) tt; notes = ap core_notes none }
+
+pub calm_answers : (request : ℕ) (answer : Answer) (bytes : List ℕ) → Calmly (Between.Answers request answer bytes)
+calm_answers request answer bytes l hs l' (inl (are, it)) = calm_nothing l hs l' it
+calm_answers request answer bytes l hs l' (inr it) = calm_refusal At.Reply None l hs l' it
+
+calm_lost : (key id : ℕ) (closes : Bool) (request : ℕ) (query : Bool) → Calmly (Http.LosesReply key id closes request query)
+calm_lost key id closes request query =
+    calm_then (calm_refusal At.Reply (Some id))
+    (calm_if query (Keeps key (Http.http_status closes TemporaryError request)) (Breaks key) (calm_keeps key (Http.http_status closes TemporaryError request)) (calm_breaks key))
+
+calm_replies : (key id : ℕ) (closes : Bool) (request : ℕ) (query : Bool) (answer : Answer) → Calmly (Http.RepliesWith key id closes request query answer)
+calm_replies key id closes request query (answered.Ipp answer) l hs l' (inl (bytes, are, it)) = calm_keeps key (Http.http_reply closes bytes) l hs l' it
+calm_replies key id closes request query (answered.Ipp answer) l hs l' (inr it) = calm_lost key id closes request query l hs l' it
+calm_replies key id closes request query (answered.Lpd answer) l hs l' it = calm_nothing l hs l' it
+calm_replies key id closes request query answered.Nothing l hs l' it = calm_nothing l hs l' it
+
+calm_shows : (key id : ℕ) (text : List ℕ) → Calmly (Queues.Shows key id text)
+calm_shows key id text = calm_or (calm_keeps key text) (calm_then (calm_refusal At.Reply (Some id)) (calm_breaks key))
+
+calm_told : (key id : ℕ) (answer : LpdAnswer) → Calmly (Queues.IsTold key id answer)
+calm_told key id (shown.Taken taken) = calm_keeps key (ack_of (shown.Taken taken) ∷ [])
+calm_told key id (shown.Queue listing) = calm_shows key id (text_of (shown.Queue listing))
+calm_told key id shown.NoQueue = calm_shows key id (text_of shown.NoQueue)
+
+calm_answered : (key id : ℕ) (answer : Answer) → Calmly (Queues.IsAnswered key id answer)
+calm_answered key id (answered.Lpd answer) = calm_told key id answer
+calm_answered key id (answered.Ipp answer) = calm_nothing
+calm_answered key id answered.Nothing = calm_nothing
+
+calm_byte : (key : ℕ) (byte : Option ℕ) → Calmly (Queues.Answers key byte)
+calm_byte key None = calm_nothing
+calm_byte key (Some byte) = calm_keeps key (byte ∷ [])
+
+calm_declines : (place : Place) (key id : ℕ) → Calmly (Queues.Declines place key id)
+calm_declines place key id = calm_then (calm_refusal place (Some id)) (calm_byte key nack)
+
+-- ---- deeds
+
+module _ (moment : ℕ) (P : Rel) (k : Holds moment P) where
+  calmly_in : {R : Rel} → Calmly R → Within P R
+  calmly_in {R} calm l hs l' it = k.calm l hs l' (calmly R calm l hs l' it)
+
+  nothing_in : Within P Nothing
+  nothing_in = calmly_in calm_nothing
+
+  then_in : {R S : Rel} → Within P R → Within P S → Within P (Then R S)
+  then_in f g l hs l' it = subst (λ (x : List Happening). P l x l') (sym it.whole) (k.chain l it.front it.mid it.back l' (f l it.front it.mid it.first) (g it.mid it.back l' it.second))
+
+  or_in : {R S : Rel} → Within P R → Within P S → Within P (Or R S)
+  or_in f g l hs l' (inl it) = f l hs l' it
+  or_in f g l hs l' (inr it) = g l hs l' it
+
+  if_in : (test : Bool) (R S : Rel) → Within P R → Within P S → Within P (If test R S)
+  if_in true R S f g l hs l' it = f l hs l' it
+  if_in false R S f g l hs l' it = g l hs l' it
+
+  times_in : (n : ℕ) (R : Rel) → Within P R → Within P (Times n R)
+  times_in zero R f = nothing_in
+  times_in (suc n) R f = then_in (times_in n R f) f
+
+  many_in : (R : Rel) → Within P R → Within P (Many R)
+  many_in R f l hs l' (n, it) = times_in n R f l hs l' it
+
+  each_in : (n : ℕ) (R : ℕ → Rel) → ((i : ℕ) → Within P (R i)) → Within P (Each n R)
+  each_in zero R f = nothing_in
+  each_in (suc n) R f = then_in (each_in n R f) (f n)
+
+  -- what happens and changes nothing that is known
+  same_in : (ks : List Happening) → plans_told ks ≡ [] → cancels_told ks ≡ [] → (l : Ledger) (hs : List Happening) (l' : Ledger) → (hs ≡ ks) × (l' ≡ l) → P l hs l'
+  same_in ks plans cancels l hs l' it = k.calm l hs l' (calm_as ks l l hs l' plans cancels refl refl it)
+
+  polls_in : (poll : Poll) → Within P (Polls poll)
+  polls_in poll = same_in (Polled poll ∷ []) refl refl
+
+  sets_in : (key : ℕ) (e : Entry) → Within P (Sets key e)
+  sets_in key e = calmly_in (calm_sets key e)
+
+  keeps_in : (key : ℕ) (bytes : List ℕ) → Within P (Keeps key bytes)
+  keeps_in key bytes = calmly_in (calm_keeps key bytes)
+
+  -- ---- events
+
+  happens_in : (event : Event) (reply : Reply) (Q : Rel) → Calmly Q → Within P (Then (Steps moment event reply) (Then Q (Follows moment (is_query event) reply.cancels.items)))
+  happens_in event reply Q calm l hs l' it = k.event l hs l' (event_as moment event reply l hs l' (happens moment event reply Q calm l hs l' it))
+
+  dropped_in : (event : Event) (id : Option ℕ) → Within P (IsDropped moment event id)
+  dropped_in event id l hs l' it = k.event l hs l' (dropped_as moment event id l hs l' it)
+
+  reported_in : (device : ℕ) (report : Report) → Within P (Unanswered moment (Is.Report device report))
+  reported_in device report l hs l' (reply, it) =
+      happens_in (Is.Report device report) reply Nothing calm_nothing l hs l' (between_nothing moment (Is.Report device report) reply false l hs l' it)
+
+  pub ticks_in : Within P (Ticks moment)
+  ticks_in l hs l' (reply, it) = happens_in Is.Tick reply (Notes (now_at moment l)) (calm_notes (now_at moment l)) l hs l' it
+
+  -- ---- closings
+
+  gone_in : (device : Option ℕ) → Within P (Closing.IsGone moment device)
+  gone_in None = nothing_in
+  gone_in (Some device) = reported_in device reported.Gone
+
+  closes_in : (fate : Fate) (key : ℕ) (e : Entry) → Within P (ClosesAs moment fate key e)
+  closes_in fate key e = then_in (k.leaves fate key e) (gone_in (device_of e.talk))
+
+  closes_first_in : Within P (ClosesFirst moment)
+  closes_first_in l hs l' it = closes_in Broken it.key it.entry l hs l' it.closes
+
+  settles_in : Within P (Settles moment)
+  settles_in l hs l' it = many_in (ClosesFirst moment) closes_first_in l hs l' it.0
+
+  fails_in : (key : ℕ) → Within P (Fails moment key)
+  fails_in key = then_in (calmly_in (calm_breaks key)) settles_in
+
+  -- ---- an IPP client's connection
+
+  http_happens_in : (key id : ℕ) (closes : Bool) (request : ℕ) (event : Event) → Within P (Http.Happens moment key id closes request event)
+  http_happens_in key id closes request event l hs l' (inl (reply, it)) =
+      happens_in event reply (Http.RepliesWith key id closes request (is_query event) reply.answer) (calm_replies key id closes request (is_query event) reply.answer) l hs l' it
+  http_happens_in key id closes request event l hs l' (inr it) = then_in (dropped_in event (Some id)) (keeps_in key (Http.http_status closes TemporaryError request)) l hs l' it
+
+  asks_in : (key id : ℕ) (closes : Bool) (asked : Asked) → Within P (Http.AsksFor moment key id closes asked)
+  asks_in key id closes asks.TooShort = keeps_in key (Http.refusal_head BadRequest)
+  asks_in key id closes (asks.Refused status request) = keeps_in key (Http.http_status closes status request)
+  asks_in key id closes (asks.Event request event) = http_happens_in key id closes request event
+
+  whole_in : (key : ℕ) (e : Entry) (said : List Said) (closes : Bool) (body : List ℕ) → Within P (Http.IsWhole moment key e said closes body)
+  whole_in key e said closes body l hs l' (inl (asked, are, it)) = then_in (sets_in key (Http.heard e said closes [] (Http.closes_with closes asked))) (asks_in key e.id closes asked) l hs l' it
+  whole_in key e said closes body l hs l' (inr (request, is, it)) =
+      then_in (sets_in key (Http.heard e said closes [] closes)) (then_in (calmly_in (calm_refusal At.Event (Some e.id))) (keeps_in key (Http.http_status closes TemporaryError request))) l hs l' it
+
+  item_in : (key : ℕ) (e : Entry) (said : List Said) (closes : Bool) (body : List ℕ) (what : HttpItem) (part : List ℕ) → Within P (Http.Hears moment key e said closes body what part)
+  item_in key e said closes body (item.Head next) part = sets_in key (Http.heard e said next [] false)
+  item_in key e said closes body item.Continue part = then_in (sets_in key (Http.heard e said closes body false)) (keeps_in key continue_head)
+  item_in key e said closes body item.BodyPart part =
+      or_in (sets_in key (Http.heard e said closes (body ++ part) false)) (then_in (sets_in key (Http.heard e said closes body false)) (calmly_in (calm_drops_one At.Feed key)))
+  item_in key e said closes body item.BodyEnd part = whole_in key e said closes body
+  item_in key e said closes body (item.Refuse refusal) part = then_in (sets_in key (Http.heard e said closes body true)) (keeps_in key (Http.refusal_head refusal))
+
+  -- ---- a device's connection
+
+  tells_in : (device : ℕ) (said : ReportRecord) → Within P (Links.Tells moment device said)
+  tells_in device said l hs l' (report, is, it) = reported_in device report l hs l' it
+
+  greets_in : (key : ℕ) (e : Entry) (reports : List ReportRecord) (said : ReportRecord) (device : Option ℕ) → Within P (Links.Greets moment key e reports said device)
+  greets_in key e reports said None l hs l' it = sets_in key (broken e) l hs l' it
+  greets_in key e reports said (Some device) l hs l' (inl (absent, it)) = then_in (sets_in key (Links.linked e reports (Some device))) (tells_in device said) l hs l' it
+  greets_in key e reports said (Some device) l hs l' (inr (other, it)) = sets_in key (broken e) l hs l' it
+
+  report_in : (key : ℕ) (e : Entry) (reports : List ReportRecord) (device : Option ℕ) (said : ReportRecord) → Within P (Links.HearsReport moment key e reports device said)
+  report_in key e reports (Some device) said l hs l' it = then_in (sets_in key (Links.linked e reports (Some device))) (tells_in device said) l hs l' it
+  report_in key e reports None (SaysHello name) l hs l' it = greets_in key e reports (SaysHello name) (Links.device_named name l.core) l hs l' it
+  report_in key e reports None (SaysMedia names) l hs l' it = absurd it
+  report_in key e reports None SaysReady l hs l' it = absurd it
+  report_in key e reports None SaysStop l hs l' it = absurd it
+  report_in key e reports None (SaysBusy time) l hs l' it = absurd it
+  report_in key e reports None (SaysPages job printed) l hs l' it = absurd it
+  report_in key e reports None (SaysDone job) l hs l' it = absurd it
+  report_in key e reports None (SaysFail job) l hs l' it = absurd it
+  report_in key e reports None IsGone l hs l' it = absurd it
+
+  -- ---- an LPD client's connection
+
+  queue_happens_in : (key id : ℕ) (event : Event) → Within P (Queues.Happens moment key id event)
+  queue_happens_in key id event l hs l' (reply, it) = happens_in event reply (Queues.IsAnswered key id reply.answer) (calm_answered key id reply.answer) l hs l' it
+
+  submitted_in : (key id : ℕ) (job : SentRecord) → Within P (Queues.IsSubmitted moment key id job)
+  submitted_in key id job l hs l' (inl (event, is, it)) = queue_happens_in key id event l hs l' it
+  submitted_in key id job l hs l' (inr it) = calmly_in (calm_declines At.Event key id) l hs l' it
+
+  commanded_in : (key id : ℕ) (command : CommandRecord) → Within P (Queues.IsCommanded moment key id command)
+  commanded_in key id command l hs l' (event, is, it) = or_in (queue_happens_in key id event) (then_in (dropped_in event (Some id)) (calmly_in (calm_breaks key))) l hs l' it
+
+  does_in : (key : ℕ) (e : Entry) (items : List ItemRecord) (hearing : Hearing) → Within P (Queues.Does moment key e items hearing)
+  does_in key e items (Goes answer next) = then_in (sets_in key (Queues.talks e items next false)) (calmly_in (calm_byte key answer))
+  does_in key e items (Stops answer) = then_in (sets_in key (Queues.talks e items None true)) (calmly_in (calm_byte key answer))
+  does_in key e items (Submits job next) = then_in (sets_in key (Queues.talks e items (Some next) false)) (submitted_in key e.id job)
+  does_in key e items (Commands command) = then_in (sets_in key (Queues.talks e items None true)) (commanded_in key e.id command)
+
+  loses_in : (key : ℕ) (e : Entry) (items : List ItemRecord) (session : Option SessionState) (said : ItemRecord) → Within P (Queues.Loses key e items session said)
+  loses_in key e items session (HasFile contents) l hs l' it = then_in (sets_in key (Queues.talks e items (file_lost session) false)) (calmly_in (calm_declines At.File key e.id)) l hs l' it
+  loses_in key e items session (Says command) l hs l' it = absurd it
+  loses_in key e items session Aborts l hs l' it = absurd it
+  loses_in key e items session (Announces head) l hs l' it = absurd it
+
+  lpd_in : (key : ℕ) → Within P (Queues.HearsNext moment key)
+  lpd_in key l hs l' it =
+      or_in (does_in key it.entry (it.items ++ it.said ∷ []) (heard (is_queue l.core.settings) it.session it.said)) (loses_in key it.entry (it.items ++ it.said ∷ []) it.session it.said) l hs l' it.does
+
+  -- ---- reads
+
+  acts_next_in : (key : ℕ) → Within P (ActsNext moment key)
+  acts_next_in key =
+      or_in {R = Http.HearsNext moment key} (λ l hs l' it. item_in key it.entry _ it.closes it.body it.what it.part l hs l' it.does)
+      (or_in {R = Links.ReportsNext moment key} (λ l hs l' it. report_in key it.entry _ it.device it.said l hs l' it.does)
+      (or_in {R = Links.LosesLine key} (λ l hs l' it. calmly_in (calm_drops At.Feed key it.entry) l hs l' it.does)
+      (or_in {R = Links.LinkBreaks key} (λ l hs l' it. sets_in key (broken it.entry) l hs l' it.does)
+      (or_in (lpd_in key)
+      (or_in {R = Queues.LosesLine key} {S = Queues.IsFaulty key} (λ l hs l' it. calmly_in (calm_drops At.Feed key it.entry) l hs l' it.does)
+      (λ l hs l' it. then_in (sets_in key (Queues.talks it.entry it.items it.session true)) (calmly_in (calm_byte key nack)) l hs l' it.does))))))
+
+  serves_in : (key : ℕ) → Within P (Serves moment key)
+  serves_in key l hs l' it = many_in (Acts moment key) (then_in (acts_next_in key) settles_in) l hs l' it.0
+
+  feeds_in : (key : ℕ) (e : Entry) (bytes : List ℕ) → Within P (Feeds moment key e bytes)
+  feeds_in key e bytes =
+      if_in e.over Nothing (Or (Then (Sets key (record e { read = e.read ++ bytes })) (Serves moment key)) (Then (Drops At.Feed key e) (Settles moment))) nothing_in
+      (or_in (then_in (sets_in key (record e { read = e.read ++ bytes })) (serves_in key)) (then_in (calmly_in (calm_drops At.Feed key e)) settles_in))
+
+  feeds_at_in : (key : ℕ) (bytes : List ℕ) (o : Option Entry) → Within P (FeedsAt moment key bytes o)
+  feeds_at_in key bytes None = nothing_in
+  feeds_at_in key bytes (Some e) = feeds_in key e bytes
+
+  feeds_one_in : (key : ℕ) (bytes : List ℕ) → Within P (FeedsOne moment key bytes)
+  feeds_one_in key bytes l hs l' it = feeds_at_in key bytes (l.entries key) l hs l' it
+
+  reads_as_in : (key : ℕ) (e : Entry) (answer : WireAnswer (List ℕ)) → Within P (ReadsAs moment key e answer)
+  reads_as_in key e (wire.Done bytes) = then_in (polls_in (Reads e.id (wire.Done bytes))) (feeds_one_in key bytes)
+  reads_as_in key e wire.Waiting = polls_in (Reads e.id wire.Waiting)
+  reads_as_in key e wire.End = then_in (polls_in (Reads e.id wire.End)) (sets_in key (record e { ended = true }))
+  reads_as_in key e wire.Fault = then_in (polls_in (Reads e.id wire.Fault)) (fails_in key)
+
+  reads_at_in : (key : ℕ) (o : Option Entry) → Within P (ReadsAt moment key o)
+  reads_at_in key None = nothing_in
+  reads_at_in key (Some e) = if_in (is_read e) (ReadsOpen moment key e) Nothing (λ l hs l' it. reads_as_in key e it.0 l hs l' it.1) nothing_in
+
+  reads_one_in : (key : ℕ) → Within P (ReadsOne moment key)
+  reads_one_in key l hs l' it = reads_at_in key (l.entries key) l hs l' it
+
+  -- ---- writes
+
+  writes_as_in : (key : ℕ) (e : Entry) (offered : List ℕ) (answer : WireAnswer ℕ) → Within P (WritesAs moment key e offered answer)
+  writes_as_in key e offered (wire.Done n) = then_in (polls_in (Writes e.id offered (wire.Done n))) (sets_in key (record e { taken = e.taken ++ take n offered }))
+  writes_as_in key e offered wire.Waiting = polls_in (Writes e.id offered wire.Waiting)
+  writes_as_in key e offered wire.End = then_in (polls_in (Writes e.id offered wire.End)) (fails_in key)
+  writes_as_in key e offered wire.Fault = then_in (polls_in (Writes e.id offered wire.Fault)) (fails_in key)
+
+  writes_at_in : (key : ℕ) (o : Option Entry) → Within P (WritesAt moment key o)
+  writes_at_in key None = nothing_in
+  writes_at_in key (Some e) = if_in (nat_lt 0 (length (waiting e))) (WritesOpen moment key e) Nothing (λ l hs l' (offered, is, answer, it). writes_as_in key e offered answer l hs l' it) nothing_in
+
+  writes_one_in : (key : ℕ) → Within P (WritesOne moment key)
+  writes_one_in key l hs l' it = writes_at_in key (l.entries key) l hs l' it
+
+  -- ---- the other parts of a turn
+
+  ends_at_in : (key : ℕ) (o : Option Entry) → Within P (EndsAt moment key o)
+  ends_at_in key None = nothing_in
+  ends_at_in key (Some e) = if_in (is_done e) (Then (ClosesAs moment Drained key e) (Settles moment)) Nothing (then_in (closes_in Drained key e) settles_in) nothing_in
+
+  ends_one_in : (key : ℕ) → Within P (EndsOne moment key)
+  ends_one_in key l hs l' it = ends_at_in key (l.entries key) l hs l' it
+
+  opens_in : (door : Door) (id : ℕ) → Within P (Opens door id)
+  opens_in door id l hs l' (inl (key, free, none, after)) = k.calm l hs l' (calm_as [] (with_new key (opening_entry door id) l) l hs l' refl refl refl refl (none, after))
+  opens_in door id l hs l' (inr it) = same_in (Told (Refused At.Accept (Some id)) ∷ Polled (Closes id) ∷ []) refl refl l hs l' it
+
+  accepts_as_in : (door : Door) (answer : WireAnswer ℕ) → Within P (AcceptsAs door answer)
+  accepts_as_in door (wire.Done id) = then_in (polls_in (Accepts door (wire.Done id))) (opens_in door id)
+  accepts_as_in door wire.Waiting = polls_in (Accepts door wire.Waiting)
+  accepts_as_in door wire.End = polls_in (Accepts door wire.End)
+  accepts_as_in door wire.Fault = polls_in (Accepts door wire.Fault)
+
+  accepts_in : (door : Door) → Within P (AcceptsAt door)
+  accepts_in door l hs l' it = if_in (nat_lt l.count CONNECTIONS) (AcceptsOne door) Nothing (λ a ks b (answer, is). accepts_as_in door answer a ks b is) nothing_in l hs l' it
+
+  tick_due_in : Within P (TicksIfDue moment)
+  tick_due_in l hs l' it = if_in (is_tick_due moment l) (Then (Ticks moment) (Settles moment)) Nothing (then_in ticks_in settles_in) nothing_in l hs l' it
+
+  round_in : Within P (Round moment)
+  round_in l hs l' (n, it) =
+      then_in {R = Covers n} (λ a ks b is. nothing_in a ks b is.1)
+      (then_in (each_in n (ReadsOne moment) reads_one_in) (then_in (each_in n (WritesOne moment) writes_one_in) (each_in n (EndsOne moment) ends_one_in)))
+      l hs l' it
+
+  pub turn_in : Within P (Turn moment)
+  turn_in = then_in settles_in (then_in tick_due_in (then_in (accepts_in Ipp) (then_in (accepts_in Lpd) (then_in (accepts_in Devices) round_in))))
+
+  -- ---- calls between turns
+
+  body_event_in : (request : ℕ) (event : Event) (bytes : List ℕ) → Within P (Or (Between.IsAnswered moment request event bytes) (IsDropped moment event None))
+  body_event_in request event bytes l hs l' (inl (reply, it)) = happens_in event reply (Between.Answers request reply.answer bytes) (calm_answers request reply.answer bytes) l hs l' it
+  body_event_in request event bytes l hs l' (inr it) = dropped_in event None l hs l' it
+
+  asked_in : (asked : Asked) (served : Between.Outcome) → Within P (Between.BodyAsks moment asked served)
+  asked_in asks.TooShort served l hs l' (is, it) = nothing_in l hs l' it
+  asked_in (asks.Refused status request) served l hs l' (is, it) = or_in nothing_in (calmly_in (calm_refusal At.Reply None)) l hs l' it
+  asked_in (asks.Event request event) served l hs l' (bytes, is, it) = body_event_in request event bytes l hs l' it
+
+  body_in : (body : List ℕ) (served : Between.Outcome) → Within P (Between.BodyComes moment body served)
+  body_in body served l hs l' (inl (asked, is, it)) = asked_in asked served l hs l' it
+  body_in body served l hs l' (inr it) = calmly_in (calm_refusal At.Event None) l hs l' it
+
+  pub serves_body_in : (body : List ℕ) (answer : Between.Outcome) → Within P (Between.Serves moment body answer)
+  serves_body_in body answer l hs l' (served, is, it) = body_in body served l hs l' it
+
+  pub reports_in : (device : ℕ) (said : ReportRecord) → Within P (Between.Reports moment device said)
+  reports_in device said = tells_in device said
+
+-- of whatever holds of all its parts: it holds of a deed
+pub deed_in : (P : Rel) (deed : Deed) → Holds (moment_of deed) P → (l l' : Ledger) → DoesDeed deed l l' → P l (happenings_of deed) l'
+deed_in P (Turned moment hs) k l l' it = turn_in moment P k l hs l' it
+deed_in P (Served_body moment body answer hs) k l l' it = serves_body_in moment P k body answer l hs l' it
+deed_in P (Reported moment device said hs) k l l' it = reports_in moment P k device said l hs l' it
+deed_in P (Ticked moment hs) k l l' it = ticks_in moment P k l hs l' it
