@@ -1,12 +1,10 @@
 -- The laws of traces.
-use Rattle.std.proofs.Common.{◌≡◌, ◌≢◌, ℕ, Bool, true, false, List, [], ◌∷◌, ◌++◌, refl, sym, ◌∙◌, ap, subst, Option, Some, None, inl, inr}
+use Rattle.std.proofs.Common.{◌≡◌, ◌≢◌, ℕ, Bool, true, false, List, [], ◌∷◌, ◌++◌, refl, sym, ◌∙◌, ap, subst, None, inl, inr}
 use Rattle.std.specs.Prelude.{◌⊎◌, ◌||◌, if◌then◌else◌, All, map}
 use Rattle.std.specs.List.{flat_map}
 use Rattle.std.proofs.lemmas.List.{append-nil, append_assoc}
 use Rattle.std.proofs.lemmas.List.Concat.{flat_map-append}
 use Rattle.std.proofs.lemmas.List.Elements.{All-append, All-cons, All-nil}
-use Rattle.base_types.specs.declared.report.Report.{Report}
-use Rattle.base_types.specs.Report.{ReportRecord, report_of}
 use Rattle.print_room.specs.State.{State}
 use Rattle.dispatcher.specs.declared.event.Event.{Event}
 use Rattle.dispatcher.specs.declared.event.Event.TheVariants as Is
@@ -24,14 +22,15 @@ use Rattle.server.specs.Polls.{Note, Happening, Polled, Told, Planned, Canceled,
 use Rattle.server.specs.Ledger.{Entry, Ledger, Fate, opening_ledger}
 use Rattle.server.specs.Rel.{Rel, Nothing, Or}
 use Rattle.server.specs.Happening.{now_at, IsDropped}
-use Rattle.server.specs.Closing.{IsTaken, Leaves}
+use Rattle.server.specs.Closing.{IsTaken}
 use Rattle.server.specs.Turn as Between
 use Rattle.server.specs.Turn.{Notes, has_refusal, Outcome as Given, Replied, OutOfMemory, IsBytes, Answers, BodyAsks, BodyComes, Deed, Turned, Served_body, Reported, Ticked, DoesDeed, Trace, Runs}
-use Rattle.server.specs.Law.{Dispatch, plans_told, cancels_told, Collects, cancels_of, moment_of, happenings_of, happenings_in, AreAt, AreEventsOf, IsOneRun, IsAnswered, IsOneEvent, IsServed, IsAtMostOne, AllTaken}
-use Rattle.server.specs.declared.notes.Place.{Place}
+use Rattle.server.specs.Law.{Dispatch, plans_told, cancels_told, Collects, cancels_of, moment_of, happenings_of, happenings_in, AreAt, IsWhole, IsOneRun, IsAnswered, IsOneEvent, IsServed, IsAtMostOne, AllTaken}
 use Rattle.server.specs.declared.notes.Place.TheVariants as At
-use Rattle.server.proofs.Speaking.{calm_nothing, refusals_append, told_whole, Happened, happens, between_nothing}
-use Rattle.server.proofs.Parts.{calm_notes, calm_answers, IsCalm, IsEvent, Holds, deed_in}
+use Rattle.server.proofs.Steps.{refusals_append}
+use Rattle.server.proofs.Reporting.{right_false}
+use Rattle.server.proofs.Speaking.{calm_nothing, told_whole, never, no_refusal_told, Happened, happens, between_nothing}
+use Rattle.server.proofs.Parts.{calm_notes, calm_answers, Holds, deed_in}
 
 -- ---- what closed connections were given
 
@@ -107,14 +106,30 @@ record IsRunAt (moment : ℕ) (l : Ledger) (hs : List Happening) (l' : Ledger) :
   timed : AreAt moment events
   run : Run Collects l.core [] events outcomes l'.core (plans_told hs)
   canceled : cancels_told hs ≡ flat_map cancels_of outcomes
+  whole : has_refusal hs ≡ false → All IsWhole outcomes
 
 -- its cancels, and those of what comes later
 canceled_then : (hs ks : List Happening) (outcomes others : List Outcome) → cancels_told hs ≡ flat_map cancels_of outcomes → cancels_told ks ≡ flat_map cancels_of others → cancels_told (hs ++ ks) ≡ flat_map cancels_of (outcomes ++ others)
 canceled_then hs ks outcomes others p q =
     cancels_append hs ks ∙ (ap (λ (cs : List Cancel). cs ++ cancels_told ks) p ∙ (ap (λ (cs : List Cancel). flat_map cancels_of outcomes ++ cs) q ∙ sym (flat_map-append cancels_of outcomes others)))
 
+left_false : (x y : Bool) → x || y ≡ false → x ≡ false
+left_false true y is = is
+left_false false y is = refl
+
+-- what wasn't refused in all wasn't in a part
+none_before : (hs front back : List Happening) → hs ≡ front ++ back → has_refusal hs ≡ false → has_refusal front ≡ false
+none_before hs front back whole none = left_false (has_refusal front) (has_refusal back) (sym (ap has_refusal whole ∙ refusals_append front back) ∙ none)
+
+none_after : (hs front back : List Happening) → hs ≡ front ++ back → has_refusal hs ≡ false → has_refusal back ≡ false
+none_after hs front back whole none = right_false (has_refusal front) (has_refusal back) (sym (ap has_refusal whole ∙ refusals_append front back) ∙ none)
+
+-- each was answered, and so was each that comes later
+whole_then : (hs ks : List Happening) (outcomes others : List Outcome) → (has_refusal hs ≡ false → All IsWhole outcomes) → (has_refusal ks ≡ false → All IsWhole others) → has_refusal (hs ++ ks) ≡ false → All IsWhole (outcomes ++ others)
+whole_then hs ks outcomes others p q none = All-append IsWhole outcomes others (p (none_before (hs ++ ks) hs ks refl none)) (q (none_after (hs ++ ks) hs ks refl none))
+
 no_event : (moment : ℕ) (l : Ledger) (hs : List Happening) (l' : Ledger) → l'.core ≡ l.core → plans_told hs ≡ [] → cancels_told hs ≡ [] → IsRunAt moment l hs l'
-no_event moment l hs l' same plans cancels = record { events = []; outcomes = []; timed = All-nil (λ (timed : Timed). timed.moment ≡ moment); run = (same, plans); canceled = cancels }
+no_event moment l hs l' same plans cancels = record { events = []; outcomes = []; timed = All-nil (λ (timed : Timed). timed.moment ≡ moment); run = (same, plans); canceled = cancels; whole = λ none. All-nil IsWhole }
 
 is_run : (moment : ℕ) → Holds moment (IsRunAt moment)
 is_run moment = record {
@@ -127,6 +142,7 @@ is_run moment = record {
         timed = All-cons (λ (t : Timed). t.moment ≡ moment) timed [] refl (All-nil (λ (t : Timed). t.moment ≡ moment));
         run = (l'.core, plans_told hs, it.comes, (refl, refl));
         canceled = it.cancels ∙ sym (append-nil (cancels_of it.outcome));
+        whole = λ none. All-cons IsWhole it.outcome [] (it.whole none) (All-nil IsWhole);
       };
   leaves = λ fate key e l hs l' it. no_event moment l hs l' (ap (λ (x : Ledger). x.core) it.2) (ap plans_told it.0) (ap cancels_told it.0);
   chain = λ l front mid back l' p q.
@@ -137,11 +153,12 @@ is_run moment = record {
         run = subst (λ (ds : List Dispatch). Run Collects l.core [] (p.events ++ q.events) (p.outcomes ++ q.outcomes) l'.core ds) (sym (plans_append front back))
             (run_then [] (plans_told front) (plans_told back) l.core mid.core l'.core p.events q.events p.outcomes q.outcomes p.run q.run);
         canceled = canceled_then front back p.outcomes q.outcomes p.canceled q.canceled;
+        whole = λ none. whole_then front back p.outcomes q.outcomes p.whole q.whole none;
       };
 }
 
 pub one_run : (trace : Trace) (old new : Ledger) → Runs trace old new → IsOneRun trace old.core new.core
-one_run [] old new same = record { events = []; outcomes = []; timed = refl; run = (ap (λ (x : Ledger). x.core) same, refl); canceled = refl }
+one_run [] old new same = record { events = []; outcomes = []; timed = refl; run = (ap (λ (x : Ledger). x.core) same, refl); canceled = refl; whole = λ none. All-nil IsWhole }
 one_run (deed ∷ deeds) old new (mid, does, runs) =
     let first = deed_in (IsRunAt (moment_of deed)) deed (is_run (moment_of deed)) old mid does in
     let later = one_run deeds mid new runs in
@@ -152,30 +169,10 @@ one_run (deed ∷ deeds) old new (mid, does, runs) =
       run = subst (λ (ds : List Dispatch). Run Collects old.core [] (first.events ++ later.events) (first.outcomes ++ later.outcomes) new.core ds) (sym (plans_append (happenings_of deed) (happenings_in deeds)))
           (run_then [] (plans_told (happenings_of deed)) (plans_told (happenings_in deeds)) old.core mid.core new.core first.events later.events first.outcomes later.outcomes first.run later.run);
       canceled = canceled_then (happenings_of deed) (happenings_in deeds) first.outcomes later.outcomes first.canceled later.canceled;
+      whole = λ none. whole_then (happenings_of deed) (happenings_in deeds) first.outcomes later.outcomes first.whole later.whole none;
     }
 
 -- ---- one event a deed
-
-never : {A : Type 0} → (refused : Bool) → refused ≡ true → refused ≡ false → A
-never refused is none = let same : true ≡ false = sym is ∙ none in absurd (cc)
-
-no_refusal_told : {A : Type 0} → (hs : List Happening) (place : Place) (id : Option ℕ) → has_refusal hs ≡ false → hs ≡ Told (Refused place id) ∷ [] → A
-no_refusal_told hs place id none is = never (has_refusal hs) (ap has_refusal is) none
-
-left_false : (x y : Bool) → x || y ≡ false → x ≡ false
-left_false true y is = is
-left_false false y is = refl
-
-right_false : (x y : Bool) → x || y ≡ false → y ≡ false
-right_false true y is = let same : true ≡ false = is in absurd (cc)
-right_false false y is = is
-
--- what wasn't refused in all wasn't in a part
-none_before : (hs front back : List Happening) → hs ≡ front ++ back → has_refusal hs ≡ false → has_refusal front ≡ false
-none_before hs front back whole none = left_false (has_refusal front) (has_refusal back) (sym (ap has_refusal whole ∙ refusals_append front back) ∙ none)
-
-none_after : (hs front back : List Happening) → hs ≡ front ++ back → has_refusal hs ≡ false → has_refusal back ≡ false
-none_after hs front back whole none = right_false (has_refusal front) (has_refusal back) (sym (ap has_refusal whole ∙ refusals_append front back) ∙ none)
 
 answered : (timed : Timed) (reply : Reply) (old new : State) (dispatches : List Dispatch) (refused : Bool) → refused ≡ false → IsAnswered timed reply old dispatches new ⊎ (Comes Collects old [] timed (Undispatched reply) new dispatches × (refused ≡ true)) → IsAnswered timed reply old dispatches new
 answered timed reply old new dispatches refused none (inl it) = it

@@ -27,9 +27,9 @@ use Rattle.replies.specs.declared.asked.Asked.{Asked}
 use Rattle.replies.specs.declared.asked.Asked.TheVariants as asks
 use Rattle.replies.specs.QueueText.{ack_of, text_of}
 use Rattle.server.specs.Polls.{Poll, Accepts, Reads, Writes, Closes, Refused, Happening, Polled, Told}
-use Rattle.server.specs.Ledger.{Entry, Ledger, Fate, Drained, Broken, opening_entry, with_new, with_entry, device_of, waiting}
-use Rattle.server.specs.Rel.{Rel, Nothing, Polls, Tells, Then, If, Or, Times, Many, Each}
-use Rattle.server.specs.Keeping.{Sets, broken, Breaks, Drops, DropsOne, Keeps}
+use Rattle.server.specs.Ledger.{Entry, Ledger, Fate, Drained, Broken, opening_entry, with_new, device_of, waiting}
+use Rattle.server.specs.Rel.{Rel, Nothing, Polls, Then, If, Or, Times, Many, Each}
+use Rattle.server.specs.Keeping.{Sets, broken, Breaks, Drops, Keeps}
 use Rattle.server.specs.Happening.{now_at, Steps, IsDropped, Follows, Unanswered}
 use Rattle.server.specs.Closing as Closing
 use Rattle.server.specs.Closing.{Leaves, ClosesAs, ClosesFirst, Settles}
@@ -40,16 +40,16 @@ use Rattle.server.specs.Session.{Hearing, Goes, Stops, Submits, Commands, heard,
 use Rattle.server.specs.Polling.{Opens, AcceptsAs, AcceptsOne, AcceptsAt, ActsNext, Acts, Serves, Feeds, FeedsAt, FeedsOne, Fails, ReadsAs, ReadsOpen, ReadsAt, is_read, ReadsOne, WritesAs, WritesOpen, WritesAt, WritesOne, is_done, EndsAt, EndsOne}
 use Rattle.server.specs.Turn as Between
 use Rattle.server.specs.Turn.{Notes, Ticks, is_tick_due, TicksIfDue, Covers, Rounds, Round, Turn, has_refusal, Deed, Turned, Served_body, Reported, Ticked, DoesDeed}
-use Rattle.server.specs.Law.{Dispatch, plans_told, cancels_told, Collects, cancels_of, moment_of, happenings_of, IsAnswered}
+use Rattle.server.specs.Law.{Dispatch, plans_told, cancels_told, Collects, cancels_of, IsWhole, moment_of, happenings_of, IsAnswered}
 use Rattle.server.specs.declared.wire.Answer.TheVariants as wire
 use Rattle.server.specs.declared.wire.Answer.{Answer as WireAnswer}
 use Rattle.server.specs.declared.wire.Door.{Door}
 use Rattle.server.specs.declared.wire.Door.TheVariants.{Ipp, Lpd, Devices}
 use Rattle.server.specs.declared.notes.Place.{Place}
 use Rattle.server.specs.declared.notes.Place.TheVariants as At
-use Rattle.server.proofs.Speaking.{plans_of, cancels_are, Calmly, calm_nothing, calm_then, calm_if, calm_or, calm_refusal, calm_sets, calm_drops, calm_drops_one, calm_breaks, calm_keeps, core_notes, IsUnpolled, Happened, happens, between_nothing}
+use Rattle.server.proofs.Speaking.{plans_of, cancels_are, Calmly, calm_nothing, calm_then, calm_if, calm_or, calm_refusal, calm_sets, calm_drops, calm_drops_one, calm_breaks, calm_keeps, core_notes, IsUnpolled, never, no_refusal_told, Happened, happens, between_nothing}
 
--- it stays, and so does what was closed; neither plan nor cancel is told
+-- the core stays, and so does what was closed; neither plan nor cancel is told
 pub record IsCalm (l : Ledger) (hs : List Happening) (l' : Ledger) : Type 0 where
   pub core : l'.core ≡ l.core
   pub closed : l'.closed ≡ l.closed
@@ -63,6 +63,7 @@ pub record IsEvent (moment : ℕ) (l : Ledger) (hs : List Happening) (l' : Ledge
   pub comes : Comes Collects l.core [] (record { event = event; moment = moment }) outcome l'.core (plans_told hs)
   pub cancels : cancels_told hs ≡ cancels_of outcome
   pub closed : l'.closed ≡ l.closed
+  pub whole : has_refusal hs ≡ false → IsWhole outcome
 
 -- this holds of each part, and of parts one after the other
 pub record Holds (moment : ℕ) (P : Rel) : Type 0 where
@@ -88,11 +89,11 @@ calm_as ks m l hs l' plans cancels core closed (is, after) = record {
 event_by : (moment : ℕ) (event : Event) (reply : Reply) (dispatches : List Dispatch) (l : Ledger) (hs : List Happening) (l' : Ledger) → plans_told hs ≡ dispatches → cancels_told hs ≡ reply.cancels.items → l'.closed ≡ l.closed
     → IsAnswered (record { event = event; moment = moment }) reply l.core dispatches l'.core ⊎ (Comes Collects l.core [] (record { event = event; moment = moment }) (Undispatched reply) l'.core dispatches × (has_refusal hs ≡ true)) → IsEvent moment l hs l'
 event_by moment event reply dispatches l hs l' plans cancels closed (inl (inl it)) =
-    record { event = event; outcome = Queried reply; comes = subst (λ (ds : List Dispatch). Comes Collects l.core [] (record { event = event; moment = moment }) (Queried reply) l'.core ds) (sym plans) it; cancels = cancels; closed = closed }
+    record { event = event; outcome = Queried reply; comes = subst (λ (ds : List Dispatch). Comes Collects l.core [] (record { event = event; moment = moment }) (Queried reply) l'.core ds) (sym plans) it; cancels = cancels; closed = closed; whole = λ none. tt }
 event_by moment event reply dispatches l hs l' plans cancels closed (inl (inr it)) =
-    record { event = event; outcome = Dispatched reply; comes = subst (λ (ds : List Dispatch). Comes Collects l.core [] (record { event = event; moment = moment }) (Dispatched reply) l'.core ds) (sym plans) it; cancels = cancels; closed = closed }
+    record { event = event; outcome = Dispatched reply; comes = subst (λ (ds : List Dispatch). Comes Collects l.core [] (record { event = event; moment = moment }) (Dispatched reply) l'.core ds) (sym plans) it; cancels = cancels; closed = closed; whole = λ none. tt }
 event_by moment event reply dispatches l hs l' plans cancels closed (inr (it, refused)) =
-    record { event = event; outcome = Undispatched reply; comes = subst (λ (ds : List Dispatch). Comes Collects l.core [] (record { event = event; moment = moment }) (Undispatched reply) l'.core ds) (sym plans) it; cancels = cancels; closed = closed }
+    record { event = event; outcome = Undispatched reply; comes = subst (λ (ds : List Dispatch). Comes Collects l.core [] (record { event = event; moment = moment }) (Undispatched reply) l'.core ds) (sym plans) it; cancels = cancels; closed = closed; whole = λ none. never (has_refusal hs) refused none }
 
 event_as : (moment : ℕ) (event : Event) (reply : Reply) → Within (IsEvent moment) (Happened moment event reply)
 event_as moment event reply l hs l' it =
@@ -105,6 +106,7 @@ dropped_as moment event id l hs l' it = record {
   comes = (ap (λ (x : Ledger). x.core) it.after, ap plans_told it.told, it.heavy);
   cancels = ap cancels_told it.told;
   closed = ap (λ (x : Ledger). x.closed) it.after;
+  whole = λ none. no_refusal_told hs At.Event id none it.told;
 }
 
 -- ---- what lies between a step and what follows it

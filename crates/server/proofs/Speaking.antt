@@ -1,7 +1,6 @@
 -- What a listener is told of an event, with refusals in between.
 use Rattle.std.proofs.Common.{◌≡◌, ◌≢◌, ℕ, max, Bool, true, false, List, [], ◌∷◌, ◌++◌, refl, sym, ◌∙◌, ap, subst, Option, Some, None, inl, inr}
 use Rattle.std.specs.Prelude.{◌||◌, ◌⊎◌, map}
-use Rattle.std.proofs.lemmas.List.{map-append}
 use Rattle.prices.specs.Plan.{PlanRecord}
 use Rattle.device_link.specs.Orders.{cancel_line}
 use Rattle.print_room.specs.declared.started.Started.{Started}
@@ -18,12 +17,12 @@ use Rattle.server.specs.Polls.{Note, Planned, Canceled, Refused, Happening, Poll
 use Rattle.server.specs.Ledger.{Entry, Ledger, with_entry, job_bytes}
 use Rattle.server.specs.Rel.{Rel, Nothing, Tells, Then, If, Or, EachOf}
 use Rattle.server.specs.Keeping.{Sets, broken, BreaksAt, Breaks, Drops, DropsAt, DropsOne, KeepsOpen, KeepsAt, Keeps, KeepsOn}
-use Rattle.server.specs.Happening.{now_at, Steps, Sends, Plans, Starts, IsPlanned, IsUndispatched, Dispatches, Follows}
-use Rattle.server.specs.Turn.{is_refusal, has_refusal}
-use Rattle.server.specs.Law.{Dispatch, plans_told, cancels_told, Collects, IsAnswered, planned, told_of}
+use Rattle.server.specs.Happening.{now_at, Steps, Sends, Starts, IsPlanned, IsUndispatched, Dispatches, Follows}
+use Rattle.server.specs.Turn.{has_refusal}
+use Rattle.server.specs.Law.{Dispatch, plans_told, cancels_told, Collects, IsAnswered, planned}
 use Rattle.server.specs.declared.notes.Place.{Place}
 use Rattle.server.specs.declared.notes.Place.TheVariants.{Keep}
-use Rattle.server.proofs.Steps.{or_assoc}
+use Rattle.server.proofs.Steps.{refusals_append}
 
 -- ---- what is told
 
@@ -53,10 +52,6 @@ unpolled_append [] ks p q = q
 unpolled_append (Told note ∷ hs) ks p q = unpolled_append hs ks p q
 unpolled_append (Polled poll ∷ hs) ks p q = absurd p
 
-pub refusals_append : (hs ks : List Happening) → has_refusal (hs ++ ks) ≡ has_refusal hs || has_refusal ks
-refusals_append [] ks = refl
-refusals_append (h ∷ hs) ks = ap (λ (t : Bool). is_refusal h || t) (refusals_append hs ks) ∙ or_assoc (is_refusal h) (has_refusal hs) (has_refusal ks)
-
 -- where nothing was refused, that is all
 pub told_whole : (hs : List Happening) → IsUnpolled hs → has_refusal hs ≡ false → hs ≡ map Told (core_notes hs)
 told_whole [] alone none = refl
@@ -64,6 +59,12 @@ told_whole (Told (Planned plan started) ∷ hs) alone none = ap (λ (ks : List H
 told_whole (Told (Canceled cancel) ∷ hs) alone none = ap (λ (ks : List Happening). Told (Canceled cancel) ∷ ks) (told_whole hs alone none)
 told_whole (Told (Refused place id) ∷ hs) alone none = let never : true ≡ false = none in cc
 told_whole (Polled poll ∷ hs) alone none = absurd alone
+
+pub never : {A : Type 0} → (refused : Bool) → refused ≡ true → refused ≡ false → A
+never refused is none = let same : true ≡ false = sym is ∙ none in absurd (cc)
+
+pub no_refusal_told : {A : Type 0} → (hs : List Happening) (place : Place) (id : Option ℕ) → has_refusal hs ≡ false → hs ≡ Told (Refused place id) ∷ [] → A
+no_refusal_told hs place id none is = never (has_refusal hs) (ap has_refusal is) none
 
 plans_in : (hs : List Happening) → plans_told hs ≡ plans_told (map Told (core_notes hs))
 plans_in [] = refl

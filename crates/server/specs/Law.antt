@@ -83,6 +83,13 @@ abbrev pub AreEventsOf : Trace → List Timed → Type 0
 AreEventsOf [] events = events ≡ []
 AreEventsOf (deed ∷ deeds) events = (first : List Timed) × (later : List Timed) × (events ≡ first ++ later) × AreAt (moment_of deed) first × AreEventsOf deeds later
 
+-- no memory was refused for the event or its dispatch
+abbrev pub IsWhole : Outcome → Type 0
+IsWhole Dropped = ⊥
+IsWhole (Queried reply) = Unit {0}
+IsWhole (Undispatched reply) = ⊥
+IsWhole (Dispatched reply) = Unit {0}
+
 -- One run of the core, whose plans are all those that the listener was told of in the trace, in order,
 -- and whose replies have all the cancels that it was told of.
 pub record IsOneRun (trace : Trace) (old new : State) : Type 0 where
@@ -91,6 +98,7 @@ pub record IsOneRun (trace : Trace) (old new : State) : Type 0 where
   pub timed : AreEventsOf trace events
   pub run : Run Collects old [] events outcomes new (plans_told (happenings_in trace))
   pub canceled : cancels_told (happenings_in trace) ≡ flat_map cancels_of outcomes
+  pub whole : has_refusal (happenings_in trace) ≡ false → All IsWhole outcomes
 
 -- ---- a deed between turns
 
