@@ -205,7 +205,7 @@ module _ (moment : ℕ) (P : Rel) (k : Holds moment P) where
   reported_in device report l hs l' (reply, it) =
       happens_in (Is.Report device report) reply Nothing calm_nothing l hs l' (between_nothing moment (Is.Report device report) reply false l hs l' it)
 
-  pub ticks_in : Within P (Ticks moment)
+  ticks_in : Within P (Ticks moment)
   ticks_in l hs l' (reply, it) = happens_in Is.Tick reply (Notes (now_at moment l)) (calm_notes (now_at moment l)) l hs l' it
 
   -- ---- closings
@@ -387,7 +387,7 @@ module _ (moment : ℕ) (P : Rel) (k : Holds moment P) where
       (then_in (each_in n (ReadsOne moment) reads_one_in) (then_in (each_in n (WritesOne moment) writes_one_in) (each_in n (EndsOne moment) ends_one_in)))
       l hs l' it
 
-  pub turn_in : Within P (Turn moment)
+  turn_in : Within P (Turn moment)
   turn_in = then_in settles_in (then_in tick_due_in (then_in (accepts_in Ipp) (then_in (accepts_in Lpd) (then_in (accepts_in Devices) round_in))))
 
   -- ---- calls between turns
@@ -405,10 +405,10 @@ module _ (moment : ℕ) (P : Rel) (k : Holds moment P) where
   body_in body served l hs l' (inl (asked, is, it)) = asked_in asked served l hs l' it
   body_in body served l hs l' (inr it) = calmly_in (calm_refusal At.Event None) l hs l' it
 
-  pub serves_body_in : (body : List ℕ) (answer : Between.Outcome) → Within P (Between.Serves moment body answer)
+  serves_body_in : (body : List ℕ) (answer : Between.Outcome) → Within P (Between.Serves moment body answer)
   serves_body_in body answer l hs l' (served, is, it) = body_in body served l hs l' it
 
-  pub reports_in : (device : ℕ) (said : ReportRecord) → Within P (Between.Reports moment device said)
+  reports_in : (device : ℕ) (said : ReportRecord) → Within P (Between.Reports moment device said)
   reports_in device said = tells_in device said
 
 -- of whatever holds of all its parts: it holds of a deed
