@@ -19,8 +19,8 @@ use Rattle.assignment.specs.Entries.{EachAble}
 use Rattle.spool.specs.Spool.{IsSpool}
 use Rattle.print_room.specs.State.{State, sets_of}
 use Rattle.print_room.specs.Ready.{ready_of, belongs, class_of, cause_in}
-use Rattle.print_room.specs.GoodPlan.{is_some_job, job_of_class}
-use Rattle.print_room.specs.Planned.{jobs_above, is_some_class_job}
+use Rattle.print_room.specs.GoodPlan.{job_of_class}
+use Rattle.print_room.specs.Planned.{jobs_above}
 use Rattle.spool.proofs.RisingIds.{RisesFrom, increasing_from_rises, filter_rises, ready_ids_rise}
 use Rattle.print_room.proofs.Readying.{ready_unfinished, count_short}
 
@@ -127,11 +127,6 @@ each_able (first ∷ others) devices sets waits c h able = λ k e below.
     let inside : k < length jobs = omega (arith, below, ap (λ (xs : List ℕ). length xs) h.ids, length_ids jobs) in
     let id : get_or c.ids k e ≡ (get_or jobs k first).id = ap (λ (xs : List ℕ). get_or xs k e) h.ids ∙ id_at jobs k first e inside in
     subst (λ (j : ℕ). (device : ℕ) × IsSome (time_in c j device)) (sym id) (able_at jobs devices sets waits c h (get_or jobs k first) (Contains-get_or jobs k first inside) (able k first inside))
-
--- there is a job of the class among those that are read
-pub some_mapped : (jobs : List JobRecord) → is_some_class_job (map job_of_class jobs) ≡ is_some_job jobs
-some_mapped [] = refl
-some_mapped (job ∷ jobs) = refl
 
 -- a problem has as many jobs as its class
 pub few_ids : (s : State) (p : ℕ) (waits : List ℕ) (c : Class) → IsClassOf (map job_of_class (class_of s p)) s.devices (sets_of s.settings) waits c → length c.ids ≤ length (class_of s p)

@@ -1,14 +1,20 @@
 -- One priority after the other is planned.
-use Rattle.std.proofs.Common.{◌≡◌, ℕ, suc, ◌+◌, ◌*◌, ◌≤◌, ◌==◌, ◌&&◌, Bool, true, false, cond, List, [], ◌∷◌, ◌++◌, length, map, filter, count_by, nat_lt, is_none, All, refl, sym, ap, subst, ◌∙◌, arith, append-nil}
+use Rattle.std.proofs.Common.{◌≡◌, ℕ, zero, suc, ◌+◌, ◌*◌, ◌<◌, ◌≤◌, ◌==◌, ◌&&◌, Bool, true, false, cond, List, [], ◌∷◌, ◌++◌, length, map, filter, count_by, nat_lt, is_none, All, inl, inr, refl, sym, ap, subst, ◌∙◌, arith, append-nil}
+use Rattle.std.proofs.lemmas.Bool.{cases_lt}
+use Rattle.std.proofs.lemmas.List.{length-map}
 use Rattle.std.proofs.lemmas.List.Sums.{sum_by-cons}
-use Rattle.base_types.specs.declared.limits.TheConstants.Limits.{JOB_TIME, NOT_BEFORE}
+use Rattle.base_types.specs.declared.limits.TheConstants.Limits.{JOB_TIME, NOT_BEFORE, HIGHEST_PRIORITY}
+use Rattle.base_types.specs.Device.{Device}
 use Rattle.job_objects.specs.Job.{JobRecord}
 use Rattle.prices.specs.declared.plan.PlannedClass.{PlannedClass}
 use Rattle.prices.specs.Waits.{waits_after, GrowsByTimes}
+use Rattle.print_room.specs.Activity.{wait_of}
 use Rattle.print_room.specs.State.{State}
 use Rattle.print_room.specs.Ready.{ready_of, belongs, class_of, cause_in}
 use Rattle.print_room.specs.GoodPlan.{is_some_job, falling, priorities_of, waits_of, IsPlannedBest, AllPlannedBest}
+use Rattle.print_room.specs.Gathered.{gathered_of, highest_within}
 use Rattle.print_room.specs.Planned.{PlannedAbove, left_by, jobs_above}
+use Rattle.print_room.proofs.Readying.{highest_least, none_above}
 
 pub best_more : (s : State) (waits : List ℕ) (classes : List PlannedClass) (class : PlannedClass) → AllPlannedBest s waits classes → IsPlannedBest s (left_by waits classes) class → AllPlannedBest s waits (classes ++ class ∷ [])
 best_more s waits [] class h new = (new, tt)
@@ -51,6 +57,28 @@ next_none s now p classes waits h none = record {
   one_each = h.one_each;
   short = λ k d below. omega (arith, h.short k d below, class_counts s p);
 }
+
+-- none is planned yet
+pub none_planned : (s : State) (now : ℕ) (classes : List PlannedClass) (waits : List ℕ) → classes ≡ [] → waits ≡ waits_of now s → All (λ wait. wait ≤ NOT_BEFORE) waits → PlannedAbove s now HIGHEST_PRIORITY classes waits
+none_planned s now classes waits none is short = subst (λ (cs : List PlannedClass). PlannedAbove s now HIGHEST_PRIORITY cs waits) (sym none) (record {
+  priorities = refl;
+  best = tt;
+  left = sym is;
+  one_each = ap (λ (ws : List ℕ). length ws) is ∙ length-map s.devices (λ (d : Device). wait_of now d);
+  short = λ k d below. omega (arith, short k d below);
+})
+
+-- priorities that have no class
+pub skip_empty : (s : State) (now next most : ℕ) (classes : List PlannedClass) (waits : List ℕ) → next ≤ most → ((level : ℕ) → next < level → level ≤ most → is_some_job (class_of s level) ≡ false) → PlannedAbove s now most classes waits → PlannedAbove s now next classes waits
+skip_empty s now next zero classes waits within none h = subst (λ (p : ℕ). PlannedAbove s now p classes waits) (omega (arith, within)) h
+skip_empty s now next (suc most) classes waits within none h = elim (cases_lt next (suc most)) [
+  | inl lt ↦ skip_empty s now next most classes waits (omega (arith, lt)) (λ level above below. none level above (omega (arith, below))) (next_none s now most classes waits h (none (suc most) lt (omega arith)))
+  | inr past ↦ subst (λ (p : ℕ). PlannedAbove s now p classes waits) (omega (arith, within, past)) h
+]
+
+-- the highest priority up to a level that has a class
+pub skip_to : (s : State) (now most : ℕ) (classes : List PlannedClass) (waits : List ℕ) → PlannedAbove s now most classes waits → PlannedAbove s now (highest_within most (gathered_of s)) classes waits
+skip_to s now most classes waits h = skip_empty s now (highest_within most (gathered_of s)) most classes waits (highest_least s most (ready_of s)) (λ level above below. none_above s most level (ready_of s) above below) h
 
 -- a priority whose class is planned
 pub next_some : (s : State) (now p : ℕ) (classes : List PlannedClass) (waits after : List ℕ) (class : PlannedClass) → PlannedAbove s now (suc p) classes waits → is_some_job (class_of s (suc p)) ≡ true → class.priority ≡ suc p → IsPlannedBest s waits class

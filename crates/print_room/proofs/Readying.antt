@@ -1,9 +1,10 @@
--- One job more is looked at.
-use Rattle.std.proofs.Common.{◌≡◌, ℕ, ◌+◌, ◌<◌, ◌≤◌, ◌&&◌, Bool, true, false, cond, if◌then◌else◌, List, [], ◌∷◌, ◌++◌, length, take, get_or, refl, sym, ap, ◌∙◌, filter, map, filter_map, option_to_list, Option, Some, None, arith, count_by, not}
+-- The ready jobs are gathered, and those of a class picked out of them.
+use Rattle.std.proofs.Common.{◌≡◌, ◌⊎◌, inl, inr, true≢false, ◌==◌, max, nat_le, is_none, ℕ, ◌+◌, ◌<◌, ◌≤◌, ◌&&◌, Bool, true, false, cond, List, [], ◌∷◌, ◌++◌, length, take, get_or, refl, sym, ap, ◌∙◌, filter, map, filter_map, option_to_list, Option, Some, None, arith, count_by, not}
 use Rattle.std.specs.List.{cons_option}
+use Rattle.std.proofs.Math.Nat.{max-le}
 use Rattle.std.proofs.lemmas.List.{take_more}
 use Rattle.std.proofs.lemmas.List.Sums.{sum_by-cons}
-use Rattle.std.proofs.lemmas.List.Elements.{filter-append, filter_map-append}
+use Rattle.std.proofs.lemmas.List.Elements.{filter_map-append}
 use Rattle.base_types.specs.declared.needs.Stranded.{Stranded}
 use Rattle.job_objects.specs.Job.{JobRecord}
 use Rattle.job_objects.specs.JobState.{is_pending, is_finished}
@@ -14,55 +15,75 @@ use Rattle.spool.specs.Calls.{is_ready, is_unfinished, unfinished_jobs, paused_a
 use Rattle.spool.specs.Ready.{ready_jobs}
 use Rattle.cost_table.specs.ClassJob.{JobOfClass}
 use Rattle.print_room.specs.State.{State}
-use Rattle.print_room.specs.Ready.{stranding, belongs}
-use Rattle.print_room.specs.GoodPlan.{job_of_class}
+use Rattle.print_room.specs.Ready.{stranding, belongs, cause_in}
+use Rattle.print_room.specs.GoodPlan.{is_some_job, job_of_class}
+use Rattle.print_room.specs.Gathered.{Gathered, gathered, entry_of, is_of_class, class_job_of, highest_within}
 
-ready_append : (paused : List Bool) (xs ys : List SpooledRecord) → ready_jobs paused (xs ++ ys) ≡ ready_jobs paused xs ++ ready_jobs paused ys
-ready_append paused [] ys = refl
-ready_append paused (x ∷ xs) ys = step (is_ready paused x.job) x.job (ready_jobs paused (xs ++ ys)) (ready_jobs paused xs) (ready_jobs paused ys) (ready_append paused xs ys)
-  where
-    step : (b : Bool) (job : JobRecord) (all front back : List JobRecord) → all ≡ front ++ back → cond b (job ∷ all) all ≡ cond b (job ∷ front) front ++ back
-    step true job all front back h = ap (λ (js : List JobRecord). job ∷ js) h
-    step false job all front back h = h
-
-ready_more : (paused : List Bool) (xs : List SpooledRecord) (i : ℕ) (x : SpooledRecord) → i < length xs → x ≡ get_or xs i x → ready_jobs paused (take (i + 1) xs) ≡ ready_jobs paused (take i xs) ++ cond (is_ready paused x.job) (x.job ∷ []) []
-ready_more paused xs i x inside is = rw (take_more xs i x inside, ← is) (ready_append paused (take i xs) (x ∷ []))
-
-stranded_one : (b : Bool) (s : State) (job : JobRecord) → filter_map (stranding s) (cond b (job ∷ []) []) ≡ option_to_list (if b then stranding s job else None)
-stranded_one false s job = refl
-stranded_one true s job = listed (stranding s job)
-  where
-    listed : (o : Option Stranded) → cons_option o [] ≡ option_to_list o
-    listed None = refl
-    listed (Some e) = refl
+entry_one : (o : Option Stranded) → cons_option o [] ≡ option_to_list o
+entry_one None = refl
+entry_one (Some entry) = refl
 
 -- one job more, which may be stranded
-pub stranded_more : (s : State) (paused : List Bool) (xs : List SpooledRecord) (i : ℕ) (x : SpooledRecord) → i < length xs → x ≡ get_or xs i x → filter_map (stranding s) (ready_jobs paused (take (i + 1) xs)) ≡ filter_map (stranding s) (ready_jobs paused (take i xs)) ++ option_to_list (if is_ready paused x.job then stranding s x.job else None)
-stranded_more s paused xs i x inside is =
-    ap (λ (js : List JobRecord). filter_map (stranding s) js) (ready_more paused xs i x inside is)
-    ∙ (filter_map-append (stranding s) (ready_jobs paused (take i xs)) (cond (is_ready paused x.job) (x.job ∷ []) [])
-    ∙ ap (λ (es : List Stranded). filter_map (stranding s) (ready_jobs paused (take i xs)) ++ es) (stranded_one (is_ready paused x.job) s x.job))
+pub stranded_more : (xs : List Gathered) (i : ℕ) (x : Gathered) → i < length xs → x ≡ get_or xs i x → filter_map entry_of (take (i + 1) xs) ≡ filter_map entry_of (take i xs) ++ option_to_list (entry_of x)
+stranded_more xs i x inside is =
+    ap (λ (gs : List Gathered). filter_map entry_of gs) (take_more xs i x inside ∙ ap (λ (g : Gathered). take i xs ++ g ∷ []) (sym is))
+    ∙ (filter_map-append entry_of (take i xs) (x ∷ [])
+    ∙ ap (λ (es : List Stranded). filter_map entry_of (take i xs) ++ es) (entry_one (entry_of x)))
 
-class_one : (b c : Bool) (s : State) (p : ℕ) (job : JobRecord) → belongs s p job ≡ c → map job_of_class (filter (belongs s p) (cond b (job ∷ []) [])) ≡ cond (b && c) (job_of_class job ∷ []) []
-class_one false c s p job h = refl
-class_one true c s p job h = ap (λ (t : Bool). map job_of_class (cond t (job ∷ []) [])) h ∙ pick c
-  where
-    pick : (c : Bool) → map job_of_class (cond c (job ∷ []) []) ≡ cond c (job_of_class job ∷ []) []
-    pick true = refl
-    pick false = refl
+-- the stranded ones of a state
+pub stranded_gathered : (s : State) (jobs : List JobRecord) → filter_map entry_of (map (gathered s) jobs) ≡ filter_map (stranding s) jobs
+stranded_gathered s [] = refl
+stranded_gathered s (job ∷ jobs) = ap (λ (es : List Stranded). cons_option (stranding s job) es) (stranded_gathered s jobs)
 
-map_both : (xs ys : List JobRecord) → map job_of_class (xs ++ ys) ≡ map job_of_class xs ++ map job_of_class ys
-map_both [] ys = refl
-map_both (x ∷ xs) ys = ap (λ (js : List JobOfClass). job_of_class x ∷ js) (map_both xs ys)
+class_one : (b : Bool) (s : State) (job : JobRecord) (xs : List Gathered) (ys : List JobRecord) → map class_job_of xs ≡ map job_of_class ys → map class_job_of (cond b (gathered s job ∷ xs) xs) ≡ map job_of_class (cond b (job ∷ ys) ys)
+class_one true s job xs ys h = ap (λ (cs : List JobOfClass). job_of_class job ∷ cs) h
+class_one false s job xs ys h = h
 
--- one job more, which may be of the class
-pub class_more : (s : State) (p : ℕ) (paused : List Bool) (xs : List SpooledRecord) (i : ℕ) (x : SpooledRecord) (b : Bool) → i < length xs → x ≡ get_or xs i x → b ≡ is_ready paused x.job && belongs s p x.job
-    → map job_of_class (filter (belongs s p) (ready_jobs paused (take (i + 1) xs))) ≡ map job_of_class (filter (belongs s p) (ready_jobs paused (take i xs))) ++ cond b (job_of_class x.job ∷ []) []
-class_more s p paused xs i x b inside is chosen =
-    ap (λ (js : List JobRecord). map job_of_class (filter (belongs s p) js)) (ready_more paused xs i x inside is)
-    ∙ (ap (λ (js : List JobRecord). map job_of_class js) (filter-append (belongs s p) (ready_jobs paused (take i xs)) (cond (is_ready paused x.job) (x.job ∷ []) []))
-    ∙ (map_both (filter (belongs s p) (ready_jobs paused (take i xs))) (filter (belongs s p) (cond (is_ready paused x.job) (x.job ∷ []) []))
-    ∙ ap (λ (cs : List JobOfClass). map job_of_class (filter (belongs s p) (ready_jobs paused (take i xs))) ++ cs) (class_one (is_ready paused x.job) (belongs s p x.job) s p x.job refl ∙ ap (λ (t : Bool). cond t (job_of_class x.job ∷ []) []) (sym chosen))))
+-- those of a class
+pub class_gathered : (s : State) (p : ℕ) (jobs : List JobRecord) → map class_job_of (filter (is_of_class p) (map (gathered s) jobs)) ≡ map job_of_class (filter (belongs s p) jobs)
+class_gathered s p [] = refl
+class_gathered s p (job ∷ jobs) = class_one (belongs s p job) s job (filter (is_of_class p) (map (gathered s) jobs)) (filter (belongs s p) jobs) (class_gathered s p jobs)
+
+-- ---- the highest priority of a class
+
+within_least : (p most : ℕ) (b : Bool) → cond (nat_le p most && b) p 0 ≤ most
+within_least p most true = grind arith
+within_least p most false = grind arith
+
+pub highest_least : (s : State) (most : ℕ) (jobs : List JobRecord) → highest_within most (map (gathered s) jobs) ≤ most
+highest_least s most [] = omega arith
+highest_least s most (job ∷ jobs) = max-le (within_least job.priority most (is_none (cause_in s job))) (highest_least s most jobs)
+
+-- no class is higher
+one_above : (p most level rest : ℕ) (b : Bool) → max (cond (nat_le p most && b) p 0) rest < level → level ≤ most → ((p == level) && b ≡ false) × (rest < level)
+one_above p most level rest b above within = grind arith
+
+keep_none : (b : Bool) (job : JobRecord) (jobs : List JobRecord) → b ≡ false → is_some_job jobs ≡ false → is_some_job (cond b (job ∷ jobs) jobs) ≡ false
+keep_none true job jobs isnt none = absurd (true≢false isnt)
+keep_none false job jobs isnt none = none
+
+pub none_above : (s : State) (most level : ℕ) (jobs : List JobRecord) → highest_within most (map (gathered s) jobs) < level → level ≤ most → is_some_job (filter (belongs s level) jobs) ≡ false
+none_above s most level [] above within = refl
+none_above s most level (job ∷ jobs) above within =
+    let both = one_above job.priority most level (highest_within most (map (gathered s) jobs)) (is_none (cause_in s job)) above within in
+    keep_none (belongs s level job) job (filter (belongs s level) jobs) both.0 (none_above s most level jobs both.1 within)
+
+-- it has a job
+one_highest : (p most top rest : ℕ) (b : Bool) → max (cond (nat_le p most && b) p 0) rest ≡ top → 1 ≤ top → ((p == top) && b ≡ true) ⊎ (rest ≡ top)
+one_highest p most top rest b is some = grind arith
+
+keep_some : (b : Bool) (job : JobRecord) (jobs : List JobRecord) → (b ≡ true) ⊎ (is_some_job jobs ≡ true) → is_some_job (cond b (job ∷ jobs) jobs) ≡ true
+keep_some true job jobs h = refl
+keep_some false job jobs (inl h) = absurd (true≢false (sym h))
+keep_some false job jobs (inr h) = h
+
+pub some_highest : (s : State) (most top : ℕ) (jobs : List JobRecord) → highest_within most (map (gathered s) jobs) ≡ top → 1 ≤ top → is_some_job (filter (belongs s top) jobs) ≡ true
+some_highest s most top [] is some = absurd (omega (arith, is, some))
+some_highest s most top (job ∷ jobs) is some =
+    keep_some (belongs s top job) job (filter (belongs s top) jobs) (elim (one_highest job.priority most top (highest_within most (map (gathered s) jobs)) (is_none (cause_in s job)) is some) [
+      | inl here ↦ inl here
+      | inr later ↦ inr (some_highest s most top jobs later some)
+    ])
 
 -- ---- ready jobs are unfinished
 

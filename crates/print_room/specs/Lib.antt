@@ -6,6 +6,7 @@ pub mod DeviceJobs
 pub mod Jobs
 pub mod Ready
 pub mod GoodPlan
+pub mod Gathered
 pub mod Planned
 pub mod Dispatch
 pub mod Beginning

@@ -1,7 +1,6 @@
 -- How far the planning of a state has come: the classes of the priorities above one are planned.
-use Rattle.std.specs.Prelude.{ℕ, Bool, true, false, ◌≡◌, ◌+◌, ◌*◌, ◌≤◌, nat_lt, List, [], ◌∷◌, ◌++◌, map, filter, length, count_by, All}
+use Rattle.std.specs.Prelude.{ℕ, ◌≡◌, ◌+◌, ◌*◌, ◌≤◌, nat_lt, List, [], ◌∷◌, ◌++◌, map, filter, length, count_by, All}
 use Rattle.base_types.specs.declared.limits.TheConstants.Limits.{JOB_TIME, NOT_BEFORE}
-use Rattle.cost_table.specs.ClassJob.{JobOfClass}
 use Rattle.prices.specs.declared.plan.PlannedClass.{PlannedClass}
 use Rattle.prices.specs.Waits.{waits_after}
 use Rattle.print_room.specs.State.{State}
@@ -16,10 +15,6 @@ left_by waits (class ∷ classes) = left_by (waits_after class.problem class.pri
 -- how many ready jobs have a higher priority
 abbrev pub jobs_above : ℕ → State → ℕ
 jobs_above priority state = count_by (λ j. nat_lt priority j.priority) (ready_of state)
-
-abbrev pub is_some_class_job : List JobOfClass → Bool
-is_some_class_job [] = false
-is_some_class_job (job ∷ jobs) = true
 
 -- the classes so far, the highest first, and the waits that they leave
 pub record PlannedAbove (state : State) (now priority : ℕ) (classes : List PlannedClass) (waits : List ℕ) : Type 0 where

@@ -1,12 +1,14 @@
 //! The plan of the ready jobs, class by class.
-ghost use Rattle.std.specs.Prelude.{◌≡◌, ◌≤◌, ◌+◌, ℕ, List, suc, true, map, All, IfOk, OnOk, unwrap_or};
+ghost use Rattle.std.specs.Prelude.{◌≡◌, ◌≤◌, ℕ, List, suc, true, map, All, IfOk, OnOk};
 ghost use Rattle.base_types.specs.declared.limits.TheConstants.Limits.{NOT_BEFORE};
 ghost use Rattle.spool.specs.Spool.{IsSpool};
 ghost use Rattle.print_room.specs.Ready.{class_of};
 ghost use Rattle.print_room.specs.GoodPlan.{IsGoodPlan, is_some_job, job_of_class, waits_of};
-ghost use Rattle.print_room.specs.Planned.{PlannedAbove, is_some_class_job};
+ghost use Rattle.print_room.specs.Gathered.{gathered_of};
+ghost use Rattle.print_room.specs.Planned.{PlannedAbove};
 
 use crate::activity::wait_of;
+use crate::ready::{ReadyJob, class_jobs, highest_within, stranded};
 use crate::room::PrintRoom;
 use assignment::Planner;
 use base_types::{Limits, Moment, Priority};
@@ -22,23 +24,6 @@ struct Planned {
     waits: Vec<u64>,
 }
 
-/// The next lower priority, if there is one.
-fn below(priority: Priority) -> Option<Priority>
-    ensures { suc (unwrap_or result 0) ≡ priority }
-{
-    Priority::new(priority.level() - 1)
-}
-
-/// Whether there is a job among these.
-fn has_job(jobs: &[ClassJob<'_>]) -> bool
-    ensures { result ≡ is_some_class_job jobs.now }
-{
-    match jobs {
-        [] => false,
-        [_, ..] => true,
-    }
-}
-
 impl PrintRoom {
     /// A good plan of the ready jobs for a moment that is not before the last one. The only error is
     /// out of memory.
@@ -47,30 +32,36 @@ impl PrintRoom {
         ensures plan { IfOk result (λ plan. IsGoodPlan now self.now plan) }
         ensures spool { OnOk result (IsSpool self.now.spool) }
     {
-        let classes = self.planned_classes(planner, now)?;
-        let stranded = self.stranded()?;
+        let ready = self.gather_ready()?;
+        let classes = self.planned_classes(planner, now, &ready)?;
+        let stranded = stranded(self.alloc, &ready)?;
         let plan = Plan { classes, stranded };
         proved_plan_is_yes(&plan);
         Ok(plan)
     }
 
-    /// The classes of all priorities that have one, the highest first, each planned best.
+    /// The classes of all priorities that have one, the highest first, each planned best, told the
+    /// ready jobs.
     fn planned_classes<P: Planner>(
         &self,
         planner: &P,
         now: Moment,
+        ready: &[ReadyJob<'_>],
     ) -> Result<Vec<PlannedClass>, AllocError>
-        requires { self.now.last ≤ now }
+        requires later { self.now.last ≤ now }
+        requires ready { ready.now ≡ gathered_of self.now }
+        requires spool { IsSpool self.now.spool }
         ensures { IfOk result (λ classes. (waits : List ℕ) × PlannedAbove self.now now 0 classes.items waits) }
     {
         let mut planned = Planned {
             classes: Vec::new(self.alloc),
             waits: self.waits(now)?,
         };
-        let mut next = Priority::new(Limits::HIGHEST_PRIORITY);
+        let mut next = highest_within(ready, Limits::HIGHEST_PRIORITY);
         while let Some(priority) = next {
-            planned = self.plan_class(planner, now, priority, planned)?;
-            next = below(priority);
+            let below = priority.level() - 1;
+            planned = self.plan_class(planner, now, priority, ready, planned)?;
+            next = highest_within(ready, below);
         }
         Ok(planned.classes)
     }
@@ -88,23 +79,23 @@ impl PrintRoom {
         Ok(waits)
     }
 
-    /// Plans the class of a priority below those planned so far, if it has a job.
+    /// Plans the class of a priority below those planned so far, which has a job.
     fn plan_class<P: Planner>(
         &self,
         planner: &P,
         now: Moment,
         priority: Priority,
+        ready: &[ReadyJob<'_>],
         planned: Planned,
     ) -> Result<Planned, AllocError>
-        requires { PlannedAbove self.now now priority planned.classes.items planned.waits.items }
+        requires above { PlannedAbove self.now now priority planned.classes.items planned.waits.items }
+        requires ready { ready.now ≡ gathered_of self.now }
+        requires some { is_some_job (class_of self.now priority) ≡ true }
+        requires spool { IsSpool self.now.spool }
         ensures { IfOk result (λ next. (below : ℕ) → suc below ≡ priority → PlannedAbove self.now now below next.classes.items next.waits.items) }
     {
-        let jobs = self.class_jobs(priority)?;
-        if has_job(&jobs) {
-            self.plan_jobs(planner, now, priority, &jobs, planned)
-        } else {
-            Ok(planned)
-        }
+        let jobs = class_jobs(self.alloc, ready, priority)?;
+        self.plan_jobs(planner, now, priority, &jobs, planned)
     }
 
     /// Plans the jobs of a class of a priority below those planned so far.

@@ -1,17 +1,118 @@
-//! The ready jobs, and who can't be printed.
-ghost use Rattle.std.specs.Prelude.{◌≡◌, ◌&&◌, IfOk, None, if◌then◌else◌, map};
-ghost use Rattle.spool.specs.Calls.{is_ready};
+//! The ready jobs, read once for a plan, and who can't be printed.
+ghost use Rattle.std.specs.Prelude.{◌≡◌, ◌≤◌, IfOk, filter, map, unwrap_or};
+ghost use Rattle.std.specs.List.{filter_map};
+ghost use Rattle.base_types.specs.declared.limits.TheConstants.Limits.{HIGHEST_PRIORITY};
 ghost use Rattle.spool.specs.Spool.{IsSpool};
-ghost use Rattle.print_room.specs.Ready.{ready_of, cause_in, stranding, stranded_of, belongs, class_of};
-ghost use Rattle.print_room.specs.GoodPlan.{is_some_job, job_of_class};
+ghost use Rattle.print_room.specs.Ready.{ready_of, cause_in};
+ghost use Rattle.print_room.specs.GoodPlan.{is_some_job};
+ghost use Rattle.print_room.specs.Gathered.{gathered, gathered_of, entry_of, is_of_class, class_job_of, level_within, highest_within};
 
 use crate::room::PrintRoom;
-use base_types::{Cause, Priority, Stranded};
+use base_types::{Cause, JobId, Needs, Priority, Stranded};
 use capabilities::stranded_cause;
 use cost_table::ClassJob;
 use job_objects::Job;
-use spool::SpooledJob;
-use std::alloc::AllocError;
+use std::alloc::{AllocError, Global};
+use std::marker::Model;
+
+/// A ready job, and why no device of its printer can print it, if none can. In clauses it is a record of
+/// the same fields.
+#[derive(Drop)]
+pub(crate) struct ReadyJob<'a> {
+    id: JobId,
+    needs: &'a Needs,
+    priority: Priority,
+    cause: Option<Cause>,
+}
+
+impl<'a> Model for ReadyJob<'a> {
+    ghost use Rattle.print_room.specs.Gathered.{Gathered};
+
+    ghost Value = { Gathered };
+
+    ghost view = { λ j. record { id = j.id; needs = j.needs.now; priority = j.priority; cause = j.cause } };
+}
+
+impl<'a> ReadyJob<'a> {
+    /// The job, where no device can print it.
+    fn entry(&self) -> Option<Stranded>
+        ensures { result ≡ entry_of self.now }
+    {
+        let job = self.id;
+        self.cause.map(|cause| Stranded { job, cause })
+    }
+
+    /// Whether it has the priority and some device can print it.
+    fn is_of_class(&self, priority: Priority) -> bool
+        ensures { result ≡ is_of_class priority self.now }
+    {
+        self.priority == priority && self.cause.is_none()
+    }
+
+    /// What a class has of it.
+    fn class_job(&self) -> ClassJob<'a>
+        ensures { result ≡ class_job_of self.now }
+    {
+        ClassJob {
+            id: self.id,
+            needs: self.needs,
+        }
+    }
+
+    /// Its priority, where that is at most a level and some device can print it, and else 0.
+    fn level_within(&self, most: u8) -> u8
+        ensures level { result ≡ level_within most self.now }
+        ensures in_range { result ≤ HIGHEST_PRIORITY }
+    {
+        let level = self.priority.level();
+        if level <= most && self.cause.is_none() {
+            level
+        } else {
+            0
+        }
+    }
+}
+
+/// The highest priority up to a level that a job has that some device can print, if there is one.
+pub(crate) fn highest_within(ready: &[ReadyJob<'_>], most: u8) -> Option<Priority>
+    ensures { unwrap_or result 0 ≡ highest_within most ready.now }
+{
+    let mut highest = 0;
+    for job in ready {
+        highest = job.level_within(most).max(highest);
+    }
+    Priority::new(highest)
+}
+
+/// The class of a priority: its jobs that some device can print, by rising id.
+pub(crate) fn class_jobs<'a>(
+    alloc: Global,
+    ready: &[ReadyJob<'a>],
+    priority: Priority,
+) -> Result<Vec<ClassJob<'a>>, AllocError>
+    ensures { IfOk result (λ jobs. jobs.items ≡ map class_job_of (filter (is_of_class priority) ready.now)) }
+{
+    let mut jobs = Vec::new(alloc);
+    for job in ready {
+        if job.is_of_class(priority) {
+            jobs.push(job.class_job())?;
+        }
+    }
+    Ok(jobs)
+}
+
+/// The jobs that no device can print, by rising id, each with its cause.
+pub(crate) fn stranded(alloc: Global, ready: &[ReadyJob<'_>]) -> Result<Vec<Stranded>, AllocError>
+    ensures { IfOk result (λ stranded. stranded.items ≡ filter_map entry_of ready.now) }
+{
+    let mut stranded = Vec::new(alloc);
+    for job in ready {
+        if let Some(entry) = job.entry() {
+            stranded.push(entry)?;
+        }
+    }
+    Ok(stranded)
+}
 
 impl PrintRoom {
     /// Whether a job is ready.
@@ -33,68 +134,29 @@ impl PrintRoom {
         }
     }
 
-    /// The job, where no device can print it.
-    fn stranding(&self, job: &Job) -> Option<Stranded>
-        ensures { result ≡ stranding self.now job.now }
+    /// A ready job, with its cause.
+    fn gathered<'a>(&self, job: &'a Job) -> ReadyJob<'a>
+        ensures { result ≡ gathered self.now job.now }
     {
-        let id = job.id;
-        self.cause(job).map(|cause| Stranded { job: id, cause })
-    }
-
-    /// The job, where it is ready and no device can print it.
-    fn ready_stranding(&self, spooled: &SpooledJob) -> Option<Stranded>
-        ensures { result ≡ (if is_ready self.now.paused spooled.now.job then stranding self.now spooled.now.job else None) }
-    {
-        if spooled.is_ready(&self.printers) {
-            self.stranding(spooled.job())
-        } else {
-            None
+        ReadyJob {
+            id: job.id,
+            needs: &job.needs,
+            priority: job.priority,
+            cause: self.cause(job),
         }
     }
 
-    /// The ready jobs that no device can print, by rising id, each with its cause.
-    pub(crate) fn stranded(&self) -> Result<Vec<Stranded>, AllocError>
-        ensures stranded { IfOk result (λ stranded. stranded.items ≡ stranded_of self.now) }
+    /// The ready jobs, by rising id.
+    pub(crate) fn gather_ready(&self) -> Result<Vec<ReadyJob<'_>>, AllocError>
+        ensures ready { IfOk result (λ ready. ready.items ≡ gathered_of self.now) }
         ensures spool { IsSpool self.now.spool }
     {
-        let mut stranded = Vec::new(self.alloc);
+        let mut ready = Vec::new(self.alloc);
         for spooled in self.spool.jobs() {
-            if let Some(entry) = self.ready_stranding(spooled) {
-                stranded.push(entry)?;
+            if spooled.is_ready(&self.printers) {
+                ready.push(self.gathered(spooled.job()))?;
             }
         }
-        Ok(stranded)
-    }
-
-    /// Whether a job is ready, has the priority, and some device can print it.
-    fn is_in_class(&self, priority: Priority, spooled: &SpooledJob) -> bool
-        ensures { result ≡ is_ready self.now.paused spooled.now.job && belongs self.now priority spooled.now.job }
-    {
-        spooled.is_ready(&self.printers) && self.belongs(priority, spooled.job())
-    }
-
-    /// Whether a job has the priority and some device can print it.
-    fn belongs(&self, priority: Priority, job: &Job) -> bool
-        ensures { result ≡ belongs self.now priority job.now }
-    {
-        job.priority == priority && self.cause(job).is_none()
-    }
-
-    /// The class of a priority: its ready jobs that some device can print, by rising id.
-    pub(crate) fn class_jobs(&self, priority: Priority) -> Result<Vec<ClassJob<'_>>, AllocError>
-        ensures jobs { IfOk result (λ jobs. jobs.items ≡ map job_of_class (class_of self.now priority)) }
-        ensures spool { IsSpool self.now.spool }
-    {
-        let mut jobs = Vec::new(self.alloc);
-        for spooled in self.spool.jobs() {
-            if self.is_in_class(priority, spooled) {
-                let job = spooled.job();
-                jobs.push(ClassJob {
-                    id: job.id,
-                    needs: &job.needs,
-                })?;
-            }
-        }
-        Ok(jobs)
+        Ok(ready)
     }
 }
