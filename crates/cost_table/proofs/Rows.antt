@@ -1,5 +1,5 @@
 -- The rows of a class problem as a loop makes them.
-use Rattle.std.proofs.Common.{◌≡◌, ℕ, ◌+◌, ◌<◌, List, [], ◌∷◌, ◌++◌, length, get_or, take, map, Option, Some, None, IfSome, All, arith, refl, sym, ap, ◌∙◌, inl, inr}
+use Rattle.std.proofs.Common.{◌≡◌, ◌↔◌, ℕ, ◌+◌, ◌<◌, List, [], ◌∷◌, ◌++◌, length, get_or, take, map, Option, Some, None, IsSome, IfSome, IsTrue, All, Contains, arith, refl, sym, ap, subst, ◌∙◌, inl, inr}
 use Rattle.std.specs.Prelude.{slice_get}
 use Rattle.std.specs.List.Sorted.{IsStrictlyIncreasing}
 use Rattle.std.proofs.lemmas.Bool.{cases_lt}
@@ -7,10 +7,15 @@ use Rattle.std.proofs.lemmas.List.{get_or_push, get_or_append_left, length-appen
 use Rattle.std.proofs.lemmas.List.Elements.{All-push}
 use Rattle.std.proofs.lemmas.Option.{get_or_from_slice_get, slice_get_cases, slice_get_within, slice_get-get_or}
 use Rattle.base_types.specs.Needs.{JobNeeds}
-use Rattle.base_types.specs.Device.{Device}
+use Rattle.base_types.specs.Device.{Device, loaded_media}
+use Rattle.base_types.specs.Finishings.{HasFinishings}
+use Rattle.base_types.specs.declared.finishings.Finishings.{Finishings}
+use Rattle.base_types.specs.declared.needs.Sides.{Sides}
+use Rattle.capabilities.specs.Able.{IsAble, is_two_sided}
 use Rattle.cost_table.specs.Time.{IsTime}
 use Rattle.cost_table.specs.Class.{IsClass, place_of}
 use Rattle.cost_table.specs.ClassJob.{JobOfClass, printer_of, IsPairTime, IsRowOf, CanBuild, IsClassOf}
+use Rattle.cost_table.specs.Alike.{NeedSame, FromAlike, TellsAble}
 use Rattle.cost_table.proofs.Places.{place_at, untimed}
 
 -- the first times of a job's row
@@ -79,6 +84,36 @@ rows_more jobs devices printers count ids rows id job row so_far below at named 
           let same : j ≡ job = sym (get_or_from_slice_get jobs place j job found) ∙ ap (λ k. get_or jobs k job) here ∙ sym at in
           rw (here, same, get_or_push rows row [] count so_far.one_each) is_row
     ]
+
+-- ---- a job before that needs the same
+
+able_same : (one other : JobNeeds) (place : ℕ) (device : Device) (printer : List ℕ) → NeedSame one other → IsAble one place device printer → IsAble other place device printer
+able_same one other place device printer same able = record {
+  of_printer = able.of_printer;
+  formats = subst (λ (formats : List (List ℕ)). All (Contains device.formats) formats) same.formats able.formats;
+  sides = subst (λ (sides : Sides). IsTrue (is_two_sided sides) → IsSome device.rate_two) same.sides able.sides;
+  finishings = subst (λ (wanted : Finishings). HasFinishings device.finishings wanted) same.finishings able.finishings;
+  media = subst (λ (medium : List ℕ). Contains (loaded_media device) medium) same.media able.media;
+  runs = able.runs;
+}
+
+need_back : (one other : JobNeeds) → NeedSame one other → NeedSame other one
+need_back one other same = record { printer = sym same.printer; formats = sym same.formats; sides = sym same.sides; finishings = sym same.finishings; media = sym same.media }
+
+-- its times tell which devices are able
+pub tells_alike : (jobs : List JobOfClass) (devices : List Device) (printers : List (List ℕ)) (count : ℕ) (ids : List ℕ) (rows : List (List (Option ℕ))) (needs : JobNeeds) (times : List (Option ℕ))
+    → RowsSoFar jobs devices printers count ids rows → FromAlike jobs rows needs times
+    → (place : ℕ) (device : Device) → slice_get devices place ≡ Some device → TellsAble needs place device (printer_of needs printers) times
+tells_alike jobs devices printers count ids rows needs times so_far (inl none) place device found entry is = absurd (cc)
+tells_alike jobs devices printers count ids rows needs times so_far (inr (k, job, at_job, at_row, same)) place device found entry is =
+    let within : k < length rows = slice_get_within rows k times at_row in
+    let row : IsRowOf job.needs devices (printer_of job.needs printers) times = subst (λ (r : List (Option ℕ)). IsRowOf job.needs devices (printer_of job.needs printers) r) (get_or_from_slice_get rows k times [] at_row) (so_far.rows_so_far k job (omega (arith, within, so_far.one_each)) at_job) in
+    let pair : IsPairTime job.needs place device (printer_of job.needs printers) entry = subst (λ (e : Option ℕ). IsPairTime job.needs place device (printer_of job.needs printers) e) (get_or_from_slice_get times place entry None is) (row.pairs place device found) in
+    let printer : printer_of job.needs printers ≡ printer_of needs printers = ap (λ (p : ℕ). get_or printers p []) same.printer in
+    subst (λ (set : List ℕ). IsSome entry ↔ IsAble needs place device set) printer (
+      (λ some. able_same job.needs needs place device (printer_of job.needs printers) same (pair.able.0 some)),
+      (λ able. pair.able.1 (able_same needs job.needs place device (printer_of job.needs printers) (need_back job.needs needs same) able)),
+    )
 
 ids_of_all : (jobs : List JobOfClass) (devices : List Device) (printers : List (List ℕ)) (count : ℕ) (ids : List ℕ) (rows : List (List (Option ℕ))) → RowsSoFar jobs devices printers count ids rows → count ≡ length jobs → ids ≡ map (λ job. job.id) jobs
 ids_of_all jobs devices printers count ids rows so_far all = so_far.ids_so_far ∙ ap (map (λ job. job.id)) (take_all count jobs (omega arith))

@@ -1,3 +1,4 @@
 pub mod Time
 pub mod Class
 pub mod ClassJob
+pub mod Alike

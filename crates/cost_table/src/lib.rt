@@ -7,6 +7,7 @@
 //! Tests stand in `planner_tests`.
 #![tactic(auto)]
 
+mod alike;
 mod class_job;
 mod class_problem;
 mod job_time;
