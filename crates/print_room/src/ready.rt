@@ -152,7 +152,7 @@ impl PrintRoom {
         ensures spool { IsSpool self.now.spool }
     {
         let mut ready = Vec::new(self.alloc);
-        for spooled in self.spool.jobs() {
+        for spooled in self.spool.behind_finished() {
             if spooled.is_ready(&self.printers) {
                 ready.push(self.gathered(spooled.job()))?;
             }

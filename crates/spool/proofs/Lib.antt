@@ -9,3 +9,4 @@ pub mod RisingIds
 pub mod Removing
 pub mod Mapping
 pub mod PageLemmas
+pub mod FinishedFirst

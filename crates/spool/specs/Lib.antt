@@ -10,3 +10,4 @@ pub mod Kept
 pub mod Calls
 pub mod Ready
 pub mod Spool
+pub mod Front

@@ -43,7 +43,7 @@ impl Spool {
     pub fn unfinished(&self) -> usize
         ensures { result ≡ unfinished_jobs self.now.jobs }
     {
-        self.jobs()
+        self.behind_finished()
             .iter()
             .filter(|spooled| spooled.is_unfinished())
             .count()
@@ -104,5 +104,6 @@ impl Spool {
         while let Some(place) = self.outdated() {
             self.remove(place);
         }
+        self.note_finished();
     }
 }

@@ -1,5 +1,5 @@
 //! The spool: what it is made of, and the change of one job.
-ghost use Rattle.std.specs.Prelude.{◌≡◌, ◌≤◌, ◌<◌, ◌+◌, ◌∷◌, ◌++◌, [], false, OnOk, OnErr, IfErr, IfSome, IfNone, length, map, remove, slice_get, is_ok};
+ghost use Rattle.std.specs.Prelude.{◌≡◌, ◌≤◌, ◌<◌, ◌+◌, ◌∷◌, ◌++◌, [], Bool, List, suc, false, OnOk, OnErr, IfErr, IfSome, IfNone, length, map, remove, slice_get, is_ok};
 ghost use Rattle.std.specs.Option.{option_copied};
 ghost use Rattle.spool.specs.Spooled.{changed, told, attached, expired};
 ghost use Rattle.base_types.specs.declared.limits.TheConstants.Limits.{LAST_JOB_ID, UNFINISHED_JOBS, JOB_DOCUMENTS, JOB_OCTETS};
@@ -8,6 +8,8 @@ ghost use Rattle.spool.specs.Submission.{spooled_of};
 ghost use Rattle.spool.specs.Calls.{allows, marked_by, unfinished_jobs};
 ghost use Rattle.spool.specs.Jobs.{spooled_at, with_job, map_at, documents_told};
 ghost use Rattle.spool.specs.Spool.{IsSpool};
+ghost use Rattle.spool.specs.Ready.{ready_jobs};
+ghost use Rattle.spool.specs.Front.{AllFinished};
 ghost use Rattle.spool.specs.Sound.{IsSound};
 ghost use Rattle.spool.specs.OnDevice.{AllStay, OthersStay};
 ghost use Rattle.job_objects.specs.DeviceSays.{is_end};
@@ -25,6 +27,8 @@ use std::marker::Model;
 #[derive(Debug, Drop)]
 pub struct Spool {
     entries: IndexMap<u32, SpooledJob>,
+    /// So many of the first jobs are finished, and need not be looked at for a plan.
+    front: usize,
     next: u32,
     alloc: Global,
 }
@@ -36,12 +40,21 @@ impl Model for Spool {
     ghost use Rattle.spool.specs.Jobs.{SpoolRecord, jobs_of, Keyed};
     ghost use Rattle.spool.specs.Calls.{unfinished_jobs};
     ghost use Rattle.spool.specs.Sound.{IsSound};
+    ghost use Rattle.spool.specs.Front.{AllFinished};
 
     ghost Value = { SpoolRecord };
 
     ghost view = { λ s. record { jobs = jobs_of s.entries.entries; next = s.next } };
 
-    ghost invariant = { λ s. Keyed s.entries.entries 0 s.next × (1 ≤ s.next) × (s.next ≤ LAST_JOB_ID + 1) × (unfinished_jobs (jobs_of s.entries.entries) ≤ UNFINISHED_JOBS) × All IsSound (jobs_of s.entries.entries) };
+    ghost invariant = { λ s. Keyed s.entries.entries 0 s.next × (1 ≤ s.next) × (s.next ≤ LAST_JOB_ID + 1) × (unfinished_jobs (jobs_of s.entries.entries) ≤ UNFINISHED_JOBS) × All IsSound (jobs_of s.entries.entries) × AllFinished s.front (jobs_of s.entries.entries) };
+}
+
+/// How many of the jobs at the front are left, once the job at a place is gone.
+fn front_without(front: usize, place: usize) -> usize
+    ensures among { place < front → suc result ≡ front }
+    ensures behind { front ≤ place → result ≡ front }
+{
+    if place < front { front - 1 } else { front }
 }
 
 impl Spool {
@@ -51,6 +64,7 @@ impl Spool {
     {
         Spool {
             entries: IndexMap::new(alloc),
+            front: 0,
             next: first.number(),
             alloc,
         }
@@ -75,6 +89,48 @@ impl Spool {
         ensures kept { IsSpool self.now }
     {
         self.entries.values().as_slice()
+    }
+
+    /// So many of the first jobs are known to be finished.
+    pub(crate) fn front(&self) -> usize
+        ensures finished { AllFinished result self.now.jobs }
+        ensures inside { result ≤ length self.now.jobs }
+    {
+        self.front
+    }
+
+    /// The jobs behind those at the front that are known to be finished: each ready one is among them,
+    /// and so is each that is unfinished.
+    pub fn behind_finished(&self) -> &[SpooledJob]
+        ensures ready { (paused : List Bool) → ready_jobs paused result.now ≡ ready_jobs paused self.now.jobs }
+        ensures unfinished { unfinished_jobs result.now ≡ unfinished_jobs self.now.jobs }
+        ensures kept { IsSpool self.now }
+    {
+        let front = self.front();
+        &self.jobs()[front..]
+    }
+
+    /// How many of the first jobs are finished: those that are known to be, and those behind them.
+    fn count_finished(&self) -> usize
+        ensures { AllFinished result self.now.jobs }
+    {
+        let front = self.front();
+        let jobs = self.jobs();
+        for place in front..jobs.len() {
+            let job = jobs[place].job();
+            if !job.state.is_finished() {
+                return place;
+            }
+        }
+        jobs.len()
+    }
+
+    /// Takes note of the first jobs that are finished now.
+    pub(crate) fn note_finished(&mut self)
+        ensures { self.new ≡ self.old }
+    {
+        let spool = &*self;
+        self.front = spool.count_finished();
     }
 
     /// The job of this id, with its documents.
@@ -172,6 +228,7 @@ impl Spool {
     pub(crate) fn remove(&mut self, place: usize)
         ensures { self.new ≡ record self.old { jobs = remove self.old.jobs place } }
     {
+        self.front = front_without(self.front, place);
         let _removed = self.entries.shift_remove_index(place);
     }
 

@@ -5,6 +5,7 @@ use Rattle.spool.specs.Spooled.{SpooledRecord, attached}
 use Rattle.spool.proofs.Entries.{changed_at, found_at, same_at, keyed_set, ok_map, err_map}
 use Rattle.spool.proofs.Finished.{attached_keeps, same_keeps}
 use Rattle.spool.proofs.Unfinished.{few_set, either_way}
+use Rattle.spool.proofs.FinishedFirst.{first_set}
 use Rattle.spool.proofs.Sound.{attached_sound, same_sound, sound_set}
 use Rattle.spool.proofs.OnDevice.{others_with}
 use Rattle.spool.specs.OnDevice.{OthersStay}
@@ -25,6 +26,11 @@ invariant_of-self-2 c = (
       (either_way c.attach.result
       (λ after. sound_set (attached c.args.document c.args.now) (attached_sound c.args.document c.args.now) c.number.result c.self.inside.next c.self.inside.entries.entries c.in-Some.spooled.now c.attach.new.self c.self.invariant.0 (sym (c.in-Some.ensures {u = tt}).value) after c.self.invariant.4)
       (λ same. sound_set (λ s. s) same_sound c.number.result c.self.inside.next c.self.inside.entries.entries c.in-Some.spooled.now c.attach.new.self c.self.invariant.0 (sym (c.in-Some.ensures {u = tt}).value) same c.self.invariant.4)
+      c.attach.ensures.ok c.attach.ensures.kept),
+  rw (c.get_mut.follows.holds c.attach.new.self).0
+      (either_way c.attach.result
+      (λ after. first_set (attached c.args.document c.args.now) (attached_keeps c.args.document c.args.now) c.self.inside.front c.number.result c.self.inside.next c.self.inside.entries.entries c.in-Some.spooled.now c.attach.new.self c.self.invariant.0 (sym (c.in-Some.ensures {u = tt}).value) after c.self.invariant.5)
+      (λ same. first_set (λ s. s) same_keeps c.self.inside.front c.number.result c.self.inside.next c.self.inside.entries.entries c.in-Some.spooled.now c.attach.new.self c.self.invariant.0 (sym (c.in-Some.ensures {u = tt}).value) same c.self.invariant.5)
       c.attach.ensures.ok c.attach.ensures.kept),
 )
 

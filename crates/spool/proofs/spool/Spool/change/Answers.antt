@@ -5,6 +5,7 @@ use Rattle.spool.specs.Jobs.{SpoolRecord, jobs_of}
 use Rattle.spool.proofs.Entries.{changed_at, unchanged_at, found_at, same_at, keyed_set, err_map}
 use Rattle.spool.proofs.Finished.{changed_keeps}
 use Rattle.spool.proofs.Unfinished.{few_set}
+use Rattle.spool.proofs.FinishedFirst.{first_set}
 use Rattle.spool.proofs.Sound.{changed_sound, sound_set}
 use Rattle.spool.proofs.OnDevice.{changed_on, stay_with}
 use Rattle.spool.specs.OnDevice.{AllStay}
@@ -25,6 +26,7 @@ invariant_of-self-2 c = (
   c.self.invariant.2,
   rw (c.get_mut.follows.holds c.change.new.self).0 (few_set (changed c.args.change c.args.now) (changed_keeps c.args.change c.args.now) c.number.result c.self.inside.next c.self.inside.entries.entries c.in-Some.spooled.now c.change.new.self c.self.invariant.0 (sym (c.in-Some.ensures {u = tt}).value) c.change.ensures.after c.self.invariant.3),
   rw (c.get_mut.follows.holds c.change.new.self).0 (sound_set (changed c.args.change c.args.now) (changed_sound c.args.change c.args.now) c.number.result c.self.inside.next c.self.inside.entries.entries c.in-Some.spooled.now c.change.new.self c.self.invariant.0 (sym (c.in-Some.ensures {u = tt}).value) c.change.ensures.after c.self.invariant.4),
+  rw (c.get_mut.follows.holds c.change.new.self).0 (first_set (changed c.args.change c.args.now) (changed_keeps c.args.change c.args.now) c.self.inside.front c.number.result c.self.inside.next c.self.inside.entries.entries c.in-Some.spooled.now c.change.new.self c.self.invariant.0 (sym (c.in-Some.ensures {u = tt}).value) c.change.ensures.after c.self.invariant.5),
 )
 
 pub returns-clause-after : goal.returns-clause-after

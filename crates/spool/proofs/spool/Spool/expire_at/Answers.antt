@@ -3,6 +3,7 @@ use Rattle.spool.specs.Spooled.{expired}
 use Rattle.spool.proofs.Entries.{changed_place, keyed_at}
 use Rattle.spool.proofs.Finished.{expired_keeps}
 use Rattle.spool.proofs.Unfinished.{few_at}
+use Rattle.spool.proofs.FinishedFirst.{first_at}
 use Rattle.spool.proofs.Sound.{expired_sound, sound_at}
 use Rattle.spool.proofs.spool.Spool.expire_at.Goals as goal
 
@@ -13,6 +14,7 @@ invariant_of-self-2 c = (
   c.self.invariant.2,
   few_at (expired c.args.now) (expired_keeps c.args.now) c.args.place c.self.inside.entries.entries c.in-Some.spooled.now c.expire.new.self (sym (c.in-Some.ensures {u = tt}).value) c.expire.ensures.after c.self.invariant.3,
   sound_at (expired c.args.now) (expired_sound c.args.now) c.args.place c.self.inside.entries.entries c.in-Some.spooled.now c.expire.new.self (sym (c.in-Some.ensures {u = tt}).value) c.expire.ensures.after c.self.invariant.4,
+  first_at (expired c.args.now) (expired_keeps c.args.now) c.self.inside.front c.args.place c.self.inside.entries.entries c.in-Some.spooled.now c.expire.new.self (sym (c.in-Some.ensures {u = tt}).value) c.expire.ensures.after c.self.invariant.5,
 )
 
 pub returns : goal.returns

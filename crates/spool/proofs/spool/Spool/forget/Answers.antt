@@ -12,4 +12,5 @@ loop-place-preserved c =
 pub returns : goal.returns
 returns c =
     let all = all_kept c.loop-place.self.jobs (sym c.outdated.ensures ∙ c.in_default.is) in
-    spool_is c.loop-place.self (retained c.args.self.now.jobs) c.args.self.now.next (sym all ∙ c.loop-place.invariant.0) c.loop-place.invariant.1
+    c.note_finished.ensures
+    ∙ spool_is c.loop-place.self (retained c.args.self.now.jobs) c.args.self.now.next (sym all ∙ c.loop-place.invariant.0) c.loop-place.invariant.1

@@ -5,6 +5,7 @@ use Rattle.spool.specs.Jobs.{SpoolRecord, jobs_of}
 use Rattle.spool.proofs.Entries.{changed_at, unchanged_at, found_at, keyed_set}
 use Rattle.spool.proofs.Finished.{told_keeps}
 use Rattle.spool.proofs.Unfinished.{few_set}
+use Rattle.spool.proofs.FinishedFirst.{first_set}
 use Rattle.spool.proofs.Sound.{told_sound, sound_set}
 use Rattle.spool.proofs.Ids.{told_id}
 use Rattle.spool.proofs.OnDevice.{told_on, stay_with, others_with}
@@ -26,6 +27,7 @@ invariant_of-self-2 c = (
   c.self.invariant.2,
   rw (c.get_mut.follows.holds c.tell.new.self).0 (few_set (told c.args.says c.args.now) (told_keeps c.args.says c.args.now) c.number.result c.self.inside.next c.self.inside.entries.entries c.in-Some.spooled.now c.tell.new.self c.self.invariant.0 (sym (c.in-Some.ensures {u = tt}).value) c.tell.ensures.after c.self.invariant.3),
   rw (c.get_mut.follows.holds c.tell.new.self).0 (sound_set (told c.args.says c.args.now) (told_sound c.args.says c.args.now) c.number.result c.self.inside.next c.self.inside.entries.entries c.in-Some.spooled.now c.tell.new.self c.self.invariant.0 (sym (c.in-Some.ensures {u = tt}).value) c.tell.ensures.after c.self.invariant.4),
+  rw (c.get_mut.follows.holds c.tell.new.self).0 (first_set (told c.args.says c.args.now) (told_keeps c.args.says c.args.now) c.self.inside.front c.number.result c.self.inside.next c.self.inside.entries.entries c.in-Some.spooled.now c.tell.new.self c.self.invariant.0 (sym (c.in-Some.ensures {u = tt}).value) c.tell.ensures.after c.self.invariant.5),
 )
 
 pub returns-clause-jobs : goal.returns-clause-jobs

@@ -1,0 +1,10 @@
+-- The finished jobs at the front of the list, which nothing makes ready any more.
+use Rattle.std.specs.Prelude.{ℕ, zero, suc, ◌≡◌, true, List, [], ◌∷◌}
+use Rattle.job_objects.specs.JobState.{is_finished}
+use Rattle.spool.specs.Spooled.{SpooledRecord}
+
+-- there are so many jobs, and the first so many are finished
+abbrev pub AllFinished : ℕ → List SpooledRecord → Type 0
+AllFinished zero jobs = Unit {0}
+AllFinished (suc count) [] = ⊥
+AllFinished (suc count) (spooled ∷ jobs) = (is_finished spooled.job.state ≡ true) × AllFinished count jobs
