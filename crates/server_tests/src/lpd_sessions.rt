@@ -8,15 +8,15 @@ use std::test::Fail;
 
 /// What a client sends to a server that has just started.
 #[derive(Clone, Copy)]
-struct Session {
-    sent: &'static [u8],
-    answered: &'static [u8],
+pub struct Session {
+    pub sent: &'static [u8],
+    pub answered: &'static [u8],
     /// Whether the server closes the connection.
     closes: bool,
 }
 
 /// A job of one file, the control file first.
-const ONE_JOB: Session = Session {
+pub const ONE_JOB: Session = Session {
     sent: b"\x02lab\n\x0223 cfA001host\nHhost\nPann\nfdfA001host\n\x00\x035 dfA001host\nhello\x00",
     answered: b"\x00\x00\x00\x00\x00",
     closes: false,

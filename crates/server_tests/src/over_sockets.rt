@@ -1,6 +1,7 @@
 //! Clients over the system's sockets, in one process: they connect and write, then turns are taken,
 //! then the replies are read.
 use crate::exchanges::{BOTH_FRAMINGS, CHUNKED, LAST, NOT_POST, PLAIN, SETTINGS, TWO};
+use crate::lpd_sessions::ONE_JOB;
 use base_types::Moment;
 use serve::{Ports, Server, read_serve};
 use std::io;
@@ -32,9 +33,16 @@ fn start(rt: &HostRuntime) -> io::Result<Server> {
     Server::open(rt.alloc(), rt, settings, local(), ANY)
 }
 
+/// A peer that comes in at a port and sends this.
+fn peer(rt: &HostRuntime, port: u16, sent: &[u8]) -> io::Result<TcpStream> {
+    let mut stream = TcpStream::connect(rt, SocketAddr::new(local(), port))?;
+    stream.write_all(sent)?;
+    Ok(stream)
+}
+
 /// A client of a server's.
 fn connect(rt: &HostRuntime, server: &Server) -> io::Result<TcpStream> {
-    TcpStream::connect(rt, SocketAddr::new(local(), server.ports()?.ipp))
+    peer(rt, server.ports()?.ipp, b"")
 }
 
 fn turns(server: &mut Server, count: usize) -> io::Result<()> {
@@ -189,5 +197,49 @@ fn unfinished_head_has_a_minute(rt: HostRuntime) -> Result<(), Fail> {
     let (early, late) = dribbles_at_first(&rt)?;
     assert!(rt; !early);
     assert!(rt; late);
+    Ok(())
+}
+
+/// Whether what a peer gets in so many turns is just this, as far as it has come.
+fn gets(
+    rt: &HostRuntime,
+    server: &mut Server,
+    peer: &mut TcpStream,
+    wanted: &[u8],
+) -> io::Result<bool> {
+    let bytes = got_so_far(rt, server, peer)?;
+    Ok(bytes.as_slice() == wanted)
+}
+
+/// A device that runs, and a client of LPD that sends it a job: whether the client gets its
+/// acknowledgements, the device the job, and the next client an empty queue once the device has ended
+/// it.
+fn lpd_job(rt: &HostRuntime, server: &mut Server) -> io::Result<bool> {
+    let ports = server.ports()?;
+    let mut device = peer(rt, ports.devices, b"HELLO A\nREADY\n")?;
+    let mut client = peer(rt, ports.lpd, ONE_JOB.sent)?;
+    let acknowledged = gets(rt, server, &mut client, ONE_JOB.answered)?;
+    let printed = gets(
+        rt,
+        server,
+        &mut device,
+        b"JOB 1 5 1 1 iso_a4_210x297mm\nhello",
+    )?;
+    device.write_all(b"DONE 1\n")?;
+    let mut next = peer(rt, ports.lpd, b"\x03lab\n")?;
+    let listed = gets(rt, server, &mut next, b"lab idle\nno entries\n")?;
+    Ok(acknowledged && printed && listed)
+}
+
+/// The same with a server that has just started.
+fn lpd_job_at_first(rt: &HostRuntime) -> io::Result<bool> {
+    let mut server = start(rt)?;
+    lpd_job(rt, &mut server)
+}
+
+#[test]
+fn lpd_job_printed(rt: HostRuntime) -> Result<(), Fail> {
+    let printed = lpd_job_at_first(&rt)?;
+    assert!(rt; printed);
     Ok(())
 }
