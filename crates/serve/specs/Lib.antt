@@ -1,2 +1,4 @@
+pub mod Ends
 pub mod Patience
 pub mod Refusal
+pub mod Visits

@@ -6,11 +6,13 @@ use std::io::ErrorKind;
 use std::net::{Net, SocketAddr};
 
 /// A door's listener, and whether someone may wait at it. Where an accept had to wait, none is tried
-/// until someone is told of.
+/// until someone is told of. An accept that failed is tried again each time.
 #[derive(Drop)]
 pub(crate) struct Entrance {
     listener: TcpListener,
     ready: bool,
+    /// Whether the last accept that didn't wait failed.
+    failing: bool,
 }
 
 impl Entrance {
@@ -27,6 +29,7 @@ impl Entrance {
         Ok(Entrance {
             listener,
             ready: true,
+            failing: false,
         })
     }
 
@@ -41,16 +44,26 @@ impl Entrance {
     }
 
     /// The next who waits at it.
-    pub(crate) fn accept(&mut self) -> io::Result<TcpStream> {
+    pub(crate) fn accept(&mut self) -> io::Result<(TcpStream, SocketAddr)> {
         if !self.ready {
             return Err(io::Error::from(ErrorKind::WouldBlock));
         }
         match self.listener.accept() {
-            Ok((stream, _peer)) => Ok(stream),
+            Ok(accepted) => {
+                self.failing = false;
+                Ok(accepted)
+            }
             Err(error) => {
                 self.ready = error.kind() != ErrorKind::WouldBlock;
                 Err(error)
             }
         }
+    }
+
+    /// An accept failed: whether it is the first since one that didn't.
+    pub(crate) fn failed(&mut self) -> bool {
+        let first = !self.failing;
+        self.failing = true;
+        first
     }
 }

@@ -14,6 +14,7 @@
 #![tactic(auto)]
 
 mod clock;
+mod ends;
 mod entrance;
 mod link;
 mod log;
@@ -21,6 +22,7 @@ mod patience;
 mod run;
 mod settings;
 mod sockets;
+mod visits;
 
 pub use run::{Server, serve, serve_logged};
 pub use settings::read_serve;

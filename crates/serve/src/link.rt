@@ -2,6 +2,7 @@
 ghost use Rattle.std.specs.Io.{ReadsAtMost, WritesAtMost};
 
 use crate::patience::Patience;
+use crate::visits::Leave;
 use base_types::Moment;
 use mio::event::Event;
 use mio::net::TcpStream;
@@ -18,6 +19,7 @@ pub(crate) struct Link {
     patience: Patience,
     /// Whether its peer's time is counted: a device may be silent for as long as it likes.
     timed: bool,
+    leave: Leave,
 }
 
 /// A call that has to wait.
@@ -34,7 +36,18 @@ impl Link {
             writable: true,
             patience: Patience::new(moment),
             timed,
+            leave: Leave::Served,
         }
+    }
+
+    /// Why it is closed, if it is closed now.
+    pub(crate) fn leave(&self) -> Leave {
+        self.leave
+    }
+
+    /// Has it this cause from now on.
+    pub(crate) fn leaves(&mut self, leave: Leave) {
+        self.leave = leave;
     }
 
     /// Takes what a wait told.

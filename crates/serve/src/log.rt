@@ -1,89 +1,151 @@
 //! The lines of a log.
-use base_types::{Moment, Text};
+use crate::ends::Ended;
+use crate::visits::{Leave, Visit};
+use base_types::{DeviceId, JobId, Moment, Text};
+use job_objects::JobState;
 use plan_text::{cause_word, name_of};
-use server::{Heard, Place, WireId};
+use server::{Door, Heard, Place, WireId};
 use std::alloc::{AllocError, Global};
+use std::net::SocketAddr;
 
-/// The lines of what was heard at a moment, each with the ms since the start in front.
-pub(crate) fn log_lines(
+/// The lines of a moment, each with the ms since the start in front.
+#[derive(Drop)]
+pub(crate) struct Lines<'a> {
     alloc: Global,
-    names: &[Text],
+    names: &'a [Text],
     moment: Moment,
-    heard: &[Heard],
-) -> Result<Vec<u8>, AllocError> {
-    let mut text = Vec::new(alloc);
-    for one in heard {
-        put(alloc, &mut text, names, moment, one)?;
-    }
-    if !text.is_empty() {
-        text.push(b'\n')?;
-    }
-    Ok(text)
+    text: Vec<u8>,
 }
 
-/// Appends what is said of one thing that was heard: a line, or a word of the line of its plan.
-fn put(
-    alloc: Global,
-    text: &mut Vec<u8>,
-    names: &[Text],
-    moment: Moment,
-    heard: &Heard,
-) -> Result<(), AllocError> {
-    match heard {
-        Heard::Planned => begin(alloc, text, moment, "plan"),
-        Heard::Class { priority, total } => {
-            let level = priority.level();
-            append(text, format!(in alloc; " {level}:{total}")?)
+impl<'a> Lines<'a> {
+    /// No line yet. The names are those of the devices.
+    pub(crate) fn new(alloc: Global, names: &'a [Text], moment: Moment) -> Lines<'a> {
+        Lines {
+            alloc,
+            names,
+            moment,
+            text: Vec::new(alloc),
         }
-        Heard::Stranded(stranded) => {
-            let job = stranded.job.number();
-            let cause = cause_word(stranded.cause);
-            append(text, format!(in alloc; " -{job}:{cause}")?)
-        }
-        Heard::Began(started) => {
-            let job = started.job.number();
-            begin(alloc, text, moment, "start")?;
-            append(text, format!(in alloc; " {job} ")?)?;
-            text.extend_from_slice(name_of(names, started.device))
-        }
-        Heard::Canceled(cancel) => {
-            let job = cancel.job.number();
-            begin(alloc, text, moment, "cancel")?;
-            append(text, format!(in alloc; " {job} ")?)?;
-            text.extend_from_slice(name_of(names, cancel.device))
-        }
-        Heard::Refused(place, id) => put_refused(alloc, text, moment, *place, *id),
     }
-}
 
-/// Appends the line of a growth that was refused.
-fn put_refused(
-    alloc: Global,
-    text: &mut Vec<u8>,
-    moment: Moment,
-    place: Place,
-    id: Option<WireId>,
-) -> Result<(), AllocError> {
-    let word = place_word(place);
-    begin(alloc, text, moment, "no memory")?;
-    append(text, format!(in alloc; " {word}")?)?;
-    match id {
-        Some(id) => append(text, format!(in alloc; " of connection {id}")?),
-        None => Ok(()),
+    /// The whole text, each line with its end.
+    pub(crate) fn text(self) -> Result<Vec<u8>, AllocError> {
+        let mut text = self.text;
+        if !text.is_empty() {
+            text.push(b'\n')?;
+        }
+        Ok(text)
     }
-}
 
-/// Ends the line before, if there is one, and begins another.
-fn begin(alloc: Global, text: &mut Vec<u8>, moment: Moment, word: &str) -> Result<(), AllocError> {
-    if !text.is_empty() {
-        text.push(b'\n')?;
+    /// Adds what the engine was heard to do.
+    pub(crate) fn add_heard(&mut self, heard: &[Heard]) -> Result<(), AllocError> {
+        for one in heard {
+            self.add_one(one)?;
+        }
+        Ok(())
     }
-    let millis = moment.millis();
-    append(text, format!(in alloc; "{millis} {word}")?)
-}
 
-fn append(text: &mut Vec<u8>, words: String) -> Result<(), AllocError> {
-    text.extend_from_slice(words.as_bytes())
+    /// Adds the connections that came, or that none could come.
+    pub(crate) fn add_comings(&mut self, visits: &[Visit]) -> Result<(), AllocError> {
+        for visit in visits {
+            match *visit {
+                Visit::Came { id, door, peer } => self.add_open(id, door, peer)?,
+                Visit::Missed(door) => self.add_missed(door)?,
+                Visit::Went { .. } => {}
+            }
+        }
+        Ok(())
+    }
+
+    /// Adds the connections that went.
+    pub(crate) fn add_goings(&mut self, visits: &[Visit]) -> Result<(), AllocError> {
+        for visit in visits {
+            if let Visit::Went { id, leave } = *visit {
+                self.add_close(id, leave)?;
+            }
+        }
+        Ok(())
+    }
+
+    /// Adds the jobs that ended.
+    pub(crate) fn add_ended(&mut self, ended: &[Ended]) -> Result<(), AllocError> {
+        for one in ended {
+            self.add_job(end_word(one.state), one.started.job, one.started.device)?;
+        }
+        Ok(())
+    }
+
+    /// Adds what is said of one thing that was heard: a line, or a word of the line of its plan.
+    fn add_one(&mut self, heard: &Heard) -> Result<(), AllocError> {
+        match heard {
+            Heard::Planned => self.begin("plan"),
+            Heard::Class { priority, total } => {
+                let level = priority.level();
+                self.append(format!(in self.alloc; " {level}:{total}")?)
+            }
+            Heard::Stranded(stranded) => {
+                let job = stranded.job.number();
+                let cause = cause_word(stranded.cause);
+                self.append(format!(in self.alloc; " -{job}:{cause}")?)
+            }
+            Heard::Began(started) => self.add_job("start", started.job, started.device),
+            Heard::Canceled(cancel) => self.add_job("cancel", cancel.job, cancel.device),
+            Heard::Refused(place, id) => self.add_refused(*place, *id),
+        }
+    }
+
+    /// Adds a line of a job and its device.
+    fn add_job(&mut self, word: &str, job: JobId, device: DeviceId) -> Result<(), AllocError> {
+        let job = job.number();
+        self.begin(word)?;
+        self.append(format!(in self.alloc; " {job} ")?)?;
+        self.text.extend_from_slice(name_of(self.names, device))
+    }
+
+    /// Adds the line of a growth that was refused.
+    fn add_refused(&mut self, place: Place, id: Option<WireId>) -> Result<(), AllocError> {
+        let word = place_word(place);
+        self.begin("no memory")?;
+        self.append(format!(in self.alloc; " {word}")?)?;
+        match id {
+            Some(id) => self.append(format!(in self.alloc; " of connection {id}")?),
+            None => Ok(()),
+        }
+    }
+
+    /// Adds the line of a connection that came.
+    fn add_open(&mut self, id: WireId, door: Door, peer: SocketAddr) -> Result<(), AllocError> {
+        let door = door_word(door);
+        self.begin("open")?;
+        self.append(format!(in self.alloc; " {id} {door} {peer}")?)
+    }
+
+    /// Adds the line of a door at which a connection was missed.
+    fn add_missed(&mut self, door: Door) -> Result<(), AllocError> {
+        let door = door_word(door);
+        self.begin("no connection")?;
+        self.append(format!(in self.alloc; " {door}")?)
+    }
+
+    /// Adds the line of a connection that went.
+    fn add_close(&mut self, id: WireId, leave: Leave) -> Result<(), AllocError> {
+        let leave = leave_word(leave);
+        self.begin("close")?;
+        self.append(format!(in self.alloc; " {id} {leave}")?)
+    }
+
+    /// Ends the line before, if there is one, and begins another.
+    fn begin(&mut self, word: &str) -> Result<(), AllocError> {
+        if !self.text.is_empty() {
+            self.text.push(b'\n')?;
+        }
+        let millis = self.moment.millis();
+        self.append(format!(in self.alloc; "{millis} {word}")?)
+    }
+
+    fn append(&mut self, words: String) -> Result<(), AllocError> {
+        self.text.extend_from_slice(words.as_bytes())
+    }
 }
 
 /// What there was no memory for.
@@ -96,5 +158,38 @@ fn place_word(place: Place) -> &'static str {
         Place::Dispatch => "for a plan",
         Place::Reply => "for a reply",
         Place::Keep => "for what is to be sent",
+    }
+}
+
+/// A door, by the option that says its port.
+fn door_word(door: Door) -> &'static str {
+    match door {
+        Door::Ipp => "ipp",
+        Door::Lpd => "lpd",
+        Door::Devices => "devices",
+    }
+}
+
+/// Why a connection is closed.
+fn leave_word(leave: Leave) -> &'static str {
+    match leave {
+        Leave::Served => "served",
+        Leave::Left => "left",
+        Leave::Silent => "silent",
+        Leave::Broken => "broken",
+    }
+}
+
+/// The state in which a job left its device (RFC 8011, section 5.3.7); `ended`, where the job isn't kept.
+fn end_word(state: Option<JobState>) -> &'static str {
+    match state {
+        Some(JobState::Completed) => "completed",
+        Some(JobState::Canceled) => "canceled",
+        Some(JobState::Aborted) => "aborted",
+        Some(JobState::Pending)
+        | Some(JobState::PendingHeld)
+        | Some(JobState::Processing)
+        | Some(JobState::Stopped)
+        | None => "ended",
     }
 }

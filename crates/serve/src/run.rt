@@ -2,12 +2,14 @@
 ghost use Rattle.settings_file.specs.Settings.{MeetsLimits};
 
 use crate::clock::moment_since;
-use crate::log::log_lines;
+use crate::ends::Begun;
+use crate::log::Lines;
 use crate::sockets::{Ports, Sockets};
+use crate::visits::{Visit, Visits};
 use assignment::Lazy;
 use base_types::{Moment, Text};
 use dispatcher::{Cancel, Dispatched};
-use server::{Engine, NoteLog, Notes, Place, WireId};
+use server::{Engine, Heard, NoteLog, Notes, Place, WireId};
 use settings_file::Settings;
 use std::alloc::{AllocError, Global};
 use std::io;
@@ -19,13 +21,15 @@ use std::time::{Clock, Duration, Instant};
 /// late by no more.
 const PAUSE: u64 = 100;
 
-/// A server: its engine, its sockets, and the names of its devices.
+/// A server: its engine, its sockets, the names of its devices, and the jobs that they began, where what
+/// happens is logged.
 #[derive(Drop)]
 pub struct Server {
     alloc: Global,
     engine: Engine<Lazy>,
     sockets: Sockets,
     names: Vec<Text>,
+    begun: Begun,
 }
 
 /// The names of the devices.
@@ -35,6 +39,14 @@ fn device_names(alloc: Global, settings: &Settings) -> Result<Vec<Text>, AllocEr
         names.push(device.name.copied(alloc)?)?;
     }
     Ok(names)
+}
+
+/// Who came and went; nobody, where that isn't kept.
+fn all_of(alloc: Global, visits: Option<Visits>) -> Result<Vec<Visit>, AllocError> {
+    match visits {
+        Some(visits) => visits.all(),
+        None => Ok(Vec::new(alloc)),
+    }
 }
 
 impl Server {
@@ -56,6 +68,7 @@ impl Server {
             engine,
             sockets,
             names,
+            begun: Begun::new(alloc),
         })
     }
 
@@ -75,8 +88,27 @@ impl Server {
     pub fn turn_logged(&mut self, moment: Moment) -> Result<Vec<u8>, AllocError> {
         let mut notes = NoteLog::new(self.alloc);
         self.sockets.set_moment(moment);
+        self.sockets.keep_visits(self.alloc);
         self.engine.turn(&mut self.sockets, &mut notes, moment);
-        log_lines(self.alloc, &self.names, moment, &notes.take()?)
+        let visits = all_of(self.alloc, self.sockets.take_visits())?;
+        self.lines(moment, &visits, &notes.take()?)
+    }
+
+    /// The lines of a turn: who came, what was heard, which jobs ended, and who went.
+    fn lines(
+        &mut self,
+        moment: Moment,
+        visits: &[Visit],
+        heard: &[Heard],
+    ) -> Result<Vec<u8>, AllocError> {
+        self.begun.add(heard)?;
+        let ended = self.begun.take_ended(self.alloc, &self.engine)?;
+        let mut lines = Lines::new(self.alloc, &self.names, moment);
+        lines.add_comings(visits)?;
+        lines.add_heard(heard)?;
+        lines.add_ended(&ended)?;
+        lines.add_goings(visits)?;
+        lines.text()
     }
 
     /// Waits until something happens at a socket or a client has been silent for too long, or for this

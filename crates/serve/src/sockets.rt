@@ -3,16 +3,17 @@ ghost use Rattle.std.specs.Prelude.{◌≡◌, ◌+◌, false, if◌then◌else�
 
 use crate::entrance::Entrance;
 use crate::link::Link;
+use crate::visits::{Leave, Visit, Visits};
 use base_types::{Limits, Moment};
 use mio::net::TcpStream;
 use mio::{Events, Interest, Poll, Token};
 use server::{Answer, Door, Wire, WireId};
 use slab::Slab;
 use std::alloc::Global;
-use std::io;
 use std::io::ErrorKind;
 use std::net::{IpAddr, Net, SocketAddr};
 use std::time::Duration;
+use std::{io, mem};
 
 /// How many sockets a wait tells of at most: all that there are.
 const EVENTS: usize = 128;
@@ -55,14 +56,25 @@ pub struct Sockets {
     worked: bool,
     /// The moment by which silence is measured.
     moment: Moment,
+    /// Who comes and goes, where that is kept.
+    visits: Option<Visits>,
 }
 
 impl Doors {
-    fn accept(&mut self, door: Door) -> io::Result<TcpStream> {
+    fn accept(&mut self, door: Door) -> io::Result<(TcpStream, SocketAddr)> {
         match door {
             Door::Ipp => self.ipp.accept(),
             Door::Lpd => self.lpd.accept(),
             Door::Devices => self.devices.accept(),
+        }
+    }
+
+    /// An accept failed: whether it is the first at its door since one that didn't.
+    fn failed(&mut self, door: Door) -> bool {
+        match door {
+            Door::Ipp => self.ipp.failed(),
+            Door::Lpd => self.lpd.failed(),
+            Door::Devices => self.devices.failed(),
         }
     }
 }
@@ -106,6 +118,7 @@ impl Sockets {
             failures: 0,
             worked: false,
             moment: Moment::start(),
+            visits: None,
         })
     }
 
@@ -121,6 +134,25 @@ impl Sockets {
     /// Has it this moment from now on.
     pub fn set_moment(&mut self, moment: Moment) {
         self.moment = moment;
+    }
+
+    /// Has it keep who comes and goes, from now until that is taken.
+    pub(crate) fn keep_visits(&mut self, alloc: Global) {
+        self.visits = Some(Visits::new(alloc));
+    }
+
+    /// Who came and went, if that is kept; it is kept no more.
+    pub(crate) fn take_visits(&mut self) -> Option<Visits> {
+        mem::replace(&mut self.visits, None)
+    }
+
+    /// Keeps who came or went, where that is kept.
+    fn note(&mut self, visit: Visit)
+        ensures { self.new.failures ≡ self.old.failures }
+    {
+        if let Some(visits) = &mut self.visits {
+            visits.keep(visit);
+        }
     }
 
     /// Waits until something happens at a socket or a client has no time left, but no longer than this.
@@ -155,17 +187,52 @@ impl Sockets {
 
     /// The next connection of a door, of which waits tell under the next free number: what is written
     /// to it goes out at once.
-    fn accept(&mut self, door: Door) -> io::Result<Link>
+    fn accept(&mut self, door: Door) -> io::Result<(Link, SocketAddr)>
         ensures { self.new.failures ≡ self.old.failures }
     {
-        let mut stream = self.doors.accept(door)?;
+        let (mut stream, peer) = self.doors.accept(door)?;
         stream.set_nodelay(true)?;
         self.poll.registry().register(
             &mut stream,
             Token(self.links.vacant_key()),
             Interest::READABLE | Interest::WRITABLE,
         )?;
-        Ok(Link::new(stream, self.moment, door != Door::Devices))
+        let link = Link::new(stream, self.moment, door != Door::Devices);
+        Ok((link, peer))
+    }
+
+    /// None could be accepted at a door. Of several failures one after the other the first is kept.
+    fn miss(&mut self, door: Door)
+        ensures { self.new.failures ≡ self.old.failures }
+    {
+        if self.doors.failed(door) {
+            self.note(Visit::Missed(door));
+        }
+    }
+
+    /// Whether the peer of this number has no time left.
+    fn has_no_time(&mut self, id: WireId) -> bool
+        ensures { self.new.failures ≡ self.old.failures }
+    {
+        let Some(link) = self.links.get_mut(id as usize) else {
+            return false;
+        };
+        let over = link.is_over(self.moment);
+        if over {
+            link.leaves(Leave::Silent);
+            self.worked = true;
+        }
+        over
+    }
+
+    /// The connection of this number is broken.
+    fn breaks(&mut self, id: WireId)
+        ensures { self.new.failures ≡ self.old.failures }
+    {
+        if let Some(link) = self.links.get_mut(id as usize) {
+            link.leaves(Leave::Broken);
+        }
+        self.worked = true;
     }
 
     /// Counts a failed call, unless it would only have waited or the count is full: whether it was
@@ -192,10 +259,11 @@ impl Wire for Sockets {
     /// A failed accept is no work: where the system has no descriptor left, the next one is tried after
     /// a wait.
     fn poll_accept(&mut self, door: Door) -> Answer<WireId> {
-        let link = match self.accept(door) {
-            Ok(link) => link,
+        let (link, peer) = match self.accept(door) {
+            Ok(accepted) => accepted,
             Err(error) => {
                 return if self.counts_fault(error) {
+                    self.miss(door);
                     Answer::Fault
                 } else {
                     Answer::Waiting
@@ -206,26 +274,27 @@ impl Wire for Sockets {
         let Ok(place) = self.links.insert(link) else {
             return Answer::End;
         };
-        match u32::try_from(place) {
-            Ok(id) => Answer::Done(id),
-            Err(_) => Answer::End,
-        }
+        let Ok(id) = u32::try_from(place) else {
+            return Answer::End;
+        };
+        self.note(Visit::Came { id, door, peer });
+        Answer::Done(id)
     }
 
     fn poll_read(&mut self, id: WireId, buffer: &mut [u8]) -> Answer<usize> {
         if buffer.is_empty() {
             return Answer::Waiting;
         }
+        if self.has_no_time(id) {
+            return Answer::End;
+        }
         let moment = self.moment;
         let Some(link) = self.links.get_mut(id as usize) else {
             return Answer::End;
         };
-        if link.is_over(moment) {
-            self.worked = true;
-            return Answer::End;
-        }
         match link.read(buffer, moment) {
             Ok(0) => {
+                link.leaves(Leave::Left);
                 self.worked = true;
                 Answer::End
             }
@@ -234,7 +303,7 @@ impl Wire for Sockets {
                 Answer::Done(count)
             }
             Err(error) if self.counts_fault(error) => {
-                self.worked = true;
+                self.breaks(id);
                 Answer::Fault
             }
             Err(_) => Answer::Waiting,
@@ -242,14 +311,13 @@ impl Wire for Sockets {
     }
 
     fn poll_write(&mut self, id: WireId, bytes: &[u8]) -> Answer<usize> {
+        if self.has_no_time(id) {
+            return Answer::End;
+        }
         let moment = self.moment;
         let Some(link) = self.links.get_mut(id as usize) else {
             return Answer::End;
         };
-        if link.is_over(moment) {
-            self.worked = true;
-            return Answer::End;
-        }
         match link.write(bytes, moment) {
             Ok(0) => Answer::Waiting,
             Ok(count) => {
@@ -257,7 +325,7 @@ impl Wire for Sockets {
                 Answer::Done(count)
             }
             Err(error) if self.counts_fault(error) => {
-                self.worked = true;
+                self.breaks(id);
                 Answer::Fault
             }
             Err(_) => Answer::Waiting,
@@ -265,7 +333,12 @@ impl Wire for Sockets {
     }
 
     fn close(&mut self, id: WireId) {
-        let _closed = self.links.try_remove(id as usize);
+        if let Some(link) = self.links.try_remove(id as usize) {
+            self.note(Visit::Went {
+                id,
+                leave: link.leave(),
+            });
+        }
         self.worked = true;
     }
 

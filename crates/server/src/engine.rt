@@ -1,7 +1,9 @@
 //! The engine.
-ghost use Rattle.std.specs.Prelude.{[], IfOk};
+ghost use Rattle.std.specs.Prelude.{◌≡◌, [], IfOk, slice_get};
+ghost use Rattle.std.specs.Option.{option_copied};
 ghost use Rattle.settings_file.specs.Settings.{MeetsLimits};
 ghost use Rattle.print_room.specs.Opening.{opening};
+ghost use Rattle.spool.specs.Jobs.{job_at};
 ghost use Rattle.server.specs.Polls.{both};
 ghost use Rattle.server.specs.State.{EngineState};
 ghost use Rattle.server.specs.Stands.{StandsAt, Turns};
@@ -10,8 +12,9 @@ use crate::connection::Connection;
 use crate::notes::Notes;
 use crate::wire::Wire;
 use assignment::Planner;
-use base_types::{Limits, Moment};
+use base_types::{DeviceId, DeviceNow, JobId, Limits, Moment};
 use dispatcher::Core;
+use job_objects::Job;
 use settings_file::Settings;
 use slab::Slab;
 use std::alloc::{AllocError, Global};
@@ -63,5 +66,19 @@ impl<P: Planner + Drop> Engine<P> {
         ensures { Turns (both W.polled N.told) moment (wire.old, notes.old) self.old (wire.new, notes.new) self.new }
     {
         self.turn_once(wire, notes, moment);
+    }
+
+    /// The job of this id, if it is kept. It takes no memory.
+    pub fn job(&self, id: JobId) -> Option<&Job>
+        ensures { option_copied result ≡ job_at id self.now.core.spool.jobs }
+    {
+        self.core.job(id)
+    }
+
+    /// What the device at a place of the settings is now. It takes no memory.
+    pub fn device(&self, id: DeviceId) -> Option<&DeviceNow>
+        ensures { option_copied result ≡ slice_get self.now.core.devices id }
+    {
+        self.core.device(id)
     }
 }

@@ -243,3 +243,54 @@ fn lpd_job_printed(rt: HostRuntime) -> Result<(), Fail> {
     assert!(rt; printed);
     Ok(())
 }
+
+/// Adds what is logged in so many turns.
+fn log_turns(server: &mut Server, log: &mut Vec<u8>) -> io::Result<()> {
+    for _turn in 0..TURNS {
+        let lines = server.turn_logged(Moment::start())?;
+        log.extend_from_slice(&lines)?;
+        server.rest(2)?;
+    }
+    Ok(())
+}
+
+/// The log of a device that comes and runs, a client that sends it a job, the end of the job, and the
+/// client's going once it has its five acknowledgements; and the ports from which the two came.
+fn log_of_job(rt: &HostRuntime, server: &mut Server, log: &mut Vec<u8>) -> io::Result<(u16, u16)> {
+    let ports = server.ports()?;
+    let mut device = peer(rt, ports.devices, b"HELLO A\nREADY\n")?;
+    log_turns(server, log)?;
+    let mut client = peer(rt, ports.lpd, ONE_JOB.sent)?;
+    log_turns(server, log)?;
+    client.read_exact(&mut [0; 5])?;
+    device.write_all(b"DONE 1\n")?;
+    log_turns(server, log)?;
+    let places = (device.local_addr()?.port(), client.local_addr()?.port());
+    drop(client);
+    log_turns(server, log)?;
+    Ok(places)
+}
+
+/// The lines that are wanted of it.
+fn wanted_log(rt: &HostRuntime, ports: (u16, u16)) -> io::Result<String> {
+    let (device, client) = ports;
+    Ok(format!(in rt.alloc();
+        "0 open 0 devices 127.0.0.1:{device}\n0 open 1 lpd 127.0.0.1:{client}\n0 plan 50:10\n0 start 1 A\n0 completed 1 A\n0 close 1 left\n"
+    )?)
+}
+
+/// Whether a server that has just started logs just the lines that are wanted.
+fn logs_job(rt: &HostRuntime) -> io::Result<bool> {
+    let mut server = start(rt)?;
+    let mut log = Vec::new(rt.alloc());
+    let ports = log_of_job(rt, &mut server, &mut log)?;
+    let wanted = wanted_log(rt, ports)?;
+    Ok(log.as_slice() == wanted.as_bytes())
+}
+
+#[test]
+fn job_and_connections_logged(rt: HostRuntime) -> Result<(), Fail> {
+    let logged = logs_job(&rt)?;
+    assert!(rt; logged);
+    Ok(())
+}

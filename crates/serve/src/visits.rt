@@ -1,0 +1,88 @@
+//! Which connections come and go.
+ghost use Rattle.std.specs.Prelude.{◌≡◌, ◌++◌, [], ◌∷◌, None, Some, IfOk, OnErr, option_map};
+ghost use Rattle.serve.specs.Visits.{Keeps};
+
+use server::{Door, WireId};
+use std::alloc::{AllocError, Global};
+use std::marker::Model;
+use std::net::SocketAddr;
+
+/// Why a connection is closed.
+#[derive(Clone, Copy, Debug, PartialEq, Eq)]
+pub(crate) enum Leave {
+    /// The server is done with it.
+    Served,
+    /// Its peer has ended it.
+    Left,
+    /// Its peer was silent for too long.
+    Silent,
+    /// The system says that it is broken.
+    Broken,
+}
+
+/// A connection comes or goes.
+#[derive(Clone, Copy)]
+pub(crate) enum Visit {
+    /// One of this number comes in at a door.
+    Came {
+        id: WireId,
+        door: Door,
+        peer: SocketAddr,
+    },
+    /// One may wait at a door, and the system gives none.
+    Missed(Door),
+    /// The one of this number is closed.
+    Went {
+        id: WireId,
+        leave: Leave,
+    },
+}
+
+/// The connections that come and go, as long as there is memory for them. In clauses it is their list,
+/// or none from then on.
+#[derive(Drop)]
+pub(crate) struct Visits {
+    kept: Vec<Visit>,
+    lost: bool,
+}
+
+impl Model for Visits {
+    ghost use Rattle.std.specs.Prelude.{List, Option, Some, None, if◌then◌else◌};
+    ghost use Rattle.serve.specs.declared.visits.Visit.{Visit};
+
+    ghost Value = { Option (List Visit) };
+
+    ghost view = { λ v. if v.lost then None else Some v.kept.items };
+}
+
+impl Visits {
+    /// None came or went yet.
+    pub(crate) fn new(alloc: Global) -> Visits
+        ensures { result ≡ Some [] }
+    {
+        Visits {
+            kept: Vec::new(alloc),
+            lost: false,
+        }
+    }
+
+    /// Keeps one more.
+    pub(crate) fn keep(&mut self, visit: Visit)
+        ensures { Keeps self.old visit self.new }
+    {
+        if self.kept.push(visit).is_err() {
+            self.lost = true;
+        }
+    }
+
+    /// All of them. The error is that there was no memory for one.
+    pub(crate) fn all(self) -> Result<Vec<Visit>, AllocError>
+        ensures ok { IfOk result (λ visits. self ≡ Some visits.items) }
+        ensures err { OnErr result (self ≡ None) }
+    {
+        if self.lost {
+            return Err(AllocError);
+        }
+        Ok(self.kept)
+    }
+}
