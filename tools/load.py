@@ -7,9 +7,9 @@ Each load is one request that wrk sends again and again over kept-alive connecti
 server that has just started. The rounds take turns between the servers, and the table has the middle one of
 each: requests a second, the server's processor time for one, how long one takes (middle and 99th percent), the
 part that was taken, and how many times better than cupsd's the first two are. A job that is refused since the
-server is busy counts as no request. cupsd is given a raw queue for /dev/null, `printd` 16 devices that take
-each job and end it at once. Then: how long a Print-Job and a Get-Printer-Attributes take while 120 jobs wait
-for 16 devices, each of which has one.
+server is busy counts as no request. cupsd is given a raw queue for /dev/null, no limit of jobs and no
+history of them (it is quickest so), `printd` 16 devices that take each job and end it at once. Then: how long a
+Print-Job and a Get-Printer-Attributes take while 120 jobs wait for 16 devices, each of which has one.
 
 Wanted: Debian's cups-daemon, cups-ipp-utils and wrk. PRINTD names the program; without it, it is the one that
 ./printd built.

@@ -12,6 +12,7 @@ sys.path.insert(0, str(pathlib.Path(__file__).resolve().parents[1] / "clients"))
 from running import Running  # noqa: E402
 
 TICKS = os.sysconf("SC_CLK_TCK")
+# with a history of jobs cupsd takes a fifth to a half as many of them
 CUPSD = """Listen 127.0.0.1:{port}
 LogLevel error
 AccessLogLevel config
@@ -21,7 +22,7 @@ DefaultAuthType None
 MaxJobs 0
 MaxClients 100
 PreserveJobFiles No
-PreserveJobHistory Yes
+PreserveJobHistory No
 <Location />
   Order allow,deny
   Allow all
@@ -118,7 +119,10 @@ class Devices(threading.Thread):
 
     def hear(self, connection, jobs):
         """Takes what came, and ends the jobs that are whole."""
-        piece = connection.recv(1 << 20)
+        try:
+            piece = connection.recv(1 << 20)
+        except ConnectionResetError:
+            piece = b""
         if not piece:
             self.poll.unregister(connection)
             connection.close()
