@@ -2,6 +2,7 @@
 import os
 import pathlib
 import selectors
+import signal
 import socket
 import subprocess
 import sys
@@ -103,7 +104,7 @@ class Devices(threading.Thread):
 
     def __init__(self, port, names, slow=False):
         super().__init__(daemon=True)
-        self.slow = slow
+        self.slow, self.count = slow, len(names)
         self.has = {}
         self.poll = selectors.DefaultSelector()
         for name in names:
@@ -134,7 +135,11 @@ class Devices(threading.Thread):
                 connection.sendall(b"DONE %s\n" % job)
 
     def end_one(self):
-        """Ends the job that some device has had for longest."""
+        """Ends the job that some device has had for longest, once each has one."""
+        for _ in range(10_000):
+            if len(self.has) == self.count:
+                break
+            time.sleep(0.001)
         job = next(iter(self.has))
         self.has.pop(job).sendall(b"DONE %s\n" % job)
 
@@ -216,7 +221,7 @@ class Other:
             end(child)
 
     def begin(self, words):
-        child = subprocess.Popen(words, cwd=self.folder, env=self.surroundings(), stdout=subprocess.DEVNULL, stderr=subprocess.DEVNULL)
+        child = subprocess.Popen(words, cwd=self.folder, env=self.surroundings(), stdout=subprocess.DEVNULL, stderr=subprocess.DEVNULL, start_new_session=True)
         self.children.append(child)
         return child
 
@@ -234,13 +239,18 @@ class Other:
 
 
 def end(child):
-    """Has a process end, at the latest in twenty seconds."""
+    """Has a process end, at the latest in twenty seconds, and with it those of its session that it left: a child
+    of ippeveprinter may hang before it is the command of a job."""
     child.terminate()
     try:
         child.wait(20)
     except subprocess.TimeoutExpired:
-        child.kill()
-        child.wait(10)
+        pass
+    try:
+        os.killpg(child.pid, signal.SIGKILL)
+    except ProcessLookupError:
+        pass
+    child.wait(10)
 
 
 class Cupsd(Other):
