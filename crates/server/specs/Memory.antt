@@ -8,9 +8,6 @@ use Rattle.server.specs.declared.memory_wire.Memory.{Memory}
 use Rattle.server.specs.Polls.{Poll, Accepts, Reads, Writes, Closes}
 use Rattle.server.specs.Peer.{PeerState}
 
-pub record SamePeers (old new : Memory) : Type 0 where
-  pub peers : new.peers.items ≡ old.peers.items
-
 abbrev pub is_same_door : Door → Door → Bool
 is_same_door Ipp Ipp = true
 is_same_door Lpd Lpd = true
@@ -53,33 +50,36 @@ pub record Gets (bytes : List ℕ) (p q : PeerState) : Type 0 where
   pub taken : q ≡ record p { taken = p.taken ++ bytes }
 
 -- one peer changes
-pub record OnPeer (id : ℕ) (change : PeerState → PeerState → Type 0) (old new : Memory) : Type 0 where
+pub record OnPeer (id : ℕ) (change : PeerState → PeerState → Type 0) (old new : List PeerState) : Type 0 where
   pub before : PeerState
   pub after : PeerState
-  pub there : slice_get old.peers.items id ≡ Some before
+  pub there : slice_get old id ≡ Some before
   pub changes : change before after
-  pub peers : new.peers.items ≡ slice_set old.peers.items id after
+  pub peers : new ≡ slice_set old id after
 
 abbrev pub IsAccepted : PeerState → PeerState → Type 0
 IsAccepted p q = q ≡ record p { accepted = true }
 
 -- a peer is given up; there may be none of the number
-abbrev pub IsGivenUp : ℕ → Memory → Memory → Type 0
-IsGivenUp id old new =
-    OnPeer id (λ p q. q ≡ record p { closed = true }) old new ⊎ ((slice_get old.peers.items id ≡ None) × SamePeers old new)
+abbrev pub IsGivenUp : ℕ → List PeerState → List PeerState → Type 0
+IsGivenUp id old new = OnPeer id (λ p q. q ≡ record p { closed = true }) old new ⊎ ((slice_get old id ≡ None) × (new ≡ old))
 
--- what each call does and answers
+-- what each call does to the peers, and answers
+abbrev pub PeersMove : List PeerState → Poll → List PeerState → Type 0
+PeersMove old (Accepts door (Done id)) new = (next_at door old ≡ Some id) × OnPeer id IsAccepted old new
+PeersMove old (Accepts door Waiting) new = (new ≡ old) × (none_comes door old ≡ true)
+PeersMove old (Accepts door End) new = ⊥
+PeersMove old (Accepts door Fault) new = new ≡ old
+PeersMove old (Reads id (Done bytes)) new = OnPeer id (Sends bytes) old new
+PeersMove old (Reads id Waiting) new = (new ≡ old) × (ends_reading id old ≡ false)
+PeersMove old (Reads id End) new = (new ≡ old) × (ends_reading id old ≡ true)
+PeersMove old (Reads id Fault) new = new ≡ old
+PeersMove old (Writes id offered (Done n)) new = OnPeer id (Gets (take n offered)) old new
+PeersMove old (Writes id offered Waiting) new = (new ≡ old) × (ends_writing id old ≡ false)
+PeersMove old (Writes id offered End) new = (new ≡ old) × (ends_writing id old ≡ true)
+PeersMove old (Writes id offered Fault) new = new ≡ old
+PeersMove old (Closes id) new = IsGivenUp id old new
+
+-- the same of the wire, whose peers they are
 abbrev pub MemoryPolls : Memory → Poll → Memory → Type 0
-MemoryPolls old (Accepts door (Done id)) new = (next_at door old.peers.items ≡ Some id) × OnPeer id IsAccepted old new
-MemoryPolls old (Accepts door Waiting) new = SamePeers old new × (none_comes door old.peers.items ≡ true)
-MemoryPolls old (Accepts door End) new = ⊥
-MemoryPolls old (Accepts door Fault) new = SamePeers old new
-MemoryPolls old (Reads id (Done bytes)) new = OnPeer id (Sends bytes) old new
-MemoryPolls old (Reads id Waiting) new = SamePeers old new × (ends_reading id old.peers.items ≡ false)
-MemoryPolls old (Reads id End) new = SamePeers old new × (ends_reading id old.peers.items ≡ true)
-MemoryPolls old (Reads id Fault) new = SamePeers old new
-MemoryPolls old (Writes id offered (Done n)) new = OnPeer id (Gets (take n offered)) old new
-MemoryPolls old (Writes id offered Waiting) new = SamePeers old new × (ends_writing id old.peers.items ≡ false)
-MemoryPolls old (Writes id offered End) new = SamePeers old new × (ends_writing id old.peers.items ≡ true)
-MemoryPolls old (Writes id offered Fault) new = SamePeers old new
-MemoryPolls old (Closes id) new = IsGivenUp id old new
+MemoryPolls old poll new = PeersMove old.peers.items poll new.peers.items

@@ -1,7 +1,7 @@
 //! A wire in memory: what its peers send is there from the start, and what they get is kept. It
 //! stands in for sockets where a run is to be the same each time.
 ghost use Rattle.std.specs.Prelude.{◌≡◌, ◌<◌, ◌≤◌, length, take, IsTrue, IsFalse, IfSome, IfNone, IfOk, OnErr, Some, true, false, []};
-ghost use Rattle.server.specs.Memory.{Sends, Gets, SamePeers, comes, next_at, is_open, ends_reading, ends_writing};
+ghost use Rattle.server.specs.Memory.{Sends, Gets, comes, next_at, is_open, ends_reading, ends_writing};
 
 use crate::wire::{Answer, Door, Wire, WireId};
 use std::alloc::{AllocError, Global};
@@ -74,7 +74,7 @@ impl Memory {
 
     /// Counts a poll, and says whether it is the one that faults.
     fn fails(&mut self) -> bool
-        ensures same { SamePeers self.old self.new }
+        ensures same { self.new.peers ≡ self.old.peers }
         ensures yes { IsTrue result → self.old.faults < self.new.faults }
         ensures never { IsFalse result → self.new.faults ≡ self.old.faults }
     {
@@ -85,7 +85,7 @@ impl Memory {
 
     /// Counts a fault, unless the count is full.
     fn counts_fault(&mut self) -> bool
-        ensures same { SamePeers self.old self.new }
+        ensures same { self.new.peers ≡ self.old.peers }
         ensures yes { IsTrue result → self.old.faults < self.new.faults }
         ensures never { IsFalse result → self.new.faults ≡ self.old.faults }
     {
