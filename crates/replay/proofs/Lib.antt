@@ -1,11 +1,12 @@
-mod Reach
 mod Texts
 mod Settings
 mod Forms
 mod Digits
+mod Places
 mod Telling
-mod Requests
-mod Giving
+mod Reach
+mod Playing
 mod Refusals
 mod Inputs
-pub mod Runs
+mod Requests
+mod Runs

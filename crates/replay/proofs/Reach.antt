@@ -1,80 +1,140 @@
--- A run over the lines of a trace, line by line.
+-- A server that is told the lines of a trace, line by line.
 use Rattle.std.proofs.Common.{◌≡◌, ℕ, suc, Bool, true, false, List, [], ◌∷◌, ◌++◌, refl, sym, ap, ◌∙◌, subst, inl, inr, codes, append_assoc, append-nil, Result, Ok, Err, OnErr}
 use Rattle.std.specs.Fmt.{decimal}
-use Rattle.replay.specs.declared.trace.Line.{Line}
-use Rattle.replay.specs.Acting.{Acts}
-use Rattle.replay.specs.Log.{LogRecord}
-use Rattle.replay.specs.Replay.{Standing, Gives, IsNoLine, LinesGive, LinesLeave}
+use Rattle.server.specs.State.{EngineState}
+use Rattle.server.specs.Stands.{StandsAt}
+use Rattle.server.specs.Turn.{Trace}
+use Rattle.print_room.specs.State.{State}
+use Rattle.streams.specs.declared.exit_status.ExitStatus.{ExitStatus}
 use Rattle.streams.specs.declared.exit_status.ExitStatus.TheVariants as Ends
 use Rattle.streams.specs.Said.{Said, refused_as, said_after}
+use Rattle.replay.specs.declared.play.Play.{Play}
+use Rattle.replay.specs.declared.trace.Line.{Line}
+use Rattle.replay.specs.Acting.{standing, Moves, IsReady, Does, Acts, PlaysAll, PlaysFirst}
+use Rattle.replay.specs.Log.{LogRecord}
+use Rattle.replay.specs.Playing.{Standing, IsBad, may_come, Plays, LinesPlay}
 use Rattle.replay.specs.TraceLine.{IsLine}
 
--- What the rest of the lines gives is, with what the lines before it gave, what all lines give.
-pub record Reached (texts : Bool) (names : List (List ℕ)) (first : ℕ) (all : List (List ℕ)) (start : Standing) (done : List ℕ) (number : ℕ) (rest : List (List ℕ)) (now : Standing) : Type 0 where
-  pub gives : (said : Said) → LinesGive texts names number rest now said → LinesGive texts names first all start (said_after done said)
-  pub leaves : (left : List ℕ) → LinesLeave texts names rest now left → LinesLeave texts names all start (done ++ left)
+pub moves_nothing : (e : EngineState) → Moves e [] e
+moves_nothing e opening trace stands = subst (λ t. StandsAt opening t e) (sym (append-nil trace)) stands
+
+pub moves_then : (a b c : EngineState) (first later : Trace) → Moves a first b → Moves b later c → Moves a (first ++ later) c
+moves_then a b c first later p q opening trace stands = subst (λ t. StandsAt opening t c) (append_assoc trace first later) (q opening (trace ++ first) (p opening trace stands))
+
+-- What the lines before gave; what any lines give after them is, with that, what all give.
+pub record Reached (texts : Bool) (names : List (List ℕ)) (first : ℕ) (all : List (List ℕ)) (begun : Standing) (start : EngineState) (done : List ℕ) (number : ℕ) (rest : List (List ℕ)) (now : Standing) (engine : EngineState) : Type 0 where
+  pub deeds : Trace
+  pub passed : List (List ℕ)
+  pub whole : all ≡ passed ++ rest
+  pub moves : Moves start deeds engine
+  pub gives : (tail : List (List ℕ)) (later : Trace) (said : Said) → LinesPlay texts names number tail now later said → LinesPlay texts names first (passed ++ tail) begun (deeds ++ later) (said_after done said)
 
 -- before the first line
-pub reached_start : (texts : Bool) (names : List (List ℕ)) (number : ℕ) (lines : List (List ℕ)) (now : Standing) → Reached texts names number lines now [] number lines now
-reached_start texts names number lines now = record { gives = λ said h. h; leaves = λ left h. h }
+pub reached_start : (texts : Bool) (names : List (List ℕ)) (number : ℕ) (lines : List (List ℕ)) (now : Standing) (engine : EngineState) → Reached texts names number lines now engine [] number lines now engine
+reached_start texts names number lines now engine = record { deeds = []; passed = []; whole = refl; moves = moves_nothing engine; gives = λ tail later said h. h }
 
 -- one line more
-pub reached_next : (texts : Bool) (names : List (List ℕ)) (first : ℕ) (all : List (List ℕ)) (start : Standing) (done : List ℕ) (number : ℕ) (bytes : List ℕ) (more : List (List ℕ)) (now : Standing) (line : Line) (text : List ℕ) (new : Standing)
-    → Reached texts names first all start done number (bytes ∷ more) now → IsLine names bytes line → Gives texts names line now text new
-    → Reached texts names first all start (done ++ text) (suc number) more new
-reached_next texts names first all start done number bytes more now line text new r is given = record {
-  gives = λ said h. subst (λ t. LinesGive texts names first all start (record said { text = t })) (sym (append_assoc done text said.text))
-      (r.gives (said_after text said) (inr (line, text, new, said, is, given, h, refl)));
-  leaves = λ left h. subst (λ t. LinesLeave texts names all start t) (sym (append_assoc done text left))
-      (r.leaves (text ++ left) (inr (line, text, new, left, is, given, h, refl)));
+reached_next : (texts : Bool) (names : List (List ℕ)) (first : ℕ) (all : List (List ℕ)) (begun : Standing) (start : EngineState) (done : List ℕ) (number : ℕ) (bytes : List ℕ) (more : List (List ℕ)) (now : Standing) (engine : EngineState) (line : Line) (here : Trace) (text : List ℕ) (new : Standing) (after : EngineState)
+    → Reached texts names first all begun start done number (bytes ∷ more) now engine → IsLine names bytes line → may_come line now ≡ true → Plays texts names line now here text new → Moves engine here after
+    → Reached texts names first all begun start (done ++ text) (suc number) more new after
+reached_next texts names first all begun start done number bytes more now engine line here text new after r is comes plays moves = record {
+  deeds = r.deeds ++ here;
+  passed = r.passed ++ bytes ∷ [];
+  whole = r.whole ∙ sym (append_assoc r.passed (bytes ∷ []) more);
+  moves = moves_then start engine after r.deeds here r.moves moves;
+  gives = λ tail later said h.
+      let step = r.gives (bytes ∷ tail) (here ++ later) (said_after text said) (inr (line, here, text, new, later, said, is, comes, plays, h, refl, refl)) in
+      subst (λ ls. LinesPlay texts names first ls begun ((r.deeds ++ here) ++ later) (record said { text = (done ++ text) ++ said.text })) (sym (append_assoc r.passed (bytes ∷ []) tail))
+      (subst (λ ds. LinesPlay texts names first (r.passed ++ bytes ∷ tail) begun ds (record said { text = (done ++ text) ++ said.text })) (sym (append_assoc r.deeds here later))
+      (subst (λ t. LinesPlay texts names first (r.passed ++ bytes ∷ tail) begun (r.deeds ++ (here ++ later)) (record said { text = t })) (sym (append_assoc done text said.text)) step));
 }
 
-nothing_left : (texts : Bool) (names : List (List ℕ)) (lines : List (List ℕ)) (now : Standing) → LinesLeave texts names lines now []
-nothing_left texts names [] now = refl
-nothing_left texts names (bytes ∷ more) now = inl refl
+-- after the last line
+at_end : (texts : Bool) (names : List (List ℕ)) (first : ℕ) (all : List (List ℕ)) (begun : Standing) (start : EngineState) (done : List ℕ) (number : ℕ) (rest : List (List ℕ)) (now : Standing) (engine : EngineState)
+    → (r : Reached texts names first all begun start done number rest now engine) → LinesPlay texts names first r.passed begun r.deeds (record { text = done; status = Ends.Done })
+at_end texts names first all begun start done number rest now engine r =
+    let step = r.gives [] [] (record { text = []; status = Ends.Done }) (refl, refl) in
+    subst (λ ls. LinesPlay texts names first ls begun r.deeds (record { text = done; status = Ends.Done })) (append-nil r.passed)
+    (subst (λ ds. LinesPlay texts names first (r.passed ++ []) begun ds (record { text = done; status = Ends.Done })) (append-nil r.deeds)
+    (subst (λ t. LinesPlay texts names first (r.passed ++ []) begun (r.deeds ++ []) (record { text = t; status = Ends.Done })) (append-nil done) step))
 
 -- memory was refused
-pub left_off : (texts : Bool) (names : List (List ℕ)) (first : ℕ) (all : List (List ℕ)) (start : Standing) (done : List ℕ) (number : ℕ) (rest : List (List ℕ)) (now : Standing)
-    → Reached texts names first all start done number rest now → LinesLeave texts names all start done
-left_off texts names first all start done number rest now r = subst (λ t. LinesLeave texts names all start t) (append-nil done) (r.leaves [] (nothing_left texts names rest now))
+pub left_off : (play now : Play) (number next : ℕ) (lines rest : List (List ℕ)) (before done left : List ℕ)
+    → Reached play.log.texts play.log.names number lines (standing play) play.engine done next rest (standing now) now.engine → left ≡ before ++ done → PlaysFirst play number lines before left
+left_off play now number next lines rest before done left r is = record {
+  first = r.passed;
+  others = rest;
+  cut = r.whole;
+  plays = record {
+    deeds = r.deeds;
+    said = record { text = done; status = Ends.Done };
+    new = now.engine;
+    plays = at_end _ _ _ _ _ _ _ _ _ _ _ r;
+    moves = r.moves;
+    printed = ap (λ t. record { text = t; status = Ends.Done }) is;
+  };
+}
 
--- after the last line
-pub at_end : (texts : Bool) (names : List (List ℕ)) (first : ℕ) (all : List (List ℕ)) (start : Standing) (done : List ℕ) (number : ℕ) (rest : List (List ℕ)) (now : Standing)
-    → Reached texts names first all start done number rest now → rest ≡ [] → LinesGive texts names first all start (record { text = done ++ []; status = Ends.Done })
-at_end texts names first all start done number rest now r none = r.gives (record { text = []; status = Ends.Done }) (subst (λ ls. LinesGive texts names number ls now (record { text = []; status = Ends.Done })) (sym none) refl)
+-- all lines were good
+pub all_done : (play now : Play) (number next : ℕ) (lines rest : List (List ℕ)) (before done left : List ℕ)
+    → Reached play.log.texts play.log.names number lines (standing play) play.engine done next rest (standing now) now.engine → rest ≡ [] → left ≡ before ++ done → PlaysAll play number lines before (record { text = left; status = Ends.Done })
+all_done play now number next lines rest before done left r none is =
+    let passed : r.passed ≡ lines = sym (append-nil r.passed) ∙ ap (λ ls. r.passed ++ ls) (sym none) ∙ sym r.whole in
+    record {
+      deeds = r.deeds;
+      said = record { text = done; status = Ends.Done };
+      new = now.engine;
+      plays = subst (λ ls. LinesPlay play.log.texts play.log.names number ls (standing play) r.deeds (record { text = done; status = Ends.Done })) passed (at_end _ _ _ _ _ _ _ _ _ _ _ r);
+      moves = r.moves;
+      printed = ap (λ t. record { text = t; status = Ends.Done }) is;
+    }
 
--- at bytes that are no line
-pub at_no_line : (texts : Bool) (names : List (List ℕ)) (first : ℕ) (all : List (List ℕ)) (start : Standing) (done : List ℕ) (number printed : ℕ) (rest : List (List ℕ)) (now : Standing) (bytes : List ℕ) (more : List (List ℕ))
-    → Reached texts names first all start done number rest now → rest ≡ bytes ∷ more → IsNoLine names bytes → printed ≡ number
-    → LinesGive texts names first all start (said_after done (refused_as (codes "line " ++ decimal printed)))
-at_no_line texts names first all start done number printed rest now bytes more r cut none same =
-    r.gives (refused_as (codes "line " ++ decimal printed))
-    (subst (λ ls. LinesGive texts names number ls now (refused_as (codes "line " ++ decimal printed))) (sym cut) (inl (none, ap (λ n. refused_as (codes "line " ++ decimal n)) same)))
+-- a line was bad
+pub at_bad : (play now : Play) (number next printed : ℕ) (lines rest : List (List ℕ)) (before done left bytes : List ℕ) (more : List (List ℕ)) (status : ExitStatus)
+    → Reached play.log.texts play.log.names number lines (standing play) play.engine done next rest (standing now) now.engine → rest ≡ bytes ∷ more → IsBad play.log.names bytes (standing now) → printed ≡ next
+    → left ≡ before ++ (done ++ (refused_as (codes "line " ++ decimal printed)).text) → status ≡ Ends.Refused → PlaysAll play number lines before (record { text = left; status = status })
+at_bad play now number next printed lines rest before done left bytes more status r cut bad same is ends =
+    let refused : Said = refused_as (codes "line " ++ decimal next) in
+    let step = r.gives (bytes ∷ more) [] refused (inl (bad, refl, refl)) in
+    let whole : r.passed ++ bytes ∷ more ≡ lines = ap (λ ls. r.passed ++ ls) (sym cut) ∙ sym r.whole in
+    record {
+      deeds = r.deeds ++ [];
+      said = said_after done refused;
+      new = now.engine;
+      plays = subst (λ ls. LinesPlay play.log.texts play.log.names number ls (standing play) (r.deeds ++ []) (said_after done refused)) whole step;
+      moves = subst (λ ds. Moves play.engine ds now.engine) (sym (append-nil r.deeds)) r.moves;
+      printed = rw (is, ends, same) refl;
+    }
 
--- a log that is as it was says how to print as it did
-pub went_on : (log0 log1 log2 : LogRecord) (first : ℕ) (all : List (List ℕ)) (start : Standing) (done : List ℕ) (number next : ℕ) (rest : List (List ℕ)) (now : Standing) (bytes : List ℕ) (more : List (List ℕ)) (new : Standing) (is_line : Bool) (out0 out1 out2 : List ℕ)
-    → Acts log1 bytes now out1 is_line log2 new out2 → is_line ≡ true → log1 ≡ log0 → Reached log0.texts log0.names first all start done number rest now → rest ≡ bytes ∷ more → out1 ≡ out0 ++ done → next ≡ suc number
-    → (more_done : List ℕ) × (out2 ≡ out0 ++ more_done) × Reached log0.texts log0.names first all start more_done next more new × (log2 ≡ log0)
-went_on log0 log1 log2 first all start done number next rest now bytes more new is_line out0 out1 out2 acts is same r cut out one =
-    let did : Acts log0 bytes now out1 true log2 new out2 = subst (λ l. Acts l bytes now out1 true log2 new out2) same (subst (λ b. Acts log1 bytes now out1 b log2 new out2) is acts) in
-    let here : Reached log0.texts log0.names first all start done number (bytes ∷ more) now = subst (λ ls. Reached log0.texts log0.names first all start done number ls now) cut r in
-    let text : List ℕ = did.2 in (
+-- one line more was acted on
+pub went_on : (play old new : Play) (number next after : ℕ) (lines rest : List (List ℕ)) (before done out1 out2 bytes : List ℕ) (more : List (List ℕ)) (is_line : Bool)
+    → Acts old bytes out1 is_line new out2 → is_line ≡ true → old.log ≡ play.log → IsReady old
+    → Reached play.log.texts play.log.names number lines (standing play) play.engine done next rest (standing old) old.engine → rest ≡ bytes ∷ more → out1 ≡ before ++ done → after ≡ suc next
+    → (more_done : List ℕ) × (out2 ≡ before ++ more_done) × Reached play.log.texts play.log.names number lines (standing play) play.engine more_done after more (standing new) new.engine × (new.log ≡ play.log) × IsReady new
+went_on play old new number next after lines rest before done out1 out2 bytes more is_line acts is same ready r cut out one =
+    let did : Acts old bytes out1 true new out2 = subst (λ b. Acts old bytes out1 b new out2) is acts in
+    let line : Line = did.0 in
+    let text : List ℕ = did.1 in
+    let does = did.4 in
+    let known : IsLine play.log.names bytes line = subst (λ (l : LogRecord). IsLine l.names bytes line) same did.2 in
+    let plays : Plays play.log.texts play.log.names line (standing old) does.deeds text (standing new) = subst (λ (l : LogRecord). Plays l.texts l.names line (standing old) does.deeds text (standing new)) same does.is in
+    let here : Reached play.log.texts play.log.names number lines (standing play) play.engine done next (bytes ∷ more) (standing old) old.engine = subst (λ ls. Reached play.log.texts play.log.names number lines (standing play) play.engine done next ls (standing old) old.engine) cut r in (
       done ++ text,
-      did.5 ∙ ap (λ o. o ++ text) out ∙ append_assoc out0 done text,
-      subst (λ n. Reached log0.texts log0.names first all start (done ++ text) n more new) (sym one) (reached_next log0.texts log0.names first all start done number bytes more now did.1 text new here did.3 did.4),
-      did.0,
+      did.5 ∙ ap (λ o. o ++ text) out ∙ append_assoc before done text,
+      subst (λ n. Reached play.log.texts play.log.names number lines (standing play) play.engine (done ++ text) n more (standing new) new.engine) (sym one) (reached_next _ _ _ _ _ _ _ _ _ _ _ _ line does.deeds text _ _ here known did.3 plays does.moves),
+      does.log ∙ same,
+      record { silent = ap (λ (l : LogRecord). l.heard) does.log ∙ ready.silent; prompt = does.prompt },
     )
 
--- what is known where the bytes are no line
-pub stood_still : (log0 log1 log2 : LogRecord) (bytes : List ℕ) (now new : Standing) (is_line : Bool) (out1 out2 : List ℕ)
-    → Acts log1 bytes now out1 is_line log2 new out2 → is_line ≡ false → log1 ≡ log0 → IsNoLine log0.names bytes × (out2 ≡ out1)
-stood_still log0 log1 log2 bytes now new is_line out1 out2 acts is same =
-    let did : Acts log0 bytes now out1 false log2 new out2 = subst (λ l. Acts l bytes now out1 false log2 new out2) same (subst (λ b. Acts log1 bytes now out1 b log2 new out2) is acts) in
-    (did.2, did.3)
+-- what is known where the bytes were bad
+pub stood_still : (play old new : Play) (bytes out1 out2 : List ℕ) (is_line : Bool) → Acts old bytes out1 is_line new out2 → is_line ≡ false → old.log ≡ play.log → IsBad play.log.names bytes (standing old) × (out2 ≡ out1)
+stood_still play old new bytes out1 out2 is_line acts is same =
+    let did : Acts old bytes out1 false new out2 = subst (λ b. Acts old bytes out1 b new out2) is acts in
+    (subst (λ (l : LogRecord). IsBad l.names bytes (standing old)) same did.0, did.1)
 
 -- one text after another
-pub joined : (out0 out1 mid new done text : List ℕ) → new ≡ mid ++ text → mid ≡ out1 → out1 ≡ out0 ++ done → new ≡ out0 ++ (done ++ text)
-joined out0 out1 mid new done text en em eo = en ∙ ap (λ o. o ++ text) (em ∙ eo) ∙ append_assoc out0 done text
+pub joined : (before out1 mid new done text : List ℕ) → new ≡ mid ++ text → mid ≡ out1 → out1 ≡ before ++ done → new ≡ before ++ (done ++ text)
+joined before out1 mid new done text en em eo = en ∙ ap (λ o. o ++ text) (em ∙ eo) ∙ append_assoc before done text
 
 pub on_err : {T E P : Type 0} (r : Result T E) → P → OnErr r P
 on_err (Ok x) p = tt

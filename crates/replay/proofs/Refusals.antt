@@ -1,5 +1,5 @@
--- Settings that are refused.
-use Rattle.std.proofs.Common.{◌≡◌, ℕ, suc, Bool, List, [], ◌++◌, Option, Some, MatchResult, sym, ap, subst, ◌∙◌, inl, inr}
+-- What the settings of a trace give.
+use Rattle.std.proofs.Common.{◌≡◌, ℕ, suc, Bool, List, [], ◌++◌, Option, Some, MatchResult, Ok, refl, sym, ap, subst, ◌∙◌, inl, inr}
 use Rattle.std.specs.Option.{ForSome}
 use Rattle.settings_file.specs.declared.fault.SettingsFault.TheVariants as code
 use Rattle.settings_file.specs.Fault.{Fault, not_toml, fault_of}
@@ -7,8 +7,18 @@ use Rattle.settings_file.specs.Reading.{IsFaultOf}
 use Rattle.replay.specs.Lines.{HasNoStop, lines_of}
 use Rattle.streams.specs.declared.exit_status.ExitStatus.{ExitStatus}
 use Rattle.streams.specs.declared.exit_status.ExitStatus.TheVariants as Ends
-use Rattle.streams.specs.Said.{Said}
-use Rattle.replay.specs.Replay.{LinesGive, SettingsGive, TraceGives, names_of, start_of, settings_refused}
+use Rattle.streams.specs.Said.{Said, said_after}
+use Rattle.std.specs.Str.{IsUtf8}
+use Rattle.settings_file.specs.Settings.{ServerSettings}
+use Rattle.settings_file.specs.Reading.{settings_of}
+use Rattle.print_room.specs.Opening.{opening}
+use Rattle.server.specs.State.{EngineState}
+use Rattle.server.specs.Turn.{Trace}
+use Rattle.replay.specs.declared.play.Play.{Play}
+use Rattle.replay.specs.Acting.{standing, Moves, IsStart, PlaysAll, PlaysFirst}
+use Rattle.replay.specs.Log.{LogRecord}
+use Rattle.replay.specs.Playing.{Standing, LinesPlay}
+use Rattle.replay.specs.Replay.{LinesGive, SettingsGive, SettingsLeave, TraceGives, names_of, start, settings_refused}
 
 abbrev refusal : List ℕ → Said
 refusal text = record { text = text; status = Ends.Refused }
@@ -25,9 +35,37 @@ settings_give_fault texts settings rest count fault named old out status known i
     let line : out ≡ (settings_refused named).text = line_alone out old _ none said in
     elim (known named is) [
       | inl unread ↦ inl (unread.0, ap refusal (line ∙ ap (λ f. (settings_refused f).text) unread.1))
-      | inr read ↦ inr (read.0, subst (λ r. MatchResult r (λ good. LinesGive texts (names_of good) (suc count) (lines_of rest) (start_of good) (refusal out)) (λ f. refusal out ≡ settings_refused f)) (sym read.1) (ap refusal line))
+      | inr read ↦ inr (read.0, subst (λ r. MatchResult r (λ good. LinesGive texts good (suc count) (lines_of rest) (refusal out)) (λ f. refusal out ≡ settings_refused f)) (sym read.1) (ap refusal line))
     ])
 
 pub trace_gives_no_settings : (texts : Bool) (trace : List ℕ) (named : Fault) (old out : List ℕ) (status : ExitStatus) → HasNoStop trace → fault_of code.NotToml ≡ Some named → old ≡ [] → out ≡ old ++ (settings_refused named).text → status ≡ Ends.Refused → TraceGives texts trace (record { text = out; status = status })
 trace_gives_no_settings texts trace named old out status unsplit is none said two =
     inl (unsplit, ap (λ s. record { text = out; status = s }) two ∙ ap refusal (line_alone out old _ none said ∙ ap (λ f. (settings_refused f).text) (some_is named (sym is))))
+
+-- ---- settings that are good
+
+-- what is printed after nothing
+alone : (before : List ℕ) (text : Said) → before ≡ [] → said_after before text ≡ text
+alone before text none = ap (λ b. said_after b text) none
+
+lines_give : (texts : Bool) (read : ServerSettings) (play : Play) (number : ℕ) (lines : List (List ℕ)) (before : List ℕ) (all : Said) → IsStart texts read play → before ≡ [] → PlaysAll play number lines before all → LinesGive texts read number lines all
+lines_give texts read play number lines before all starts none plays =
+    let stands = plays.moves (opening read 1) [] starts.stands in
+    let as_printed : plays.said ≡ all = sym (plays.printed ∙ alone before plays.said none) in
+    let named : LinesPlay texts (names_of read) number lines (standing play) plays.deeds plays.said = subst (λ (l : LogRecord). LinesPlay l.texts l.names number lines (standing play) plays.deeds plays.said) starts.log plays.plays in
+    record {
+      deeds = plays.deeds;
+      ledger = stands.0;
+      plays = subst (λ s. LinesPlay texts (names_of read) number lines start plays.deeds s) as_printed (subst (λ s. LinesPlay texts (names_of read) number lines s plays.deeds plays.said) starts.starts named);
+      runs = stands.1;
+    }
+
+pub settings_give : (texts : Bool) (settings rest : List ℕ) (count : ℕ) (play : Play) (before out : List ℕ) (status : ExitStatus) (utf8 : IsUtf8 settings) → (read : ServerSettings) → settings_of settings ≡ Ok read → IsStart texts read play → before ≡ []
+    → PlaysAll play (suc count) (lines_of rest) before (record { text = out; status = status }) → SettingsGive texts settings rest count (record { text = out; status = status })
+settings_give texts settings rest count play before out status utf8 read is starts none plays =
+    inr (utf8, subst (λ r. MatchResult r (λ good. LinesGive texts good (suc count) (lines_of rest) (record { text = out; status = status })) (λ f. record { text = out; status = status } ≡ settings_refused f)) (sym is) (lines_give texts read play (suc count) (lines_of rest) before _ starts none plays))
+
+pub settings_leave : (texts : Bool) (settings rest : List ℕ) (count : ℕ) (play : Play) (before left : List ℕ) (read : ServerSettings) → settings_of settings ≡ Ok read → IsStart texts read play → before ≡ []
+    → PlaysFirst play (suc count) (lines_of rest) before left → SettingsLeave texts settings rest count left
+settings_leave texts settings rest count play before left read is starts none first =
+    inr (record { read = read; reads = is; first = first.first; others = first.others; lines = first.cut; gives = lines_give texts read play (suc count) first.first before _ starts none first.plays })

@@ -1,4 +1,4 @@
--- A request is answered.
+-- The event of a body is answered by a message.
 use Rattle.std.proofs.Common.{◌≡◌, ℕ, Bool, true, false, cond, not, List, [], ◌∷◌, Option, Some, None, MatchOption, Result, Ok, Err, MatchResult, subst, inl, inr, max, sym}
 use Rattle.std.specs.Option.{option_map_or}
 use Rattle.ipp_codec.specs.Message.{IppAttribute, IppGroup, IppMessage}
@@ -34,8 +34,37 @@ use Rattle.replies.specs.declared.asked.Asked.TheVariants as Body
 use Rattle.replies.specs.Asked.{Asks, AsksUnder, Requests, answered, header_of, operation_of}
 use Rattle.replies.specs.Event.{event_of, asked_in, event_in, are_tagged, is_complete}
 use Rattle.replies.specs.Request.{operation_group, job_attributes, is_utf8}
-use Rattle.replay.specs.Acting.{IsRequest}
-use Rattle.replay.specs.Replay.{Standing, Happens, IsOfIpp}
+use Rattle.server.specs.Law.{Dispatch, IsAnswered}
+use Rattle.server.specs.Turn.{IsBytes}
+use Rattle.replay.specs.OneRun.{IsReplyOf}
+
+-- an answer to a request of IPP
+abbrev IsOfIpp : Answer → Type 0
+IsOfIpp (Says.Ipp answer) = Unit {0}
+IsOfIpp (Says.Lpd answer) = ⊥
+IsOfIpp Says.Nothing = ⊥
+
+-- an event that is a request of IPP
+abbrev IsRequest : Event → Type 0
+IsRequest (Is.PrintJob request) = Unit {0}
+IsRequest (Is.ValidateJob request) = Unit {0}
+IsRequest (Is.CreateJob request) = Unit {0}
+IsRequest (Is.SendDocument request) = Unit {0}
+IsRequest (Is.CancelJob request) = Unit {0}
+IsRequest (Is.GetJobAttributes request) = Unit {0}
+IsRequest (Is.GetJobs request) = Unit {0}
+IsRequest (Is.GetPrinterAttributes request) = Unit {0}
+IsRequest (Is.HoldJob request) = Unit {0}
+IsRequest (Is.ReleaseJob request) = Unit {0}
+IsRequest (Is.PausePrinter request) = Unit {0}
+IsRequest (Is.ResumePrinter request) = Unit {0}
+IsRequest (Is.SubmitFiles request) = ⊥
+IsRequest (Is.ListQueue request) = ⊥
+IsRequest (Is.RemoveJobs request) = ⊥
+IsRequest (Is.Report device report) = ⊥
+IsRequest Is.Tick = ⊥
+
+-- ---- the answer to a request
 
 says_so : (status : Status) (unsupported : List IppAttribute) (groups : List IppGroup) (answer : Answer) → IsAnswer status unsupported groups answer → IsOfIpp answer
 says_so status unsupported groups (Says.Ipp answer) is = tt
@@ -90,13 +119,10 @@ stepped_answer (Is.RemoveJobs request) now old reply new is step = absurd is
 stepped_answer (Is.Report device report) now old reply new is step = absurd is
 stepped_answer Is.Tick now old reply new is step = absurd is
 
--- what happens by a request has an answer
-pub request_is_answered : (texts : Bool) (names : List (List ℕ)) (event : Event) (old : Standing) (reply : Reply) (text : List ℕ) (new : Standing)
-    → IsRequest event → Happens texts names event old reply text new → IsOfIpp reply.answer
-request_is_answered texts names event old reply text new is happens = elim happens.answers [
-  | inl queried ↦ stepped_answer event (max old.moment old.state.last) old.state reply _ is queried.1
-  | inr dispatched ↦ stepped_answer event (max old.moment old.state.last) old.state reply _ is dispatched.2
-]
+-- a request that is answered is answered by a message
+request_is_answered : (moment : ℕ) (event : Event) (reply : Reply) (old new : State) (dispatches : List Dispatch) → IsRequest event → IsAnswered (record { event = event; moment = moment }) reply old dispatches new → IsOfIpp reply.answer
+request_is_answered moment event reply old new dispatches is (inl queried) = stepped_answer event (max moment old.last) old reply _ is queried.1
+request_is_answered moment event reply old new dispatches is (inr dispatched) = stepped_answer event (max moment old.last) old reply _ is dispatched.2
 
 -- ---- the event of a body
 
@@ -158,5 +184,16 @@ of_body body id event None e = absurd (cc)
 of_body body id event (Some header) asks = of_requests body header.request_id id event (operation_of header) asks
 
 -- the event of a body is a request
-pub body_is_request : (body : List ℕ) (id : ℕ) (event : Event) → Asks body (Body.Event id event) → IsRequest event
+body_is_request : (body : List ℕ) (id : ℕ) (event : Event) → Asks body (Body.Event id event) → IsRequest event
 body_is_request body id event asks = of_body body id event (header_of body) asks
+
+-- ---- the bytes of a body's answer
+
+are_of_reply : (request : ℕ) (answer : Answer) (bytes : List ℕ) → IsOfIpp answer → IsBytes request answer bytes → IsReplyOf answer request bytes
+are_of_reply request (Says.Ipp answer) bytes is are = are
+are_of_reply request (Says.Lpd answer) bytes is are = absurd is
+are_of_reply request Says.Nothing bytes is are = absurd is
+
+pub body_replied : (body : List ℕ) (moment request : ℕ) (event : Event) (reply : Reply) (bytes : List ℕ) (old new : State) (dispatches : List Dispatch) → Asks body (Body.Event request event) → IsAnswered (record { event = event; moment = moment }) reply old dispatches new → IsBytes request reply.answer bytes → IsReplyOf reply.answer request bytes
+body_replied body moment request event reply bytes old new dispatches asks answered are =
+    are_of_reply request reply.answer bytes (request_is_answered moment event reply old new dispatches (body_is_request body request event asks) answered) are

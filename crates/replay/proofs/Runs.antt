@@ -1,23 +1,41 @@
--- What the lines of a trace give is given by one run of the core over their events.
-use Rattle.std.proofs.Common.{◌≡◌, ℕ, suc, Bool, List, [], ◌∷◌, ◌++◌, refl, ap, sym, ◌∙◌, subst, inl, inr, append-nil}
-use Rattle.std.proofs.lemmas.List.{append_assoc}
+-- What the lines of a trace without connections give is given by one run of the core over their events.
+use Rattle.std.proofs.Common.{◌≡◌, ◌≢◌, ℕ, suc, Bool, true, false, List, [], ◌∷◌, ◌++◌, refl, ap, sym, ◌∙◌, subst, inl, inr, append-nil}
+use Rattle.std.specs.Prelude.{map, Some}
 use Rattle.std.specs.List.{concat}
-use Rattle.dispatcher.specs.declared.reply.Reply.{Reply}
+use Rattle.std.proofs.lemmas.List.{append_assoc}
+use Rattle.std.proofs.lemmas.List.Elements.{All-head, All-tail}
+use Rattle.base_types.specs.declared.report.Report.{Report}
+use Rattle.base_types.specs.Report.{ReportRecord, report_of}
+use Rattle.settings_file.specs.Settings.{ServerSettings}
+use Rattle.print_room.specs.Opening.{opening}
+use Rattle.print_room.specs.State.{State}
 use Rattle.dispatcher.specs.declared.event.Event.{Event}
 use Rattle.dispatcher.specs.declared.event.Event.TheVariants as Is
+use Rattle.dispatcher.specs.declared.reply.Cancel.{Cancel}
+use Rattle.dispatcher.specs.declared.reply.Reply.{Reply}
 use Rattle.dispatcher.specs.declared.run.Timed.{Timed}
 use Rattle.dispatcher.specs.declared.run.Outcome.{Outcome}
 use Rattle.dispatcher.specs.declared.run.Outcome.TheVariants.{Dropped, Queried, Undispatched, Dispatched}
 use Rattle.dispatcher.specs.Run.{Comes, Run}
-use Rattle.print_room.specs.State.{State}
 use Rattle.replies.specs.declared.asked.Asked.{Asked}
 use Rattle.replies.specs.declared.asked.Asked.TheVariants as Body
+use Rattle.replies.specs.Asked.{Asks}
+use Rattle.replies.specs.Reply.{refusal_bytes}
+use Rattle.server.specs.Ledger.{Ledger, opening_ledger}
+use Rattle.server.specs.Law.{Dispatch, IsAnswered, planned, IsOneEvent, IsNoEvent, IsServed, IsAtMostOne}
+use Rattle.server.specs.Polls.{Happening, Told, Canceled}
+use Rattle.server.specs.Turn.{Outcome as Given, Replied, BadRequest, OutOfMemory, Deed, DoesDeed, Served_body, Reported, Ticked, Trace, Runs}
+use Rattle.server.proofs.Laws.{at_most_one}
 use Rattle.streams.specs.Said.{Said, said_after}
 use Rattle.replay.specs.declared.trace.Line.{Line}
 use Rattle.replay.specs.declared.trace.Line.TheVariants as Form
-use Rattle.replay.specs.Printed.{Prints, cancel_lines, reply_line}
-use Rattle.replay.specs.Replay.{Standing, Answers, Happens, ComesTo, Gives, LinesGive}
-use Rattle.replay.specs.OneRun.{PrintsEach, Part, nothing, then_part, IsOne, BodyMeans, Means, moment_after, LinesMean, IsOneRun}
+use Rattle.replay.specs.Log.{happenings_text}
+use Rattle.replay.specs.OneRun.{IsOfNoConnection, SpeaksOfNoConnection, PrintsEach, Part, nothing, then_part, IsOne, cancel_lines, BodyMeans, Means, moment_after, IsNoLine, LinesMean, IsOneRun}
+use Rattle.replay.specs.Playing.{Standing, IsReplyLine, Plays, may_come, IsBad, LinesPlay}
+use Rattle.replay.specs.Printed.{dispatch_lines, reply_line, cancel_line}
+use Rattle.replay.specs.Replay.{LinesGive, names_of, start}
+use Rattle.replay.specs.TraceLine.{IsDeviceIn, IsLine}
+use Rattle.replay.proofs.Requests.{body_replied}
 
 -- ---- a run hears the same after whatever was heard before
 
@@ -35,8 +53,6 @@ run_after texts names first old new (timed ∷ events) (outcome ∷ outcomes) be
 run_after texts names first old new [] (outcome ∷ outcomes) before after none = absurd none
 run_after texts names first old new (timed ∷ events) [] before after none = absurd none
 
--- ---- a line is no event, or one
-
 -- what a part does to the core
 abbrev Does : Bool → List (List ℕ) → Part → State → State → Type 0
 Does texts names part old new = Run (PrintsEach texts names) old [] part.events part.outcomes new part.heard
@@ -52,117 +68,191 @@ then_runs texts names (timed ∷ events) (outcome ∷ outcomes) before heard lat
 then_runs texts names [] (outcome ∷ outcomes) before heard later old mid new none runs = absurd none
 then_runs texts names (timed ∷ events) [] before heard later old mid new none runs = absurd none
 
--- what a line means, and what it does
-record IsMeant (texts : Bool) (names : List (List ℕ)) (line : Line) (old : Standing) (text : List ℕ) (new : Standing) : Type 0 where
-  part : Part
-  answer : List ℕ
-  means : Means names line old.moment part answer
-  does : Does texts names part old.state new.state
-  moment : new.moment ≡ moment_after line old.moment
-  printed : text ≡ answer ++ concat part.heard
+-- ---- the deeds of a server, apart
+
+apart : (here there : Trace) (old new : Ledger) → Runs (here ++ there) old new → (mid : Ledger) × Runs here old mid × Runs there mid new
+apart [] there old new runs = (old, refl, runs)
+apart (deed ∷ here) there old new (next, does, runs) = let parts = apart here there next new runs in (parts.0, (next, does, parts.1), parts.2)
+
+one_deed : (deed : Deed) (old new : Ledger) → Runs (deed ∷ []) old new → DoesDeed deed old new
+one_deed deed old new (mid, does, same) = subst (DoesDeed deed old) (sym same) does
+
+-- ---- what is printed of an event
+
+-- the text of a dispatch
+abbrev text_of : Bool → List (List ℕ) → Dispatch → List ℕ
+text_of texts names dispatch = dispatch_lines texts names dispatch.0 dispatch.1
+
+plans_text : (texts : Bool) (names : List (List ℕ)) (dispatches : List Dispatch) → happenings_text texts names (map Told (map planned dispatches)) ≡ concat (map (text_of texts names) dispatches)
+plans_text texts names [] = refl
+plans_text texts names (dispatch ∷ dispatches) = ap (λ t. text_of texts names dispatch ++ t) (plans_text texts names dispatches)
+
+told_text : (texts : Bool) (names : List (List ℕ)) (cancels : List Cancel) (dispatches : List Dispatch) → happenings_text texts names (map Told (map Canceled cancels ++ map planned dispatches)) ≡ cancel_lines names cancels ++ concat (map (text_of texts names) dispatches)
+told_text texts names [] dispatches = plans_text texts names dispatches
+told_text texts names (cancel ∷ cancels) dispatches = ap (λ t. cancel_line names cancel ++ t) (told_text texts names cancels dispatches) ∙ sym (append_assoc (cancel_line names cancel) _ _)
 
 -- an event, what it does, and what is printed after its reply
-record Happened (texts : Bool) (names : List (List ℕ)) (event : Event) (old : Standing) (reply : Reply) (text : List ℕ) (new : Standing) : Type 0 where
+record Happened (texts : Bool) (names : List (List ℕ)) (event : Event) (moment : ℕ) (reply : Reply) (old : State) (text : List ℕ) (new : State) : Type 0 where
   part : Part
-  is_one : IsOne event old.moment reply part
-  does : Does texts names part old.state new.state
+  is_one : IsOne event moment reply part
+  does : Does texts names part old new
   printed : text ≡ cancel_lines names reply.cancels.items ++ concat part.heard
 
-happened : (texts : Bool) (names : List (List ℕ)) (event : Event) (old : Standing) (reply : Reply) (text heard : List ℕ) (new : Standing) → Answers (Prints texts names) old.state [] (record { event = event; moment = old.moment }) reply new.state heard → text ≡ cancel_lines names reply.cancels.items ++ heard → Happened texts names event old reply text new
-happened texts names event old reply text heard new (inl (query, step, silent)) printed = record {
-  part = record { events = record { event = event; moment = old.moment } ∷ []; outcomes = Queried reply ∷ []; heard = [] };
+happened : (texts : Bool) (names : List (List ℕ)) (event : Event) (moment : ℕ) (reply : Reply) (old : State) (text : List ℕ) (new : State) (dispatches : List Dispatch) → text ≡ cancel_lines names reply.cancels.items ++ concat (map (text_of texts names) dispatches) → IsAnswered (record { event = event; moment = moment }) reply old dispatches new → Happened texts names event moment reply old text new
+happened texts names event moment reply old text new dispatches printed (inl (query, step, silent)) = record {
+  part = record { events = record { event = event; moment = moment } ∷ []; outcomes = Queried reply ∷ []; heard = [] };
   is_one = inl refl;
-  does = (new.state, [], (query, step, refl), (refl, refl));
-  printed = printed ∙ ap (λ h. cancel_lines names reply.cancels.items ++ h) silent;
+  does = (new, [], (query, step, refl), (refl, refl));
+  printed = printed ∙ ap (λ (ds : List Dispatch). cancel_lines names reply.cancels.items ++ concat (map (text_of texts names) ds)) silent;
 }
-happened texts names event old reply text heard new (inr (query, mid, step, plan, started, made, prints)) printed = record {
-  part = record { events = record { event = event; moment = old.moment } ∷ []; outcomes = Dispatched reply ∷ []; heard = heard ∷ [] };
-  is_one = inr (heard, refl);
-  does = (new.state, heard ∷ [], (query, mid, step, plan, started, made, ap (λ h. h ∷ []) prints), (refl, refl));
-  printed = printed ∙ ap (λ h. cancel_lines names reply.cancels.items ++ h) (sym (append-nil heard));
+happened texts names event moment reply old text new dispatches printed (inr (query, mid, step, plan, started, made, is)) = record {
+  part = record { events = record { event = event; moment = moment } ∷ []; outcomes = Dispatched reply ∷ []; heard = dispatch_lines texts names plan started ∷ [] };
+  is_one = inr (dispatch_lines texts names plan started, refl);
+  does = (new, dispatch_lines texts names plan started ∷ [], (query, mid, step, plan, started, made, refl), (refl, refl));
+  printed = printed ∙ ap (λ (ds : List Dispatch). cancel_lines names reply.cancels.items ++ concat (map (text_of texts names) ds)) is;
 }
 
-happens : (texts : Bool) (names : List (List ℕ)) (event : Event) (old : Standing) (reply : Reply) (text : List ℕ) (new : Standing) → Happens texts names event old reply text new → Happened texts names event old reply text new
-happens texts names event old reply text new done = happened texts names event old reply text done.heard new done.answers done.printed
+one_event : (texts : Bool) (names : List (List ℕ)) (event : Event) (moment : ℕ) (reply : Reply) (old : State) (hs : List Happening) (new : State) → IsOneEvent moment event reply old hs new → Happened texts names event moment reply old (happenings_text texts names hs) new
+one_event texts names event moment reply old hs new it =
+    happened texts names event moment reply old (happenings_text texts names hs) new it.dispatches (ap (happenings_text texts names) it.told ∙ told_text texts names reply.cancels.items it.dispatches) it.answered
 
--- a body, what it means and what it does
-record BodyMeant (texts : Bool) (names : List (List ℕ)) (asked : Asked) (old : Standing) (text : List ℕ) (new : Standing) : Type 0 where
+-- ---- a body
+
+-- what a body means, and what it does
+record BodyMeant (texts : Bool) (names : List (List ℕ)) (asked : Asked) (moment : ℕ) (old : State) (text : List ℕ) (new : State) : Type 0 where
   part : Part
   answer : List ℕ
-  means : BodyMeans names asked old.moment part answer
-  does : Does texts names part old.state new.state
-  moment : new.moment ≡ old.moment
+  means : BodyMeans names asked moment part answer
+  does : Does texts names part old new
   printed : text ≡ answer ++ concat part.heard
 
 -- a body that is no event changes nothing
-silent : (texts : Bool) (names : List (List ℕ)) (asked : Asked) (old : Standing) (text : List ℕ) (new : Standing) → BodyMeans names asked old.moment nothing text → new ≡ old → BodyMeant texts names asked old text new
-silent texts names asked old text new means same = record {
-  part = nothing;
-  answer = text;
-  means = means;
-  does = (ap (λ s. s.state) same, refl);
-  moment = ap (λ s. s.moment) same;
-  printed = sym (append-nil text);
-}
+silent : (texts : Bool) (names : List (List ℕ)) (asked : Asked) (moment : ℕ) (line : List ℕ) (old : State) (hs : List Happening) (new : State) → BodyMeans names asked moment nothing line → IsNoEvent old hs new → BodyMeant texts names asked moment old (line ++ happenings_text texts names hs) new
+silent texts names asked moment line old hs new means (none, same) = record { part = nothing; answer = line; means = means; does = (same, refl); printed = ap (λ h. line ++ happenings_text texts names h) none }
 
-body_meant : (texts : Bool) (names : List (List ℕ)) (asked : Asked) (old : Standing) (text : List ℕ) (new : Standing) → ComesTo texts names asked old text new → BodyMeant texts names asked old text new
-body_meant texts names Body.TooShort old text new (same, printed) = silent texts names Body.TooShort old text new (refl, printed) same
-body_meant texts names (Body.Refused status request_id) old text new (same, printed) = silent texts names (Body.Refused status request_id) old text new (refl, printed) same
-body_meant texts names (Body.Event request_id event) old text new serves =
-    let done = happens texts names event old serves.reply serves.after new serves.happens in record {
+line_of : (line : List ℕ) (answer given : Given) → answer ≡ given → IsReplyLine answer line → IsReplyLine given line
+line_of line answer given same replies = subst (λ o. IsReplyLine o line) same replies
+
+body_meant : (texts : Bool) (names : List (List ℕ)) (body : List ℕ) (asked : Asked) (moment : ℕ) (answer : Given) (line : List ℕ) (old : State) (hs : List Happening) (new : State) → Asks body asked → IsReplyLine answer line → IsServed moment asked answer old hs new → BodyMeant texts names asked moment old (line ++ happenings_text texts names hs) new
+body_meant texts names body Body.TooShort moment answer line old hs new asks replies (is, none) = silent texts names Body.TooShort moment line old hs new (refl, line_of line answer BadRequest is replies) none
+body_meant texts names body (Body.Refused status request) moment answer line old hs new asks replies (is, none) = silent texts names (Body.Refused status request) moment line old hs new (refl, line_of line answer (Replied (refusal_bytes status request)) is replies) none
+body_meant texts names body (Body.Event request event) moment answer line old hs new asks replies (reply, bytes, is, are, one) =
+    let done = one_event texts names event moment reply old hs new one in
+    let written : line ≡ reply_line bytes = line_of line answer (Replied bytes) is replies in
+    record {
       part = done.part;
-      answer = reply_line serves.bytes ++ cancel_lines names serves.reply.cancels.items;
-      means = (serves.reply, serves.bytes, done.is_one, serves.replied, refl);
+      answer = reply_line bytes ++ cancel_lines names reply.cancels.items;
+      means = (reply, bytes, done.is_one, body_replied body moment request event reply bytes old new one.dispatches asks one.answered are, refl);
       does = done.does;
-      moment = serves.happens.moment;
-      printed = serves.printed ∙ ap (λ t. reply_line serves.bytes ++ t) done.printed ∙ sym (append_assoc (reply_line serves.bytes) _ _);
+      printed = ap (λ t. t ++ happenings_text texts names hs) written ∙ (ap (λ t. reply_line bytes ++ t) done.printed ∙ sym (append_assoc (reply_line bytes) _ _));
     }
+
+-- a reply that is printed wasn't refused memory
+some_line : (answer : Given) (line : List ℕ) → IsReplyLine answer line → answer ≢ OutOfMemory
+some_line answer line replies = λ is. line_of line answer OutOfMemory is replies
+
+-- ---- a line
+
+-- what the bytes of a line mean, and what they do
+record IsMeant (texts : Bool) (names : List (List ℕ)) (bytes : List ℕ) (old : Standing) (before : State) (text : List ℕ) (new : Standing) (after : State) : Type 0 where
+  line : Line
+  is : IsLine names bytes line
+  part : Part
+  answer : List ℕ
+  means : Means names line old.moment part answer
+  does : Does texts names part before after
+  moment : new.moment ≡ moment_after line old.moment
+  printed : text ≡ answer ++ concat part.heard
 
 -- an event that isn't answered
-unanswered : (texts : Bool) (names : List (List ℕ)) (event : Event) (line : Line) (old : Standing) (reply : Reply) (text : List ℕ) (new : Standing) → Happens texts names event old reply text new → ((part : Part) → IsOne event old.moment reply part → Means names line old.moment part (cancel_lines names reply.cancels.items)) → moment_after line old.moment ≡ old.moment → IsMeant texts names line old text new
-unanswered texts names event line old reply text new happening means still =
-    let done = happens texts names event old reply text new happening in record {
-      part = done.part;
-      answer = cancel_lines names reply.cancels.items;
-      means = means done.part done.is_one;
-      does = done.does;
-      moment = happening.moment ∙ sym still;
-      printed = done.printed;
-    }
+unanswered : (texts : Bool) (names : List (List ℕ)) (bytes : List ℕ) (event : Event) (line : Line) (reply : Reply) (old new : Standing) (before : State) (hs : List Happening) (after : State) (text : List ℕ) → IsLine names bytes line → text ≡ happenings_text texts names hs → IsOneEvent old.moment event reply before hs after → ((part : Part) → IsOne event old.moment reply part → Means names line old.moment part (cancel_lines names reply.cancels.items)) → new.moment ≡ moment_after line old.moment → IsMeant texts names bytes old before text new after
+unanswered texts names bytes event line reply old new before hs after text is printed one means moment =
+    let done = one_event texts names event old.moment reply before hs after one in
+    record { line = line; is = is; part = done.part; answer = cancel_lines names reply.cancels.items; means = means done.part done.is_one; does = done.does; moment = moment; printed = printed ∙ done.printed }
 
-line_meant : (texts : Bool) (names : List (List ℕ)) (line : Line) (old : Standing) (text : List ℕ) (new : Standing) → Gives texts names line old text new → IsMeant texts names line old text new
-line_meant texts names (Form.At moment) old text new (is, none) = record {
-  part = nothing;
-  answer = [];
-  means = (refl, refl);
-  does = (ap (λ s. s.state) is, refl);
-  moment = ap (λ s. s.moment) is;
-  printed = none;
-}
-line_meant texts names (Form.Ipp body) old text new (asked, asks, comes) =
-    let meant = body_meant texts names asked old text new comes in record {
-      part = meant.part;
-      answer = meant.answer;
-      means = (asked, asks, meant.means);
-      does = meant.does;
-      moment = meant.moment;
-      printed = meant.printed;
-    }
-line_meant texts names (Form.Device device report) old text new (reply, happening) =
-    unanswered texts names (Is.Report device report) (Form.Device device report) old reply text new happening (λ part one. (reply, one, refl)) refl
-line_meant texts names Form.Tick old text new (reply, happening) =
-    unanswered texts names Is.Tick Form.Tick old reply text new happening (λ part one. (reply, one, refl)) refl
+-- a line is as well one of any other report that says the same
+says_same : (names : List (List ℕ)) (text : List ℕ) (place : ℕ) (one other : Report) → report_of other ≡ report_of one → IsDeviceIn names text place one → IsDeviceIn names text place other
+says_same names text place one other same is = record { name = is.name; line = is.line; cut = is.cut; known = is.known; heard = is.heard ∙ ap (λ (r : ReportRecord). Some r) (sym same) }
+
+-- the one deed of a line
+deed_of : (deeds : Trace) (deed : Deed) (old new : Ledger) → deeds ≡ deed ∷ [] → Runs deeds old new → IsAtMostOne deed old.core new.core
+deed_of deeds deed old new is runs = at_most_one deed old new (one_deed deed old new (subst (λ d. Runs d old new) is runs))
+
+line_meant : (texts : Bool) (names : List (List ℕ)) (bytes : List ℕ) (line : Line) (old : Standing) (deeds : Trace) (text : List ℕ) (new : Standing) (a b : Ledger) → IsOfNoConnection line → IsLine names bytes line → Plays texts names line old deeds text new → Runs deeds a b → IsMeant texts names bytes old a.core text new b.core
+line_meant texts names bytes (Form.At moment) old deeds text new a b plain is (none, empty, next) runs =
+    let same : b ≡ a = subst (λ d. Runs d a b) none runs in
+    record { line = Form.At moment; is = is; part = nothing; answer = []; means = (refl, refl); does = (ap (λ (l : Ledger). l.core) same, refl); moment = ap (λ (s : Standing). s.moment) next; printed = empty }
+line_meant texts names bytes (Form.Ipp body) old deeds text new a b plain is (serves, same) runs =
+    let served = deed_of deeds (Served_body old.moment body.items serves.answer serves.happenings) a b serves.does runs (some_line serves.answer serves.line serves.replies) in
+    let meant = body_meant texts names body.items served.0 old.moment serves.answer serves.line a.core serves.happenings b.core served.1 serves.replies served.2 in
+    record { line = Form.Ipp body; is = is; part = meant.part; answer = meant.answer; means = (served.0, served.1, meant.means); does = meant.does; moment = ap (λ (s : Standing). s.moment) same; printed = serves.printed ∙ meant.printed }
+line_meant texts names bytes (Form.Device device report) old deeds text new a b plain (said, cut, is) (calls, same) runs =
+    let did = deed_of deeds (Reported old.moment device (report_of report) calls.happenings) a b calls.does runs calls.unrefused in
+    unanswered texts names bytes (Is.Report device did.0) (Form.Device device did.0) did.2 old new a.core calls.happenings b.core text (said, cut, says_same names said device report did.0 did.1 is) calls.printed did.3 (λ part one. (did.2, one, refl)) (ap (λ (s : Standing). s.moment) same)
+line_meant texts names bytes Form.Tick old deeds text new a b plain is (calls, same) runs =
+    let did = deed_of deeds (Ticked old.moment calls.happenings) a b calls.does runs calls.unrefused in
+    unanswered texts names bytes Is.Tick Form.Tick did.0 old new a.core calls.happenings b.core text is calls.printed did.1 (λ part one. (did.0, one, refl)) (ap (λ (s : Standing). s.moment) same)
+line_meant texts names bytes (Form.Open connection) old deeds text new a b none is plays runs = absurd none
+line_meant texts names bytes (Form.In input) old deeds text new a b none is plays runs = absurd none
+line_meant texts names bytes (Form.End number) old deeds text new a b none is plays runs = absurd none
+
+-- a line without a connection may come at any time
+comes : (line : Line) (s : Standing) → IsOfNoConnection line → may_come line s ≡ true
+comes (Form.At moment) s plain = refl
+comes (Form.Ipp body) s plain = refl
+comes (Form.Device device report) s plain = refl
+comes Form.Tick s plain = refl
+comes (Form.Open connection) s none = absurd none
+comes (Form.In input) s none = absurd none
+comes (Form.End number) s none = absurd none
+
+never : (b : Bool) → b ≡ true → b ≡ false → ⊥
+never b first later = let both : true ≡ false = sym first ∙ later in absurd (cc)
+
+is_none : (names : List (List ℕ)) (bytes : List ℕ) (s : Standing) → ((line : Line) → IsLine names bytes line → IsOfNoConnection line) → IsBad names bytes s → IsNoLine names bytes
+is_none names bytes s plain (inl none) = none
+is_none names bytes s plain (inr (line, is, early)) = absurd (never (may_come line s) (comes line s (plain line is)) early)
 
 -- ---- all lines
 
-pub lines_run : (texts : Bool) (names : List (List ℕ)) (number : ℕ) (lines : List (List ℕ)) (old : Standing) (said : Said) → LinesGive texts names number lines old said → IsOneRun texts names number lines old said
-lines_run texts names number [] old said gives = record { part = nothing; new = old.state; run = (refl, refl); printed = (refl, gives) }
-lines_run texts names number (bytes ∷ more) old said (inl (none, refused)) = record { part = nothing; new = old.state; run = (refl, refl); printed = inl (none, refl, refused) }
-lines_run texts names number (bytes ∷ more) old said (inr (line, text, new, rest, is, gives, later, printed)) =
-    let meant = line_meant texts names line old text new gives in
-    let run = lines_run texts names (suc number) more new rest later in record {
+-- one run of the core from a state on, and what is printed of it
+record AreMeant (texts : Bool) (names : List (List ℕ)) (number : ℕ) (lines : List (List ℕ)) (moment : ℕ) (old : State) (said : Said) : Type 0 where
+  part : Part
+  new : State
+  run : Run (PrintsEach texts names) old [] part.events part.outcomes new part.heard
+  printed : LinesMean names number lines moment part said
+
+-- what a line has to mean, where none speaks of a connection
+abbrev IsPlain : List (List ℕ) → List ℕ → Type 0
+IsPlain names bytes = (line : Line) → IsLine names bytes line → IsOfNoConnection line
+
+lines_meant : (texts : Bool) (names : List (List ℕ)) (number : ℕ) (lines : List (List ℕ)) (old : Standing) (deeds : Trace) (said : Said) (a b : Ledger) → SpeaksOfNoConnection names lines → LinesPlay texts names number lines old deeds said → Runs deeds a b → AreMeant texts names number lines old.moment a.core said
+lines_meant texts names number [] old deeds said a b plain (none, ends) runs = record { part = nothing; new = a.core; run = (refl, refl); printed = (refl, ends) }
+lines_meant texts names number (bytes ∷ more) old deeds said a b plain (inl (bad, none, refused)) runs =
+    record { part = nothing; new = a.core; run = (refl, refl); printed = inl (is_none names bytes old (All-head (IsPlain names) bytes more plain) bad, refl, refused) }
+lines_meant texts names number (bytes ∷ more) old deeds said a b plain (inr (line, here, text, new, there, rest, is, may, plays, later, whole, printed)) runs =
+    let parts = apart here there a b (subst (λ d. Runs d a b) whole runs) in
+    let meant = line_meant texts names bytes line old here text new a parts.0 (All-head (IsPlain names) bytes more plain line is) is plays parts.1 in
+    let run = lines_meant texts names (suc number) more new there rest parts.0 b (All-tail (IsPlain names) bytes more plain) later parts.2 in
+    record {
       part = then_part meant.part run.part;
       new = run.new;
-      run = then_runs texts names meant.part.events meant.part.outcomes [] meant.part.heard run.part old.state new.state run.new meant.does run.run;
-      printed = inr (line, meant.part, meant.answer, run.part, rest, is, meant.means, subst (λ m. LinesMean names (suc number) more m run.part rest) meant.moment run.printed, refl, printed ∙ ap (λ t. said_after t rest) meant.printed);
+      run = then_runs texts names meant.part.events meant.part.outcomes [] meant.part.heard run.part a.core parts.0.core run.new meant.does run.run;
+      printed = inr (
+        meant.line,
+        meant.part,
+        meant.answer,
+        run.part,
+        rest,
+        meant.is,
+        meant.means,
+        subst (λ m. LinesMean names (suc number) more m run.part rest) meant.moment run.printed,
+        refl,
+        printed ∙ ap (λ t. said_after t rest) meant.printed,
+      );
     }
+
+pub lines_run : (texts : Bool) (settings : ServerSettings) (number : ℕ) (lines : List (List ℕ)) (said : Said) → SpeaksOfNoConnection (names_of settings) lines → LinesGive texts settings number lines said → IsOneRun texts settings number lines said
+lines_run texts settings number lines said plain gives =
+    let run = lines_meant texts (names_of settings) number lines start gives.deeds said (opening_ledger (opening settings 1)) gives.ledger plain gives.plays gives.runs in
+    record { part = run.part; new = run.new; run = run.run; printed = run.printed }

@@ -1,36 +1,125 @@
--- What a log hears of one event is what is printed of it.
-use Rattle.std.proofs.Common.{◌≡◌, ℕ, List, [], ◌++◌, Option, Some, refl, sym, ap, ◌∙◌, inl, inr, unwrap_or, option_map}
+-- What a log hears of what happens, and what the peers of a wire see of it.
+use Rattle.std.proofs.Common.{◌≡◌, ℕ, Bool, true, false, List, [], ◌∷◌, ◌++◌, Option, Some, None, refl, sym, ap, ◌∙◌, inl, inr, subst, append_assoc, append-nil, option_map}
+use Rattle.std.specs.Prelude.{◌||◌}
+use Rattle.std.specs.Option.{ForSome}
 use Rattle.std.proofs.lemmas.Option.{none-some}
-use Rattle.dispatcher.specs.declared.reply.Cancel.{Cancel}
-use Rattle.dispatcher.specs.declared.reply.Reply.{Reply}
-use Rattle.dispatcher.specs.declared.run.Timed.{Timed}
-use Rattle.print_room.specs.State.{State}
-use Rattle.replay.specs.Log.{LogRecord, Hears}
-use Rattle.replay.specs.Printed.{Prints, dispatch_lines, cancel_lines}
-use Rattle.replay.specs.Replay.{Answers}
+use Rattle.server.specs.Peer.{PeerState}
+use Rattle.server.specs.Polls.{Note, Happening, Polled, Told, Leads, both, alone}
+use Rattle.replay.specs.declared.wire.TraceWire.{TraceWire}
+use Rattle.replay.specs.Log.{LogRecord, Hears, note_text, happening_text, happenings_text}
+use Rattle.replay.specs.Wire.{WirePolls, PeersSee, any_stirs, happening_stirs}
 
-abbrev heard_in : Option (List ℕ) → List ℕ
-heard_in heard = unwrap_or heard []
+-- a relation that is kept by a view of the states
+leads_as : {S T : Type 0} (moves : S → Happening → S → Type 0) (seen : T → Happening → T → Type 0) (view : S → T) → ((old : S) (h : Happening) (new : S) → moves old h new → seen (view old) h (view new)) → (a b : S) (hs : List Happening) → Leads moves a hs b → Leads seen (view a) hs (view b)
+leads_as moves seen view each a b [] same = ap view same
+leads_as moves seen view each a b (h ∷ hs) (mid, moved, later) = (view mid, each a h mid moved, leads_as moves seen view each mid b hs later)
 
-abbrev silent : LogRecord → LogRecord
-silent log = record log { heard = Some [] }
+pub leads_append : {S : Type 0} (moves : S → Happening → S → Type 0) (a b c : S) (hs ks : List Happening) → Leads moves a hs b → Leads moves b ks c → Leads moves a (hs ++ ks) c
+leads_append moves a b c [] ks p q = subst (λ x. Leads moves x ks c) p q
+leads_append moves a b c (h ∷ hs) ks p q = (p.0, p.1, leads_append moves p.0 b c hs ks p.2 q)
 
--- a log that has heard nothing is itself
-as_before : (log log' : LogRecord) (heard : Option (List ℕ)) → log.heard ≡ Some [] → log' ≡ record log { heard = heard } → silent log' ≡ log
-as_before log log' heard none e = ap silent e ∙ ap (λ (o : Option (List ℕ)). record log { heard = o }) (sym none)
+-- ---- the log
 
-pub heard_is_printed : (log log' : LogRecord) (old new : State) (timed : Timed) (reply : Reply) (heard : List ℕ)
-    → Answers Hears old log timed reply new log' → log.heard ≡ Some [] → log'.heard ≡ Some heard
-    → Answers (Prints log.texts log.names) old [] timed reply new heard × (silent log' ≡ log)
-heard_is_printed log log' old new timed reply heard (inl (query, step, same)) none told =
-    (inl (query, step, ap heard_in (sym told ∙ ap (λ (l : LogRecord). l.heard) same ∙ none)), as_before log log' log.heard none same)
-heard_is_printed log log' old new timed reply heard (inr (query, mid, step, plan, started, made, inl more)) none told =
-    let lines = dispatch_lines log.texts log.names plan started in
-    (inr (query, mid, step, plan, started, made, ap heard_in (sym told ∙ ap (λ (l : LogRecord). l.heard) more ∙ ap (option_map (λ text. text ++ lines)) none)), as_before log log' _ none more)
-heard_is_printed log log' old new timed reply heard (inr (query, mid, step, plan, started, made, inr lost)) none told =
-    absurd (none-some heard (sym (ap (λ (l : LogRecord). l.heard) lost) ∙ told))
+-- the log hears notes, and no polls
+abbrev Listens : LogRecord → Happening → LogRecord → Type 0
+Listens old (Polled poll) new = new ≡ old
+Listens old (Told note) new = Hears old note new
 
--- the cancels, then what was heard
-pub printed_so : (names names' : List (List ℕ)) (cancels cancels' : List Cancel) (start mid all heard heard' : List ℕ)
-    → start ≡ [] → mid ≡ start ++ cancel_lines names' cancels' → names' ≡ names → cancels' ≡ cancels → all ≡ mid ++ heard' → heard' ≡ heard → all ≡ cancel_lines names cancels ++ heard
-printed_so names names' cancels cancels' start mid all heard heard' es em en ec ea eh = rw (ea, em, es, en, ec, eh) refl
+-- what a log has heard of happenings, if it has lost nothing
+pub record HasHeard (old : LogRecord) (hs : List Happening) (new : LogRecord) : Type 0 where
+  pub log : new ≡ record old { heard = new.heard }
+  pub hears : ForSome new.heard (λ text. (before : List ℕ) × (old.heard ≡ Some before) × (text ≡ before ++ happenings_text old.texts old.names hs))
+
+added : (text : List ℕ) (o : Option (List ℕ)) (after : List ℕ) → option_map (λ t. t ++ text) o ≡ Some after → (before : List ℕ) × (o ≡ Some before) × (after ≡ before ++ text)
+added text None after is = absurd (none-some after is)
+added text (Some before) after is = (before, refl, cc (sym is))
+
+-- one happening is heard
+heard_one : (old : LogRecord) (h : Happening) (new : LogRecord) → Listens old h new → (new ≡ record old { heard = new.heard }) × ForSome new.heard (λ text. (before : List ℕ) × (old.heard ≡ Some before) × (text ≡ before ++ happening_text old.texts old.names h))
+heard_one old (Polled poll) new same = subst (λ n. (n ≡ record old { heard = n.heard }) × ForSome n.heard (λ text. (before : List ℕ) × (old.heard ≡ Some before) × (text ≡ before ++ []))) (sym same) (refl, λ text is. (text, is, sym (append-nil text)))
+heard_one old (Told note) new (inl kept) = subst (λ n. (n ≡ record old { heard = n.heard }) × ForSome n.heard (λ text. (before : List ℕ) × (old.heard ≡ Some before) × (text ≡ before ++ note_text old.texts old.names note))) (sym kept) (refl, λ text is. added (note_text old.texts old.names note) old.heard text is)
+heard_one old (Told note) new (inr lost) = subst (λ n. (n ≡ record old { heard = n.heard }) × ForSome n.heard (λ text. (before : List ℕ) × (old.heard ≡ Some before) × (text ≡ before ++ note_text old.texts old.names note))) (sym lost) (refl, λ text is. absurd (none-some text is))
+
+heard_all : (old new : LogRecord) (hs : List Happening) → Leads Listens old hs new → HasHeard old hs new
+heard_all old new [] same = subst (λ n. HasHeard old [] n) (sym same) (record { log = refl; hears = λ text is. (text, is, sym (append-nil text)) })
+heard_all old new (h ∷ hs) (mid, first, later) =
+    let one = heard_one old h mid first in
+    let all = heard_all mid new hs later in
+    let named : happenings_text mid.texts mid.names hs ≡ happenings_text old.texts old.names hs = ap (λ (l : LogRecord). happenings_text l.texts l.names hs) one.0 in
+    record {
+      log = all.log ∙ ap (λ (l : LogRecord). record l { heard = new.heard }) one.0;
+      hears = λ text is.
+          let rest = all.hears text is in
+          let begun = one.1 rest.0 rest.1 in
+          (begun.0, begun.1, rest.2 ∙ ap (λ t. t ++ happenings_text mid.texts mid.names hs) begun.2 ∙ append_assoc begun.0 (happening_text old.texts old.names h) _ ∙ ap (λ t. begun.0 ++ (happening_text old.texts old.names h ++ t)) named);
+    }
+
+listens_alone : (old : LogRecord) (h : Happening) (new : LogRecord) → alone Hears old h new → Listens old h new
+listens_alone old (Polled poll) new none = absurd none
+listens_alone old (Told note) new hears = hears
+
+-- without a wire
+pub heard_alone : (old new : LogRecord) (hs : List Happening) → Leads (alone Hears) old hs new → HasHeard old hs new
+heard_alone old new hs leads = heard_all old new hs (leads_as (alone Hears) Listens (λ l. l) listens_alone old new hs leads)
+
+listens_beside : (old : TraceWire × LogRecord) (h : Happening) (new : TraceWire × LogRecord) → both WirePolls Hears old h new → Listens old.1 h new.1
+listens_beside old (Polled poll) new (moved, same) = same
+listens_beside old (Told note) new (hears, same) = hears
+
+-- beside a wire
+pub heard_beside : (old new : TraceWire × LogRecord) (hs : List Happening) → Leads (both WirePolls Hears) old hs new → HasHeard old.1 hs new.1
+heard_beside old new hs leads = heard_all old.1 new.1 hs (leads_as (both WirePolls Hears) Listens (λ s. s.1) listens_beside old new hs leads)
+
+-- all that was heard is what is printed, and after that the log is as it was
+pub all_heard : (old new after : LogRecord) (hs : List Happening) (text : List ℕ) → HasHeard old hs new → old.heard ≡ Some [] → new.heard ≡ Some text → after ≡ record new { heard = Some [] } → (text ≡ happenings_text old.texts old.names hs) × (after ≡ old)
+all_heard old new after hs text told none some is =
+    let heard = told.hears text some in
+    let empty : heard.0 ≡ [] = cc (sym heard.1 ∙ none) in
+    (heard.2 ∙ ap (λ t. t ++ happenings_text old.texts old.names hs) empty, is ∙ ap (λ (l : LogRecord). record l { heard = Some [] }) told.log ∙ ap (λ (o : Option (List ℕ)). record old { heard = o }) (sym none))
+
+-- ---- the wire
+
+-- the wire is moved by polls, and knows of no notes
+abbrev WireSees : TraceWire → Happening → TraceWire → Type 0
+WireSees old (Polled poll) new = WirePolls old poll new
+WireSees old (Told note) new = new ≡ old
+
+-- what polls have moved, if all were prompt, and whether one came to something
+pub record HasMoved (old : TraceWire) (hs : List Happening) (new : TraceWire) : Type 0 where
+  pub stirred : new.stirred ≡ (old.stirred || any_stirs hs)
+  pub sees : new.failed ≡ false → (old.failed ≡ false) × Leads PeersSee old.memory.peers.items hs new.memory.peers.items
+
+or_false : (b : Bool) → b ≡ (b || false)
+or_false true = refl
+or_false false = refl
+
+or_assoc : (a b c : Bool) → ((a || b) || c) ≡ (a || (b || c))
+or_assoc true b c = refl
+or_assoc false b c = refl
+
+moved_one : (old : TraceWire) (h : Happening) (new : TraceWire) → WireSees old h new → (new.stirred ≡ (old.stirred || happening_stirs h)) × (new.failed ≡ false → (old.failed ≡ false) × PeersSee old.memory.peers.items h new.memory.peers.items)
+moved_one old (Polled poll) new polls = (polls.stirred, λ fine. let before = polls.prompt fine in (before.0, (polls.moves, before.1)))
+moved_one old (Told note) new same = (ap (λ (w : TraceWire). w.stirred) same ∙ or_false old.stirred, λ fine. (ap (λ (w : TraceWire). w.failed) (sym same) ∙ fine, ap (λ (w : TraceWire). w.memory.peers.items) same))
+
+moved_all : (old new : TraceWire) (hs : List Happening) → Leads WireSees old hs new → HasMoved old hs new
+moved_all old new [] same = record {
+  stirred = ap (λ (w : TraceWire). w.stirred) same ∙ or_false old.stirred;
+  sees = λ fine. (ap (λ (w : TraceWire). w.failed) (sym same) ∙ fine, ap (λ (w : TraceWire). w.memory.peers.items) same);
+}
+moved_all old new (h ∷ hs) (mid, first, later) =
+    let one = moved_one old h mid first in
+    let all = moved_all mid new hs later in
+    record {
+      stirred = all.stirred ∙ ap (λ b. b || any_stirs hs) one.0 ∙ or_assoc old.stirred (happening_stirs h) (any_stirs hs);
+      sees = λ fine.
+          let rest = all.sees fine in
+          let begun = one.1 rest.0 in
+          (begun.0, (mid.memory.peers.items, begun.1, rest.1));
+    }
+
+sees_beside : (old : TraceWire × LogRecord) (h : Happening) (new : TraceWire × LogRecord) → both WirePolls Hears old h new → WireSees old.0 h new.0
+sees_beside old (Polled poll) new (moved, same) = moved
+sees_beside old (Told note) new (hears, same) = same
+
+pub moved_beside : (old new : TraceWire × LogRecord) (hs : List Happening) → Leads (both WirePolls Hears) old hs new → HasMoved old.0 hs new.0
+moved_beside old new hs leads = moved_all old.0 new.0 hs (leads_as (both WirePolls Hears) WireSees (λ s. s.0) sees_beside old new hs leads)

@@ -1,43 +1,101 @@
--- How a program runs a trace, step by step.
-use Rattle.std.specs.Prelude.{ℕ, ◌≡◌, Bool, true, false, List, [], ◌++◌, Some}
+-- How a program plays a trace, step by step.
+use Rattle.std.specs.Prelude.{ℕ, ◌≡◌, ◌+◌, ◌||◌, Bool, true, false, List, [], ◌∷◌, ◌++◌, map, Option, Some}
+use Rattle.std.specs.Option.{ForSome}
 use Rattle.settings_file.specs.Settings.{ServerSettings}
-use Rattle.dispatcher.specs.declared.event.Event.{Event}
-use Rattle.dispatcher.specs.declared.event.Event.TheVariants as Is
 use Rattle.print_room.specs.Opening.{opening}
 use Rattle.print_room.specs.State.{State}
+use Rattle.server.specs.Polls.{Happening, Leads}
+use Rattle.server.specs.Turn.{Trace, Turned}
+use Rattle.server.specs.State.{EngineState}
+use Rattle.server.specs.Stands.{StandsAt}
+use Rattle.streams.specs.declared.exit_status.ExitStatus.TheVariants as Ends
+use Rattle.streams.specs.Said.{Said, said_after}
+use Rattle.replay.specs.declared.play.Play.{Play}
 use Rattle.replay.specs.declared.trace.Line.{Line}
-use Rattle.replay.specs.Log.{LogRecord}
-use Rattle.replay.specs.Replay.{Standing, Gives, IsNoLine, names_of}
+use Rattle.replay.specs.Log.{LogRecord, happenings_text}
+use Rattle.replay.specs.Playing.{Standing, IsBad, may_come, Plays, LinesPlay, AreTillQuiet}
+use Rattle.replay.specs.Replay.{start, names_of}
 use Rattle.replay.specs.TraceLine.{IsLine}
+use Rattle.replay.specs.Wire.{PeersSee, any_stirs, all_turns}
 
--- the bytes were a line of a trace, and what it gives was appended; or they were none, and nothing changed
-abbrev pub Acts : LogRecord → List ℕ → Standing → List ℕ → Bool → LogRecord → Standing → List ℕ → Type 0
-Acts log bytes old output true log' new output' =
-    (log' ≡ log) × (line : Line) × (text : List ℕ) × IsLine log.names bytes line × Gives log.texts log.names line old text new × (output' ≡ output ++ text)
-Acts log bytes old output false log' new output' = (log' ≡ log) × (new ≡ old) × IsNoLine log.names bytes × (output' ≡ output)
+-- how far it has come
+abbrev pub standing : Play → Standing
+standing p = record { moment = p.moment; connections = p.connections.items; peers = p.wire.memory.peers.items }
 
--- an event that is a request of IPP, and so is answered
-abbrev pub IsRequest : Event → Type 0
-IsRequest (Is.PrintJob request) = Unit {0}
-IsRequest (Is.ValidateJob request) = Unit {0}
-IsRequest (Is.CreateJob request) = Unit {0}
-IsRequest (Is.SendDocument request) = Unit {0}
-IsRequest (Is.CancelJob request) = Unit {0}
-IsRequest (Is.GetJobAttributes request) = Unit {0}
-IsRequest (Is.GetJobs request) = Unit {0}
-IsRequest (Is.GetPrinterAttributes request) = Unit {0}
-IsRequest (Is.HoldJob request) = Unit {0}
-IsRequest (Is.ReleaseJob request) = Unit {0}
-IsRequest (Is.PausePrinter request) = Unit {0}
-IsRequest (Is.ResumePrinter request) = Unit {0}
-IsRequest (Is.SubmitFiles request) = ⊥
-IsRequest (Is.ListQueue request) = ⊥
-IsRequest (Is.RemoveJobs request) = ⊥
-IsRequest (Is.Report device report) = ⊥
-IsRequest Is.Tick = ⊥
+-- wherever the old engine stands, the new one stands after these deeds
+abbrev pub Moves : EngineState → Trace → EngineState → Type 0
+Moves old deeds new = (opening : State) (trace : Trace) → StandsAt opening trace old → StandsAt opening (trace ++ deeds) new
+
+-- all that was heard was printed, and no poll of the wire has failed
+pub record IsReady (p : Play) : Type 0 where
+  pub silent : p.log.heard ≡ Some []
+  pub prompt : p.wire.failed ≡ false
 
 -- a server that starts with these settings
-pub record IsStart (texts : Bool) (settings : ServerSettings) (log : LogRecord) (moment : ℕ) (state : State) : Type 0 where
-  pub silent : log ≡ record { texts = texts; names = names_of settings; heard = Some [] }
-  pub early : moment ≡ 0
-  pub opens : state ≡ opening settings 1
+pub record IsStart (texts : Bool) (settings : ServerSettings) (p : Play) : Type 0 where
+  pub log : p.log ≡ record { texts = texts; names = names_of settings; heard = Some [] }
+  pub prompt : p.wire.failed ≡ false
+  pub starts : standing p ≡ start
+  pub stands : StandsAt (opening settings 1) [] p.engine
+
+-- its connections and their peers have changed, and nothing else
+pub record Becomes (old new : Play) (s : Standing) : Type 0 where
+  pub engine : new.engine ≡ old.engine
+  pub log : new.log ≡ old.log
+  pub prompt : new.wire.failed ≡ old.wire.failed
+  pub stands : standing new ≡ s
+
+-- deeds are done, which have this property, and all is printed
+pub record Does (old new : Play) (Is : Trace → Type 0) : Type 0 where
+  pub deeds : Trace
+  pub is : Is deeds
+  pub moves : Moves old.engine deeds new.engine
+  pub log : new.log ≡ old.log
+  pub prompt : new.wire.failed ≡ false
+
+-- one turn is taken, in which a poll came to something or not
+pub record TakesTurn (old new : Play) (stirred : Bool) : Type 0 where
+  pub turn : List Happening
+  pub is : stirred ≡ any_stirs turn
+  pub sees : new.wire.failed ≡ false → (old.wire.failed ≡ false) × Leads PeersSee old.wire.memory.peers.items turn new.wire.memory.peers.items
+  pub hears : ForSome new.log.heard (λ text. (before : List ℕ) × (old.log.heard ≡ Some before) × (text ≡ before ++ happenings_text old.log.texts old.log.names turn))
+  pub log : new.log ≡ record old.log { heard = new.log.heard }
+  pub moves : Moves old.engine (Turned old.moment turn ∷ []) new.engine
+  pub moment : new.moment ≡ old.moment
+  pub connections : new.connections ≡ old.connections
+
+-- turns are taken, one after another
+pub record TakesTurns (old : Play) (turns : List (List Happening)) (new : Play) : Type 0 where
+  pub sees : new.wire.failed ≡ false → (old.wire.failed ≡ false) × Leads PeersSee old.wire.memory.peers.items (all_turns turns) new.wire.memory.peers.items
+  pub hears : ForSome new.log.heard (λ text. (before : List ℕ) × (old.log.heard ≡ Some before) × (text ≡ before ++ happenings_text old.log.texts old.log.names (all_turns turns)))
+  pub log : new.log ≡ record old.log { heard = new.log.heard }
+  pub moves : Moves old.engine (map (Turned old.moment) turns) new.engine
+  pub moment : new.moment ≡ old.moment
+  pub connections : new.connections ≡ old.connections
+
+-- till all is quiet
+abbrev pub TakesTillQuiet : Play → Play → Type 0
+TakesTillQuiet old new = (turns : List (List Happening)) × AreTillQuiet turns × TakesTurns old turns new
+
+-- the bytes were a line that may come, and what it gives was appended; or they were bad, and nothing changed
+abbrev pub Acts : Play → List ℕ → List ℕ → Bool → Play → List ℕ → Type 0
+Acts old bytes output true new output' =
+    (line : Line) × (text : List ℕ) × IsLine old.log.names bytes line × (may_come line (standing old) ≡ true)
+    × Does old new (λ deeds. Plays old.log.texts old.log.names line (standing old) deeds text (standing new)) × (output' ≡ output ++ text)
+Acts old bytes output false new output' = IsBad old.log.names bytes (standing old) × (output' ≡ output)
+
+-- what lines give, the first of which has this number, wherever the server stood before: the deeds that they are, up to here
+pub record PlaysAll (old : Play) (number : ℕ) (lines : List (List ℕ)) (before : List ℕ) (all : Said) : Type 0 where
+  pub deeds : Trace
+  pub said : Said
+  pub new : EngineState
+  pub plays : LinesPlay old.log.texts old.log.names number lines (standing old) deeds said
+  pub moves : Moves old.engine deeds new
+  pub printed : all ≡ said_after before said
+
+-- what the first of them give, where memory was refused
+pub record PlaysFirst (old : Play) (number : ℕ) (lines : List (List ℕ)) (before left : List ℕ) : Type 0 where
+  pub first : List (List ℕ)
+  pub others : List (List ℕ)
+  pub cut : lines ≡ first ++ others
+  pub plays : PlaysAll old number first before (record { text = left; status = Ends.Done })

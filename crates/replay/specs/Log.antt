@@ -1,8 +1,7 @@
--- A log: what was printed of dispatches.
-use Rattle.std.specs.Prelude.{ℕ, ◌≡◌, ◌⊎◌, Bool, List, ◌++◌, Option, None, option_map}
-use Rattle.prices.specs.Plan.{PlanRecord}
-use Rattle.print_room.specs.declared.started.Started.{Started}
-use Rattle.replay.specs.Printed.{dispatch_lines}
+-- A log: what was printed of what an engine tells.
+use Rattle.std.specs.Prelude.{ℕ, ◌≡◌, ◌⊎◌, Bool, List, [], ◌∷◌, ◌++◌, Option, None, option_map}
+use Rattle.server.specs.Polls.{Note, Planned, Canceled, Refused, Happening, Polled, Told}
+use Rattle.replay.specs.Printed.{dispatch_lines, cancel_line}
 
 -- whether the texts of plans are asked for, the names of the devices, and what was heard, unless memory was refused
 pub record LogRecord : Type 0 where
@@ -10,8 +9,23 @@ pub record LogRecord : Type 0 where
   pub names : List (List ℕ)
   pub heard : Option (List ℕ)
 
--- a dispatch is printed after what was heard before, or memory was refused
-abbrev pub Hears : LogRecord → Option PlanRecord → List Started → LogRecord → Type 0
-Hears old plan started new =
-    (new ≡ record old { heard = option_map (λ text. text ++ dispatch_lines old.texts old.names plan started) old.heard })
+-- what is printed of a note
+abbrev pub note_text : Bool → List (List ℕ) → Note → List ℕ
+note_text texts names (Planned plan started) = dispatch_lines texts names plan started
+note_text texts names (Canceled cancel) = cancel_line names cancel
+note_text texts names (Refused place id) = []
+
+-- a note is printed after what was heard before, or memory was refused
+abbrev pub Hears : LogRecord → Note → LogRecord → Type 0
+Hears old note new =
+    (new ≡ record old { heard = option_map (λ text. text ++ note_text old.texts old.names note) old.heard })
     ⊎ (new ≡ record old { heard = None })
+
+-- what is printed of what happens: of its notes, in their order
+abbrev pub happening_text : Bool → List (List ℕ) → Happening → List ℕ
+happening_text texts names (Polled poll) = []
+happening_text texts names (Told note) = note_text texts names note
+
+abbrev pub happenings_text : Bool → List (List ℕ) → List Happening → List ℕ
+happenings_text texts names [] = []
+happenings_text texts names (h ∷ hs) = happening_text texts names h ++ happenings_text texts names hs

@@ -1,12 +1,17 @@
--- That what a trace's lines give is given by one run of the core over their events.
-use Rattle.std.specs.Prelude.{ℕ, suc, ◌≡◌, ◌⊎◌, Bool, List, [], ◌∷◌, ◌++◌, Option, codes}
+-- That what the lines of a trace without connections give is given by one run of the core over their events.
+use Rattle.std.specs.Prelude.{ℕ, suc, ◌≡◌, ◌⊎◌, Bool, All, List, [], ◌∷◌, ◌++◌, Option, codes}
 use Rattle.std.specs.List.{concat}
 use Rattle.std.specs.Fmt.{decimal}
+use Rattle.settings_file.specs.Settings.{ServerSettings}
 use Rattle.prices.specs.Plan.{PlanRecord}
+use Rattle.print_room.specs.Opening.{opening}
 use Rattle.print_room.specs.State.{State}
 use Rattle.print_room.specs.declared.started.Started.{Started}
 use Rattle.dispatcher.specs.declared.event.Event.{Event}
 use Rattle.dispatcher.specs.declared.event.Event.TheVariants as Is
+use Rattle.dispatcher.specs.declared.reply.Answer.{Answer}
+use Rattle.dispatcher.specs.declared.reply.Answer.TheVariants as Says
+use Rattle.dispatcher.specs.declared.reply.Cancel.{Cancel}
 use Rattle.dispatcher.specs.declared.reply.Reply.{Reply}
 use Rattle.dispatcher.specs.declared.run.Timed.{Timed}
 use Rattle.dispatcher.specs.declared.run.Outcome.{Outcome}
@@ -15,14 +20,31 @@ use Rattle.dispatcher.specs.Run.{Run}
 use Rattle.replies.specs.declared.asked.Asked.{Asked}
 use Rattle.replies.specs.declared.asked.Asked.TheVariants as Body
 use Rattle.replies.specs.Asked.{Asks}
-use Rattle.replies.specs.Reply.{refusal_bytes}
+use Rattle.replies.specs.Reply.{IsReply, refusal_bytes}
 use Rattle.streams.specs.declared.exit_status.ExitStatus.TheVariants as Ends
 use Rattle.streams.specs.Said.{Said, refused_as, said_after}
 use Rattle.replay.specs.declared.trace.Line.{Line}
 use Rattle.replay.specs.declared.trace.Line.TheVariants as Form
 use Rattle.replay.specs.TraceLine.{IsLine}
-use Rattle.replay.specs.Printed.{dispatch_lines, reply_line, cancel_lines}
-use Rattle.replay.specs.Replay.{Standing, IsReplyOf, IsNoLine}
+use Rattle.replay.specs.Printed.{dispatch_lines, reply_line, cancel_line}
+use Rattle.replay.specs.Replay.{names_of}
+
+-- ---- lines without connections
+
+abbrev pub IsOfNoConnection : Line → Type 0
+IsOfNoConnection (Form.At moment) = Unit {0}
+IsOfNoConnection (Form.Ipp body) = Unit {0}
+IsOfNoConnection (Form.Device device report) = Unit {0}
+IsOfNoConnection Form.Tick = Unit {0}
+IsOfNoConnection (Form.Open connection) = ⊥
+IsOfNoConnection (Form.In input) = ⊥
+IsOfNoConnection (Form.End number) = ⊥
+
+-- no line opens a connection, or brings its bytes or its end
+abbrev pub SpeaksOfNoConnection : List (List ℕ) → List (List ℕ) → Type 0
+SpeaksOfNoConnection names lines = All (λ bytes. (line : Line) → IsLine names bytes line → IsOfNoConnection line) lines
+
+-- ---- a run, and what is heard of it
 
 -- a listener that keeps the lines of each dispatch, one text a dispatch
 abbrev pub PrintsEach : Bool → List (List ℕ) → List (List ℕ) → Option PlanRecord → List Started → List (List ℕ) → Type 0
@@ -47,6 +69,18 @@ IsOne event moment reply part =
     (part ≡ record { events = record { event = event; moment = moment } ∷ []; outcomes = Queried reply ∷ []; heard = [] })
     ⊎ ((dispatch : List ℕ) × (part ≡ record { events = record { event = event; moment = moment } ∷ []; outcomes = Dispatched reply ∷ []; heard = dispatch ∷ [] }))
 
+-- ---- what a line is to the core
+
+abbrev pub cancel_lines : List (List ℕ) → List Cancel → List ℕ
+cancel_lines names [] = []
+cancel_lines names (cancel ∷ cancels) = cancel_line names cancel ++ cancel_lines names cancels
+
+-- the bytes that answer the request of this id
+abbrev pub IsReplyOf : Answer → ℕ → List ℕ → Type 0
+IsReplyOf (Says.Ipp answer) request_id bytes = IsReply answer request_id bytes
+IsReplyOf (Says.Lpd answer) request_id bytes = ⊥
+IsReplyOf Says.Nothing request_id bytes = ⊥
+
 -- what a body is to the core, and what is printed of its reply
 abbrev pub BodyMeans : List (List ℕ) → Asked → ℕ → Part → List ℕ → Type 0
 BodyMeans names Body.TooShort moment part text = (part ≡ nothing) × (text ≡ codes "http 400\n")
@@ -60,11 +94,20 @@ Means names (Form.At later) moment part text = (part ≡ nothing) × (text ≡ [
 Means names (Form.Ipp body) moment part text = (asked : Asked) × Asks body.items asked × BodyMeans names asked moment part text
 Means names (Form.Device device report) moment part text = (reply : Reply) × IsOne (Is.Report device report) moment reply part × (text ≡ cancel_lines names reply.cancels.items)
 Means names Form.Tick moment part text = (reply : Reply) × IsOne Is.Tick moment reply part × (text ≡ cancel_lines names reply.cancels.items)
+Means names (Form.Open connection) moment part text = ⊥
+Means names (Form.In input) moment part text = ⊥
+Means names (Form.End number) moment part text = ⊥
 
 -- the moment that the trace told last, after a line
 abbrev pub moment_after : Line → ℕ → ℕ
 moment_after (Form.At later) moment = later
 moment_after _ moment = moment
+
+-- ---- all lines
+
+-- bytes that are no line of a trace
+abbrev pub IsNoLine : List (List ℕ) → List ℕ → Type 0
+IsNoLine names bytes = (line : Line) → ¬ (IsLine names bytes line)
 
 -- Each line in turn, up to one that is no line of a trace: what it is to the core; and of each what is
 -- printed of its reply, followed by what was heard of its dispatch.
@@ -76,9 +119,9 @@ LinesMean names number (bytes ∷ more) moment all said =
     × IsLine names bytes line × Means names line moment part text × LinesMean names (suc number) more (moment_after line moment) later rest
     × (all ≡ then_part part later) × (said ≡ said_after (text ++ concat part.heard) rest))
 
--- one run of the core over the events of the lines, and what is printed of it
-pub record IsOneRun (texts : Bool) (names : List (List ℕ)) (number : ℕ) (lines : List (List ℕ)) (old : Standing) (said : Said) : Type 0 where
+-- one run of the core over the events of the lines, from the start of a server with these settings, and what is printed of it
+pub record IsOneRun (texts : Bool) (settings : ServerSettings) (number : ℕ) (lines : List (List ℕ)) (said : Said) : Type 0 where
   pub part : Part
   pub new : State
-  pub run : Run (PrintsEach texts names) old.state [] part.events part.outcomes new part.heard
-  pub printed : LinesMean names number lines old.moment part said
+  pub run : Run (PrintsEach texts (names_of settings)) (opening settings 1) [] part.events part.outcomes new part.heard
+  pub printed : LinesMean (names_of settings) number lines 0 part said

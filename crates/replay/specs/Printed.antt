@@ -1,5 +1,5 @@
 -- What is printed of an event: its reply, the cancels, the plan and what starts.
-use Rattle.std.specs.Prelude.{ℕ, ◌≡◌, Bool, List, [], ◌∷◌, ◌++◌, Option, Some, None, codes, if◌then◌else◌}
+use Rattle.std.specs.Prelude.{ℕ, Bool, List, [], ◌∷◌, ◌++◌, Option, Some, None, codes, if◌then◌else◌}
 use Rattle.std.specs.Fmt.{decimal}
 use Rattle.hex.specs.Hex.{encode_lower}
 use Rattle.base_types.specs.declared.needs.Stranded.{Stranded}
@@ -17,10 +17,6 @@ reply_line bytes = codes "reply " ++ (encode_lower bytes ++ codes "\n")
 -- a cancel that is sent to a device
 abbrev pub cancel_line : List (List ℕ) → Cancel → List ℕ
 cancel_line names cancel = codes "cancel " ++ (decimal cancel.job ++ (codes " " ++ (name_at names cancel.device ++ codes "\n")))
-
-abbrev pub cancel_lines : List (List ℕ) → List Cancel → List ℕ
-cancel_lines names [] = []
-cancel_lines names (cancel ∷ cancels) = cancel_line names cancel ++ cancel_lines names cancels
 
 -- a class: its priority and its total
 abbrev pub class_word : PlannedClass → List ℕ
@@ -58,7 +54,3 @@ plan_lines texts names (Some plan) = plan_line plan ++ (if texts then plan_text 
 -- a dispatch
 abbrev pub dispatch_lines : Bool → List (List ℕ) → Option PlanRecord → List Started → List ℕ
 dispatch_lines texts names plan started = plan_lines texts names plan ++ start_lines names started
-
--- whoever hears of a dispatch prints it after what was printed before
-abbrev pub Prints : Bool → List (List ℕ) → List ℕ → Option PlanRecord → List Started → List ℕ → Type 0
-Prints texts names before plan started after = after ≡ before ++ dispatch_lines texts names plan started

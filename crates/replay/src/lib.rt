@@ -1,17 +1,21 @@
-//! A trace, run: its lines are given to the core as events, and what the core answers is printed.
+//! A trace, played: a server is told its lines, and what it does is printed.
 //!
-//! The one call is [`run_replay`]: for every input it writes exactly what one run of the core gives
-//! over the lines' events ([`lines_are_one_run`]), and gives the exit status. What an event does is the
-//! core's, what a body asks `replies`'; no word of a command line is read here. Tests stand in `printd`
-//! and `play_examples`.
+//! The one call is [`run_replay`]: for every input it writes exactly what a server does that is told the
+//! lines, over a wire in memory whose peers send what the trace says, and gives the exit status. Where no
+//! line speaks of a connection, that is one run of the core over the lines' events
+//! ([`lines_are_one_run`]). What a server does is `server`'s; no word of a command line is read here.
+//! Tests stand in `printd` and `play_examples`.
 #![tactic(auto)]
 
+mod connections;
 mod law;
 mod lines;
 mod log;
+mod play;
 mod print;
 mod run;
 mod trace;
+mod wire;
 
 pub use law::lines_are_one_run;
 pub use run::run_replay;

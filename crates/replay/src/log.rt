@@ -1,18 +1,20 @@
-//! What was printed of dispatches.
+//! What was printed of what an engine tells.
 ghost use Rattle.std.specs.Prelude.{◌≡◌, ◌++◌, [], None, Some, IfOk, OnOk, OnErr, option_map};
 ghost use Rattle.dispatcher.specs.Dispatched.{plan_of, started_of};
-ghost use Rattle.replay.specs.Printed.{dispatch_lines};
+ghost use Rattle.server.specs.Polls.{Planned, Canceled};
+ghost use Rattle.replay.specs.Log.{note_text};
 
-use crate::print::put_dispatch;
+use crate::print::{put_cancel, put_dispatch};
 use base_types::Text;
-use dispatcher::{Dispatched, Listener};
+use dispatcher::{Cancel, Dispatched};
+use server::{Notes, Place, WireId};
 use std::alloc::{AllocError, Global};
 use std::marker::Model;
 use std::mem;
 
-/// A listener that keeps what is printed of each dispatch. In clauses it is a record of whether the
-/// texts of plans are asked for, the names of the devices, and what was heard, unless memory was
-/// refused.
+/// A listener that keeps what is printed of each dispatch and of each cancel. In clauses it is a record
+/// of whether the texts of plans are asked for, the names of the devices, and what was heard, unless
+/// memory was refused.
 #[derive(Drop)]
 pub struct Log {
     alloc: Global,
@@ -31,16 +33,24 @@ impl Model for Log {
     ghost view = { λ l. record { texts = l.texts; names = l.names.items; heard = if l.lost then None else Some l.heard.items } };
 }
 
-impl Listener for Log {
+impl Notes for Log {
     ghost use Rattle.replay.specs.Log.{Hears};
 
-    ghost hears = { Hears };
+    ghost told = { Hears };
 
     fn dispatched(&mut self, made: &Dispatched<'_>) {
-        if self.keep(made).is_err() {
+        if self.keep_dispatch(made).is_err() {
             self.lose();
         }
     }
+
+    fn canceled(&mut self, cancel: Cancel) {
+        if self.keep_cancel(cancel).is_err() {
+            self.lose();
+        }
+    }
+
+    fn refused(&mut self, _place: Place, _id: Option<WireId>) {}
 }
 
 impl Log {
@@ -77,8 +87,8 @@ impl Log {
     }
 
     /// Keeps what is printed of a dispatch.
-    fn keep(&mut self, made: &Dispatched<'_>) -> Result<(), AllocError>
-        ensures ok { OnOk result (self.new ≡ record self.old { heard = option_map (λ text. text ++ dispatch_lines self.old.texts self.old.names (plan_of made.now) (started_of made.now)) self.old.heard }) }
+    fn keep_dispatch(&mut self, made: &Dispatched<'_>) -> Result<(), AllocError>
+        ensures ok { OnOk result (self.new ≡ record self.old { heard = option_map (λ text. text ++ note_text self.old.texts self.old.names (Planned (plan_of made.now) (started_of made.now))) self.old.heard }) }
         ensures err { OnErr result (self.new ≡ self.old) }
     {
         let mut text = Vec::new(self.alloc);
@@ -90,6 +100,16 @@ impl Log {
             made.plan(),
             made.started(),
         )?;
+        self.heard.extend_from_slice(&text)
+    }
+
+    /// Keeps what is printed of a cancel.
+    fn keep_cancel(&mut self, cancel: Cancel) -> Result<(), AllocError>
+        ensures ok { OnOk result (self.new ≡ record self.old { heard = option_map (λ text. text ++ note_text self.old.texts self.old.names (Canceled cancel)) self.old.heard }) }
+        ensures err { OnErr result (self.new ≡ self.old) }
+    {
+        let mut text = Vec::new(self.alloc);
+        put_cancel(self.alloc, &mut text, &self.names, cancel)?;
         self.heard.extend_from_slice(&text)
     }
 

@@ -1,14 +1,19 @@
 //! What is printed of an event.
-ghost use Rattle.std.specs.Prelude.{◌≡◌, ◌++◌, [], IfOk, OnOk, Option, slice_index_or};
+ghost use Rattle.std.specs.Prelude.{◌≡◌, ◌++◌, [], IfOk, OnOk, Option, codes, slice_index_or};
 ghost use Rattle.std.specs.Option.{option_copied};
+ghost use Rattle.std.specs.Fmt.{decimal};
+ghost use Rattle.hex.specs.Hex.{encode_lower};
 ghost use Rattle.plan_text.specs.NamedPlan.{name_at};
 ghost use Rattle.plan_text.specs.Writing.{cause_word};
-ghost use Rattle.replay.specs.Printed.{reply_line, cancel_line, cancel_lines, class_word, class_words, stranded_word, stranded_words, plan_line, plan_lines, start_line, start_lines, dispatch_lines};
+ghost use Rattle.replay.specs.Printed.{reply_line, cancel_line, class_word, class_words, stranded_word, stranded_words, plan_line, plan_lines, start_line, start_lines, dispatch_lines};
+ghost use Rattle.replay.specs.Connections.{out_line, gone_line, peer_text, connection_text, connections_text};
 
+use crate::connections::Connection;
 use base_types::{Stranded, Text};
 use dispatcher::{Cancel, Started};
 use plan_text::{cause_word, name_of, write_named_plan};
 use prices::{Plan, PlannedClass};
+use server::memory_wire::Peer;
 use std::alloc::{AllocError, Global};
 
 /// Appends the line of a reply of these bytes.
@@ -22,22 +27,8 @@ pub fn put_reply(alloc: Global, output: &mut Vec<u8>, bytes: &[u8]) -> Result<()
     Ok(())
 }
 
-/// Appends a line for each cancel that is sent.
-pub fn put_cancels(
-    alloc: Global,
-    output: &mut Vec<u8>,
-    names: &[Text],
-    cancels: &[Cancel],
-) -> Result<(), AllocError>
-    ensures { OnOk result (output.new.items ≡ output.old.items ++ cancel_lines names.now cancels.now) }
-{
-    for cancel in cancels {
-        put_cancel(alloc, output, names, *cancel)?;
-    }
-    Ok(())
-}
-
-fn put_cancel(
+/// Appends the line of a cancel that is sent.
+pub fn put_cancel(
     alloc: Global,
     output: &mut Vec<u8>,
     names: &[Text],
@@ -174,4 +165,81 @@ fn put_start(
     output.extend_from_slice(name_of(names, started.device))?;
     output.extend_from_slice(b"\n")?;
     Ok(())
+}
+
+/// Appends what is printed of connections, in their order: what each peer got, if anything, and that
+/// it was closed.
+pub fn put_connections(
+    alloc: Global,
+    output: &mut Vec<u8>,
+    connections: &[Connection],
+    peers: &[Peer],
+) -> Result<(), AllocError>
+    ensures { OnOk result (output.new.items ≡ output.old.items ++ connections_text peers.now connections.now) }
+{
+    for connection in connections {
+        put_connection(alloc, output, *connection, peers)?;
+    }
+    Ok(())
+}
+
+fn put_connection(
+    alloc: Global,
+    output: &mut Vec<u8>,
+    connection: Connection,
+    peers: &[Peer],
+) -> Result<(), AllocError>
+    ensures { OnOk result (output.new.items ≡ output.old.items ++ connection_text peers.now connection) }
+{
+    match peers.get(connection.place) {
+        Some(peer) => put_peer(alloc, output, connection, peer),
+        None => Ok(()),
+    }
+}
+
+fn put_peer(
+    alloc: Global,
+    output: &mut Vec<u8>,
+    connection: Connection,
+    peer: &Peer,
+) -> Result<(), AllocError>
+    ensures { OnOk result (output.new.items ≡ output.old.items ++ peer_text connection peer.now) }
+{
+    put_taken(alloc, output, connection.number, &peer.taken)?;
+    if peer.closed && !connection.gone {
+        put_gone(alloc, output, connection.number)?;
+    }
+    Ok(())
+}
+
+fn put_taken(
+    alloc: Global,
+    output: &mut Vec<u8>,
+    number: u64,
+    taken: &[u8],
+) -> Result<(), AllocError>
+    ensures { OnOk result (output.new.items ≡ output.old.items ++ out_line number taken.now) }
+{
+    if taken.is_empty() {
+        return Ok(());
+    }
+    put_out(alloc, output, number, taken)
+}
+
+fn put_out(alloc: Global, output: &mut Vec<u8>, number: u64, bytes: &[u8]) -> Result<(), AllocError>
+    ensures { OnOk result (output.new.items ≡ output.old.items ++ (codes "out " ++ (decimal number ++ (codes " " ++ (encode_lower bytes.now ++ codes "\n"))))) }
+{
+    let words = format!(in alloc; "out {number} ")?;
+    let digits = hex::encode(alloc, bytes)?;
+    output.extend_from_slice(words.as_bytes())?;
+    output.extend_from_slice(digits.as_bytes())?;
+    output.extend_from_slice(b"\n")?;
+    Ok(())
+}
+
+fn put_gone(alloc: Global, output: &mut Vec<u8>, number: u64) -> Result<(), AllocError>
+    ensures { OnOk result (output.new.items ≡ output.old.items ++ gone_line number) }
+{
+    let line = format!(in alloc; "gone {number}\n")?;
+    output.extend_from_slice(line.as_bytes())
 }

@@ -1,13 +1,14 @@
 //! What a line of a trace says.
-ghost use Rattle.std.specs.Prelude.{◌≡◌, ◌++◌, IfOk, codes, position};
+ghost use Rattle.std.specs.Prelude.{◌≡◌, ◌++◌, ◌^◌, ◌-◌, ◌≤◌, IfOk, codes, position};
 ghost use Rattle.std.specs.Char.{is_ascii_uppercase};
 ghost use Rattle.std.specs.List.{list_any};
 ghost use Rattle.std.specs.Str.{bytes_eq};
-ghost use Rattle.replay.specs.TraceLine.{Finds, IsMomentIn, IsBodyIn, IsDeviceIn, IsLine};
+ghost use Rattle.replay.specs.TraceLine.{Finds, IsMomentIn, IsBodyIn, IsDeviceIn, IsNumberIn, IsDoorIn, IsOpeningIn, IsInputIn, IsLine};
 
 use base_types::{DeviceId, Limits, Moment, Report, Text};
 use device_link::read_report;
 use hex::FromHexError;
+use server::Door;
 use std::alloc::{AllocError, Global};
 use text::{cut_at, number_up_to};
 
@@ -22,7 +23,32 @@ pub enum Line {
     Device(DeviceId, Report),
     /// Time goes on.
     Tick,
+    /// A connection comes in.
+    Open(Opening),
+    /// Bytes come on a connection.
+    In(Input),
+    /// Nothing more comes on the connection of a number.
+    End(u64),
 }
+
+/// A connection that comes in.
+#[derive(Clone, Copy, Debug)]
+pub struct Opening {
+    /// Its number from now on.
+    pub number: u64,
+    pub door: Door,
+}
+
+/// Bytes that come on a connection.
+#[derive(Drop)]
+pub struct Input {
+    /// The connection's number.
+    pub number: u64,
+    pub bytes: Vec<u8>,
+}
+
+/// The greatest number of a connection.
+const LAST_NUMBER: u64 = 2_147_483_647;
 
 /// What a line of a trace says, where the devices have these names; nothing where it is no such
 /// line.
@@ -40,10 +66,72 @@ pub fn read_line(alloc: Global, text: &[u8], devices: &[Text]) -> Result<Option<
     if let Some(digits) = text.strip_prefix(b"ipp ") {
         return Ok(read_body(alloc, digits)?.map(|body| Line::Ipp(body)));
     }
-    match text.strip_prefix(b"dev ") {
-        Some(said) => read_device_line(alloc, said, devices),
+    if let Some(said) = text.strip_prefix(b"dev ") {
+        return read_device_line(alloc, said, devices);
+    }
+    if let Some(said) = text.strip_prefix(b"open ") {
+        return Ok(read_opening(said).map(|opening| Line::Open(opening)));
+    }
+    if let Some(said) = text.strip_prefix(b"in ") {
+        return Ok(read_input(alloc, said)?.map(|input| Line::In(input)));
+    }
+    match text.strip_prefix(b"end ") {
+        Some(digits) => Ok(read_number(digits).map(|number| Line::End(number))),
         None => Ok(None),
     }
+}
+
+/// The number of a connection, in decimal digits.
+fn read_number(digits: &[u8]) -> Option<u64>
+    ensures { Finds (IsNumberIn digits.now) result }
+{
+    number_up_to(digits, LAST_NUMBER)
+}
+
+/// The door of a word.
+fn read_door(word: &[u8]) -> Option<Door>
+    ensures { Finds (IsDoorIn word.now) result }
+{
+    if word == b"ipp".as_slice() {
+        return Some(Door::Ipp);
+    }
+    if word == b"lpd".as_slice() {
+        return Some(Door::Lpd);
+    }
+    if word == b"device".as_slice() {
+        return Some(Door::Devices);
+    }
+    None
+}
+
+/// A number, a space and the word for a door.
+fn read_opening(said: &[u8]) -> Option<Opening>
+    ensures { Finds (λ opening. IsOpeningIn said.now opening.number opening.door) result }
+{
+    let Some(cut) = cut_at(said, b' ') else {
+        return None;
+    };
+    let Some(number) = read_number(cut.0) else {
+        return None;
+    };
+    let Some(door) = read_door(cut.1) else {
+        return None;
+    };
+    Some(Opening { number, door })
+}
+
+/// A number, a space and bytes in hexadecimal digits.
+fn read_input(alloc: Global, said: &[u8]) -> Result<Option<Input>, AllocError>
+    ensures { IfOk result (Finds (λ input. IsInputIn said.now input.number input.bytes.items)) }
+{
+    let Some(cut) = cut_at(said, b' ') else {
+        return Ok(None);
+    };
+    let Some(number) = read_number(cut.0) else {
+        return Ok(None);
+    };
+    let bytes = read_body(alloc, cut.1)?;
+    Ok(bytes.map(|bytes| Input { number, bytes }))
 }
 
 /// A moment in decimal digits.

@@ -1,0 +1,227 @@
+-- What the calls of a server that is told a trace come to.
+use Rattle.std.proofs.Common.{◌≡◌, ◌<◌, ◌≤◌, ◌+◌, ℕ, suc, Bool, true, false, All, List, [], ◌∷◌, ◌++◌, length, map, Option, Some, None, Result, Ok, IsOk, refl, sym, ap, ◌∙◌, inl, inr, subst, append_assoc, append-nil, codes, arith}
+use Rattle.std.specs.Prelude.{◌||◌}
+use Rattle.std.specs.Option.{ForSome}
+use Rattle.std.specs.declared.alloc.AllocError.{AllocError}
+use Rattle.std.proofs.lemmas.List.{length-append, map-append}
+use Rattle.std.proofs.lemmas.List.Elements.{All-append, All-cons, All-nil}
+use Rattle.server.specs.Polls.{Happening, Leads, both, alone}
+use Rattle.server.specs.Peer.{PeerState}
+use Rattle.server.specs.State.{EngineState}
+use Rattle.server.specs.Stands.{StandsAt, ServesBody}
+use Rattle.server.specs.Stands as Engine
+use Rattle.server.specs.Turn.{Deed, Turned, Served_body, Trace, Outcome}
+use Rattle.replay.specs.declared.connections.Connection.{Connection}
+use Rattle.replay.specs.declared.play.Play.{Play}
+use Rattle.server.specs.declared.wire.Door.{Door}
+use Rattle.replay.specs.declared.trace.Line.{Line}
+use Rattle.replay.specs.declared.trace.Line.TheVariants as Form
+use Rattle.replay.specs.TraceLine.{IsLine, Finds}
+use Rattle.replay.specs.declared.wire.TraceWire.{TraceWire}
+use Rattle.replay.specs.Acting.{standing, Moves, IsReady, Becomes, Does, TakesTurn, TakesTurns, TakesTillQuiet}
+use Rattle.replay.specs.Connections.{numbered, with_connection, new_peer, changed_at, connections_text, seen, emptied}
+use Rattle.replay.specs.Log.{LogRecord, Hears, happening_text, happenings_text}
+use Rattle.replay.specs.Playing.{Standing, Calls, Serves, Turns, Plays, AreTillQuiet, IsReplyLine, most_turns, opened, on_peer}
+use Rattle.replay.specs.Wire.{WirePolls, PeersSee, any_stirs, all_turns}
+use Rattle.replay.proofs.Reach.{moves_nothing, moves_then}
+use Rattle.replay.proofs.Telling.{HasHeard, HasMoved, heard_alone, heard_beside, moved_beside, all_heard, leads_append}
+
+-- ---- calls between turns
+
+-- what was heard since was all printed
+abbrev Printed : LogRecord → List ℕ → LogRecord → Type 0
+Printed log heard after = (log.heard ≡ Some heard) × (after ≡ record log { heard = Some [] })
+
+pub serves : (old new : Play) (body line heard text : List ℕ) (answer : Outcome) (log : LogRecord) → IsReady old → ServesBody (alone Hears) old.moment body old.log old.engine log new.engine answer → IsReplyLine answer line → Printed log heard new.log → text ≡ line ++ heard → new.wire.failed ≡ old.wire.failed → standing new ≡ standing old
+    → Does old new (λ deeds. Serves old.log.texts old.log.names old.moment body deeds text × (standing new ≡ standing old))
+serves old new body line heard text answer log ready served replies printed is fine still =
+    let all = all_heard old.log log new.log served.happenings heard (heard_alone old.log log served.happenings served.leads) ready.silent printed.0 printed.1 in
+    record {
+      deeds = Served_body old.moment body answer served.happenings ∷ [];
+      is = (record { answer = answer; line = line; happenings = served.happenings; replies = replies; does = refl; printed = is ∙ ap (λ t. line ++ t) all.0 }, still);
+      moves = served.stands;
+      log = all.1;
+      prompt = fine ∙ ready.prompt;
+    }
+
+pub calls : (old new : Play) (deed : List Happening → Deed) (heard : List ℕ) (result : Result (Unit {0}) AllocError) (log : LogRecord) → IsReady old → Engine.Calls (alone Hears) deed old.log old.engine log new.engine result → IsOk result → Printed log heard new.log → new.wire.failed ≡ old.wire.failed → standing new ≡ standing old
+    → Does old new (λ deeds. Calls old.log.texts old.log.names deed deeds heard × (standing new ≡ standing old))
+calls old new deed heard result log ready called good printed fine still =
+    let all = all_heard old.log log new.log called.happenings heard (heard_alone old.log log called.happenings called.leads) ready.silent printed.0 printed.1 in
+    record {
+      deeds = deed called.happenings ∷ [];
+      is = (record { happenings = called.happenings; unrefused = called.ok good; does = refl; printed = all.0 }, still);
+      moves = called.stands;
+      log = all.1;
+      prompt = fine ∙ ready.prompt;
+    }
+
+-- ---- turns
+
+pub took_turn : (old new : Play) (stirred : Bool) (wire : TraceWire) → wire ≡ record old.wire { stirred = false } → Engine.Turns (both WirePolls Hears) old.moment (wire, old.log) old.engine (new.wire, new.log) new.engine → stirred ≡ new.wire.stirred → new.moment ≡ old.moment → new.connections ≡ old.connections → TakesTurn old new stirred
+took_turn old new stirred wire begins turned is still same =
+    let heard = heard_beside (wire, old.log) (new.wire, new.log) turned.happenings turned.leads in
+    let moved = moved_beside (wire, old.log) (new.wire, new.log) turned.happenings turned.leads in
+    record {
+      turn = turned.happenings;
+      is = is ∙ moved.stirred ∙ ap (λ (w : TraceWire). w.stirred || any_stirs turned.happenings) begins;
+      sees = λ fine.
+          let all = moved.sees fine in
+          (ap (λ (w : TraceWire). w.failed) (sym begins) ∙ all.0, subst (λ (w : TraceWire). Leads PeersSee w.memory.peers.items turned.happenings new.wire.memory.peers.items) begins all.1);
+      hears = heard.hears;
+      log = heard.log;
+      moves = turned.stands;
+      moment = still;
+      connections = same;
+    }
+
+pub no_turns : (old : Play) → TakesTurns old [] old
+no_turns old = record {
+  sees = λ fine. (fine, refl);
+  hears = λ text is. (text, is, sym (append-nil text));
+  log = refl;
+  moves = moves_nothing old.engine;
+  moment = refl;
+  connections = refl;
+}
+
+-- what happened in some turns and one more
+all_more : (turns : List (List Happening)) (turn : List Happening) → all_turns (turns ++ turn ∷ []) ≡ all_turns turns ++ turn
+all_more [] turn = append-nil turn
+all_more (first ∷ turns) turn = ap (λ hs. first ++ hs) (all_more turns turn) ∙ sym (append_assoc first (all_turns turns) turn)
+
+pub text_more : (texts : Bool) (names : List (List ℕ)) (hs ks : List Happening) → happenings_text texts names (hs ++ ks) ≡ happenings_text texts names hs ++ happenings_text texts names ks
+text_more texts names [] ks = refl
+text_more texts names (h ∷ hs) ks = ap (λ t. happening_text texts names h ++ t) (text_more texts names hs ks) ∙ sym (append_assoc (happening_text texts names h) (happenings_text texts names hs) (happenings_text texts names ks))
+
+-- one turn more
+pub one_more : (old mid new : Play) (turns : List (List Happening)) (stirred : Bool) → TakesTurns old turns mid → (t : TakesTurn mid new stirred) → TakesTurns old (turns ++ t.turn ∷ []) new
+one_more old mid new turns stirred all t = record {
+  sees = λ fine.
+      let one = t.sees fine in
+      let before = all.sees one.0 in
+      (before.0, subst (λ hs. Leads PeersSee old.wire.memory.peers.items hs new.wire.memory.peers.items) (sym (all_more turns t.turn)) (leads_append PeersSee _ _ _ (all_turns turns) t.turn before.1 one.1));
+  hears = λ text is.
+      let one = t.hears text is in
+      let before = all.hears one.0 one.1 in
+      let named : happenings_text mid.log.texts mid.log.names t.turn ≡ happenings_text old.log.texts old.log.names t.turn = ap (λ (l : LogRecord). happenings_text l.texts l.names t.turn) all.log in (
+        before.0,
+        before.1,
+        one.2 ∙ ap (λ b. b ++ happenings_text mid.log.texts mid.log.names t.turn) before.2 ∙ append_assoc before.0 (happenings_text old.log.texts old.log.names (all_turns turns)) _
+            ∙ ap (λ b. before.0 ++ (happenings_text old.log.texts old.log.names (all_turns turns) ++ b)) named
+            ∙ ap (λ b. before.0 ++ b) (sym (text_more old.log.texts old.log.names (all_turns turns) t.turn) ∙ ap (happenings_text old.log.texts old.log.names) (sym (all_more turns t.turn))),
+      );
+  log = t.log ∙ ap (λ (l : LogRecord). record l { heard = new.log.heard }) all.log;
+  moves = subst (λ ds. Moves old.engine ds new.engine) (sym (map-append (Turned old.moment) turns (t.turn ∷ [])))
+      (moves_then old.engine mid.engine new.engine (map (Turned old.moment) turns) (Turned old.moment t.turn ∷ []) all.moves (subst (λ m. Moves mid.engine (Turned m t.turn ∷ []) new.engine) all.moment t.moves));
+  moment = t.moment ∙ all.moment;
+  connections = t.connections ∙ all.connections;
+}
+
+-- turns were taken, in each of which a poll came to something
+pub record AreBusy (old new : Play) (count : ℕ) : Type 0 where
+  pub turns : List (List Happening)
+  pub each : All (λ turn. any_stirs turn ≡ true) turns
+  pub number : length turns ≡ count
+  pub takes : TakesTurns old turns new
+
+pub none_busy : (old : Play) → AreBusy old old 0
+none_busy old = record { turns = []; each = All-nil (λ turn. any_stirs turn ≡ true); number = refl; takes = no_turns old }
+
+pub one_busy : (old mid new : Play) (count after : ℕ) (stirred : Bool) → AreBusy old mid count → TakesTurn mid new stirred → stirred ≡ true → after ≡ count + 1 → AreBusy old new after
+one_busy old mid new count after stirred busy t is next = record {
+  turns = busy.turns ++ t.turn ∷ [];
+  each = All-append (λ turn. any_stirs turn ≡ true) busy.turns (t.turn ∷ []) busy.each (All-cons (λ turn. any_stirs turn ≡ true) t.turn [] (sym t.is ∙ is) (All-nil (λ turn. any_stirs turn ≡ true)));
+  number = length-append busy.turns (t.turn ∷ []) ∙ ap (λ n. n + 1) busy.number ∙ sym next;
+  takes = one_more old mid new busy.turns stirred busy.takes t;
+}
+
+-- and then one in which none did
+pub till_quiet : (old mid new : Play) (count : ℕ) (stirred : Bool) → AreBusy old mid count → TakesTurn mid new stirred → stirred ≡ false → count < most_turns → TakesTillQuiet old new
+till_quiet old mid new count stirred busy t is below = (
+  busy.turns ++ t.turn ∷ [],
+  record { busy = busy.turns; each = busy.each; ends = inl (t.turn, sym t.is ∙ is, subst (λ n. n < most_turns) (sym busy.number) below, refl) },
+  one_more old mid new busy.turns stirred busy.takes t,
+)
+
+-- or as many as may be
+pub till_most : (old new : Play) (count : ℕ) → AreBusy old new count → count ≡ most_turns → TakesTillQuiet old new
+till_most old new count busy most = (busy.turns, record { busy = busy.turns; each = busy.each; ends = inr (busy.number ∙ most, refl) }, busy.takes)
+
+-- what is printed of turns
+pub ran : (old mid new : Play) (heard text : List ℕ) → IsReady old → TakesTillQuiet old mid → mid.wire.failed ≡ false → Printed mid.log heard new.log → text ≡ heard ++ connections_text mid.wire.memory.peers.items mid.connections.items
+    → new.connections.items ≡ map (seen mid.wire.memory.peers.items) mid.connections.items → new.wire.memory.peers.items ≡ map emptied mid.wire.memory.peers.items → new.engine ≡ mid.engine → new.moment ≡ mid.moment → new.wire.failed ≡ mid.wire.failed
+    → Does old new (λ deeds. Turns old.log.texts old.log.names (standing old) deeds text (standing new))
+ran old mid new heard text ready (turns, till, takes) fine printed is marked cleared engine moment prompt =
+    let peers : List PeerState = mid.wire.memory.peers.items in
+    let same : mid.connections.items ≡ old.connections.items = ap (λ cs. cs.items) takes.connections in
+    let told = takes.hears heard printed.0 in
+    let empty : told.0 ≡ [] = some_is told.0 (sym told.1 ∙ ready.silent) in
+    record {
+      deeds = map (Turned old.moment) turns;
+      is = record {
+        turns = turns;
+        till = till;
+        peers = peers;
+        sees = (takes.sees fine).1;
+        does = refl;
+        printed = is ∙ ap (λ h. h ++ connections_text peers mid.connections.items) (told.2 ∙ ap (λ b. b ++ happenings_text old.log.texts old.log.names (all_turns turns)) empty) ∙ ap (λ cs. happenings_text old.log.texts old.log.names (all_turns turns) ++ connections_text peers cs) same;
+        after = stands new.moment old.moment new.connections.items (map (seen peers) old.connections.items) new.wire.memory.peers.items (map emptied peers) (moment ∙ takes.moment) (marked ∙ ap (map (seen peers)) same) cleared;
+      };
+      moves = subst (λ e. Moves old.engine (map (Turned old.moment) turns) e) (sym engine) takes.moves;
+      log = printed.1 ∙ ap (λ (l : LogRecord). record l { heard = Some [] }) takes.log ∙ ap (λ (o : Option (List ℕ)). record old.log { heard = o }) (sym ready.silent);
+      prompt = prompt ∙ fine;
+    }
+  where
+    some_is : (text : List ℕ) → Some text ≡ Some [] → text ≡ []
+    some_is text e = cc e
+
+    stands : (m n : ℕ) (cs ds : List Connection) (ps qs : List PeerState) → m ≡ n → cs ≡ ds → ps ≡ qs → ◌≡◌ {A = Standing} (record { moment = m; connections = cs; peers = ps }) (record { moment = n; connections = ds; peers = qs })
+    stands m n cs ds ps qs em ec ep = rw (em, ec, ep) refl
+
+-- a change of connections alone comes before
+pub from_here : (old mid new : Play) (s : Standing) (text : List ℕ) → Becomes old mid s → Does mid new (λ deeds. Turns mid.log.texts mid.log.names (standing mid) deeds text (standing new)) → Does old new (λ deeds. Turns old.log.texts old.log.names s deeds text (standing new))
+from_here old mid new s text is does = record {
+  deeds = does.deeds;
+  is = subst (λ t. Turns old.log.texts old.log.names t does.deeds text (standing new)) is.stands (subst (λ (l : LogRecord). Turns l.texts l.names (standing mid) does.deeds text (standing new)) is.log does.is);
+  moves = subst (λ e. Moves e does.deeds new.engine) is.engine does.moves;
+  log = does.log ∙ is.log;
+  prompt = does.prompt;
+}
+
+pub still_ready : (old mid : Play) (s : Standing) → Becomes old mid s → IsReady old → IsReady mid
+still_ready old mid s is ready = record { silent = ap (λ (l : LogRecord). l.heard) is.log ∙ ready.silent; prompt = is.prompt ∙ ready.prompt }
+
+-- ---- what the calls of one step say, together
+
+pub marked_so : (xs cs ds : List Connection) (ps qs : List PeerState) → xs ≡ map (seen ps) ds → ps ≡ qs → ds ≡ cs → xs ≡ map (seen qs) cs
+marked_so xs cs ds ps qs is ep ed = is ∙ ap (λ p. map (seen p) ds) ep ∙ ap (map (seen qs)) ed
+
+pub written_so : (text heard : List ℕ) (cs ds : List Connection) (ps qs : List PeerState) → text ≡ heard ++ connections_text ps ds → ps ≡ qs → ds ≡ cs → text ≡ heard ++ connections_text qs cs
+written_so text heard cs ds ps qs is ep ed = is ∙ ap (λ p. heard ++ connections_text p ds) ep ∙ ap (λ c. heard ++ connections_text qs c) ed
+
+pub opened_so : (number : ℕ) (door : Door) (s : Standing) (place : ℕ) (peer : PeerState) (input : List ℕ) (cs : List Connection) (ps : List PeerState) → cs ≡ with_connection (record { number = number; place = place; gone = false }) s.connections → place ≡ length s.peers → ps ≡ s.peers ++ peer ∷ []
+    → peer ≡ record (new_peer door) { input = input } → input ≡ [] → ◌≡◌ {A = Standing} (record { moment = s.moment; connections = cs; peers = ps }) (opened number door s)
+opened_so number door s place peer input cs ps ec el ep en ei = rw (ec, el, ep, en, ei) refl
+
+-- the peer of a numbered connection is changed, or there is none
+pub changed_so : (number : ℕ) (change : PeerState → PeerState) (s : Standing) (found : Option Connection) (c : Connection) (ps : List PeerState) → found ≡ numbered number s.connections → found ≡ Some c → ps ≡ changed_at c.place change s.peers → ◌≡◌ {A = Standing} (record { moment = s.moment; connections = s.connections; peers = ps }) (on_peer number change s)
+changed_so number change s found c ps is some changed = rw (← is, some, changed) refl
+
+pub unchanged_so : (number : ℕ) (change : PeerState → PeerState) (s : Standing) (found : Option Connection) → found ≡ numbered number s.connections → found ≡ None → s ≡ on_peer number change s
+unchanged_so number change s found is none = rw (← is, none) refl
+
+-- the moment is told
+pub told_moment : (old new : Play) (line : Line) (moment : ℕ) (text : List ℕ) → IsReady old → line ≡ Form.At moment → text ≡ [] → new.engine ≡ old.engine → new.log ≡ old.log → new.wire.failed ≡ old.wire.failed → standing new ≡ record (standing old) { moment = moment }
+    → Does old new (λ deeds. Plays old.log.texts old.log.names line (standing old) deeds text (standing new))
+told_moment old new line moment text ready is none engine log fine stands = record {
+  deeds = [];
+  is = subst (λ l. Plays old.log.texts old.log.names l (standing old) [] text (standing new)) (sym is) (refl, none, stands);
+  moves = subst (λ e. Moves old.engine [] e) (sym engine) (moves_nothing old.engine);
+  log = log;
+  prompt = fine ∙ ready.prompt;
+}
+
+-- the line that was found
+pub found_line : (names named : List (List ℕ)) (text : List ℕ) (found : Option Line) (line : Line) → Finds (IsLine named text) found → found ≡ Some line → named ≡ names → IsLine names text line
+found_line names named text found line finds is same = subst (λ ns. IsLine ns text line) same (subst (λ f. Finds (IsLine named text) f) is finds)

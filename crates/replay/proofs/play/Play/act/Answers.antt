@@ -1,0 +1,16 @@
+use Rattle.std.proofs.Common.{◌∙◌, ◌++◌, ap, sym}
+use Rattle.replay.proofs.Playing.{found_line}
+use Rattle.replay.proofs.play.Play.act.Goals as goal
+
+pub returns : goal.returns
+returns c = record {
+  ok = (
+    c.in-Some.line,
+    c.in_ok-text.text.items,
+    found_line _ _ _ _ c.in-Some.line (c.in_ok-line.ensures {u = tt}) c.in-Some.is c.names.ensures,
+    sym c.may_come.ensures ∙ c.if-not-may_come.false,
+    c.in_ok-text.ensures {u = tt},
+    c.in_ok-extend_from_slice.ensures.items ∙ ap (λ t. c.args.output.now.items ++ t) c.deref.ensures.value,
+  );
+  err = tt;
+}

@@ -1,0 +1,5 @@
+use Rattle.replay.proofs.Playing.{AreBusy}
+use Rattle.replay.proofs.play.Play.take_turns.Given as goal
+
+abbrev pub invariant-loop-turn : goal.invariant-loop-turn
+invariant-loop-turn l = AreBusy l.initial.self l.self l._turn

@@ -1,0 +1,124 @@
+-- What the lines of a trace do to a server, and what is printed of each.
+use Rattle.std.specs.Prelude.{ℕ, suc, ◌≡◌, ◌⊎◌, ◌<◌, not, Bool, true, false, All, List, [], ◌∷◌, ◌++◌, length, map, codes}
+use Rattle.std.specs.Option.{option_map_or}
+use Rattle.std.specs.Fmt.{decimal}
+use Rattle.base_types.specs.Report.{report_of}
+use Rattle.server.specs.Peer.{PeerState}
+use Rattle.server.specs.Polls.{Happening, Leads}
+use Rattle.server.specs.Turn.{Deed, Turned, Served_body, Reported, Ticked, Trace, Outcome, Replied, BadRequest, OutOfMemory, has_refusal}
+use Rattle.server.specs.declared.wire.Door.{Door}
+use Rattle.streams.specs.declared.exit_status.ExitStatus.TheVariants as Ends
+use Rattle.streams.specs.Said.{Said, refused_as, said_after}
+use Rattle.replay.specs.declared.connections.Connection.{Connection}
+use Rattle.replay.specs.declared.trace.Line.{Line}
+use Rattle.replay.specs.declared.trace.Line.TheVariants as Form
+use Rattle.replay.specs.Connections.{numbered, with_connection, new_peer, changed_at, sending, ending, may_send, connections_text, seen, emptied}
+use Rattle.replay.specs.Log.{happenings_text}
+use Rattle.replay.specs.Printed.{reply_line}
+use Rattle.replay.specs.TraceLine.{IsLine}
+use Rattle.replay.specs.Wire.{PeersSee, any_stirs, all_turns}
+
+-- how far a trace has come: the moment that it told last, its connections by their numbers, and their peers
+pub record Standing : Type 0 where
+  pub moment : ℕ
+  pub connections : List Connection
+  pub peers : List PeerState
+
+-- ---- lines without a connection
+
+-- a call between turns in which no growth is refused, and what it tells
+pub record Calls (texts : Bool) (names : List (List ℕ)) (deed : List Happening → Deed) (deeds : Trace) (text : List ℕ) : Type 0 where
+  pub happenings : List Happening
+  pub unrefused : has_refusal happenings ≡ false
+  pub does : deeds ≡ deed happenings ∷ []
+  pub printed : text ≡ happenings_text texts names happenings
+
+-- the line of a reply
+abbrev pub IsReplyLine : Outcome → List ℕ → Type 0
+IsReplyLine (Replied bytes) line = line ≡ reply_line bytes
+IsReplyLine BadRequest line = line ≡ codes "http 400\n"
+IsReplyLine OutOfMemory line = ⊥
+
+-- a body is served: the line of its reply, and what that tells
+pub record Serves (texts : Bool) (names : List (List ℕ)) (moment : ℕ) (body : List ℕ) (deeds : Trace) (text : List ℕ) : Type 0 where
+  pub answer : Outcome
+  pub line : List ℕ
+  pub happenings : List Happening
+  pub replies : IsReplyLine answer line
+  pub does : deeds ≡ Served_body moment body answer happenings ∷ []
+  pub printed : text ≡ line ++ happenings_text texts names happenings
+
+-- ---- lines of a connection
+
+abbrev pub most_turns : ℕ
+most_turns = 16777216
+
+-- turns, of which each but the last has a poll that comes to something, up to so many
+pub record AreTillQuiet (turns : List (List Happening)) : Type 0 where
+  pub busy : List (List Happening)
+  pub each : All (λ turn. any_stirs turn ≡ true) busy
+  pub ends :
+      ((quiet : List Happening) × (any_stirs quiet ≡ false) × (length busy < most_turns) × (turns ≡ busy ++ quiet ∷ []))
+      ⊎ ((length busy ≡ most_turns) × (turns ≡ busy))
+
+-- turns are taken until all is quiet: what they tell, and then what each peer got, and which connections were closed
+pub record Turns (texts : Bool) (names : List (List ℕ)) (old : Standing) (deeds : Trace) (text : List ℕ) (new : Standing) : Type 0 where
+  pub turns : List (List Happening)
+  pub till : AreTillQuiet turns
+  pub peers : List PeerState
+  pub sees : Leads PeersSee old.peers (all_turns turns) peers
+  pub does : deeds ≡ map (Turned old.moment) turns
+  pub printed : text ≡ happenings_text texts names (all_turns turns) ++ connections_text peers old.connections
+  pub after : new ≡ record old { connections = map (seen peers) old.connections; peers = map emptied peers }
+
+-- a connection comes in at a door
+abbrev pub opened : ℕ → Door → Standing → Standing
+opened number door s =
+    record s { connections = with_connection (record { number = number; place = length s.peers; gone = false }) s.connections; peers = s.peers ++ new_peer door ∷ [] }
+
+-- the peer of the connection of a number changes
+abbrev pub on_peer : ℕ → (PeerState → PeerState) → Standing → Standing
+on_peer number change s = record s { peers = option_map_or (λ c. changed_at c.place change s.peers) (numbered number s.connections) s.peers }
+
+-- ---- a line
+
+-- what a line does to the server, and what is printed of it
+abbrev pub Plays : Bool → List (List ℕ) → Line → Standing → Trace → List ℕ → Standing → Type 0
+Plays texts names (Form.At moment) old deeds text new = (deeds ≡ []) × (text ≡ []) × (new ≡ record old { moment = moment })
+Plays texts names (Form.Ipp body) old deeds text new = Serves texts names old.moment body.items deeds text × (new ≡ old)
+Plays texts names (Form.Device device report) old deeds text new = Calls texts names (Reported old.moment device (report_of report)) deeds text × (new ≡ old)
+Plays texts names Form.Tick old deeds text new = Calls texts names (Ticked old.moment) deeds text × (new ≡ old)
+Plays texts names (Form.Open opening) old deeds text new = Turns texts names (opened opening.number opening.door old) deeds text new
+Plays texts names (Form.In input) old deeds text new = Turns texts names (on_peer input.number (sending input.bytes.items) old) deeds text new
+Plays texts names (Form.End number) old deeds text new = Turns texts names (on_peer number ending old) deeds text new
+
+-- a number is opened once, and nothing comes under it before that or after its end
+abbrev pub is_opened : ℕ → Standing → Bool
+is_opened number s = option_map_or (λ c. true) (numbered number s.connections) false
+
+abbrev pub is_open : ℕ → Standing → Bool
+is_open number s = option_map_or (λ c. may_send c.place s.peers) (numbered number s.connections) false
+
+abbrev pub may_come : Line → Standing → Bool
+may_come (Form.At moment) s = true
+may_come (Form.Ipp body) s = true
+may_come (Form.Device device report) s = true
+may_come Form.Tick s = true
+may_come (Form.Open opening) s = not (is_opened opening.number s)
+may_come (Form.In input) s = is_open input.number s
+may_come (Form.End number) s = is_open number s
+
+-- ---- all lines
+
+-- bytes that are no line of a trace, or one that may not come now
+abbrev pub IsBad : List (List ℕ) → List ℕ → Standing → Type 0
+IsBad names bytes s = ((line : Line) → IsLine names bytes line → ⊥) ⊎ ((line : Line) × IsLine names bytes line × (may_come line s ≡ false))
+
+-- each line in turn, the first of which has this number, up to a bad one
+abbrev pub LinesPlay : Bool → List (List ℕ) → ℕ → List (List ℕ) → Standing → Trace → Said → Type 0
+LinesPlay texts names number [] old deeds said = (deeds ≡ []) × (said ≡ record { text = []; status = Ends.Done })
+LinesPlay texts names number (bytes ∷ more) old deeds said =
+    (IsBad names bytes old × (deeds ≡ []) × (said ≡ refused_as (codes "line " ++ decimal number)))
+    ⊎ ((line : Line) × (here : Trace) × (text : List ℕ) × (new : Standing) × (there : Trace) × (rest : Said)
+    × IsLine names bytes line × (may_come line old ≡ true) × Plays texts names line old here text new × LinesPlay texts names (suc number) more new there rest
+    × (deeds ≡ here ++ there) × (said ≡ said_after text rest))

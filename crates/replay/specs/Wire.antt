@@ -1,0 +1,64 @@
+-- The wire of a trace: a wire in memory that moves whatever there is to move.
+use Rattle.std.specs.Prelude.{ℕ, ◌≡◌, ◌||◌, not, Bool, true, false, List, [], ◌∷◌, ◌++◌, slice_get}
+use Rattle.std.specs.Option.{option_map_or}
+use Rattle.server.specs.declared.wire.Answer.{Answer}
+use Rattle.server.specs.declared.wire.Answer.TheVariants.{Done, Waiting, End, Fault}
+use Rattle.server.specs.Peer.{PeerState}
+use Rattle.server.specs.Polls.{Poll, Accepts, Reads, Writes, Closes, Happening, Polled, Told}
+use Rattle.server.specs.Memory.{PeersMove}
+use Rattle.replay.specs.declared.wire.TraceWire.{TraceWire}
+
+-- whether a poll came to something
+abbrev pub is_something : {T : Type 0} → Answer T → Bool
+is_something (Done it) = true
+is_something Waiting = false
+is_something End = true
+is_something Fault = true
+
+abbrev pub stirs : Poll → Bool
+stirs (Accepts door answer) = is_something answer
+stirs (Reads id answer) = is_something answer
+stirs (Writes id offered answer) = is_something answer
+stirs (Closes id) = false
+
+abbrev pub is_empty : List ℕ → Bool
+is_empty [] = true
+is_empty (byte ∷ bytes) = false
+
+-- whether the peer of a number has sent what wasn't read yet
+abbrev pub has_input : ℕ → List PeerState → Bool
+has_input id peers = option_map_or (λ p. not (is_empty p.input)) (slice_get peers id) false
+
+-- no poll fails, a read waits only where nothing was sent, and no write waits
+abbrev pub IsPrompt : List PeerState → Poll → Type 0
+IsPrompt peers (Accepts door Fault) = ⊥
+IsPrompt peers (Reads id Fault) = ⊥
+IsPrompt peers (Reads id Waiting) = has_input id peers ≡ false
+IsPrompt peers (Writes id offered Fault) = ⊥
+IsPrompt peers (Writes id offered Waiting) = ⊥
+IsPrompt peers _ = Unit {0}
+
+-- what a call does: it is noted whether it came to something, and whether it wasn't prompt
+pub record WirePolls (old : TraceWire) (poll : Poll) (new : TraceWire) : Type 0 where
+  pub moves : PeersMove old.memory.peers.items poll new.memory.peers.items
+  pub stirred : new.stirred ≡ (old.stirred || stirs poll)
+  pub prompt : new.failed ≡ false → (old.failed ≡ false) × IsPrompt old.memory.peers.items poll
+
+-- what happens leads the peers on: a poll by what it moves, promptly; of a note they know nothing
+abbrev pub PeersSee : List PeerState → Happening → List PeerState → Type 0
+PeersSee old (Polled poll) new = PeersMove old poll new × IsPrompt old poll
+PeersSee old (Told note) new = new ≡ old
+
+abbrev pub happening_stirs : Happening → Bool
+happening_stirs (Polled poll) = stirs poll
+happening_stirs (Told note) = false
+
+-- whether some poll came to something
+abbrev pub any_stirs : List Happening → Bool
+any_stirs [] = false
+any_stirs (h ∷ hs) = happening_stirs h || any_stirs hs
+
+-- what happened in some turns
+abbrev pub all_turns : List (List Happening) → List Happening
+all_turns [] = []
+all_turns (turn ∷ turns) = turn ++ all_turns turns

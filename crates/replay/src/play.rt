@@ -1,0 +1,299 @@
+//! A server that is told the lines of a trace.
+ghost use Rattle.std.specs.Prelude.{◌≡◌, ◌++◌, [], Ok, Some, IfOk, OnOk, OnErr};
+ghost use Rattle.base_types.specs.Report.{report_of};
+ghost use Rattle.settings_file.specs.Settings.{MeetsLimits};
+ghost use Rattle.server.specs.Stands.{said_of};
+ghost use Rattle.server.specs.Turn.{Reported, Ticked};
+ghost use Rattle.replay.specs.Playing.{Calls, Serves, Turns, Plays, IsReplyLine, opened, on_peer, is_open, may_come};
+ghost use Rattle.replay.specs.Connections.{sending, ending, may_send};
+ghost use Rattle.replay.specs.Acting.{standing, IsReady, IsStart, Becomes, Does, TakesTurn, TakesTillQuiet, Acts};
+ghost use Rattle.replay.specs.Printed.{reply_line};
+ghost use Rattle.replay.specs.Replay.{names_of};
+
+use crate::connections::{
+    Connection, empty_all, end_at, mark_closed, numbered, put_connection, send_at,
+};
+use crate::log::Log;
+use crate::print::{put_connections, put_reply};
+use crate::trace::{Input, Line, Opening, read_line};
+use crate::wire::TraceWire;
+use assignment::Lazy;
+use base_types::{DeviceId, Moment, Report, Text};
+use server::memory_wire::{Memory, Peer};
+use server::{Engine, Served};
+use settings_file::Settings;
+use std::alloc::{AllocError, Global};
+
+/// After so many turns for one line no more are taken for it.
+const MOST_TURNS: usize = 16_777_216;
+
+/// A server, the wire of its connections, and what was printed of what it tells.
+#[derive(Drop)]
+pub(crate) struct Play {
+    alloc: Global,
+    engine: Engine<Lazy>,
+    wire: TraceWire,
+    connections: Vec<Connection>,
+    log: Log,
+    moment: Moment,
+}
+
+/// The names of the devices.
+fn device_names(alloc: Global, settings: &Settings) -> Result<Vec<Text>, AllocError>
+    ensures { IfOk result (λ names. names.items ≡ names_of settings.now) }
+{
+    let mut names = Vec::with_capacity(alloc, settings.devices.len())?;
+    for device in &settings.devices {
+        names.push(device.name.copied(alloc)?)?;
+    }
+    Ok(names)
+}
+
+/// The line of a reply.
+fn reply_line(alloc: Global, served: &Served) -> Result<Vec<u8>, AllocError>
+    ensures { IfOk result (λ line. IsReplyLine (said_of (Ok served.now)) line.items) }
+{
+    match served {
+        Served::Reply(bytes) => line_of(alloc, bytes),
+        Served::BadRequest => Vec::from_slice(alloc, b"http 400\n"),
+    }
+}
+
+/// The line of a reply of these bytes.
+fn line_of(alloc: Global, bytes: &[u8]) -> Result<Vec<u8>, AllocError>
+    ensures { IfOk result (λ line. line.items ≡ reply_line bytes.now) }
+{
+    let mut line = Vec::new(alloc);
+    put_reply(alloc, &mut line, bytes)?;
+    Ok(line)
+}
+
+impl Play {
+    /// A server that starts with these settings.
+    pub(crate) fn new(alloc: Global, settings: Settings, texts: bool) -> Result<Play, AllocError>
+        requires { MeetsLimits settings }
+        ensures { IfOk result (IsStart texts settings) }
+    {
+        let names = device_names(alloc, &settings)?;
+        let engine = Engine::new(alloc, settings, Lazy::new(alloc))?;
+        Ok(Play {
+            alloc,
+            engine,
+            wire: TraceWire {
+                memory: Memory::new(Vec::new(alloc)),
+                stirred: false,
+                failed: false,
+            },
+            connections: Vec::new(alloc),
+            log: Log::new(alloc, texts, names),
+            moment: Moment::start(),
+        })
+    }
+
+    /// Acts on one line, if it is a line of a trace that may come now, and appends what it gives:
+    /// whether it is one.
+    pub(crate) fn act(&mut self, bytes: &[u8], output: &mut Vec<u8>) -> Result<bool, AllocError>
+        requires { IsReady self.old }
+        ensures ok { IfOk result (λ is_line. Acts self.old bytes.now output.old.items is_line self.new output.new.items) }
+        ensures err { OnErr result (output.new.items ≡ output.old.items) }
+    {
+        let Some(line) = read_line(self.alloc, bytes, self.log.names())? else {
+            return Ok(false);
+        };
+        if !self.may_come(&line) {
+            return Ok(false);
+        }
+        let text = self.give(line)?;
+        output.extend_from_slice(&text)?;
+        Ok(true)
+    }
+
+    /// Whether a line may come now.
+    fn may_come(&self, line: &Line) -> bool
+        ensures { result ≡ may_come line.now (standing self.now) }
+    {
+        match line {
+            Line::At(_) | Line::Ipp(_) | Line::Device(_, _) | Line::Tick => true,
+            Line::Open(opening) => numbered(&self.connections, opening.number).is_none(),
+            Line::In(input) => self.is_open(input.number),
+            Line::End(number) => self.is_open(*number),
+        }
+    }
+
+    /// Whether more may come on the connection of a number.
+    fn is_open(&self, number: u64) -> bool
+        ensures { result ≡ is_open number (standing self.now) }
+    {
+        match numbered(&self.connections, number) {
+            Some(connection) => self.may_send(connection.place),
+            None => false,
+        }
+    }
+
+    /// Whether more may come of the peer of a place.
+    fn may_send(&self, place: usize) -> bool
+        ensures { result ≡ may_send place self.now.wire.memory.peers.items }
+    {
+        match self.wire.memory.peers.get(place) {
+            Some(peer) => !peer.ended,
+            None => false,
+        }
+    }
+
+    /// What is printed of a line.
+    fn give(&mut self, line: Line) -> Result<Vec<u8>, AllocError>
+        requires { IsReady self.old }
+        ensures { IfOk result (λ text. Does self.old self.new (λ deeds. Plays self.old.log.texts self.old.log.names line (standing self.old) deeds text.items (standing self.new))) }
+    {
+        match line {
+            Line::At(moment) => {
+                self.moment = moment;
+                Ok(Vec::new(self.alloc))
+            }
+            Line::Ipp(body) => self.serve(&body),
+            Line::Device(device, report) => self.report(device, report),
+            Line::Tick => self.tick(),
+            Line::Open(opening) => self.open(opening),
+            Line::In(input) => self.bring(&input),
+            Line::End(number) => self.end(number),
+        }
+    }
+
+    /// What is printed of a body.
+    fn serve(&mut self, body: &[u8]) -> Result<Vec<u8>, AllocError>
+        requires { IsReady self.old }
+        ensures { IfOk result (λ text. Does self.old self.new (λ deeds. Serves self.old.log.texts self.old.log.names self.old.moment body.now deeds text.items × (standing self.new ≡ standing self.old))) }
+    {
+        let served = self.engine.serve_body(body, &mut self.log, self.moment)?;
+        let mut text = reply_line(self.alloc, &served)?;
+        let heard = self.log.take()?;
+        text.extend_from_slice(&heard)?;
+        Ok(text)
+    }
+
+    /// What is printed of what a device reports.
+    fn report(&mut self, device: DeviceId, report: Report) -> Result<Vec<u8>, AllocError>
+        requires { IsReady self.old }
+        ensures { IfOk result (λ text. Does self.old self.new (λ deeds. Calls self.old.log.texts self.old.log.names (Reported self.old.moment device (report_of report)) deeds text.items × (standing self.new ≡ standing self.old))) }
+    {
+        self.engine
+            .report(device, report, &mut self.log, self.moment)?;
+        let heard = self.log.take()?;
+        Ok(heard)
+    }
+
+    /// What is printed of a tick.
+    fn tick(&mut self) -> Result<Vec<u8>, AllocError>
+        requires { IsReady self.old }
+        ensures { IfOk result (λ text. Does self.old self.new (λ deeds. Calls self.old.log.texts self.old.log.names (Ticked self.old.moment) deeds text.items × (standing self.new ≡ standing self.old))) }
+    {
+        self.engine.tick(&mut self.log, self.moment)?;
+        let heard = self.log.take()?;
+        Ok(heard)
+    }
+
+    /// What is printed of a connection that comes in.
+    fn open(&mut self, opening: Opening) -> Result<Vec<u8>, AllocError>
+        requires { IsReady self.old }
+        ensures { IfOk result (λ text. Does self.old self.new (λ deeds. Turns self.old.log.texts self.old.log.names (opened opening.number opening.door (standing self.old)) deeds text.items (standing self.new))) }
+    {
+        self.add(opening)?;
+        self.run()
+    }
+
+    /// A connection comes in.
+    fn add(&mut self, opening: Opening) -> Result<(), AllocError>
+        ensures { OnOk result (Becomes self.old self.new (opened opening.number opening.door (standing self.old))) }
+    {
+        let place = self.wire.memory.peers.len();
+        let input = Vec::new(self.alloc);
+        let peer = Peer::new(self.alloc, opening.door, input, usize::MAX, usize::MAX);
+        self.wire.memory.peers.push(peer)?;
+        put_connection(
+            &mut self.connections,
+            Connection {
+                number: opening.number,
+                place,
+                gone: false,
+            },
+        )
+    }
+
+    /// What is printed of bytes that come on a connection.
+    fn bring(&mut self, input: &Input) -> Result<Vec<u8>, AllocError>
+        requires { IsReady self.old }
+        ensures { IfOk result (λ text. Does self.old self.new (λ deeds. Turns self.old.log.texts self.old.log.names (on_peer input.now.number (sending input.now.bytes.items) (standing self.old)) deeds text.items (standing self.new))) }
+    {
+        self.send(input)?;
+        self.run()
+    }
+
+    /// The peer of a connection sends bytes too.
+    fn send(&mut self, input: &Input) -> Result<(), AllocError>
+        ensures { OnOk result (Becomes self.old self.new (on_peer input.now.number (sending input.now.bytes.items) (standing self.old))) }
+    {
+        let Some(connection) = numbered(&self.connections, input.number) else {
+            return Ok(());
+        };
+        send_at(&mut self.wire.memory.peers, connection.place, &input.bytes)
+    }
+
+    /// What is printed of the end of what comes on a connection.
+    fn end(&mut self, number: u64) -> Result<Vec<u8>, AllocError>
+        requires { IsReady self.old }
+        ensures { IfOk result (λ text. Does self.old self.new (λ deeds. Turns self.old.log.texts self.old.log.names (on_peer number ending (standing self.old)) deeds text.items (standing self.new))) }
+    {
+        self.finish(number);
+        self.run()
+    }
+
+    /// The peer of a connection sends nothing more.
+    fn finish(&mut self, number: u64)
+        ensures { Becomes self.old self.new (on_peer number ending (standing self.old)) }
+    {
+        if let Some(connection) = numbered(&self.connections, number) {
+            end_at(&mut self.wire.memory.peers, connection.place);
+        }
+    }
+
+    /// What is printed of turns until all is quiet.
+    fn run(&mut self) -> Result<Vec<u8>, AllocError>
+        requires { IsReady self.old }
+        ensures { IfOk result (λ text. Does self.old self.new (λ deeds. Turns self.old.log.texts self.old.log.names (standing self.old) deeds text.items (standing self.new))) }
+    {
+        self.take_turns();
+        if self.wire.failed {
+            return Err(AllocError);
+        }
+        let mut text = self.log.take()?;
+        put_connections(
+            self.alloc,
+            &mut text,
+            &self.connections,
+            &self.wire.memory.peers,
+        )?;
+        mark_closed(&mut self.connections, &self.wire.memory.peers);
+        empty_all(&mut self.wire.memory.peers);
+        Ok(text)
+    }
+
+    /// Takes turns until one in which no poll came to something.
+    fn take_turns(&mut self)
+        ensures { TakesTillQuiet self.old self.new }
+    {
+        for _turn in 0..MOST_TURNS {
+            if !self.take_turn() {
+                return;
+            }
+        }
+    }
+
+    /// Takes a turn: whether a poll came to something.
+    fn take_turn(&mut self) -> bool
+        ensures { TakesTurn self.old self.new result }
+    {
+        self.wire.stirred = false;
+        self.engine.turn(&mut self.wire, &mut self.log, self.moment);
+        self.wire.stirred
+    }
+}

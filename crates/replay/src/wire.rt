@@ -1,0 +1,101 @@
+//! The wire of a trace.
+ghost use Rattle.std.specs.Prelude.{◌≡◌, false, true};
+ghost use Rattle.replay.specs.Wire.{has_input};
+
+use server::memory_wire::Memory;
+use server::{Answer, Door, Wire, WireId};
+
+/// A wire in memory, of which is noted what its polls came to.
+#[derive(Drop)]
+pub struct TraceWire {
+    pub memory: Memory,
+    /// A poll came to something since this was set back.
+    pub stirred: bool,
+    /// A poll failed, or waited though there was something to move.
+    pub failed: bool,
+}
+
+impl TraceWire {
+    /// A poll came to something.
+    fn stir(&mut self)
+        ensures { self.new ≡ record self.old { stirred = true } }
+    {
+        self.stirred = true;
+    }
+
+    /// A poll failed.
+    fn fail(&mut self)
+        ensures { self.new ≡ record self.old { stirred = true; failed = true } }
+    {
+        self.stirred = true;
+        self.failed = true;
+    }
+
+    /// A poll waited.
+    fn wait(&mut self, wrongly: bool)
+        ensures same { self.new.memory ≡ self.old.memory }
+        ensures stirred { self.new.stirred ≡ self.old.stirred }
+        ensures failed { self.new.failed ≡ false → (self.old.failed ≡ false) × (wrongly ≡ false) }
+    {
+        self.failed = self.failed || wrongly;
+    }
+
+    /// Whether the peer of a number has sent what wasn't read yet.
+    fn has_input(&self, id: WireId) -> bool
+        ensures { result ≡ has_input id self.now.memory.peers.items }
+    {
+        match self.memory.peers.get(id as usize) {
+            Some(peer) => !peer.input.is_empty(),
+            None => false,
+        }
+    }
+}
+
+impl Wire for TraceWire {
+    ghost use Rattle.replay.specs.Wire.{WirePolls};
+
+    ghost polled = { WirePolls };
+
+    ghost faults = { λ w. w.memory.faults };
+
+    fn poll_accept(&mut self, door: Door) -> Answer<WireId> {
+        let answer = self.memory.poll_accept(door);
+        match answer {
+            Answer::Done(_) | Answer::End => self.stir(),
+            Answer::Waiting => {}
+            Answer::Fault => self.fail(),
+        }
+        answer
+    }
+
+    fn poll_read(&mut self, id: WireId, buffer: &mut [u8]) -> Answer<usize> {
+        let answer = self.memory.poll_read(id, buffer);
+        match answer {
+            Answer::Done(_) | Answer::End => self.stir(),
+            Answer::Waiting => {
+                let wrongly = self.has_input(id);
+                self.wait(wrongly);
+            }
+            Answer::Fault => self.fail(),
+        }
+        answer
+    }
+
+    fn poll_write(&mut self, id: WireId, bytes: &[u8]) -> Answer<usize> {
+        let answer = self.memory.poll_write(id, bytes);
+        match answer {
+            Answer::Done(_) | Answer::End => self.stir(),
+            Answer::Waiting => self.wait(true),
+            Answer::Fault => self.fail(),
+        }
+        answer
+    }
+
+    fn close(&mut self, id: WireId) {
+        self.memory.close(id);
+    }
+
+    fn failures(&self) -> u64 {
+        self.memory.failures()
+    }
+}
