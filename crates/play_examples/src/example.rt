@@ -17,7 +17,7 @@ pub struct Example {
     pub status: ExitStatus,
 }
 
-pub const EXAMPLES: [Example; 37] = [
+pub const EXAMPLES: [Example; 53] = [
     Example {
         input: "two_devices.trace",
         output: "two_devices.out",
@@ -219,6 +219,102 @@ pub const EXAMPLES: [Example; 37] = [
     Example {
         input: "refused_line.trace",
         output: "refused_line.out",
+        program: Program::Replay,
+        status: ExitStatus::Refused,
+    },
+    Example {
+        input: "http_exchange.trace",
+        output: "http_exchange.out",
+        program: Program::Replay,
+        status: ExitStatus::Done,
+    },
+    Example {
+        input: "two_requests_in_a_piece.trace",
+        output: "two_requests_in_a_piece.out",
+        program: Program::Replay,
+        status: ExitStatus::Done,
+    },
+    Example {
+        input: "hostile_requests.trace",
+        output: "hostile_requests.out",
+        program: Program::Replay,
+        status: ExitStatus::Done,
+    },
+    Example {
+        input: "bytes_after_the_closing.trace",
+        output: "bytes_after_the_closing.out",
+        program: Program::Replay,
+        status: ExitStatus::Done,
+    },
+    Example {
+        input: "one_client_too_many.trace",
+        output: "one_client_too_many.out",
+        program: Program::Replay,
+        status: ExitStatus::Done,
+    },
+    Example {
+        input: "lpd_session.trace",
+        output: "lpd_session.out",
+        program: Program::Replay,
+        status: ExitStatus::Done,
+    },
+    Example {
+        input: "lpd_queries.trace",
+        output: "lpd_queries.out",
+        program: Program::Replay,
+        status: ExitStatus::Done,
+    },
+    Example {
+        input: "lpd_faults.trace",
+        output: "lpd_faults.out",
+        program: Program::Replay,
+        status: ExitStatus::Done,
+    },
+    Example {
+        input: "bytes_interleaved.trace",
+        output: "bytes_interleaved.out",
+        program: Program::Replay,
+        status: ExitStatus::Done,
+    },
+    Example {
+        input: "device_bytes.trace",
+        output: "device_bytes.out",
+        program: Program::Replay,
+        status: ExitStatus::Done,
+    },
+    Example {
+        input: "finished_job_on_a_device.trace",
+        output: "finished_job_on_a_device.out",
+        program: Program::Replay,
+        status: ExitStatus::Done,
+    },
+    Example {
+        input: "device_faults.trace",
+        output: "device_faults.out",
+        program: Program::Replay,
+        status: ExitStatus::Done,
+    },
+    Example {
+        input: "unfinished_streams.trace",
+        output: "unfinished_streams.out",
+        program: Program::Replay,
+        status: ExitStatus::Done,
+    },
+    Example {
+        input: "number_opened_twice.trace",
+        output: "number_opened_twice.out",
+        program: Program::Replay,
+        status: ExitStatus::Refused,
+    },
+    Example {
+        input: "input_of_no_connection.trace",
+        output: "input_of_no_connection.out",
+        program: Program::Replay,
+        status: ExitStatus::Refused,
+    },
+    Example {
+        input: "input_after_the_end.trace",
+        output: "input_after_the_end.out",
         program: Program::Replay,
         status: ExitStatus::Refused,
     },
