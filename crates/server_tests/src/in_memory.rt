@@ -229,3 +229,35 @@ fn one_client_too_many(rt: HostRuntime) -> Result<(), Fail> {
     assert_eq!(rt; one_goes, 65);
     Ok(())
 }
+
+/// A client that sends more requests than there may be replies that wait, of which it takes none, and
+/// one that asks for no printing.
+fn slow_and_quick(alloc: Global) -> Result<Memory, AllocError> {
+    let mut sent = Vec::new(alloc);
+    for _request in 0..400 {
+        sent.extend_from_slice(PLAIN.sent)?;
+    }
+    let mut wire = clients(alloc, &[sent.as_slice(), NOT_POST.sent], (4096, 4096))?;
+    if let Some(slow) = wire.peers.first_mut() {
+        slow.most = 0;
+    }
+    Ok(wire)
+}
+
+/// How much is left to be read of the slow client, if the quick one is answered.
+fn left_of_slow(alloc: Global) -> Result<Option<usize>, AllocError> {
+    let mut wire = slow_and_quick(alloc)?;
+    let mut notes = NoteLog::new(alloc);
+    if !serve(alloc, &mut wire, &mut notes, 60) || !got(&wire, 1, NOT_POST.answered) {
+        return Ok(None);
+    }
+    Ok(wire.peers.first().map(|peer| peer.input.len()))
+}
+
+/// A client on which more than 65,536 bytes wait isn't read: of its 400 requests, some 280 are.
+#[test]
+fn slow_client_isnt_read(rt: HostRuntime) -> Result<(), Fail> {
+    let left = left_of_slow(rt.alloc())?;
+    assert!(rt; matches!(left, Some(20_000..=30_000)));
+    Ok(())
+}
