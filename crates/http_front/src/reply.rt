@@ -1,14 +1,11 @@
 //! The heads of replies.
-ghost use Rattle.std.specs.Prelude.{◌≡◌, ◌+◌, ◌≤◌, ◌++◌, OnOk, OnErr, IsOk, vec_len, length as length_of};
+ghost use Rattle.std.specs.Prelude.{◌≡◌, ◌+◌, ◌<◌, ◌≤◌, ◌++◌, OnOk, OnErr, IsOk, vec_len, length as length_of};
 ghost use Rattle.std.specs.Vec.{vec_capacity};
 ghost use Rattle.http_front.specs.Reply.{IsReplyStatus, continue_head, ending, head, lines, opening};
 
 use http::StatusCode;
 use itoa::Buffer;
 use std::alloc::AllocError;
-
-/// The bytes for which there must be room so that a head needs no memory.
-const ROOM: usize = 128;
 
 /// The interim head that tells a client to go on (RFC 9110, section 15.2.1).
 pub fn continue_head() -> &'static [u8]
@@ -22,7 +19,8 @@ pub fn continue_head() -> &'static [u8]
 /// A reply of 200 has a body of `length` bytes, and `closes` says whether the connection closes
 /// after it. A refusal has no body and always closes: there both are of no effect.
 ///
-/// Where there is no memory, nothing is appended.
+/// Where there is no memory, nothing is appended. Memory is taken only where there is no room for the
+/// head, as there always is in 128 bytes; the room never shrinks.
 pub fn write_head(
     status: StatusCode,
     length: usize,
@@ -33,6 +31,8 @@ pub fn write_head(
     ensures ok { OnOk result (output.new.items ≡ output.old.items ++ head status length closes) }
     ensures err { OnErr result (output.new.items ≡ output.old.items) }
     ensures room { vec_len output.old + 128 ≤ vec_capacity output.old → IsOk result }
+    ensures full { OnErr result (vec_capacity output.old < vec_len output.old + length_of (head status length closes)) }
+    ensures capacity { vec_capacity output.old ≤ vec_capacity output.new }
 {
     if status == StatusCode::OK {
         return write_lines(status, length, closes, output);
@@ -53,12 +53,17 @@ fn write_lines(
     ensures ok { OnOk result (output.new.items ≡ output.old.items ++ lines status length closes) }
     ensures err { OnErr result (output.new.items ≡ output.old.items) }
     ensures room { vec_len output.old + 128 ≤ vec_capacity output.old → IsOk result }
+    ensures full { OnErr result (vec_capacity output.old < vec_len output.old + length_of (lines status length closes)) }
+    ensures capacity { vec_capacity output.old ≤ vec_capacity output.new }
 {
-    output.reserve(ROOM)?;
     let mut digits = Buffer::new();
-    output.extend_from_slice(opening(status))?;
-    output.extend_from_slice(digits.format(length).as_bytes())?;
-    output.extend_from_slice(ending(closes))?;
+    let first = opening(status);
+    let number = digits.format(length).as_bytes();
+    let last = ending(closes);
+    output.reserve(first.len() + number.len() + last.len())?;
+    output.extend_from_slice(first)?;
+    output.extend_from_slice(number)?;
+    output.extend_from_slice(last)?;
     Ok(())
 }
 
