@@ -16,7 +16,7 @@ use Rattle.dispatcher.specs.Step.{Step}
 use Rattle.server.specs.Polls.{Note, Planned, Canceled, Refused, Happening, Polled, Told}
 use Rattle.server.specs.Ledger.{Entry, Ledger, with_entry, job_bytes}
 use Rattle.server.specs.Rel.{Rel, Nothing, Tells, Then, If, Or, EachOf}
-use Rattle.server.specs.Keeping.{Sets, broken, BreaksAt, Breaks, Drops, DropsAt, DropsOne, KeepsOpen, KeepsAt, Keeps, KeepsOn}
+use Rattle.server.specs.Keeping.{Sets, broken, BreaksAt, Breaks, Drops, DropsAt, DropsOne, owing, needs_memory, KeepsOpen, KeepsAt, KeepsWhere, Keeps, KeepsOn}
 use Rattle.server.specs.Happening.{now_at, Steps, Sends, Starts, IsPlanned, IsUndispatched, Dispatches, Follows}
 use Rattle.server.specs.Turn.{has_refusal}
 use Rattle.server.specs.Law.{Dispatch, plans_told, cancels_told, Collects, IsAnswered, planned}
@@ -166,19 +166,21 @@ breaks_at key (Some e) = calm_sets key (broken e)
 pub calm_breaks : (key : ℕ) → Calmly (Breaks key)
 calm_breaks key l hs l' it = breaks_at key (l.entries key) l hs l' it
 
-keeps_open : (key : ℕ) (bytes : List ℕ) (e : Entry) → Calmly (KeepsOpen key bytes e)
-keeps_open key bytes e l hs l' (inl it) = calm_sets key (record e { due = e.due ++ bytes }) l hs l' it
-keeps_open key bytes e l hs l' (inr it) = says_this (Told (Refused Keep (Some e.id)) ∷ []) (with_entry key (broken e) l) l hs l' tt refl refl it
+keeps_open : (grows : Bool) (key : ℕ) (bytes : List ℕ) (e : Entry) → Calmly (KeepsOpen grows key bytes e)
+keeps_open grows key bytes e = calm_if grows (Or (Sets key (owing bytes e)) (Drops Keep key e)) (Sets key (owing bytes e)) (calm_or (calm_sets key (owing bytes e)) (calm_drops Keep key e)) (calm_sets key (owing bytes e))
 
-keeps_at : (key : ℕ) (bytes : List ℕ) (o : Option Entry) → Calmly (KeepsAt key bytes o)
-keeps_at key bytes None = calm_nothing
-keeps_at key bytes (Some e) = calm_if e.broken Nothing (KeepsOpen key bytes e) calm_nothing (keeps_open key bytes e)
+keeps_at : (grows : Entry → Bool) (key : ℕ) (bytes : List ℕ) (o : Option Entry) → Calmly (KeepsAt grows key bytes o)
+keeps_at grows key bytes None = calm_nothing
+keeps_at grows key bytes (Some e) = calm_if e.broken Nothing (KeepsOpen (grows e) key bytes e) calm_nothing (keeps_open (grows e) key bytes e)
+
+calm_where : (grows : Entry → Bool) (key : ℕ) (bytes : List ℕ) → Calmly (KeepsWhere grows key bytes)
+calm_where grows key bytes l hs l' it = keeps_at grows key bytes (l.entries key) l hs l' it
 
 pub calm_keeps : (key : ℕ) (bytes : List ℕ) → Calmly (Keeps key bytes)
-calm_keeps key bytes l hs l' it = keeps_at key bytes (l.entries key) l hs l' it
+calm_keeps key bytes = calm_where (needs_memory bytes) key bytes
 
 pub calm_keeps_on : (device : ℕ) (bytes : List ℕ) → Calmly (KeepsOn device bytes)
-calm_keeps_on device bytes l hs l' (inl (key, is, it)) = calm_keeps key bytes l hs l' it
+calm_keeps_on device bytes l hs l' (inl (key, is, it)) = calm_where (λ e. true) key bytes l hs l' it
 calm_keeps_on device bytes l hs l' (inr (none, it)) = calm_nothing l hs l' it
 
 -- ---- what follows an event

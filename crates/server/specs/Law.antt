@@ -1,5 +1,5 @@
--- What a trace is to the core, and what was taken of its closed connections; in words that say nothing of turns and their polls.
-use Rattle.std.specs.Prelude.{ℕ, ◌≡◌, ◌≢◌, ◌⊎◌, false, List, [], ◌∷◌, ◌++◌, All, map, Option}
+-- What a trace is to the core, and what was taken of its closed connections; in words that say nothing of turns and their polls. Of what is short, that it needs no memory.
+use Rattle.std.specs.Prelude.{ℕ, ◌≡◌, ◌≢◌, ◌⊎◌, false, List, [], ◌∷◌, ◌++◌, All, map, Option, Some}
 use Rattle.std.specs.List.{flat_map}
 use Rattle.prices.specs.Plan.{PlanRecord}
 use Rattle.base_types.specs.declared.report.Report.{Report}
@@ -19,7 +19,8 @@ use Rattle.replies.specs.declared.asked.Asked.TheVariants as asks
 use Rattle.replies.specs.Asked.{Asks}
 use Rattle.replies.specs.Reply.{refusal_bytes}
 use Rattle.server.specs.Polls.{Note, Planned, Canceled, Refused, Happening, Polled, Told}
-use Rattle.server.specs.Ledger.{Entry, Fate}
+use Rattle.server.specs.Ledger.{Entry, Ledger, Fate, waiting}
+use Rattle.server.specs.Keeping.{Sets, owing, Keeps}
 use Rattle.server.specs.Closing.{IsTaken}
 use Rattle.server.specs.Turn.{Outcome as Answer, Replied, BadRequest, OutOfMemory, IsBytes, has_refusal, Deed, Turned, Served_body, Reported, Ticked, Trace}
 
@@ -146,3 +147,11 @@ IsAtMostOne (Ticked moment hs) old new = has_refusal hs ≡ false → (reply : R
 -- of each all that was due was taken, or a front of it where it was closed by a fault
 abbrev pub AllTaken : List (Entry × Fate) → Type 0
 AllTaken closed = All (λ (it : Entry × Fate). IsTaken it.1 it.0) closed
+
+-- ---- what needs no memory
+
+-- where nothing waits on an open connection these bytes become due on it, and are never refused
+abbrev pub AreKept : List ℕ → Type 0
+AreKept bytes =
+    (key : ℕ) (e : Entry) (l : Ledger) (hs : List Happening) (l' : Ledger)
+    → l.entries key ≡ Some e → e.broken ≡ false → waiting e ≡ [] → Keeps key bytes l hs l' → Sets key (owing bytes e) l hs l'

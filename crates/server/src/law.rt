@@ -1,7 +1,12 @@
 //! Laws of traces. Their functions do nothing: their contracts are what they are for.
+ghost use Rattle.std.specs.Prelude.{ℕ, Bool, ◌∷◌, []};
+ghost use Rattle.http_front.specs.Reply.{continue_head};
+ghost use Rattle.http_front.specs.declared.refusal.Refusal.{Refusal};
+ghost use Rattle.dispatcher.specs.declared.status.Status.{Status};
 ghost use Rattle.print_room.specs.State.{State};
 ghost use Rattle.server.specs.Ledger.{Ledger, opening_ledger};
-ghost use Rattle.server.specs.Law.{IsOneRun, IsAtMostOne, AllTaken};
+ghost use Rattle.server.specs.Exchange.{http_status, refusal_head};
+ghost use Rattle.server.specs.Law.{IsOneRun, IsAtMostOne, AllTaken, AreKept};
 ghost use Rattle.server.specs.Turn.{Deed, DoesDeed, Trace, Runs};
 
 /// What happens in a trace is one run of the core: the events of its deeds, in order and each at its
@@ -25,4 +30,14 @@ pub fn deed_is_one_event()
 /// one that was closed by a fault, a front of that.
 pub fn closed_were_given()
     ensures { (opening : State) (trace : Trace) (ledger : Ledger) → Runs trace (opening_ledger opening) ledger → AllTaken ledger.closed }
+{}
+
+/// Where nothing waits on a connection, what is short needs no memory there: a reply of a status alone,
+/// so that a client can be told that memory is refused; the head that refuses a request, and the one
+/// that tells a client to go on; and one byte, which is all that most of LPD's answers are.
+pub fn last_words_are_kept()
+    ensures status { (closes : Bool) (status : Status) (request : ℕ) → AreKept (http_status closes status request) }
+    ensures refusal { (refusal : Refusal) → AreKept (refusal_head refusal) }
+    ensures going_on { AreKept continue_head }
+    ensures byte { (byte : ℕ) → AreKept (byte ∷ []) }
 {}

@@ -34,7 +34,7 @@ mod turns;
 mod wire;
 
 pub use engine::Engine;
-pub use law::{closed_were_given, deed_is_one_event, trace_is_one_run};
+pub use law::{closed_were_given, deed_is_one_event, last_words_are_kept, trace_is_one_run};
 pub use note_log::{Heard, NoteLog};
 pub use notes::{Notes, Place};
 pub use served::Served;

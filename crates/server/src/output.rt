@@ -1,5 +1,5 @@
 //! What waits to be taken on a connection.
-ghost use Rattle.std.specs.Prelude.{◌≡◌, ◌<◌, ◌≤◌, ◌++◌, [], IfOk, OnOk, OnErr, ◌==◌, nat_lt, length, drop, slice_index_or};
+ghost use Rattle.std.specs.Prelude.{◌≡◌, ◌<◌, ◌≤◌, ◌+◌, ◌++◌, [], IfOk, OnOk, OnErr, ◌==◌, nat_lt, length, drop, slice_index_or, vec_len, vec_capacity};
 ghost use Rattle.std.specs.List.{flat_map, All};
 ghost use Rattle.device_link.specs.Orders.{cancel_line, job_line};
 ghost use Rattle.spool.specs.Document.{IsFrontOf};
@@ -14,7 +14,9 @@ use http_front::{Refusal, write_head};
 use spool::{Document, Octets, Pages};
 use std::alloc::{AllocError, Global};
 use std::marker::Model;
-use text::drop_front;
+
+/// How many bytes may wait on a connection without any memory but what it took when it was accepted.
+const RESERVED_BYTES: usize = 256;
 
 /// What became of an offer.
 #[derive(Clone, Copy, Debug, PartialEq, Eq)]
@@ -89,31 +91,32 @@ pub(crate) struct Output {
     alloc: Global,
     /// What goes out first.
     shared: Vec<Rest>,
-    /// What follows it.
+    /// What follows it, in room that is kept however much of it is taken.
     text: Vec<u8>,
 }
 
 impl Model for Output {
-    ghost use Rattle.std.specs.Prelude.{ℕ, List, ◌++◌};
+    ghost use Rattle.std.specs.Prelude.{ℕ, ◌≤◌, List, ◌++◌, vec_capacity};
     ghost use Rattle.std.specs.List.{All};
+    ghost use Rattle.server.specs.declared.output.TheConstants.{RESERVED_BYTES};
     ghost use Rattle.server.specs.Output.{joined, IsSome};
 
     ghost Value = { List ℕ };
 
     ghost view = { λ o. joined o.shared.items ++ o.text.items };
 
-    ghost invariant = { λ o. All IsSome o.shared.items };
+    ghost invariant = { λ o. All IsSome o.shared.items × (RESERVED_BYTES ≤ vec_capacity o.text) };
 }
 
 impl Output {
-    /// Nothing waits, and there is room for so many bytes.
-    pub(crate) fn with_capacity(alloc: Global, room: usize) -> Result<Output, AllocError>
+    /// Nothing waits, and there is room for the bytes that a connection reserves.
+    pub(crate) fn new(alloc: Global) -> Result<Output, AllocError>
         ensures { IfOk result (λ output. output ≡ []) }
     {
         Ok(Output {
             alloc,
             shared: Vec::new(alloc),
-            text: Vec::with_capacity(alloc, room)?,
+            text: Vec::with_capacity(alloc, RESERVED_BYTES)?,
         })
     }
 
@@ -142,6 +145,7 @@ impl Output {
     pub(crate) fn push(&mut self, bytes: &[u8]) -> Result<(), AllocError>
         ensures ok { OnOk result (self.new ≡ self.old ++ bytes.now) }
         ensures err { OnErr result (self.new ≡ self.old) }
+        ensures full { OnErr result (RESERVED_BYTES < length (self.old ++ bytes.now)) }
     {
         self.text.extend_from_slice(bytes)
     }
@@ -163,6 +167,7 @@ impl Output {
     pub(crate) fn push_reply(&mut self, closes: bool, bytes: &[u8]) -> Result<(), AllocError>
         ensures ok { OnOk result (self.new ≡ self.old ++ http_reply closes bytes.now) }
         ensures err { OnErr result (self.new ≡ self.old) }
+        ensures full { OnErr result (RESERVED_BYTES < length (self.old ++ http_reply closes bytes.now)) }
     {
         append_reply(&mut self.text, closes, bytes)
     }
@@ -171,6 +176,7 @@ impl Output {
     pub(crate) fn push_refusal(&mut self, refusal: Refusal) -> Result<(), AllocError>
         ensures ok { OnOk result (self.new ≡ self.old ++ refusal_head refusal) }
         ensures err { OnErr result (self.new ≡ self.old) }
+        ensures full { OnErr result (RESERVED_BYTES < length (self.old ++ refusal_head refusal)) }
     {
         append_refusal(&mut self.text, refusal)
     }
@@ -180,7 +186,9 @@ impl Output {
         ensures ok { OnOk result (self.new ≡ self.old ++ cancel_line job) }
         ensures err { OnErr result (self.new ≡ self.old) }
     {
-        write_cancel(self.alloc, job, &mut self.text)
+        let mut line = Vec::new(self.alloc);
+        write_cancel(self.alloc, job, &mut line)?;
+        self.text.extend_from_slice(&line)
     }
 
     /// The line of a job of so many octets follows, and then its documents. The error is out of memory:
@@ -247,20 +255,30 @@ fn pass(shared: &mut Vec<Rest>, count: usize)
     }
 }
 
-/// Offers text to the wire.
+/// Offers text to the wire. Its room stays.
 fn offer_text<W: Wire>(text: &mut Vec<u8>, id: WireId, wire: &mut W) -> Offered
     requires { 0 < length text.old.items }
-    ensures { OffersFront W.polled id text.old.items wire.old result text.new.items wire.new }
+    ensures offers { OffersFront W.polled id text.old.items wire.old result text.new.items wire.new }
+    ensures capacity { vec_capacity text.new ≡ vec_capacity text.old }
 {
     match wire.poll_write(id, text) {
         Answer::Done(count) => {
-            drop_front(text, count);
+            drop_taken(text, count);
             Offered::Done(count)
         }
         Answer::Waiting => Offered::Waiting,
         Answer::End => Offered::Ended,
         Answer::Fault => Offered::Ended,
     }
+}
+
+/// Removes so many bytes from the front. The room stays.
+fn drop_taken(text: &mut Vec<u8>, count: usize)
+    requires { count ≤ length text.old.items }
+    ensures left { text.new.items ≡ drop count text.old.items }
+    ensures capacity { vec_capacity text.new ≡ vec_capacity text.old }
+{
+    text.drain(..count);
 }
 
 /// Text that waits, and a line.
@@ -297,11 +315,13 @@ fn add_all(added: &mut Vec<Rest>, documents: &[Document]) -> Result<(), AllocErr
     Ok(())
 }
 
-/// Appends a reply of IPP. Where there is no memory, nothing is appended.
+/// Appends a reply of IPP. Where there is no memory for what has no room, nothing is appended.
 #[tactic(auto, unfolding(crate::specs::Exchange::http_reply))]
 fn append_reply(output: &mut Vec<u8>, closes: bool, bytes: &[u8]) -> Result<(), AllocError>
     ensures ok { OnOk result (output.new.items ≡ output.old.items ++ http_reply closes bytes.now) }
     ensures err { OnErr result (output.new.items ≡ output.old.items) }
+    ensures full { OnErr result (vec_capacity output.old < vec_len output.old + length (http_reply closes bytes.now)) }
+    ensures capacity { vec_capacity output.old ≤ vec_capacity output.new }
 {
     let before = output.len();
     write_head(StatusCode::OK, bytes.len(), closes, output)?;
@@ -312,11 +332,14 @@ fn append_reply(output: &mut Vec<u8>, closes: bool, bytes: &[u8]) -> Result<(), 
     appended
 }
 
-/// Appends the reply to a request that is refused. Where there is no memory, nothing is appended.
+/// Appends the reply to a request that is refused. Where there is no memory for what has no room,
+/// nothing is appended.
 #[tactic(auto, unfolding(crate::specs::Exchange::refusal_head))]
 fn append_refusal(output: &mut Vec<u8>, refusal: Refusal) -> Result<(), AllocError>
     ensures ok { OnOk result (output.new.items ≡ output.old.items ++ refusal_head refusal) }
     ensures err { OnErr result (output.new.items ≡ output.old.items) }
+    ensures full { OnErr result (vec_capacity output.old < vec_len output.old + length (refusal_head refusal)) }
+    ensures capacity { vec_capacity output.old ≤ vec_capacity output.new }
 {
     write_head(refusal.status(), 0, true, output)
 }
