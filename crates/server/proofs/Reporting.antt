@@ -1,5 +1,5 @@
 -- A report of a device's connection is heard.
-use Rattle.std.proofs.Common.{◌≡◌, ◌<◌, ◌≤◌, ◌+◌, arith, ℕ, Bool, true, false, List, [], ◌∷◌, ◌++◌, refl, sym, ◌∙◌, ap, subst, Option, Some, None, inl, inr}
+use Rattle.std.proofs.Common.{◌≡◌, ◌<◌, ◌+◌, arith, ℕ, Bool, true, false, List, [], ◌∷◌, ◌++◌, refl, sym, ◌∙◌, ap, subst, Option, Some, None, inl, inr}
 use Rattle.std.specs.Prelude.{◌||◌, ◌⊎◌, ◌==◌, if◌then◌else◌, zero, suc, take, slice_set, slice_index_or}
 use Rattle.std.specs.Option.{option_map_or}
 use Rattle.std.specs.Str.Lines.{strip_carriage_return}

@@ -1,6 +1,6 @@
 -- What an LPD client said is heard.
-use Rattle.std.proofs.Common.{◌≡◌, ◌<◌, ◌≤◌, ◌+◌, arith, ℕ, Bool, true, false, List, [], ◌∷◌, ◌++◌, refl, sym, ◌∙◌, ap, subst, Option, Some, None, Ok, Err, inl, inr}
-use Rattle.std.specs.Prelude.{◌||◌, ◌⊎◌, if◌then◌else◌, slice_set, slice_index_or}
+use Rattle.std.proofs.Common.{◌≡◌, ◌<◌, ◌+◌, arith, ℕ, Bool, true, false, List, [], ◌∷◌, ◌++◌, refl, sym, ◌∙◌, ap, subst, Option, Some, None, inl, inr}
+use Rattle.std.specs.Prelude.{◌||◌, if◌then◌else◌, slice_set, slice_index_or}
 use Rattle.lpd_reader.specs.declared.item.LpdItem.{LpdItem}
 use Rattle.lpd_reader.specs.Session.{ItemRecord, Says, Aborts, Announces, HasFile, item_record}
 use Rattle.lpd_reader.specs.Stream.{LpdState, SaysFirst, LpdItems, Faulty}
@@ -11,8 +11,8 @@ use Rattle.server.specs.Session.{Hearing, Goes, Stops, Submits, Commands, heard,
 use Rattle.server.specs.LpdAsks.{AsksAs, AsksForItem, is_last}
 use Rattle.server.specs.Granting.{Grants}
 use Rattle.server.specs.Ledger.{Entry, Ledger, with_entry}
-use Rattle.server.specs.Rel.{Rel, Tells, Then, Or}
-use Rattle.server.specs.Keeping.{Sets, broken}
+use Rattle.server.specs.Rel.{Rel, Tells, Or}
+use Rattle.server.specs.Keeping.{broken}
 use Rattle.server.specs.Queues.{Answers, Declines, IsSubmitted, IsCommanded, Does, Loses, HearsNext, LosesLine, IsFaulty, talks}
 use Rattle.server.specs.Polling.{ActsNext}
 use Rattle.server.specs.Talks.{LpdTalkState}
@@ -27,7 +27,7 @@ use Rattle.server.specs.declared.talk.Talk.TheVariants as of
 use Rattle.server.specs.declared.notes.Place.TheVariants as At
 use Rattle.server.specs.State.{ConnectionState, EngineState, Slots, slot_at, with_slots, work_at, load, OnSlot, IsBrought, IsSaid, IsWished, changed_at, talking, is_over, is_broken}
 use Rattle.server.specs.Stands.{FitsTalk, FitsLpd, FitsConnection, Fits, Aside, Heard}
-use Rattle.server.proofs.Steps.{aside_nothing, quiet_then}
+use Rattle.server.proofs.Steps.{quiet_then}
 use Rattle.server.proofs.Slots.{set_there, set_twice, changed_again, quiet_at, work_there}
 use Rattle.server.proofs.Places.{found, fits_set}
 use Rattle.server.proofs.Keeping.{load_within, load_counts}

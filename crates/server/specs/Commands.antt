@@ -1,6 +1,6 @@
 -- Which events of the core an LPD client's jobs and commands are (RFC 1179, sections 5.3 to 5.5 and 6).
 use Rattle.std.specs.Prelude.{◌≡◌}
-use Rattle.lpd_reader.specs.Session.{CommandRecord, PrintsWaiting, ReceivesJob, ListsShort, ListsLong, RemovesJobs}
+use Rattle.lpd_reader.specs.Session.{CommandRecord, ListsShort, ListsLong, RemovesJobs}
 use Rattle.lpd_session.specs.Session.{SentRecord}
 use Rattle.queues.specs.declared.request.QueueForm.TheVariants.{Short, Long}
 use Rattle.dispatcher.specs.declared.event.Event.{Event}

@@ -21,7 +21,6 @@ use Rattle.replies.specs.Reader as Body
 use Rattle.server.specs.LpdAsks.{AsksForItem}
 use Rattle.server.specs.Talks.{HttpTalkState, LpdTalkState, LinkTalkState}
 use Rattle.server.specs.declared.lpd_talk.LpdAsks.{LpdAsks}
-use Rattle.server.specs.declared.lpd_talk.LpdAsks.TheVariants as asks
 use Rattle.server.specs.declared.talk.Brought.{Brought}
 use Rattle.server.specs.declared.talk.Brought.TheVariants as brings
 use Rattle.server.specs.declared.talk.Talk.{Talk}

@@ -1,11 +1,11 @@
-use Rattle.std.proofs.Common.{◌≡◌, ◌∷◌, ◌+◌, List, [], Bool, false, drop, sym, subst, refl, ap, add-one, ◌∙◌}
+use Rattle.std.proofs.Common.{◌≡◌, ◌∷◌, ◌+◌, List, [], Bool, false, drop, sym, subst, refl, add-one}
 use Rattle.std.specs.Prelude.{◌||◌}
 use Rattle.std.proofs.Math.Seq.{drop-cons}
 use Rattle.print_room.specs.declared.started.Started.{Started}
 use Rattle.server.specs.Polls.{alone}
 use Rattle.server.specs.Rel.{EachOf}
 use Rattle.server.specs.Happening.{Starts}
-use Rattle.server.specs.State.{EngineState, Slots, with_slots}
+use Rattle.server.specs.State.{EngineState, with_slots}
 use Rattle.server.specs.Stands.{Openly}
 use Rattle.server.proofs.Steps.{openly_then, openly_nothing, openly_at, or_assoc, or_false, drop_past}
 use Rattle.server.proofs.starting.start_all.Goals as goal

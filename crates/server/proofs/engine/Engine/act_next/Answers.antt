@@ -1,4 +1,4 @@
-use Rattle.std.proofs.Common.{◌≡◌, ◌∙◌, Some, None, sym, ap, subst}
+use Rattle.std.proofs.Common.{◌∙◌, Some, None, sym, ap, subst}
 use Rattle.std.specs.Prelude.{slice_index_or}
 use Rattle.server.specs.Polls.{alone}
 use Rattle.server.specs.State.{EngineState, Slots, OnSlot, IsBrought, LosesAs, with_slots, changed_at, is_broken}

@@ -1,4 +1,4 @@
-use Rattle.std.proofs.Common.{◌≡◌, ◌∙◌, Some, None, sym, ap, subst}
+use Rattle.std.proofs.Common.{◌≡◌, ◌∙◌, sym, ap, subst}
 use Rattle.dispatcher.specs.declared.event.Event.TheVariants as Is
 use Rattle.server.specs.Polls.{alone}
 use Rattle.server.specs.Happening.{Unanswered}

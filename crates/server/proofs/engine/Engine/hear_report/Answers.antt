@@ -1,5 +1,5 @@
-use Rattle.std.proofs.Common.{◌≡◌, ◌∙◌, Some, None, sym, ap}
-use Rattle.server.specs.State.{EngineState, OnSlot, IsReported, IsFirstReport, with_slots, device_at}
+use Rattle.std.proofs.Common.{◌∙◌, sym, ap}
+use Rattle.server.specs.State.{EngineState, with_slots, device_at}
 use Rattle.server.proofs.Reporting.{hears_report, first_report}
 use Rattle.server.proofs.engine.Engine.hear_report.Goals as goal
 
