@@ -5,7 +5,7 @@ use Rattle.std.proofs.lemmas.Nat.{mul-le}
 use Rattle.std.proofs.lemmas.List.{get_or_default}
 use Rattle.base_types.specs.declared.limits.TheConstants.Limits.{UNFINISHED_JOBS, JOB_TIME, WAIT}
 use Rattle.cost_table.specs.Time.{IsTime}
-use Rattle.cost_table.specs.Class.{Class, IsClass, place_of, time_in, wait_of}
+use Rattle.cost_table.specs.Class.{Class, IsClass, place_of, time_in, wait_in}
 use Rattle.cost_table.proofs.Places.{timed_device, timed_place}
 use Rattle.prices.proofs.Bounds.{wait_small}
 use Rattle.assignment.specs.declared.costs.TheConstants.{UNABLE}
@@ -16,8 +16,8 @@ use Rattle.assignment.specs.AllPlaces.{CanFill, place_on}
 use Rattle.assignment.proofs.Charges.{cost_with}
 use Rattle.assignment.proofs.Filled.{some_time, timed_cost}
 
-read_cost : (c : Class) (e : Entries) → IsRead c e → (j d after : ℕ) → j < length c.ids → d < length c.waits → cost_of e.costs j (place_on d after) ≡ cost_with (time_in c (get_or c.ids j 0) d) (wait_of c d) after
-read_cost c e read j d after lj ld = timed_cost e.costs.waits.items (row_of e.costs j) d after (wait_of c d) (time_in c (get_or c.ids j 0) d) (read.times j d lj ld) (ap (λ w. get_or w d UNABLE) read.waits ∙ get_or_default c.waits d UNABLE 0 ld)
+read_cost : (c : Class) (e : Entries) → IsRead c e → (j d after : ℕ) → j < length c.ids → d < length c.waits → cost_of e.costs j (place_on d after) ≡ cost_with (time_in c (get_or c.ids j 0) d) (wait_in c d) after
+read_cost c e read j d after lj ld = timed_cost e.costs.waits.items (row_of e.costs j) d after (wait_in c d) (time_in c (get_or c.ids j 0) d) (read.times j d lj ld) (ap (λ w. get_or w d UNABLE) read.waits ∙ get_or_default c.waits d UNABLE 0 ld)
 
 -- a time of a class is in its range
 time_range : (c : Class) → IsClass c → (job d t : ℕ) → time_in c job d ≡ Some t → IsTime t
@@ -48,13 +48,13 @@ can_fill c e ok able read = record {
         at.0,
         omega (arith, ld, ap length read.waits, e.costs.waits.ok.0),
         λ after le.
-            let is = read_cost c e read j at.0 after below ld ∙ ap (λ o. cost_with o (wait_of c at.0) after) timed.1 in
-            omega (arith, is, low_with timed.0 (wait_of c at.0) after range.1 (wait_small c ok at.0) (omega (arith, le, read.rows, ok.few_jobs))),
+            let is = read_cost c e read j at.0 after below ld ∙ ap (λ o. cost_with o (wait_in c at.0) after) timed.1 in
+            omega (arith, is, low_with timed.0 (wait_in c at.0) after range.1 (wait_small c ok at.0) (omega (arith, le, read.rows, ok.few_jobs))),
       );
   rises = λ j d after before lj ld lt low.
       let below : j < length c.ids = omega (arith, lj, read.rows) in
       let wide : d < length c.waits = omega (arith, ld, ap length read.waits, e.costs.waits.ok.0) in
       let a = read_cost c e read j d after below wide in
       let b = read_cost c e read j d before below wide in
-      omega (arith, a, b, rises_with (time_in c (get_or c.ids j 0) d) (wait_of c d) after before (λ t is. (time_range c ok (get_or c.ids j 0) d t is).0) lt (omega (arith, b, low)));
+      omega (arith, a, b, rises_with (time_in c (get_or c.ids j 0) d) (wait_in c d) after before (λ t is. (time_range c ok (get_or c.ids j 0) d t is).0) lt (omega (arith, b, low)));
 }

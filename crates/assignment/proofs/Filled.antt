@@ -11,7 +11,7 @@ use Rattle.std.proofs.lemmas.List.FromFn.{get_or-range_with_len, length-range_wi
 use Rattle.std.proofs.lemmas.List.Sorted.{All-permutation, IsPermutation-sym, length_permutation}
 use Rattle.std.proofs.lemmas.List.Sums.{sum_by_more}
 use Rattle.base_types.specs.declared.limits.TheConstants.Limits.{UNFINISHED_JOBS, JOB_TIME}
-use Rattle.cost_table.specs.Class.{Class, IsClass, time_in, wait_of}
+use Rattle.cost_table.specs.Class.{Class, IsClass, time_in, wait_in}
 use Rattle.cost_table.proofs.Places.{timed_device}
 use Rattle.prices.specs.Total.{time_on}
 use Rattle.prices.proofs.Bounds.{time_small, wait_small}
@@ -58,7 +58,7 @@ seat_of_job c e s h j lt =
     (at.0, omega (arith, at.1, h.filled.seated.jobs, s.jobs.ok.0), at.2 ∙ get_or-range_with_len 0 n j 0 (omega (arith, lt, h.read.rows)) ∙ omega arith)
 
 -- what a job costs on a device that is able, and on one that isn't
-wait_read : (c : Class) (e : Entries) (s : Seating) → Solves c e s → (d : ℕ) → d < length c.waits → get_or e.costs.waits.items d UNABLE ≡ wait_of c d
+wait_read : (c : Class) (e : Entries) (s : Seating) → Solves c e s → (d : ℕ) → d < length c.waits → get_or e.costs.waits.items d UNABLE ≡ wait_in c d
 wait_read c e s h d lt = ap (λ w. get_or w d UNABLE) h.read.waits ∙ get_or_default c.waits d UNABLE 0 lt
 
 pub timed_cost : (waits : List ℕ) (row : List ℕ) (d after wait : ℕ) (entry : Option ℕ) → get_or row d UNABLE ≡ unwrap_or entry UNABLE → get_or waits d UNABLE ≡ wait → cost_at waits row (record { device = d; after = after }) ≡ cost_with entry wait after
@@ -66,11 +66,11 @@ unfolding cost_at
 timed_cost waits row d after wait None er ew = rw (er, ew) (unable wait after)
 timed_cost waits row d after wait (Some time) er ew = rw (er, ew) refl
 
-pub cost_read : (c : Class) (e : Entries) (s : Seating) → Solves c e s → (j d after : ℕ) → j < length c.ids → d < length c.waits → cost_of e.costs j (record { device = d; after = after }) ≡ cost_with (time_in c (get_or c.ids j 0) d) (wait_of c d) after
-cost_read c e s h j d after lj ld = timed_cost e.costs.waits.items (row_of e.costs j) d after (wait_of c d) (time_in c (get_or c.ids j 0) d) (h.read.times j d lj ld) (wait_read c e s h d ld)
+pub cost_read : (c : Class) (e : Entries) (s : Seating) → Solves c e s → (j d after : ℕ) → j < length c.ids → d < length c.waits → cost_of e.costs j (record { device = d; after = after }) ≡ cost_with (time_in c (get_or c.ids j 0) d) (wait_in c d) after
+cost_read c e s h j d after lj ld = timed_cost e.costs.waits.items (row_of e.costs j) d after (wait_in c d) (time_in c (get_or c.ids j 0) d) (h.read.times j d lj ld) (wait_read c e s h d ld)
 
-pub cost_timed : (c : Class) (e : Entries) (s : Seating) → Solves c e s → (j d after t : ℕ) → j < length c.ids → d < length c.waits → time_in c (get_or c.ids j 0) d ≡ Some t → cost_of e.costs j (record { device = d; after = after }) ≡ min (wait_of c d + suc after * t) UNABLE
-cost_timed c e s h j d after t lj ld is = cost_read c e s h j d after lj ld ∙ ap (λ o. cost_with o (wait_of c d) after) is
+pub cost_timed : (c : Class) (e : Entries) (s : Seating) → Solves c e s → (j d after t : ℕ) → j < length c.ids → d < length c.waits → time_in c (get_or c.ids j 0) d ≡ Some t → cost_of e.costs j (record { device = d; after = after }) ≡ min (wait_in c d + suc after * t) UNABLE
+cost_timed c e s h j d after t lj ld is = cost_read c e s h j d after lj ld ∙ ap (λ o. cost_with o (wait_in c d) after) is
 
 -- a time of the class
 pub some_time : (o : Option ℕ) → IsSome o → (t : ℕ) × (o ≡ Some t)
@@ -102,7 +102,7 @@ charged_low c e s h q lt =
 pub record IsSatAt (c : Class) (costs : Costs) (s : Seating) (m : ℕ) (t : ℕ) : Type 0 where
   pub device_in : (get_or s.seats.items m nowhere).device < length c.waits
   pub timed : time_in c (get_or c.ids (get_or s.jobs.items m 0) 0) (get_or s.seats.items m nowhere).device ≡ Some t
-  pub cost : cost_of costs (get_or s.jobs.items m 0) (get_or s.seats.items m nowhere) ≡ wait_of c (get_or s.seats.items m nowhere).device + suc (get_or s.seats.items m nowhere).after * t
+  pub cost : cost_of costs (get_or s.jobs.items m 0) (get_or s.seats.items m nowhere) ≡ wait_in c (get_or s.seats.items m nowhere).device + suc (get_or s.seats.items m nowhere).after * t
 
 cost_below : (o : Option ℕ) (wait after : ℕ) → cost_with o wait after < UNABLE → (t : ℕ) × (o ≡ Some t) × (cost_with o wait after ≡ wait + suc after * t)
 cost_below None wait after lt = absurd (omega (arith, lt))
@@ -115,7 +115,7 @@ sat_at c e s h m lt =
     let ld : place.device < length c.waits = omega (arith, h.filled.laid.known m (omega (arith, lt, s.seats.ok.0)), devices_len c e s h) in
     let cost = cost_read c e s h j place.device place.after (job_in c e s h m lt) ld in
     let tight = h.filled.seated.tight.at m (omega (arith, lt, s.seats.ok.0)) in
-    let found = cost_below (time_in c (get_or c.ids j 0) place.device) (wait_of c place.device) place.after (omega (arith, cost, tight, charged_low c e s h m lt)) in
+    let found = cost_below (time_in c (get_or c.ids j 0) place.device) (wait_in c place.device) place.after (omega (arith, cost, tight, charged_low c e s h m lt)) in
     (found.0, record { device_in = ld; timed = found.1; cost = cost ∙ found.2 })
 
 -- prices add up to costs and rents

@@ -11,7 +11,7 @@ use Rattle.std.proofs.lemmas.List.Elements.{All-cons, All-head, All-nil, All-tai
 use Rattle.std.proofs.lemmas.List.Folds.{concat-append}
 use Rattle.std.proofs.lemmas.List.Kept.{AllPairs-from_increasing}
 use Rattle.std.proofs.lemmas.List.Sums.{sum_by-append, sum_by-cons, sum_by_push}
-use Rattle.cost_table.specs.Class.{Class, place_of, time_in, wait_of}
+use Rattle.cost_table.specs.Class.{Class, place_of, time_in, wait_in}
 use Rattle.cost_table.proofs.Places.{at_place, timed_device, timed_place}
 use Rattle.prices.specs.Way.{IsWay, queue_of, times_named}
 use Rattle.prices.specs.Total.{cost_from, list_cost, time_on, total_of}
@@ -158,23 +158,23 @@ is_way c e s h = record {
 }
 
 -- the total, seat by seat
-cost_from-append : (c : Class) (from : ℕ) (lists : List (List ℕ)) (last : List ℕ) → cost_from c from (lists ++ last ∷ []) ≡ cost_from c from lists + list_cost c (from + length lists) (wait_of c (from + length lists)) last
-cost_from-append c from [] last = let e : from ≡ from + 0 = omega arith in ap (λ k. list_cost c k (wait_of c k) last + 0) e ∙ omega arith
+cost_from-append : (c : Class) (from : ℕ) (lists : List (List ℕ)) (last : List ℕ) → cost_from c from (lists ++ last ∷ []) ≡ cost_from c from lists + list_cost c (from + length lists) (wait_in c (from + length lists)) last
+cost_from-append c from [] last = let e : from ≡ from + 0 = omega arith in ap (λ k. list_cost c k (wait_in c k) last + 0) e ∙ omega arith
 cost_from-append c from (q ∷ qs) last =
     let e : suc from + length qs ≡ from + suc (length qs) = omega arith in
-    omega (arith, cost_from-append c (suc from) qs last, ap (λ k. list_cost c k (wait_of c k) last) e)
+    omega (arith, cost_from-append c (suc from) qs last, ap (λ k. list_cost c k (wait_in c k) last) e)
 
-cost_devices : (c : Class) (f : ℕ → List ℕ) (n : ℕ) → cost_from c 0 (of_devices f n) ≡ sum_to (λ d. list_cost c d (wait_of c d) (f d)) n
+cost_devices : (c : Class) (f : ℕ → List ℕ) (n : ℕ) → cost_from c 0 (of_devices f n) ≡ sum_to (λ d. list_cost c d (wait_in c d) (f d)) n
 cost_devices c f zero = refl
 cost_devices c f (suc n) =
     let e : 0 + length (of_devices f n) ≡ n = omega (arith, of_devices-length f n) in
-    omega (arith, cost_from-append c 0 (of_devices f n) (f n), ap (λ k. list_cost c k (wait_of c k) (f n)) e, cost_devices c f n)
+    omega (arith, cost_from-append c 0 (of_devices f n) (f n), ap (λ k. list_cost c k (wait_in c k) (f n)) e, cost_devices c f n)
 
 cost_seats : (costs : Costs) (seats : List Place) (jobs : List ℕ) (n : ℕ) → cost_of_seats costs seats jobs n ≡ sum_to (λ m. cost_of costs (get_or jobs m 0) (get_or seats m nowhere)) n
 cost_seats costs seats jobs zero = refl
 cost_seats costs seats jobs (suc n) = omega (arith, cost_seats costs seats jobs n)
 
-costs_spread : (c : Class) (e : Entries) (s : Seating) → Solves c e s → Spreads (λ d m. list_cost c d (wait_of c d) (queue_of_seats d e.ids.items s.seats.items s.jobs.items m)) (λ m. cost_of e.costs (get_or s.jobs.items m 0) (get_or s.seats.items m nowhere)) (λ m. (get_or s.seats.items m nowhere).device) (vec_len e.costs.waits) (vec_len s.seats)
+costs_spread : (c : Class) (e : Entries) (s : Seating) → Solves c e s → Spreads (λ d m. list_cost c d (wait_in c d) (queue_of_seats d e.ids.items s.seats.items s.jobs.items m)) (λ m. cost_of e.costs (get_or s.jobs.items m 0) (get_or s.seats.items m nowhere)) (λ m. (get_or s.seats.items m nowhere).device) (vec_len e.costs.waits) (vec_len s.seats)
 costs_spread c e s h =
     let ids = e.ids.items in
     let seats = s.seats.items in
@@ -191,9 +191,9 @@ costs_spread c e s h =
           let same : id ≡ get_or c.ids (get_or jobs m 0) 0 = ap (λ l. get_or l (get_or jobs m 0) 0) h.read.ids in
           let time : time_on c id d ≡ at.0 = ap (λ k. time_on c k d) same ∙ time_of_some c (get_or c.ids (get_or jobs m 0) 0) d at.0 at.1.timed in
           let len : length rest ≡ place.after = queue-length d ids seats jobs m (omega (arith, lt, s.seats.ok.0)) ∙ sym (h.filled.laid.places m (omega (arith, lt, s.seats.ok.0))) in
-          let more : list_cost c d (wait_of c d) (id ∷ rest) ≡ (wait_of c d + suc place.after * at.0) + list_cost c d (wait_of c d) rest = ap (λ k. (wait_of c d + suc k * time_on c id d) + list_cost c d (wait_of c d) rest) len ∙ ap (λ k. (wait_of c d + suc place.after * k) + list_cost c d (wait_of c d) rest) time in
-          omega (arith, ap (λ l. list_cost c d (wait_of c d) l) (queue-here d ids seats jobs m refl), more, at.1.cost);
-      other = λ m d lt ne. ap (λ l. list_cost c d (wait_of c d) l) (queue-other d ids seats jobs m (λ q. ne (sym q)));
+          let more : list_cost c d (wait_in c d) (id ∷ rest) ≡ (wait_in c d + suc place.after * at.0) + list_cost c d (wait_in c d) rest = ap (λ k. (wait_in c d + suc k * time_on c id d) + list_cost c d (wait_in c d) rest) len ∙ ap (λ k. (wait_in c d + suc place.after * k) + list_cost c d (wait_in c d) rest) time in
+          omega (arith, ap (λ l. list_cost c d (wait_in c d) l) (queue-here d ids seats jobs m refl), more, at.1.cost);
+      other = λ m d lt ne. ap (λ l. list_cost c d (wait_in c d) l) (queue-other d ids seats jobs m (λ q. ne (sym q)));
     }
 
 pub total_is : (c : Class) (e : Entries) (s : Seating) → Solves c e s → total_of c (way_of e s) ≡ cost_of_seats e.costs s.seats.items s.jobs.items (vec_len s.seats)
@@ -277,7 +277,7 @@ place_eq : (p : Place) (d after : ℕ) → p.device ≡ d → p.after ≡ after 
 place_eq p d after ed ea = ap (λ (x : ℕ). before_at x p.after) ed ∙ ap (λ (y : ℕ). before_at d y) ea
 
 -- whose price a job of the class has
-charged_at : (c : Class) (e : Entries) (s : Seating) (u : List ℕ) → Solves c e s → IsCharged s u → (job d t : ℕ) → time_in c job d ≡ Some t → (q : ℕ) × (q < vec_len s.seats) × (job_price c.ids (map pos u) job ≡ pos (get_or s.prices.items q 0)) × ((after : ℕ) → cost_of e.costs (get_or s.jobs.items q 0) (record { device = d; after = after }) ≤ wait_of c d + suc after * t)
+charged_at : (c : Class) (e : Entries) (s : Seating) (u : List ℕ) → Solves c e s → IsCharged s u → (job d t : ℕ) → time_in c job d ≡ Some t → (q : ℕ) × (q < vec_len s.seats) × (job_price c.ids (map pos u) job ≡ pos (get_or s.prices.items q 0)) × ((after : ℕ) → cost_of e.costs (get_or s.jobs.items q 0) (record { device = d; after = after }) ≤ wait_in c d + suc after * t)
 charged_at c e s u h p job d t is =
     let at = place_of c.ids job in
     let below = timed_place c h.ok job d t is in
@@ -319,7 +319,7 @@ are_fair c e s u h p =
           let in_seats : at.0 < length seats = omega (arith, at.1, s.seats.ok.0) in
           let spot : get_or seats at.0 nowhere ≡ record { device = d; after = after } = place_eq (get_or seats at.0 nowhere) d after at.2 (h.filled.laid.places at.0 in_seats ∙ ap (λ k. taken k (take at.0 seats)) at.2 ∙ at.3) in
           let fair = h.filled.seated.fair.at q.0 at.0 (omega (arith, q.1, s.jobs.ok.0, h.filled.seated.jobs)) in_seats in
-          fair_used (get_or s.prices.items q.0 0) (get_or rents at.0 0) (cost_of e.costs (get_or s.jobs.items q.0 0) (get_or seats at.0 nowhere)) (wait_of c d + suc after * t) _ _ q.2 (place_price_is c e s h d after ld ∙ ap price_of_rent rent) fair (rw spot (q.3 after));
+          fair_used (get_or s.prices.items q.0 0) (get_or rents at.0 0) (cost_of e.costs (get_or s.jobs.items q.0 0) (get_or seats at.0 nowhere)) (wait_in c d + suc after * t) _ _ q.2 (place_price_is c e s h d after ld ∙ ap price_of_rent rent) fair (rw spot (q.3 after));
       next = λ job d t is.
           let ld = timed_device c h.ok job d t is in
           let q = charged_at c e s u h p job d t is in

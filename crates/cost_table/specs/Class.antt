@@ -20,8 +20,8 @@ abbrev pub time_in : Class → ℕ → ℕ → Option ℕ
 time_in c job device = slice_index_or (slice_index_or c.rows (place_of c.ids job) []) device None
 
 -- ms until a device is free
-abbrev pub wait_of : Class → ℕ → ℕ
-wait_of c device = slice_index c.waits device
+abbrev pub wait_in : Class → ℕ → ℕ
+wait_in c device = slice_index c.waits device
 
 -- what each class problem keeps
 pub record IsClass (c : Class) : Type 0 where

@@ -1,7 +1,7 @@
 //! The problem of a class: its jobs, their times, and when each device is free.
 ghost use Rattle.std.specs.Prelude.{◌≡◌, ◌↔◌, ◌==◌, ◌<◌, IsTrue, MatchOption, length, position};
 ghost use Rattle.std.specs.List.Sorted.{IsStrictlyIncreasing};
-ghost use Rattle.cost_table.specs.Class.{IsClass, place_of, time_in, wait_of};
+ghost use Rattle.cost_table.specs.Class.{IsClass, place_of, time_in, wait_in};
 
 use crate::row::{Row, is_row};
 use base_types::{DeviceId, JobId, Limits};
@@ -82,7 +82,7 @@ impl ClassProblem {
     /// The wait of a device of the class, in ms.
     pub fn wait(&self, device: DeviceId) -> u64
         requires { device < length self.now.waits }
-        ensures wait { result ≡ wait_of self.now device }
+        ensures wait { result ≡ wait_in self.now device }
         ensures class { IsClass self.now }
     {
         self.waits[device.place()]

@@ -1,7 +1,7 @@
 //! When jobs are expected to be complete.
 ghost use Rattle.std.specs.Prelude.{◌≡◌, ◌==◌, ◌^◌, ◌≤◌, ◌++◌, IfOk, OnOk, map, find};
 ghost use Rattle.std.specs.Option.{option_copied};
-ghost use Rattle.cost_table.specs.Class.{wait_of};
+ghost use Rattle.cost_table.specs.Class.{wait_in};
 ghost use Rattle.prices.specs.Total.{time_on};
 ghost use Rattle.prices.specs.Timetable.{slots_of_list};
 ghost use Rattle.listings.specs.Expected.{completion, completions_in, expected_of, moment_of, on_devices, planned};
@@ -83,7 +83,7 @@ fn add_queue(
     device: DeviceId,
     jobs: &[JobId],
 ) -> Result<(), AllocError>
-    ensures { OnOk result (expected.new.items ≡ expected.old.items ++ map (completion class.now) (slots_of_list class.now device (wait_of class.now device) jobs.now)) }
+    ensures { OnOk result (expected.new.items ≡ expected.old.items ++ map (completion class.now) (slots_of_list class.now device (wait_in class.now device) jobs.now)) }
 {
     let mut free = wait(class, device);
     for job in jobs {
@@ -98,7 +98,7 @@ fn add_queue(
 
 /// The wait of a device, in ms; 0 where the class has none for it.
 fn wait(class: &ClassProblem, device: DeviceId) -> u128
-    ensures wait { result ≡ wait_of class.now device }
+    ensures wait { result ≡ wait_in class.now device }
     ensures short { result ≤ 2 ^ 64 }
 {
     match class.waits().get(device.place()) {

@@ -5,7 +5,7 @@ use Rattle.std.proofs.lemmas.Bool.{cases_lt}
 use Rattle.std.proofs.lemmas.List.{get_or_past, get_or_default}
 use lib.Signed.{le_z_yes}
 use Rattle.base_types.specs.declared.limits.TheConstants.Limits.{UNFINISHED_JOBS}
-use Rattle.cost_table.specs.Class.{Class, IsClass, time_in, wait_of}
+use Rattle.cost_table.specs.Class.{Class, IsClass, time_in, wait_in}
 use Rattle.prices.specs.Way.{IsWay, queue_of}
 use Rattle.prices.specs.Total.{IsBest}
 use Rattle.prices.specs.Prices.{PriceLists, job_price, places_on, place_price, IsProved}
@@ -49,7 +49,7 @@ all_not_positive places h device d l k e m =
     let t : get_or (get_or places device []) k e ≡ get_or (get_or places device []) k (pos 0) = get_or_default (get_or places device []) k e (pos 0) n in
     rw (s, t) (h device k)
 
-pub fair_on : (c : Class) → IsClass c → (w : List (List ℕ)) (p : PriceLists) → length p.places ≡ length c.waits → NoneTooHigh c p → (job device t : ℕ) → time_in c job device ≡ Some t → IsFairOn (wait_of c device) t (job_price c.ids p.jobs job) (places_on p.places device)
+pub fair_on : (c : Class) → IsClass c → (w : List (List ℕ)) (p : PriceLists) → length p.places ≡ length c.waits → NoneTooHigh c p → (job device t : ℕ) → time_in c job device ≡ Some t → IsFairOn (wait_in c device) t (job_price c.ids p.jobs job) (places_on p.places device)
 fair_on c ok w p n h job device t e = h device (let l : device < length c.waits = timed_device c ok job device t e in omega arith) job t e
 
 -- a class with this verdict is proved
@@ -70,7 +70,7 @@ proved_from_yes beside c ok w p total n m y =
         one_each_place = missing.place_prices;
         not_positive = not_positive p.places low;
         used = λ job device t k e l. (fair_on c ok w p m fair job device t e).used k (let s : length (places_on p.places device) ≡ length (queue_of w device) = missing.place_prices device in omega arith);
-        next = λ job device t e. subst (λ x. job_price c.ids p.jobs job ≤ℤ pos (wait_of c device + suc x * t)) (missing.place_prices device) (fair_on c ok w p m fair job device t e).next;
+        next = λ job device t e. subst (λ x. job_price c.ids p.jobs job ≤ℤ pos (wait_in c device + suc x * t)) (missing.place_prices device) (fair_on c ok w p m fair job device t e).next;
         sums = agree.price_sum ∙ ap pos agree.way_total;
       };
       stated = agree.way_total;
@@ -87,7 +87,7 @@ module _ (c : Class) (w : List (List ℕ)) (p : PriceLists) (total : ℕ) (prove
   none_too_high_in : NoneTooHigh c p
   none_too_high_in device l job t e = record {
     used = λ k m. proved.fair.used job device t k e (let s : length (places_on p.places device) ≡ length (queue_of w device) = proved.fair.one_each_place device in omega arith);
-    next = subst (λ x. job_price c.ids p.jobs job ≤ℤ pos (wait_of c device + suc x * t)) (sym (proved.fair.one_each_place device)) (proved.fair.next job device t e);
+    next = subst (λ x. job_price c.ids p.jobs job ≤ℤ pos (wait_in c device + suc x * t)) (sym (proved.fair.one_each_place device)) (proved.fair.next job device t e);
   }
 
   -- and a proved class has it, where nothing beside it speaks against it

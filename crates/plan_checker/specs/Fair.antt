@@ -1,6 +1,6 @@
 -- The parts of fair prices, one by one, as a checker tells them apart.
 use Rattle.std.specs.Prelude.{◌≡◌, ℕ, suc, ◌+◌, ◌*◌, ◌<◌, List, length, Some, All, slice_index_or, ℤ, pos, ◌+ℤ◌, ◌≤ℤ◌}
-use Rattle.cost_table.specs.Class.{Class, time_in, wait_of}
+use Rattle.cost_table.specs.Class.{Class, time_in, wait_in}
 use Rattle.prices.specs.Way.{queue_of, AllNamed}
 use Rattle.prices.specs.Total.{total_of}
 use Rattle.prices.specs.Prices.{PriceLists, sum_signed, sum_lists, job_price, places_on}
@@ -27,7 +27,7 @@ pub record IsFairOn (wait time : ℕ) (price : ℤ) (places : List ℤ) : Type 0
 
 -- the price of each job that the device is able to print is fair there
 abbrev pub AllFairOn : Class → ℕ → List ℤ → List ℤ → Type 0
-AllFairOn c device prices places = (job time : ℕ) → time_in c job device ≡ Some time → IsFairOn (wait_of c device) time (job_price c.ids prices job) places
+AllFairOn c device prices places = (job time : ℕ) → time_in c job device ≡ Some time → IsFairOn (wait_in c device) time (job_price c.ids prices job) places
 
 -- no price is too high on any device
 abbrev pub NoneTooHigh : Class → PriceLists → Type 0

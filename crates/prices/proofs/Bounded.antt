@@ -8,7 +8,7 @@ use Rattle.std.proofs.lemmas.List.{get_or_default}
 use Rattle.std.proofs.lemmas.List.Elements.{All-head, All-tail}
 use Rattle.base_types.specs.declared.limits.TheConstants.Limits.{UNFINISHED_JOBS, JOB_TIME, WAIT}
 use Rattle.cost_table.specs.Time.{IsTime}
-use Rattle.cost_table.specs.Class.{Class, IsClass, place_of, time_in, wait_of}
+use Rattle.cost_table.specs.Class.{Class, IsClass, place_of, time_in, wait_in}
 use Rattle.cost_table.proofs.Places.{place_at, timed_place, timed_device}
 use Rattle.prices.specs.Way.{IsWay, queue_of, times_named}
 use Rattle.prices.specs.Total.{time_on, list_total, list_cost, total_from, total_of}
@@ -31,7 +31,7 @@ time_in_range c ok job device time e =
 module _ (c : Class) (way : List (List ℕ)) (p : PriceLists) (f : AreFair c way p) where
   -- what a job at a place of a list costs
   abbrev cost_at : ℕ → List ℕ → ℕ → ℕ → ℕ
-  cost_at d jobs i after = wait_of c d + suc after * time_on c (get_or jobs i 0) d
+  cost_at d jobs i after = wait_in c d + suc after * time_on c (get_or jobs i 0) d
 
   -- the prices of a job at a place of a list, and of the place
   abbrev price_at : ℕ → List ℕ → ℕ → ℕ → ℤ
@@ -39,31 +39,31 @@ module _ (c : Class) (way : List (List ℕ)) (p : PriceLists) (f : AreFair c way
 
   -- a list's prices, with one job's in place of what it costs, are at most what the list costs
   list_slack : (d : ℕ) (jobs : List ℕ) → All (λ j. IsSome (time_in c j d)) jobs → (i after : ℕ) → i + suc after ≡ length jobs
-      → ((prices_of c.ids p.jobs jobs +ℤ sum_signed (take (length jobs) (places_on p.places d))) +ℤ pos (cost_at d jobs i after)) ≤ℤ (pos (list_cost c d (wait_of c d) jobs) +ℤ price_at d jobs i after)
+      → ((prices_of c.ids p.jobs jobs +ℤ sum_signed (take (length jobs) (places_on p.places d))) +ℤ pos (cost_at d jobs i after)) ≤ℤ (pos (list_cost c d (wait_in c d) jobs) +ℤ price_at d jobs i after)
   list_slack d [] h i after e = absurd (omega arith)
   list_slack d (j ∷ js) h zero after e =
       let last : after ≡ length js = omega arith in
-      let b : (prices_of c.ids p.jobs js +ℤ sum_signed (take (length js) (places_on p.places d))) ≤ℤ pos (list_cost c d (wait_of c d) js) =
+      let b : (prices_of c.ids p.jobs js +ℤ sum_signed (take (length js) (places_on p.places d))) ≤ℤ pos (list_cost c d (wait_in c d) js) =
       list_bound c way p f d js (All-tail (λ j'. IsSome (time_in c j' d)) j js h) in
       let s : sum_signed (take (suc (length js)) (places_on p.places d)) ≡ sum_signed (take (length js) (places_on p.places d)) +ℤ place_price p.places d (length js) =
       sum_front_more (length js) (places_on p.places d) in
       rw last (omega (arith, ints, b, s))
   list_slack d (j ∷ js) h (suc i) after e =
       let able : IsSome (time_in c j d) = All-head (λ j'. IsSome (time_in c j' d)) j js h in
-      let a : (job_price c.ids p.jobs j +ℤ place_price p.places d (length js)) ≤ℤ pos (wait_of c d + suc (length js) * time_on c j d) =
+      let a : (job_price c.ids p.jobs j +ℤ place_price p.places d (length js)) ≤ℤ pos (wait_in c d + suc (length js) * time_on c j d) =
       place_bound c way p f j d (time_on c j d) (length js) (some_value (time_in c j d) able) in
-      let b : ((prices_of c.ids p.jobs js +ℤ sum_signed (take (length js) (places_on p.places d))) +ℤ pos (cost_at d js i after)) ≤ℤ (pos (list_cost c d (wait_of c d) js) +ℤ price_at d js i after) =
+      let b : ((prices_of c.ids p.jobs js +ℤ sum_signed (take (length js) (places_on p.places d))) +ℤ pos (cost_at d js i after)) ≤ℤ (pos (list_cost c d (wait_in c d) js) +ℤ price_at d js i after) =
       list_slack d js (All-tail (λ j'. IsSome (time_in c j' d)) j js h) i after (omega arith) in
       let s : sum_signed (take (suc (length js)) (places_on p.places d)) ≡ sum_signed (take (length js) (places_on p.places d)) +ℤ place_price p.places d (length js) =
       sum_front_more (length js) (places_on p.places d) in
       omega (arith, ints, a, b, s)
 
   list_total_slack : (d : ℕ) (jobs : List ℕ) → All (λ j. IsSome (time_in c j d)) jobs → (i after : ℕ) → i + suc after ≡ length jobs
-      → ((prices_of c.ids p.jobs jobs +ℤ sum_signed (places_on p.places d)) +ℤ pos (cost_at d jobs i after)) ≤ℤ (pos (list_total c d (wait_of c d) jobs) +ℤ price_at d jobs i after)
+      → ((prices_of c.ids p.jobs jobs +ℤ sum_signed (places_on p.places d)) +ℤ pos (cost_at d jobs i after)) ≤ℤ (pos (list_total c d (wait_in c d) jobs) +ℤ price_at d jobs i after)
   list_total_slack d jobs h i after e =
-      let a : ((prices_of c.ids p.jobs jobs +ℤ sum_signed (take (length jobs) (places_on p.places d))) +ℤ pos (cost_at d jobs i after)) ≤ℤ (pos (list_cost c d (wait_of c d) jobs) +ℤ price_at d jobs i after) = list_slack d jobs h i after e in
+      let a : ((prices_of c.ids p.jobs jobs +ℤ sum_signed (take (length jobs) (places_on p.places d))) +ℤ pos (cost_at d jobs i after)) ≤ℤ (pos (list_cost c d (wait_in c d) jobs) +ℤ price_at d jobs i after) = list_slack d jobs h i after e in
       let b : sum_signed (places_on p.places d) ≤ℤ sum_signed (take (length jobs) (places_on p.places d)) = sum_at_most_front (length jobs) (places_on p.places d) (f.not_positive d) in
-      let t : list_total c d (wait_of c d) jobs ≡ list_cost c d (wait_of c d) jobs = list_cost_is c d (wait_of c d) jobs in
+      let t : list_total c d (wait_in c d) jobs ≡ list_cost c d (wait_in c d) jobs = list_cost_is c d (wait_in c d) jobs in
       omega (arith, ints, a, b, t)
 
   -- and so are those of all lists
@@ -73,14 +73,14 @@ module _ (c : Class) (way : List (List ℕ)) (p : PriceLists) (f : AreFair c way
   lists_slack d (q ∷ qs) h zero i after l e =
       let here : d ≡ d + zero = omega arith in
       let P : ℕ → Type 0 = λ x. ((prices_of c.ids p.jobs (q ++ concat qs) +ℤ sum_devices p.places d (suc (length qs))) +ℤ pos (cost_at x q i after)) ≤ℤ (pos (total_from c d (q ∷ qs)) +ℤ price_at x q i after) in
-      let a : ((prices_of c.ids p.jobs q +ℤ sum_signed (places_on p.places d)) +ℤ pos (cost_at d q i after)) ≤ℤ (pos (list_total c d (wait_of c d) q) +ℤ price_at d q i after) = list_total_slack d q h.0 i after e in
+      let a : ((prices_of c.ids p.jobs q +ℤ sum_signed (places_on p.places d)) +ℤ pos (cost_at d q i after)) ≤ℤ (pos (list_total c d (wait_in c d) q) +ℤ price_at d q i after) = list_total_slack d q h.0 i after e in
       let b : (prices_of c.ids p.jobs (concat qs) +ℤ sum_devices p.places (suc d) (length qs)) ≤ℤ pos (total_from c (suc d) qs) = lists_bound c way p f (suc d) qs h.1 in
       let s : prices_of c.ids p.jobs (q ++ concat qs) ≡ prices_of c.ids p.jobs q +ℤ prices_of c.ids p.jobs (concat qs) = prices_of-append c.ids p.jobs q (concat qs) in
       subst P here (omega (arith, ints, a, b, s))
   lists_slack d (q ∷ qs) h (suc n) i after l e =
       let there : suc d + n ≡ d + suc n = omega arith in
       let P : ℕ → Type 0 = λ x. ((prices_of c.ids p.jobs (q ++ concat qs) +ℤ sum_devices p.places d (suc (length qs))) +ℤ pos (cost_at x (get_or qs n []) i after)) ≤ℤ (pos (total_from c d (q ∷ qs)) +ℤ price_at x (get_or qs n []) i after) in
-      let a : (prices_of c.ids p.jobs q +ℤ sum_signed (places_on p.places d)) ≤ℤ pos (list_total c d (wait_of c d) q) = list_total_bound c way p f d q h.0 in
+      let a : (prices_of c.ids p.jobs q +ℤ sum_signed (places_on p.places d)) ≤ℤ pos (list_total c d (wait_in c d) q) = list_total_bound c way p f d q h.0 in
       let b : ((prices_of c.ids p.jobs (concat qs) +ℤ sum_devices p.places (suc d) (length qs)) +ℤ pos (cost_at (suc d + n) (get_or qs n []) i after)) ≤ℤ (pos (total_from c (suc d) qs) +ℤ price_at (suc d + n) (get_or qs n []) i after) =
       lists_slack (suc d) qs h.1 n i after (omega arith) e in
       let s : prices_of c.ids p.jobs (q ++ concat qs) ≡ prices_of c.ids p.jobs q +ℤ prices_of c.ids p.jobs (concat qs) = prices_of-append c.ids p.jobs q (concat qs) in
@@ -111,12 +111,12 @@ module _ (c : Class) (way : List (List ℕ)) (p : PriceLists) (f : AreFair c way
         let able : IsSome (time_in c job d) = w.able d i 0 (omega arith) in
         let at : time_in c job d ≡ Some t = some_value (time_in c job d) able in
         let range : IsTime t = time_in_range c ok job d t at in
-        let low : pos (wait_of c d + suc after * t) ≤ℤ (job_price c.ids p.jobs job +ℤ place_price p.places d after) = tight d i after l e in
+        let low : pos (wait_in c d + suc after * t) ≤ℤ (job_price c.ids p.jobs job +ℤ place_price p.places d after) = tight d i after l e in
         let free : place_price p.places d after ≤ℤ pos 0 = f.not_positive d after in
-        let high : job_price c.ids p.jobs job ≤ℤ pos (wait_of c d + suc (length (queue_of way d)) * t) = f.next job d t at in
+        let high : job_price c.ids p.jobs job ≤ℤ pos (wait_in c d + suc (length (queue_of way d)) * t) = f.next job d t at in
         let few : length (queue_of way d) ≤ UNFINISHED_JOBS = queue_short c ok way w d in
         let most : suc (length (queue_of way d)) * t ≤ suc UNFINISHED_JOBS * JOB_TIME = mul-le (suc (length (queue_of way d))) t (suc UNFINISHED_JOBS) JOB_TIME (omega (arith, few)) range.1 in
-        let wait : wait_of c d ≤ WAIT = wait_small c ok d in
+        let wait : wait_in c d ≤ WAIT = wait_small c ok d in
         let least : 1 ≤ t = range.0 in
         (omega (arith, ints, low, free, least), omega (arith, ints, high, most, wait))
 

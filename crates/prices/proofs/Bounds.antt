@@ -9,7 +9,7 @@ use Rattle.std.proofs.lemmas.List.{get_or_past, length-append, length-replicate,
 use Rattle.std.proofs.lemmas.List.Elements.{All-head, All-tail}
 use Rattle.base_types.specs.declared.limits.TheConstants.Limits.{UNFINISHED_JOBS, JOB_TIME, WAIT}
 use Rattle.cost_table.specs.Time.{IsTime}
-use Rattle.cost_table.specs.Class.{Class, IsClass, place_of, wait_of}
+use Rattle.cost_table.specs.Class.{Class, IsClass, place_of, wait_in}
 use Rattle.prices.specs.Way.{IsWay, times_named}
 use Rattle.prices.specs.Total.{time_on, list_cost, total_of, cost_from}
 use Rattle.prices.specs.Waits.{busy_time}
@@ -18,7 +18,7 @@ use Rattle.cost_table.proofs.Places.{place_below}
 use Rattle.prices.proofs.Totals.{cost_from_is}
 use Rattle.prices.proofs.Sums.{prices_of, prices_of_all}
 
-pub wait_small : (c : Class) → IsClass c → (d : ℕ) → wait_of c d ≤ WAIT
+pub wait_small : (c : Class) → IsClass c → (d : ℕ) → wait_in c d ≤ WAIT
 wait_small c ok d = elim (cases_lt d (length c.waits)) [
   | inl lt ↦ ok.short_waits d 0 lt
   | inr past ↦ rw (get_or_past c.waits d 0 past) (omega arith)
@@ -55,7 +55,7 @@ pub cost_from_small : (c : Class) → IsClass c → (d : ℕ) (w : List (List �
 cost_from_small c ok d [] l = omega arith
 cost_from_small c ok d (q ∷ qs) l =
     let e : length (q ++ concat qs) ≡ length q + length (concat qs) = length-append q (concat qs) in
-    let a : list_cost c d (wait_of c d) q ≤ length q * most_cost = list_cost_small c ok d (wait_of c d) (wait_small c ok d) q (omega arith) in
+    let a : list_cost c d (wait_in c d) q ≤ length q * most_cost = list_cost_small c ok d (wait_in c d) (wait_small c ok d) q (omega arith) in
     let b : cost_from c (suc d) qs ≤ length (concat qs) * most_cost = cost_from_small c ok (suc d) qs (omega arith) in
     omega (arith, e, a, b)
 
@@ -101,5 +101,5 @@ part_short (q ∷ qs) (suc i) = omega (arith, length-append q (concat qs), part_
 pub queue_short : (c : Class) → IsClass c → (w : List (List ℕ)) → IsWay c w → (i : ℕ) → length (get_or w i []) ≤ UNFINISHED_JOBS
 queue_short c ok w h i = omega (arith, part_short w i, length_names c ok w h, ok.few_jobs)
 
-pub busy_fits : (c : Class) → IsClass c → (d : ℕ) (jobs : List ℕ) → length jobs ≤ UNFINISHED_JOBS → wait_of c d + busy_time c d jobs < 2 ^ 64
+pub busy_fits : (c : Class) → IsClass c → (d : ℕ) (jobs : List ℕ) → length jobs ≤ UNFINISHED_JOBS → wait_in c d + busy_time c d jobs < 2 ^ 64
 busy_fits c ok d jobs few = omega (arith, few, wait_small c ok d, busy_small c ok d jobs)

@@ -7,7 +7,7 @@ use Rattle.std.proofs.Math.Nat.{mul-le-mul_right}
 use Rattle.std.proofs.lemmas.Int.{ints}
 use Rattle.std.proofs.lemmas.Bool.{cases_lt}
 use Rattle.std.proofs.lemmas.List.Elements.{All-head, All-tail}
-use Rattle.cost_table.specs.Class.{Class, IsClass, time_in, wait_of}
+use Rattle.cost_table.specs.Class.{Class, IsClass, time_in, wait_in}
 use Rattle.prices.specs.Way.{IsWay, queue_of, times_named}
 use Rattle.prices.specs.Total.{IsBest, time_on, list_total, list_cost, total_from, total_of}
 use Rattle.prices.specs.Prices.{AreFair, PriceLists, sum_signed, sum_lists, job_price, places_on, place_price}
@@ -43,11 +43,11 @@ module _ where
       omega (arith, ints, b)
 
 -- a job at the place that has k places after it costs at least its price and the place's
-pub place_bound : (c : Class) (way : List (List ℕ)) (p : PriceLists) → AreFair c way p → (j d t k : ℕ) → time_in c j d ≡ Some t → (job_price c.ids p.jobs j +ℤ place_price p.places d k) ≤ℤ pos (wait_of c d + suc k * t)
+pub place_bound : (c : Class) (way : List (List ℕ)) (p : PriceLists) → AreFair c way p → (j d t k : ℕ) → time_in c j d ≡ Some t → (job_price c.ids p.jobs j +ℤ place_price p.places d k) ≤ℤ pos (wait_in c d + suc k * t)
 place_bound c way p f j d t k e = elim (cases_lt k (length (queue_of way d))) [
   | inl lt ↦ f.used j d t k e lt
   | inr past ↦
-      let a : job_price c.ids p.jobs j ≤ℤ pos (wait_of c d + suc (length (queue_of way d)) * t) = f.next j d t e in
+      let a : job_price c.ids p.jobs j ≤ℤ pos (wait_in c d + suc (length (queue_of way d)) * t) = f.next j d t e in
       let b : place_price p.places d k ≤ℤ pos 0 = f.not_positive d k in
       let m : length (queue_of way d) * t ≤ k * t = mul-le-mul_right t past in
       omega (arith, ints, a, b, m)
@@ -58,23 +58,23 @@ some_value (Some t) h = refl
 some_value None h = absurd (search rules)
 
 -- what a list of jobs on a device costs is at least the jobs' prices and those of all places there
-pub list_bound : (c : Class) (way : List (List ℕ)) (p : PriceLists) → AreFair c way p → (d : ℕ) (jobs : List ℕ) → All (λ j. IsSome (time_in c j d)) jobs → (prices_of c.ids p.jobs jobs +ℤ sum_signed (take (length jobs) (places_on p.places d))) ≤ℤ pos (list_cost c d (wait_of c d) jobs)
+pub list_bound : (c : Class) (way : List (List ℕ)) (p : PriceLists) → AreFair c way p → (d : ℕ) (jobs : List ℕ) → All (λ j. IsSome (time_in c j d)) jobs → (prices_of c.ids p.jobs jobs +ℤ sum_signed (take (length jobs) (places_on p.places d))) ≤ℤ pos (list_cost c d (wait_in c d) jobs)
 list_bound c way p f d [] h = le_z_yes tt
 list_bound c way p f d (j ∷ js) h =
     let able : IsSome (time_in c j d) = All-head (λ j'. IsSome (time_in c j' d)) j js h in
-    let a : (job_price c.ids p.jobs j +ℤ place_price p.places d (length js)) ≤ℤ pos (wait_of c d + suc (length js) * time_on c j d) =
+    let a : (job_price c.ids p.jobs j +ℤ place_price p.places d (length js)) ≤ℤ pos (wait_in c d + suc (length js) * time_on c j d) =
     place_bound c way p f j d (time_on c j d) (length js) (some_value (time_in c j d) able) in
-    let b : (prices_of c.ids p.jobs js +ℤ sum_signed (take (length js) (places_on p.places d))) ≤ℤ pos (list_cost c d (wait_of c d) js) =
+    let b : (prices_of c.ids p.jobs js +ℤ sum_signed (take (length js) (places_on p.places d))) ≤ℤ pos (list_cost c d (wait_in c d) js) =
     list_bound c way p f d js (All-tail (λ j'. IsSome (time_in c j' d)) j js h) in
     let e : sum_signed (take (suc (length js)) (places_on p.places d)) ≡ sum_signed (take (length js) (places_on p.places d)) +ℤ place_price p.places d (length js) =
     sum_front_more (length js) (places_on p.places d) in
     omega (arith, ints, a, b, e)
 
-pub list_total_bound : (c : Class) (way : List (List ℕ)) (p : PriceLists) → AreFair c way p → (d : ℕ) (jobs : List ℕ) → All (λ j. IsSome (time_in c j d)) jobs → (prices_of c.ids p.jobs jobs +ℤ sum_signed (places_on p.places d)) ≤ℤ pos (list_total c d (wait_of c d) jobs)
+pub list_total_bound : (c : Class) (way : List (List ℕ)) (p : PriceLists) → AreFair c way p → (d : ℕ) (jobs : List ℕ) → All (λ j. IsSome (time_in c j d)) jobs → (prices_of c.ids p.jobs jobs +ℤ sum_signed (places_on p.places d)) ≤ℤ pos (list_total c d (wait_in c d) jobs)
 list_total_bound c way p f d jobs h =
-    let a : (prices_of c.ids p.jobs jobs +ℤ sum_signed (take (length jobs) (places_on p.places d))) ≤ℤ pos (list_cost c d (wait_of c d) jobs) = list_bound c way p f d jobs h in
+    let a : (prices_of c.ids p.jobs jobs +ℤ sum_signed (take (length jobs) (places_on p.places d))) ≤ℤ pos (list_cost c d (wait_in c d) jobs) = list_bound c way p f d jobs h in
     let b : sum_signed (places_on p.places d) ≤ℤ sum_signed (take (length jobs) (places_on p.places d)) = sum_at_most_front (length jobs) (places_on p.places d) (f.not_positive d) in
-    let e : list_total c d (wait_of c d) jobs ≡ list_cost c d (wait_of c d) jobs = list_cost_is c d (wait_of c d) jobs in
+    let e : list_total c d (wait_in c d) jobs ≡ list_cost c d (wait_in c d) jobs = list_cost_is c d (wait_in c d) jobs in
     omega (arith, ints, a, b, e)
 
 pub prices_of-append : (ids : List ℕ) (ps : List ℤ) (xs ys : List ℕ) → prices_of ids ps (xs ++ ys) ≡ prices_of ids ps xs +ℤ prices_of ids ps ys
@@ -109,7 +109,7 @@ able_from c d (q ∷ qs) h =
 pub lists_bound : (c : Class) (way : List (List ℕ)) (p : PriceLists) → AreFair c way p → (d : ℕ) (qs : List (List ℕ)) → AbleFrom c d qs → (prices_of c.ids p.jobs (concat qs) +ℤ sum_devices p.places d (length qs)) ≤ℤ pos (total_from c d qs)
 lists_bound c way p f d [] h = le_z_yes tt
 lists_bound c way p f d (q ∷ qs) h =
-    let a : (prices_of c.ids p.jobs q +ℤ sum_signed (places_on p.places d)) ≤ℤ pos (list_total c d (wait_of c d) q) = list_total_bound c way p f d q h.0 in
+    let a : (prices_of c.ids p.jobs q +ℤ sum_signed (places_on p.places d)) ≤ℤ pos (list_total c d (wait_in c d) q) = list_total_bound c way p f d q h.0 in
     let b : (prices_of c.ids p.jobs (concat qs) +ℤ sum_devices p.places (suc d) (length qs)) ≤ℤ pos (total_from c (suc d) qs) = lists_bound c way p f (suc d) qs h.1 in
     let e : prices_of c.ids p.jobs (q ++ concat qs) ≡ prices_of c.ids p.jobs q +ℤ prices_of c.ids p.jobs (concat qs) = prices_of-append c.ids p.jobs q (concat qs) in
     omega (arith, ints, a, b, e)

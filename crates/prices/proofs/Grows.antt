@@ -5,7 +5,7 @@ use Rattle.std.proofs.lemmas.Nat.{mul-le}
 use Rattle.std.proofs.lemmas.List.{get_or_past}
 use Rattle.std.proofs.lemmas.List.Elements.{All-cons}
 use Rattle.base_types.specs.declared.limits.TheConstants.Limits.{JOB_TIME}
-use Rattle.cost_table.specs.Class.{Class, IsClass, wait_of}
+use Rattle.cost_table.specs.Class.{Class, IsClass, wait_in}
 use Rattle.prices.specs.Way.{IsWay}
 use Rattle.prices.specs.Waits.{busy_time, waits_from, waits_after, GrowsByTimes}
 use Rattle.prices.proofs.Bounds.{busy_small, part_short, length_names}
@@ -14,7 +14,7 @@ pub waits_from_length : (c : Class) (d : ℕ) (w : List (List ℕ)) → length (
 waits_from_length c d [] = refl
 waits_from_length c d (q ∷ qs) = ap suc (waits_from_length c (suc d) qs)
 
-wait_at_most : (c : Class) (most : ℕ) → All (λ wait. wait ≤ most) c.waits → (d : ℕ) → wait_of c d ≤ most
+wait_at_most : (c : Class) (most : ℕ) → All (λ wait. wait ≤ most) c.waits → (d : ℕ) → wait_in c d ≤ most
 wait_at_most c most h d = elim (cases_lt d (length c.waits)) [
   | inl lt ↦ h d 0 lt
   | inr past ↦ rw (get_or_past c.waits d 0 past) (omega arith)
@@ -27,7 +27,7 @@ waits_from_grow : (c : Class) → IsClass c → (most : ℕ) → All (λ wait. w
 waits_from_grow c ok most h d [] short = λ i v below. absurd (omega (arith, below))
 waits_from_grow c ok most h d (q ∷ qs) short =
     let busy : busy_time c d q ≤ length c.ids * JOB_TIME = busy_at_most c ok d q (short 0) in
-    All-cons (λ wait. wait ≤ most + length c.ids * JOB_TIME) (wait_of c d + busy_time c d q) (waits_from c (suc d) qs)
+    All-cons (λ wait. wait ≤ most + length c.ids * JOB_TIME) (wait_in c d + busy_time c d q) (waits_from c (suc d) qs)
     (omega (arith, wait_at_most c most h d, busy))
     (waits_from_grow c ok most h (suc d) qs (λ i. short (suc i)))
 

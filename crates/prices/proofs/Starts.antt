@@ -4,7 +4,7 @@ use Rattle.std.specs.List.{position, position_or_len}
 use Rattle.std.proofs.lemmas.Bool.{cond_both, ltb-true, ltb-false, eqb-true, eq-eqb, both_ways}
 use Rattle.std.proofs.lemmas.List.Sums.{passes_at_first, fails_before_first}
 use Rattle.std.proofs.lemmas.List.{get_or_default, get_or_append_left, get_or-append-add, length-append}
-use Rattle.cost_table.specs.Class.{Class, wait_of}
+use Rattle.cost_table.specs.Class.{Class, wait_in}
 use Rattle.prices.specs.Total.{time_on}
 use Rattle.prices.specs.Waits.{busy_time}
 use Rattle.prices.specs.Timetable.{Slot, slots_of_list, slots_from, own_slots}
@@ -52,23 +52,23 @@ slot_in_list c d free (j ∷ js) (suc i) l =
     contains_later (record { job = j; device = d; start = free }) (slots_of_list c d (free + time_on c j d) js) (slot (free + (time_on c j d + busy_time c d (take i js))))
     (rw e at (slot_in_list c d (free + time_on c j d) js i (omega arith)))
 
-slot_from : (c : Class) (d : ℕ) (qs : List (List ℕ)) (n i : ℕ) → n < length qs → i < length (get_or qs n []) → Contains (slots_from c d qs) (record { job = get_or (get_or qs n []) i 0; device = d + n; start = wait_of c (d + n) + busy_time c (d + n) (take i (get_or qs n [])) })
+slot_from : (c : Class) (d : ℕ) (qs : List (List ℕ)) (n i : ℕ) → n < length qs → i < length (get_or qs n []) → Contains (slots_from c d qs) (record { job = get_or (get_or qs n []) i 0; device = d + n; start = wait_in c (d + n) + busy_time c (d + n) (take i (get_or qs n [])) })
 slot_from c d [] n i l m = absurd (omega arith)
 slot_from c d (q ∷ qs) zero i l m =
-    rw add-zero (contains_left (slots_of_list c d (wait_of c d) q) (slots_from c (suc d) qs) (record { job = get_or q i 0; device = d; start = wait_of c d + busy_time c d (take i q) }) (slot_in_list c d (wait_of c d) q i m))
+    rw add-zero (contains_left (slots_of_list c d (wait_in c d) q) (slots_from c (suc d) qs) (record { job = get_or q i 0; device = d; start = wait_in c d + busy_time c d (take i q) }) (slot_in_list c d (wait_in c d) q i m))
 slot_from c d (q ∷ qs) (suc n) i l m =
     let e : suc d + n ≡ d + suc n = omega arith in
-    let slot : ℕ → Slot = λ x. record { job = get_or (get_or qs n []) i 0; device = x; start = wait_of c x + busy_time c x (take i (get_or qs n [])) } in
-    contains_right (slots_of_list c d (wait_of c d) q) (slots_from c (suc d) qs) (slot (d + suc n)) (rw e at (slot_from c (suc d) qs n i (omega arith) m))
+    let slot : ℕ → Slot = λ x. record { job = get_or (get_or qs n []) i 0; device = x; start = wait_in c x + busy_time c x (take i (get_or qs n [])) } in
+    contains_right (slots_of_list c d (wait_in c d) q) (slots_from c (suc d) qs) (slot (d + suc n)) (rw e at (slot_from c (suc d) qs n i (omega arith) m))
 
 -- the slot of a job that a loop finds in a queue
-pub found_slot : (c : Class) (w : List (List ℕ)) (place device job before : ℕ) (jobs : List ℕ) (start : ℕ) → place < length w → device ≡ place → jobs ≡ get_or w place [] → Some before ≡ position (λ id. id == job) jobs → start ≡ wait_of c device + busy_time c device (take before jobs)
+pub found_slot : (c : Class) (w : List (List ℕ)) (place device job before : ℕ) (jobs : List ℕ) (start : ℕ) → place < length w → device ≡ place → jobs ≡ get_or w place [] → Some before ≡ position (λ id. id == job) jobs → start ≡ wait_in c device + busy_time c device (take before jobs)
     → Contains (own_slots c w) (record { job = job; device = device; start = start })
 found_slot c w place device job before jobs start l at is found e =
     let b = found_below jobs job before found in
     let here : 0 + place ≡ place = omega arith in
-    let s : Contains (own_slots c w) (record { job = get_or (get_or w place []) before 0; device = 0 + place; start = wait_of c (0 + place) + busy_time c (0 + place) (take before (get_or w place [])) }) =
+    let s : Contains (own_slots c w) (record { job = get_or (get_or w place []) before 0; device = 0 + place; start = wait_in c (0 + place) + busy_time c (0 + place) (take before (get_or w place [])) }) =
     slot_from c 0 w place before l (rw is at b.0) in
-    let slot : ℕ → ℕ → Slot = λ j d. record { job = j; device = d; start = wait_of c d + busy_time c d (take before jobs) } in
+    let slot : ℕ → ℕ → Slot = λ j d. record { job = j; device = d; start = wait_in c d + busy_time c d (take before jobs) } in
     let t : Contains (own_slots c w) (slot (get_or jobs before 0) place) = rw is (rw here at s) in
     rw e (rw at (rw b.1 at t))

@@ -1,14 +1,14 @@
 -- totals of what is left of a list, one step on
 use Rattle.std.proofs.Common.{◌≡◌, ℕ, suc, ◌+◌, ◌<◌, ◌≤◌, List, [], ◌∷◌, length, drop, get_or, refl, sym, zero, ap, ◌∙◌, arith, add-one}
 use Rattle.std.proofs.lemmas.List.{at_drop_more, at_drop_all, get_or_default}
-use Rattle.cost_table.specs.Class.{Class, wait_of}
+use Rattle.cost_table.specs.Class.{Class, wait_in}
 use Rattle.prices.specs.Total.{time_on, list_total, total_from, total_of}
 use Rattle.prices.specs.Waits.{busy_time, waits_from, waits_after}
 
 pub list_total_step : (c : Class) (d free : ℕ) (jobs : List ℕ) (i x : ℕ) → i < length jobs → x ≡ time_on c (get_or jobs i 0) d → list_total c d free (drop i jobs) ≡ (free + x) + list_total c d (free + x) (drop (i + 1) jobs)
 list_total_step c d free jobs i x l e = rw e (at_drop_more (list_total c d free) jobs i 0 l)
 
-pub total_from_step : (c : Class) (ways : List (List ℕ)) (i : ℕ) → i < length ways → total_from c i (drop i ways) ≡ list_total c i (wait_of c i) (get_or ways i []) + total_from c (i + 1) (drop (i + 1) ways)
+pub total_from_step : (c : Class) (ways : List (List ℕ)) (i : ℕ) → i < length ways → total_from c i (drop i ways) ≡ list_total c i (wait_in c i) (get_or ways i []) + total_from c (i + 1) (drop (i + 1) ways)
 total_from_step c ways i l = at_drop_more (total_from c i) ways i [] l ∙ (rw add-one refl)
 
 -- the queue that a loop reads is the way's
@@ -16,10 +16,10 @@ pub queue_at : (w qs : List (List ℕ)) (i : ℕ) (q jobs : List ℕ) → qs ≡
 queue_at w qs i q jobs same l is seen = seen ∙ is ∙ get_or_default qs i q [] l ∙ ap (λ v. get_or v i []) same
 
 -- one device on in a loop over the lists of a way, as the code reads them
-pub total_step : (c : Class) (w : List (List ℕ)) (i x d : ℕ) (jobs : List ℕ) → i < length w → d ≡ i → jobs ≡ get_or w i [] → x ≡ list_total c d (wait_of c d) jobs → total_from c i (drop i w) ≡ x + total_from c (i + 1) (drop (i + 1) w)
+pub total_step : (c : Class) (w : List (List ℕ)) (i x d : ℕ) (jobs : List ℕ) → i < length w → d ≡ i → jobs ≡ get_or w i [] → x ≡ list_total c d (wait_in c d) jobs → total_from c i (drop i w) ≡ x + total_from c (i + 1) (drop (i + 1) w)
 total_step c w i x d jobs l at is e =
-    let s : total_from c i (drop i w) ≡ list_total c i (wait_of c i) (get_or w i []) + total_from c (i + 1) (drop (i + 1) w) = total_from_step c w i l in
-    let v : x ≡ list_total c i (wait_of c i) (get_or w i []) = e ∙ ap (λ n. list_total c n (wait_of c n) jobs) at ∙ ap (list_total c i (wait_of c i)) is in
+    let s : total_from c i (drop i w) ≡ list_total c i (wait_in c i) (get_or w i []) + total_from c (i + 1) (drop (i + 1) w) = total_from_step c w i l in
+    let v : x ≡ list_total c i (wait_in c i) (get_or w i []) = e ∙ ap (λ n. list_total c n (wait_in c n) jobs) at ∙ ap (list_total c i (wait_in c i)) is in
     omega (arith, s, v)
 
 pub total_end : (c : Class) (w qs : List (List ℕ)) (i sum : ℕ) → qs ≡ w → length qs ≤ i → sum + total_from c i (drop i w) ≡ total_of c w → sum ≡ total_of c w
@@ -36,14 +36,14 @@ pub length-waits_from : (c : Class) (d : ℕ) (qs : List (List ℕ)) → length 
 length-waits_from c d [] = refl
 length-waits_from c d (q ∷ qs) = ap suc (length-waits_from c (suc d) qs)
 
-pub waits_from_at : (c : Class) (d : ℕ) (qs : List (List ℕ)) (k : ℕ) → k < length qs → get_or (waits_from c d qs) k 0 ≡ wait_of c (d + k) + busy_time c (d + k) (get_or qs k [])
+pub waits_from_at : (c : Class) (d : ℕ) (qs : List (List ℕ)) (k : ℕ) → k < length qs → get_or (waits_from c d qs) k 0 ≡ wait_in c (d + k) + busy_time c (d + k) (get_or qs k [])
 waits_from_at c d [] k l = absurd (omega arith)
-waits_from_at c d (q ∷ qs) zero l = ap (λ n. wait_of c n + busy_time c n q) (let e : d ≡ d + zero = omega arith in e)
-waits_from_at c d (q ∷ qs) (suc k) l = waits_from_at c (suc d) qs k (omega arith) ∙ ap (λ n. wait_of c n + busy_time c n (get_or qs k [])) (let e : suc d + k ≡ d + suc k = omega arith in e)
+waits_from_at c d (q ∷ qs) zero l = ap (λ n. wait_in c n + busy_time c n q) (let e : d ≡ d + zero = omega arith in e)
+waits_from_at c d (q ∷ qs) (suc k) l = waits_from_at c (suc d) qs k (omega arith) ∙ ap (λ n. wait_in c n + busy_time c n (get_or qs k [])) (let e : suc d + k ≡ d + suc k = omega arith in e)
 
 -- what the code computes for a device is the wait that the way leaves
-pub left_at : (c : Class) (w : List (List ℕ)) (i x d : ℕ) (jobs : List ℕ) → i < length w → d ≡ i → jobs ≡ get_or w i [] → x ≡ wait_of c d + busy_time c d jobs → x ≡ get_or (waits_after c w) i 0
+pub left_at : (c : Class) (w : List (List ℕ)) (i x d : ℕ) (jobs : List ℕ) → i < length w → d ≡ i → jobs ≡ get_or w i [] → x ≡ wait_in c d + busy_time c d jobs → x ≡ get_or (waits_after c w) i 0
 left_at c w i x d jobs l at is e =
-    let v : get_or (waits_after c w) i 0 ≡ wait_of c (0 + i) + busy_time c (0 + i) (get_or w i []) = waits_from_at c 0 w i l in
+    let v : get_or (waits_after c w) i 0 ≡ wait_in c (0 + i) + busy_time c (0 + i) (get_or w i []) = waits_from_at c 0 w i l in
     let z : 0 + i ≡ i = omega arith in
-    e ∙ ap (λ n. wait_of c n + busy_time c n jobs) at ∙ ap (λ b. wait_of c i + busy_time c i b) is ∙ sym (v ∙ ap (λ n. wait_of c n + busy_time c n (get_or w i [])) z)
+    e ∙ ap (λ n. wait_in c n + busy_time c n jobs) at ∙ ap (λ b. wait_in c i + busy_time c i b) is ∙ sym (v ∙ ap (λ n. wait_in c n + busy_time c n (get_or w i [])) z)

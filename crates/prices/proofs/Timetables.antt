@@ -5,7 +5,7 @@ use Rattle.std.proofs.lemmas.Bool.{cond_both, eqb-true, cases_lt, cases_eq, eq-e
 use Rattle.std.proofs.lemmas.List.Elements.{All-head, All-tail, All-cons, All-nil, All-append, All-map}
 use Rattle.std.proofs.lemmas.List.{get_or_past}
 use Rattle.std.proofs.lemmas.List.Sums.{sum_by-cons, sum_by-append}
-use Rattle.cost_table.specs.Class.{Class, IsClass, time_in, wait_of}
+use Rattle.cost_table.specs.Class.{Class, IsClass, time_in, wait_in}
 use Rattle.prices.specs.Way.{IsWay, queue_of, times_named}
 use Rattle.prices.specs.Total.{IsBest, time_on, list_total, total_from, total_of}
 use Rattle.prices.specs.Timetable.{Slot, end_of, Apart, slots_naming, IsTimetable, slots_total}
@@ -91,16 +91,16 @@ slots_on_device c d (s ∷ ss) =
     (λ e. put_all c (λ x. x.device ≡ d) s (slots_on c d ss) (eqb-true s.device d e) rest)
     (λ _. rest)
 
-slots_on_follow : (c : Class) (d : ℕ) (ss : List Slot) → All (λ s. wait_of c s.device ≤ s.start) ss → Apart_all c ss → Follows c (wait_of c d) (slots_on c d ss)
+slots_on_follow : (c : Class) (d : ℕ) (ss : List Slot) → All (λ s. wait_in c s.device ≤ s.start) ss → Apart_all c ss → Follows c (wait_in c d) (slots_on c d ss)
 slots_on_follow c d [] w a = tt
 slots_on_follow c d (s ∷ ss) w a =
-    let rest : Follows c (wait_of c d) (slots_on c d ss) = slots_on_follow c d ss (All-tail (λ x. wait_of c x.device ≤ x.start) s ss w) a.1 in
-    cond_both (s.device == d) (put c s (slots_on c d ss)) (slots_on c d ss) (Follows c (wait_of c d))
+    let rest : Follows c (wait_in c d) (slots_on c d ss) = slots_on_follow c d ss (All-tail (λ x. wait_in c x.device ≤ x.start) s ss w) a.1 in
+    cond_both (s.device == d) (put c s (slots_on c d ss)) (slots_on c d ss) (Follows c (wait_in c d))
     (λ e.
     let on : s.device ≡ d = eqb-true s.device d e in
     let apart : All (λ x. Apart c s x) (slots_on c d ss) = slots_on_all c (λ x. Apart c s x) d ss a.0 in
     let here : All (λ x. x.device ≡ d) (slots_on c d ss) = slots_on_device c d ss in
-    put_follows c s (wait_of c d) (slots_on c d ss) (let z : wait_of c s.device ≤ s.start = All-head (λ x. wait_of c x.device ≤ x.start) s ss w in rw on at z) rest
+    put_follows c s (wait_in c d) (slots_on c d ss) (let z : wait_in c s.device ≤ s.start = All-head (λ x. wait_in c x.device ≤ x.start) s ss w in rw on at z) rest
     (λ k x l. apart k x l (on ∙ sym (here k x l))))
     (λ _. rest)
 
@@ -172,10 +172,10 @@ slots_total_is : (c : Class) (ss : List Slot) → slots_total c ss ≡ weight (e
 slots_total_is c [] = refl
 slots_total_is c (s ∷ ss) = ap (λ n. end_of c s + n) (slots_total_is c ss)
 
-way_total_at_most : (c : Class) (d n : ℕ) (ss : List Slot) → All (λ s. wait_of c s.device ≤ s.start) ss → Apart_all c ss → total_from c d (way_from c d n ss) ≤ weight_from c (end_of c) d n ss
+way_total_at_most : (c : Class) (d n : ℕ) (ss : List Slot) → All (λ s. wait_in c s.device ≤ s.start) ss → Apart_all c ss → total_from c d (way_from c d n ss) ≤ weight_from c (end_of c) d n ss
 way_total_at_most c d zero ss w a = omega arith
 way_total_at_most c d (suc n) ss w a =
-    let x : list_total c d (wait_of c d) (jobs_of (slots_on c d ss)) ≤ slots_total c (slots_on c d ss) = list_total_at_most c d (wait_of c d) (slots_on c d ss) (slots_on_device c d ss) (slots_on_follow c d ss w a) in
+    let x : list_total c d (wait_in c d) (jobs_of (slots_on c d ss)) ≤ slots_total c (slots_on c d ss) = list_total_at_most c d (wait_in c d) (slots_on c d ss) (slots_on_device c d ss) (slots_on_follow c d ss w a) in
     let y : total_from c (suc d) (way_from c (suc d) n ss) ≤ weight_from c (end_of c) (suc d) n ss = way_total_at_most c (suc d) n ss w a in
     omega (arith, x, y, slots_total_is c (slots_on c d ss))
 

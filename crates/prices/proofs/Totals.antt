@@ -1,6 +1,6 @@
 -- the total of a way by places from the end
 use Rattle.std.proofs.Common.{◌≡◌, ℕ, suc, ◌+◌, ◌*◌, List, [], ◌∷◌, length, refl, ap, ◌∙◌, arith}
-use Rattle.cost_table.specs.Class.{Class, wait_of}
+use Rattle.cost_table.specs.Class.{Class, wait_in}
 use Rattle.prices.specs.Total.{time_on, list_total, list_cost, total_from, cost_from}
 
 -- a device that is free t later ends each job t later
@@ -19,4 +19,4 @@ list_cost_is c d free (j ∷ js) =
 
 pub cost_from_is : (c : Class) (d : ℕ) (way : List (List ℕ)) → total_from c d way ≡ cost_from c d way
 cost_from_is c d [] = refl
-cost_from_is c d (q ∷ qs) = omega (arith, list_cost_is c d (wait_of c d) q, cost_from_is c (suc d) qs)
+cost_from_is c d (q ∷ qs) = omega (arith, list_cost_is c d (wait_in c d) q, cost_from_is c (suc d) qs)

@@ -4,7 +4,7 @@ use Rattle.std.specs.List.{concat}
 use Rattle.std.proofs.lemmas.List.{map-append, get_or-map, length-map}
 use Rattle.std.proofs.lemmas.List.Elements.{All-head, All-tail, All-cons, All-nil, All-append}
 use Rattle.std.proofs.lemmas.List.Kept.{AllPairs-cons}
-use Rattle.cost_table.specs.Class.{Class, time_in, wait_of}
+use Rattle.cost_table.specs.Class.{Class, time_in, wait_in}
 use Rattle.prices.specs.Way.{IsWay, times_named}
 use Rattle.prices.specs.Total.{time_on, list_total, total_from, total_of}
 use Rattle.prices.specs.Timetable.{Slot, Apart, IsTimetable, slots_total, slots_of_list, slots_from, own_slots}
@@ -21,7 +21,7 @@ slots_total-append c (x ∷ xs) ys = omega (arith, slots_total-append c xs ys)
 
 slots_from_total : (c : Class) (d : ℕ) (qs : List (List ℕ)) → slots_total c (slots_from c d qs) ≡ total_from c d qs
 slots_from_total c d [] = refl
-slots_from_total c d (q ∷ qs) = omega (arith, slots_total-append c (slots_of_list c d (wait_of c d) q) (slots_from c (suc d) qs), list_slots_total c d (wait_of c d) q, slots_from_total c (suc d) qs)
+slots_from_total c d (q ∷ qs) = omega (arith, slots_total-append c (slots_of_list c d (wait_in c d) q) (slots_from c (suc d) qs), list_slots_total c d (wait_in c d) q, slots_from_total c (suc d) qs)
 
 list_jobs : (c : Class) (d free : ℕ) (q : List ℕ) → jobs_of (slots_of_list c d free q) ≡ q
 list_jobs c d free [] = refl
@@ -30,8 +30,8 @@ list_jobs c d free (j ∷ js) = ap (λ x. j ∷ x) (list_jobs c d (free + time_o
 from_jobs : (c : Class) (d : ℕ) (qs : List (List ℕ)) → jobs_of (slots_from c d qs) ≡ concat qs
 from_jobs c d [] = refl
 from_jobs c d (q ∷ qs) =
-    map-append (λ (s : Slot). s.job) (slots_of_list c d (wait_of c d) q) (slots_from c (suc d) qs)
-    ∙ ap (λ x. x ++ jobs_of (slots_from c (suc d) qs)) (list_jobs c d (wait_of c d) q)
+    map-append (λ (s : Slot). s.job) (slots_of_list c d (wait_in c d) q) (slots_from c (suc d) qs)
+    ∙ ap (λ x. x ++ jobs_of (slots_from c (suc d) qs)) (list_jobs c d (wait_in c d) q)
     ∙ ap (λ x. q ++ x) (from_jobs c (suc d) qs)
 
 all_of_jobs : (P : ℕ → Type 0) (ss : List Slot) → All P (jobs_of ss) → All (λ s. P s.job) ss
@@ -59,21 +59,21 @@ list_able c d free (j ∷ js) h = All-cons (λ s. IsSome (time_in c s.job s.devi
 -- over the devices
 from_device : (c : Class) (d : ℕ) (qs : List (List ℕ)) → All (λ s. d ≤ s.device) (slots_from c d qs)
 from_device c d [] = All-nil (λ s. d ≤ s.device)
-from_device c d (q ∷ qs) = All-append (λ s. d ≤ s.device) (slots_of_list c d (wait_of c d) q) (slots_from c (suc d) qs)
-    (λ k x l. let e : (get_or (slots_of_list c d (wait_of c d) q) k x).device ≡ d = list_device c d (wait_of c d) q k x l in omega arith)
+from_device c d (q ∷ qs) = All-append (λ s. d ≤ s.device) (slots_of_list c d (wait_in c d) q) (slots_from c (suc d) qs)
+    (λ k x l. let e : (get_or (slots_of_list c d (wait_in c d) q) k x).device ≡ d = list_device c d (wait_in c d) q k x l in omega arith)
     (λ k x l. let e : suc d ≤ (get_or (slots_from c (suc d) qs) k x).device = from_device c (suc d) qs k x l in omega arith)
 
-from_wait : (c : Class) (d : ℕ) (qs : List (List ℕ)) → All (λ s. wait_of c s.device ≤ s.start) (slots_from c d qs)
-from_wait c d [] = All-nil (λ s. wait_of c s.device ≤ s.start)
-from_wait c d (q ∷ qs) = All-append (λ s. wait_of c s.device ≤ s.start) (slots_of_list c d (wait_of c d) q) (slots_from c (suc d) qs)
-    (λ k x l. let e : (get_or (slots_of_list c d (wait_of c d) q) k x).device ≡ d = list_device c d (wait_of c d) q k x l in
-    let w : wait_of c (get_or (slots_of_list c d (wait_of c d) q) k x).device ≡ wait_of c d = ap (wait_of c) e in
-    let s : wait_of c d ≤ (get_or (slots_of_list c d (wait_of c d) q) k x).start = list_starts c d (wait_of c d) (wait_of c d) q (omega arith) k x l in omega arith)
+from_wait : (c : Class) (d : ℕ) (qs : List (List ℕ)) → All (λ s. wait_in c s.device ≤ s.start) (slots_from c d qs)
+from_wait c d [] = All-nil (λ s. wait_in c s.device ≤ s.start)
+from_wait c d (q ∷ qs) = All-append (λ s. wait_in c s.device ≤ s.start) (slots_of_list c d (wait_in c d) q) (slots_from c (suc d) qs)
+    (λ k x l. let e : (get_or (slots_of_list c d (wait_in c d) q) k x).device ≡ d = list_device c d (wait_in c d) q k x l in
+    let w : wait_in c (get_or (slots_of_list c d (wait_in c d) q) k x).device ≡ wait_in c d = ap (wait_in c) e in
+    let s : wait_in c d ≤ (get_or (slots_of_list c d (wait_in c d) q) k x).start = list_starts c d (wait_in c d) (wait_in c d) q (omega arith) k x l in omega arith)
     (from_wait c (suc d) qs)
 
 from_able : (c : Class) (d : ℕ) (qs : List (List ℕ)) → AbleFrom c d qs → All (λ s. IsSome (time_in c s.job s.device)) (slots_from c d qs)
 from_able c d [] h = All-nil (λ s. IsSome (time_in c s.job s.device))
-from_able c d (q ∷ qs) h = All-append (λ s. IsSome (time_in c s.job s.device)) (slots_of_list c d (wait_of c d) q) (slots_from c (suc d) qs) (list_able c d (wait_of c d) q h.0) (from_able c (suc d) qs h.1)
+from_able c d (q ∷ qs) h = All-append (λ s. IsSome (time_in c s.job s.device)) (slots_of_list c d (wait_in c d) q) (slots_from c (suc d) qs) (list_able c d (wait_in c d) q h.0) (from_able c (suc d) qs h.1)
 
 apart-append : (c : Class) (d : ℕ) (xs ys : List Slot) → All (λ s. s.device ≡ d) xs → All (λ s. suc d ≤ s.device) ys → Apart_all c xs → Apart_all c ys → Apart_all c (xs ++ ys)
 apart-append c d [] ys on later a b = b
@@ -85,7 +85,7 @@ apart-append c d (x ∷ xs) ys on later a b = (
 
 from_apart : (c : Class) (d : ℕ) (qs : List (List ℕ)) → Apart_all c (slots_from c d qs)
 from_apart c d [] = tt
-from_apart c d (q ∷ qs) = apart-append c d (slots_of_list c d (wait_of c d) q) (slots_from c (suc d) qs) (list_device c d (wait_of c d) q) (from_device c (suc d) qs) (list_apart c d (wait_of c d) q) (from_apart c (suc d) qs)
+from_apart c d (q ∷ qs) = apart-append c d (slots_of_list c d (wait_in c d) q) (slots_from c (suc d) qs) (list_device c d (wait_in c d) q) (from_device c (suc d) qs) (list_apart c d (wait_in c d) q) (from_apart c (suc d) qs)
 
 all_pairs : (c : Class) (ss : List Slot) → Apart_all c ss → AllPairs (Apart c) ss
 all_pairs c [] h = λ i j d l m. absurd (omega arith)

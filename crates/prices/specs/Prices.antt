@@ -1,6 +1,6 @@
 -- Prices that prove a way best: those of a feasible dual of the assignment of jobs to places.
 use Rattle.std.specs.Prelude.{◌≡◌, ℕ, suc, ◌+◌, ◌*◌, ◌<◌, List, [], ◌∷◌, length, Some, slice_index_or, ℤ, pos, ◌+ℤ◌, ◌≤ℤ◌}
-use Rattle.cost_table.specs.Class.{Class, place_of, time_in, wait_of}
+use Rattle.cost_table.specs.Class.{Class, place_of, time_in, wait_in}
 use Rattle.prices.specs.Way.{IsWay, queue_of}
 use Rattle.prices.specs.Total.{total_of}
 
@@ -38,8 +38,8 @@ pub record AreFair (c : Class) (way : List (List ℕ)) (prices : PriceLists) : T
   pub one_list_each : length prices.places ≡ length way
   pub one_each_place : (device : ℕ) → length (places_on prices.places device) ≡ length (queue_of way device)
   pub not_positive : (device after : ℕ) → place_price prices.places device after ≤ℤ pos 0
-  pub used : (job device time after : ℕ) → time_in c job device ≡ Some time → after < length (queue_of way device) → (job_price c.ids prices.jobs job +ℤ place_price prices.places device after) ≤ℤ pos (wait_of c device + suc after * time)
-  pub next : (job device time : ℕ) → time_in c job device ≡ Some time → job_price c.ids prices.jobs job ≤ℤ pos (wait_of c device + suc (length (queue_of way device)) * time)
+  pub used : (job device time after : ℕ) → time_in c job device ≡ Some time → after < length (queue_of way device) → (job_price c.ids prices.jobs job +ℤ place_price prices.places device after) ≤ℤ pos (wait_in c device + suc after * time)
+  pub next : (job device time : ℕ) → time_in c job device ≡ Some time → job_price c.ids prices.jobs job ≤ℤ pos (wait_in c device + suc (length (queue_of way device)) * time)
   pub sums : sum_signed prices.jobs +ℤ sum_lists prices.places ≡ pos (total_of c way)
 
 -- a way of the class with fair prices, and its total stated

@@ -1,6 +1,6 @@
 -- Timetables of a class: its jobs start at any moments, in any order, with gaps.
 use Rattle.std.specs.Prelude.{◌≡◌, ◌==◌, ◌⊎◌, ℕ, suc, ◌+◌, ◌≤◌, List, [], ◌∷◌, ◌++◌, IsSome, All, AllPairs, Contains, count_by}
-use Rattle.cost_table.specs.Class.{Class, time_in, wait_of}
+use Rattle.cost_table.specs.Class.{Class, time_in, wait_in}
 use Rattle.prices.specs.Total.{time_on}
 
 -- a job, its device, and when it starts, in ms from the moment that the waits are counted from
@@ -26,7 +26,7 @@ pub record IsTimetable (c : Class) (slots : List Slot) : Type 0 where
   pub known : All (λ slot. Contains c.ids slot.job) slots
   pub once : All (λ job. slots_naming slots job ≡ 1) c.ids
   pub able : All (λ slot. IsSome (time_in c slot.job slot.device)) slots
-  pub after_wait : All (λ slot. wait_of c slot.device ≤ slot.start) slots
+  pub after_wait : All (λ slot. wait_in c slot.device ≤ slot.start) slots
   pub apart : AllPairs (Apart c) slots
 
 -- the sum of the ends
@@ -42,7 +42,7 @@ slots_of_list c device free (job ∷ jobs) = record { job = job; device = device
 -- for the devices from one on
 abbrev pub slots_from : Class → ℕ → List (List ℕ) → List Slot
 slots_from c device [] = []
-slots_from c device (jobs ∷ lists) = slots_of_list c device (wait_of c device) jobs ++ slots_from c (suc device) lists
+slots_from c device (jobs ∷ lists) = slots_of_list c device (wait_in c device) jobs ++ slots_from c (suc device) lists
 
 -- a way's own timetable: on each device the jobs follow one another from its wait on
 abbrev pub own_slots : Class → List (List ℕ) → List Slot

@@ -2,7 +2,7 @@
 -- devices of different speeds (W. A. Horn, Minimizing average flow time with parallel machines, 1973;
 -- J. Bruno, E. G. Coffman and R. Sethi, Scheduling independent tasks to reduce mean finishing time, 1974).
 use Rattle.std.specs.Prelude.{ℕ, suc, ◌+◌, ◌*◌, ◌≤◌, List, [], ◌∷◌, length, unwrap_or}
-use Rattle.cost_table.specs.Class.{Class, time_in, wait_of}
+use Rattle.cost_table.specs.Class.{Class, time_in, wait_in}
 use Rattle.prices.specs.Way.{IsWay}
 
 -- the time of a job on a device that is able
@@ -18,7 +18,7 @@ list_total c device free (job ∷ jobs) = (free + time_on c job device) + list_t
 -- the totals of the devices from one on
 abbrev pub total_from : Class → ℕ → List (List ℕ) → ℕ
 total_from c device [] = 0
-total_from c device (jobs ∷ lists) = list_total c device (wait_of c device) jobs + total_from c (suc device) lists
+total_from c device (jobs ∷ lists) = list_total c device (wait_in c device) jobs + total_from c (suc device) lists
 
 -- the sum of the completions of all jobs
 abbrev pub total_of : Class → List (List ℕ) → ℕ
@@ -37,7 +37,7 @@ list_cost c device free (job ∷ jobs) = (free + suc (length jobs) * time_on c j
 
 abbrev pub cost_from : Class → ℕ → List (List ℕ) → ℕ
 cost_from c device [] = 0
-cost_from c device (jobs ∷ lists) = list_cost c device (wait_of c device) jobs + cost_from c (suc device) lists
+cost_from c device (jobs ∷ lists) = list_cost c device (wait_in c device) jobs + cost_from c (suc device) lists
 
 abbrev pub cost_of : Class → List (List ℕ) → ℕ
 cost_of c way = cost_from c 0 way

@@ -1,7 +1,7 @@
 -- When each device is free again after a class.
 use Rattle.std.specs.Prelude.{ℕ, suc, ◌+◌, ◌*◌, ◌≤◌, List, [], ◌∷◌, length, All}
 use Rattle.base_types.specs.declared.limits.TheConstants.Limits.{JOB_TIME}
-use Rattle.cost_table.specs.Class.{Class, wait_of}
+use Rattle.cost_table.specs.Class.{Class, wait_in}
 use Rattle.prices.specs.Total.{time_on}
 
 -- the time that a list of jobs takes on a device
@@ -12,7 +12,7 @@ busy_time c device (job ∷ jobs) = time_on c job device + busy_time c device jo
 -- for the devices from one on
 abbrev pub waits_from : Class → ℕ → List (List ℕ) → List ℕ
 waits_from c device [] = []
-waits_from c device (jobs ∷ lists) = (wait_of c device + busy_time c device jobs) ∷ waits_from c (suc device) lists
+waits_from c device (jobs ∷ lists) = (wait_in c device + busy_time c device jobs) ∷ waits_from c (suc device) lists
 
 -- for each device its wait, and the times of all its jobs
 abbrev pub waits_after : Class → List (List ℕ) → List ℕ

@@ -1,6 +1,6 @@
 //! The total of a way.
 ghost use Rattle.std.specs.Prelude.{◌≡◌, ◌^◌, ◌<◌, length};
-ghost use Rattle.cost_table.specs.Class.{wait_of};
+ghost use Rattle.cost_table.specs.Class.{wait_in};
 ghost use Rattle.prices.specs.Way.{IsWay};
 ghost use Rattle.prices.specs.Total.{time_on, list_total, total_of, cost_of};
 
@@ -31,8 +31,8 @@ pub fn total(class: &ClassProblem, way: &Way) -> u64
 #[tactic(auto, using(crate::proofs::Steps::list_total_step))]
 fn queue_total(class: &ClassProblem, device: DeviceId, jobs: &[JobId]) -> u64
     requires device { device < length class.now.waits }
-    requires fits { list_total class.now device (wait_of class.now device) jobs.now < 2 ^ 64 }
-    ensures { result ≡ list_total class.now device (wait_of class.now device) jobs.now }
+    requires fits { list_total class.now device (wait_in class.now device) jobs.now < 2 ^ 64 }
+    ensures { result ≡ list_total class.now device (wait_in class.now device) jobs.now }
 {
     let mut free = class.wait(device);
     let mut sum = 0;

@@ -1,6 +1,6 @@
 //! When a way leaves each device free.
 ghost use Rattle.std.specs.Prelude.{◌≡◌, ◌↔◌, ◌+◌, ◌^◌, ◌<◌, length, IfOk, IsTrue};
-ghost use Rattle.cost_table.specs.Class.{wait_of};
+ghost use Rattle.cost_table.specs.Class.{wait_in};
 ghost use Rattle.prices.specs.Way.{IsWay};
 ghost use Rattle.prices.specs.Waits.{busy_time, GrowsByTimes, waits_after as waits_left};
 
@@ -48,8 +48,8 @@ pub fn leaves_waits(class: &ClassProblem, way: &Way, next: &[u64]) -> bool
 #[tactic(auto, using(crate::proofs::Steps::busy_time_step))]
 pub(crate) fn free_after(class: &ClassProblem, device: DeviceId, jobs: &[JobId]) -> u64
     requires device { device < length class.now.waits }
-    requires fits { wait_of class.now device + busy_time class.now device jobs.now < 2 ^ 64 }
-    ensures { result ≡ wait_of class.now device + busy_time class.now device jobs.now }
+    requires fits { wait_in class.now device + busy_time class.now device jobs.now < 2 ^ 64 }
+    ensures { result ≡ wait_in class.now device + busy_time class.now device jobs.now }
 {
     let mut free = class.wait(device);
     for job in jobs {

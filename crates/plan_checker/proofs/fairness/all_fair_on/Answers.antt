@@ -2,7 +2,7 @@ use Rattle.std.proofs.Common.{◌≡◌, Some, None, arith, rules, inl, inr, len
 use Rattle.std.proofs.lemmas.Int.{to_z-of_z}
 use mir.Val.{SFits, to_z, of_z}
 use mir.Syntax.{w64}
-use Rattle.cost_table.specs.Class.{wait_of}
+use Rattle.cost_table.specs.Class.{wait_in}
 use Rattle.prices.proofs.Each.{last_or_before, none_is_true}
 use Rattle.plan_checker.specs.Fair.{IsFairOn}
 use Rattle.plan_checker.proofs.Fair.{read_time, fair_at_place, fair_for_all}
@@ -15,7 +15,7 @@ returns-then-not-is_fair_on c =
     let f : SFits w64 (get_or c.args.prices.now c.loop-place.place (pos 0)) = search rules in (
       none_is_true,
       λ all. c.if-not-is_fair_on.ensures.1
-          (let g : IsFairOn (wait_of k c.args.device) c.in-Some.time (get_or c.args.prices.now c.loop-place.place (pos 0)) c.args.places.now =
+          (let g : IsFairOn (wait_in k c.args.device) c.in-Some.time (get_or c.args.prices.now c.loop-place.place (pos 0)) c.args.places.now =
           fair_at_place k c.ids-job-items.ensures.class c.args.device c.args.prices.now c.args.places.now c.ids-job-items.result.now c.loop-place.place c.job-item.result c.in-Some.time c.ids-job-items.ensures.ids c.loop-place-test.true c.job-item.is c.in-Some.ensures.time all in
           rw (c.wait-wait.ensures.wait, to_z-of_z w64 (get_or c.args.prices.now c.loop-place.place (pos 0)) f) g),
     )

@@ -3,7 +3,7 @@ use Rattle.prices.proofs.Steps.{queue_at, total_step, total_end}
 use Rattle.prices.proofs.Bounds.{total_small}
 use Rattle.prices.proofs.Totals.{cost_from_is}
 use Rattle.prices.specs.Total.{list_total}
-use Rattle.cost_table.specs.Class.{wait_of}
+use Rattle.cost_table.specs.Class.{wait_in}
 use Rattle.prices.proofs.way_total.total.Goals as goal
 
 pub queue_total-sum-requires-clause-fits : goal.queue_total-sum-requires-clause-fits
@@ -14,7 +14,7 @@ queue_total-sum-requires-clause-fits c =
       arith,
       total_small c.args.class.now c.ids-class.ensures.class c.args.way.now c.requires,
       c.loop-place.invariant,
-      total_step c.args.class.now c.args.way.now c.loop-place.place (list_total c.args.class.now c.new.result (wait_of c.args.class.now c.new.result) c.jobs.result.now) c.new.result c.jobs.result.now below c.new.ensures queue refl,
+      total_step c.args.class.now c.args.way.now c.loop-place.place (list_total c.args.class.now c.new.result (wait_in c.args.class.now c.new.result) c.jobs.result.now) c.new.result c.jobs.result.now below c.new.ensures queue refl,
     )
 
 pub overflow_add-sum : goal.overflow_add-sum

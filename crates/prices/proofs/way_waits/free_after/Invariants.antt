@@ -1,7 +1,7 @@
 use Rattle.std.proofs.Common.{◌≡◌, ◌+◌, drop}
-use Rattle.cost_table.specs.Class.{wait_of}
+use Rattle.cost_table.specs.Class.{wait_in}
 use Rattle.prices.specs.Waits.{busy_time}
 use Rattle.prices.proofs.way_waits.free_after.Given as goal
 
 abbrev pub invariant-loop-job : goal.invariant-loop-job
-invariant-loop-job l = l.free + busy_time l.class l.device (drop l.job-index l.jobs) ≡ wait_of l.class l.device + busy_time l.class l.device l.jobs
+invariant-loop-job l = l.free + busy_time l.class l.device (drop l.job-index l.jobs) ≡ wait_in l.class l.device + busy_time l.class l.device l.jobs
