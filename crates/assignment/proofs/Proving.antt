@@ -18,7 +18,7 @@ use Rattle.prices.specs.Total.{cost_from, list_cost, time_on, total_of}
 use Rattle.prices.specs.Prices.{AreFair, IsProved, PriceLists, job_price, place_price, places_on, sum_lists, sum_signed}
 use Rattle.prices.proofs.Names.{all_concat}
 use Rattle.prices.proofs.Sums.{Rises, count_of, count_of-cons, count_of-no, count_of-yes, rises}
-use Rattle.prices.proofs.Totals.{cost_from_is}
+use Rattle.prices.proofs.Completions.{by_places as total_placed}
 use Rattle.assignment.specs.declared.costs.Costs.{Costs}
 use Rattle.assignment.specs.declared.costs.Place.{Place}
 use Rattle.assignment.specs.declared.seating.Seating.{Seating}
@@ -200,7 +200,7 @@ pub total_is : (c : Class) (e : Entries) (s : Seating) → Solves c e s → tota
 total_is c e s h =
     let n = vec_len s.seats in
     let D = vec_len e.costs.waits in
-    cost_from_is c 0 (way_of e s)
+    total_placed c h.ok (way_of e s) (is_way c e s h)
     ∙ cost_devices c (λ d. queue_of_seats d e.ids.items s.seats.items s.jobs.items n) D
     ∙ spread _ _ _ D n (costs_spread c e s h) n (omega arith)
     ∙ sym (cost_seats e.costs s.seats.items s.jobs.items n)

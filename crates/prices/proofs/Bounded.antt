@@ -11,9 +11,10 @@ use Rattle.cost_table.specs.Time.{IsTime}
 use Rattle.cost_table.specs.Class.{Class, IsClass, place_of, time_in, wait_in}
 use Rattle.cost_table.proofs.Places.{place_at, timed_place, timed_device}
 use Rattle.prices.specs.Way.{IsWay, queue_of, times_named}
-use Rattle.prices.specs.Total.{time_on, list_total, list_cost, total_from, total_of}
+use Rattle.prices.specs.Total.{time_on, list_cost, total_of}
 use Rattle.prices.specs.Prices.{PriceLists, AreFair, sum_signed, sum_lists, job_price, places_on, place_price}
-use Rattle.prices.proofs.Totals.{list_cost_is}
+use Rattle.prices.proofs.Totals.{list_total, total_from, list_cost_is}
+use Rattle.prices.proofs.Completions.{total_is}
 use Rattle.prices.proofs.Sums.{prices_of, prices_of_all}
 use Rattle.prices.proofs.Duality.{place_bound, some_value, list_bound, list_total_bound, lists_bound, sum_front_more, sum_at_most_front, prices_of-append, sum_devices, sum_devices_all, AbleFrom, able_from}
 use Rattle.prices.proofs.Names.{all_concat, of_counted}
@@ -91,14 +92,14 @@ module _ (c : Class) (way : List (List ℕ)) (p : PriceLists) (f : AreFair c way
     tight : (d i after : ℕ) → d < length way → i + suc after ≡ length (queue_of way d) → pos (cost_at d (queue_of way d) i after) ≤ℤ price_at d (queue_of way d) i after
     unfolding times_named
     tight d i after l e =
-        let a : ((prices_of c.ids p.jobs (concat way) +ℤ sum_devices p.places 0 (length way)) +ℤ pos (cost_at (0 + d) (queue_of way d) i after)) ≤ℤ (pos (total_of c way) +ℤ price_at (0 + d) (queue_of way d) i after) =
+        let a : ((prices_of c.ids p.jobs (concat way) +ℤ sum_devices p.places 0 (length way)) +ℤ pos (cost_at (0 + d) (queue_of way d) i after)) ≤ℤ (pos (total_from c 0 way) +ℤ price_at (0 + d) (queue_of way d) i after) =
         lists_slack 0 way (able_from c 0 way (λ k. rw zero-add (w.able k))) d i after l e in
         let b : prices_of c.ids p.jobs (concat way) ≡ sum_signed p.jobs = prices_of_all c.ids p.jobs (concat way) ok.rising f.one_each_job w.once in
         let s : sum_devices p.places 0 (length way) ≡ sum_lists p.places = ap (sum_devices p.places 0) (sym f.one_list_each) ∙ sum_devices_all p.places in
         let g : sum_signed p.jobs +ℤ sum_lists p.places ≡ pos (total_of c way) = f.sums in
         let z : 0 + d ≡ d = omega arith in
-        let a' : ((prices_of c.ids p.jobs (concat way) +ℤ sum_devices p.places 0 (length way)) +ℤ pos (cost_at d (queue_of way d) i after)) ≤ℤ (pos (total_of c way) +ℤ price_at d (queue_of way d) i after) = rw z at a in
-        omega (arith, ints, a', b, s, g)
+        let a' : ((prices_of c.ids p.jobs (concat way) +ℤ sum_devices p.places 0 (length way)) +ℤ pos (cost_at d (queue_of way d) i after)) ≤ℤ (pos (total_from c 0 way) +ℤ price_at d (queue_of way d) i after) = rw z at a in
+        omega (arith, ints, a', b, s, g, total_is c ok way w)
 
     -- a job of a list has a price from 1 to twice the longest wait
     abbrev IsSmall : ℕ → Type 0

@@ -9,9 +9,10 @@ use Rattle.std.proofs.lemmas.Bool.{cases_lt}
 use Rattle.std.proofs.lemmas.List.Elements.{All-head, All-tail}
 use Rattle.cost_table.specs.Class.{Class, IsClass, time_in, wait_in}
 use Rattle.prices.specs.Way.{IsWay, queue_of, times_named}
-use Rattle.prices.specs.Total.{IsBest, time_on, list_total, list_cost, total_from, total_of}
+use Rattle.prices.specs.Total.{IsBest, time_on, list_cost, total_of}
 use Rattle.prices.specs.Prices.{AreFair, PriceLists, sum_signed, sum_lists, job_price, places_on, place_price}
-use Rattle.prices.proofs.Totals.{list_cost_is}
+use Rattle.prices.proofs.Totals.{list_total, total_from, list_cost_is}
+use Rattle.prices.proofs.Completions.{total_is}
 use Rattle.prices.proofs.Sums.{prices_of, prices_of_all}
 
 -- numbers of which none is positive
@@ -120,11 +121,11 @@ unfolding times_named
 best_from_fair c way p ok w f = record {
   is_way = w;
   least = λ other o.
-      let a : (prices_of c.ids p.jobs (concat other) +ℤ sum_devices p.places 0 (length other)) ≤ℤ pos (total_of c other) =
+      let a : (prices_of c.ids p.jobs (concat other) +ℤ sum_devices p.places 0 (length other)) ≤ℤ pos (total_from c 0 other) =
       lists_bound c way p f 0 other (able_from c 0 other (λ i. rw zero-add (o.able i))) in
       let b : prices_of c.ids p.jobs (concat other) ≡ sum_signed p.jobs = prices_of_all c.ids p.jobs (concat other) ok.rising f.one_each_job o.once in
       let n : length other ≡ length p.places = o.one_list_each ∙ sym w.one_list_each ∙ sym f.one_list_each in
       let d : sum_devices p.places 0 (length other) ≡ sum_lists p.places = ap (sum_devices p.places 0) n ∙ sum_devices_all p.places in
       let s : sum_signed p.jobs +ℤ sum_lists p.places ≡ pos (total_of c way) = f.sums in
-      omega (arith, ints, a, b, d, s);
+      omega (arith, ints, a, b, d, s, total_is c ok other o);
 }

@@ -1,24 +1,17 @@
 -- how far a class moves the waits
-use Rattle.std.proofs.Common.{◌≡◌, ℕ, suc, ◌+◌, ◌*◌, ◌≤◌, List, [], ◌∷◌, length, refl, ap, arith, get_or, All, inl, inr}
-use Rattle.std.proofs.lemmas.Bool.{cases_lt}
+use Rattle.std.proofs.Common.{◌≡◌, ℕ, suc, ◌+◌, ◌*◌, ◌≤◌, List, [], ◌∷◌, length, refl, ap, arith, get_or, All}
 use Rattle.std.proofs.lemmas.Nat.{mul-le}
-use Rattle.std.proofs.lemmas.List.{get_or_past}
 use Rattle.std.proofs.lemmas.List.Elements.{All-cons}
 use Rattle.base_types.specs.declared.limits.TheConstants.Limits.{JOB_TIME}
 use Rattle.cost_table.specs.Class.{Class, IsClass, wait_in}
 use Rattle.prices.specs.Way.{IsWay}
-use Rattle.prices.specs.Waits.{busy_time, waits_from, waits_after, GrowsByTimes}
-use Rattle.prices.proofs.Bounds.{busy_small, part_short, length_names}
+use Rattle.prices.specs.Total.{busy_time}
+use Rattle.prices.specs.Waits.{waits_from, waits_after, GrowsByTimes}
+use Rattle.prices.proofs.Bounds.{busy_small, part_short, length_names, wait_at_most}
 
 pub waits_from_length : (c : Class) (d : ℕ) (w : List (List ℕ)) → length (waits_from c d w) ≡ length w
 waits_from_length c d [] = refl
 waits_from_length c d (q ∷ qs) = ap suc (waits_from_length c (suc d) qs)
-
-wait_at_most : (c : Class) (most : ℕ) → All (λ wait. wait ≤ most) c.waits → (d : ℕ) → wait_in c d ≤ most
-wait_at_most c most h d = elim (cases_lt d (length c.waits)) [
-  | inl lt ↦ h d 0 lt
-  | inr past ↦ rw (get_or_past c.waits d 0 past) (omega arith)
-]
 
 busy_at_most : (c : Class) → IsClass c → (d : ℕ) (q : List ℕ) → length q ≤ length c.ids → busy_time c d q ≤ length c.ids * JOB_TIME
 busy_at_most c ok d q few = omega (arith, busy_small c ok d q, mul-le (length q) JOB_TIME (length c.ids) JOB_TIME few (omega arith))

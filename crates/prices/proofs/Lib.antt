@@ -2,6 +2,7 @@ pub mod Each
 pub mod Totals
 pub mod Sums
 pub mod Names
+pub mod Completions
 pub mod Duality
 pub mod Bounds
 pub mod Grows

@@ -15,10 +15,10 @@ pub all_concat : (P : ℕ → Type 0) (w : List (List ℕ)) → All (λ q. All P
 all_concat P [] h = All-nil P
 all_concat P (q ∷ qs) h = All-append P q (concat qs) (All-head (λ x. All P x) q qs h) (all_concat P qs (All-tail (λ x. All P x) q qs h))
 
-all_left : (P : ℕ → Type 0) (xs ys : List ℕ) → All P (xs ++ ys) → All P xs
+pub all_left : (P : ℕ → Type 0) (xs ys : List ℕ) → All P (xs ++ ys) → All P xs
 all_left P xs ys h k d l = subst P (get_or_append_left xs ys d k l) (h k d (omega (arith, l, length-append xs ys)))
 
-all_right : (P : ℕ → Type 0) (xs ys : List ℕ) → All P (xs ++ ys) → All P ys
+pub all_right : (P : ℕ → Type 0) (xs ys : List ℕ) → All P (xs ++ ys) → All P ys
 all_right P xs ys h k d l = subst P (get_or-append-add xs ys k d) (h (length xs + k) d (omega (arith, l, length-append xs ys)))
 
 -- and the other way round

@@ -5,8 +5,7 @@ use Rattle.std.proofs.lemmas.Bool.{cond_both, ltb-true, ltb-false, eqb-true, eq-
 use Rattle.std.proofs.lemmas.List.Sums.{passes_at_first, fails_before_first}
 use Rattle.std.proofs.lemmas.List.{get_or_default, get_or_append_left, get_or-append-add, length-append}
 use Rattle.cost_table.specs.Class.{Class, wait_in}
-use Rattle.prices.specs.Total.{time_on}
-use Rattle.prices.specs.Waits.{busy_time}
+use Rattle.prices.specs.Total.{time_on, busy_time}
 use Rattle.prices.specs.Timetable.{Slot, slots_of_list, slots_from, own_slots}
 
 -- where a search finds a job

@@ -2,29 +2,34 @@
 use Rattle.std.proofs.Common.{◌≡◌, ℕ, suc, ◌+◌, ◌<◌, ◌≤◌, List, [], ◌∷◌, length, drop, get_or, refl, sym, zero, ap, ◌∙◌, arith, add-one}
 use Rattle.std.proofs.lemmas.List.{at_drop_more, at_drop_all, get_or_default}
 use Rattle.cost_table.specs.Class.{Class, wait_in}
-use Rattle.prices.specs.Total.{time_on, list_total, total_from, total_of}
-use Rattle.prices.specs.Waits.{busy_time, waits_from, waits_after}
+use Rattle.prices.specs.Total.{time_on, busy_time, list_cost, cost_from, total_by_places}
+use Rattle.prices.specs.Waits.{waits_from, waits_after}
+use Rattle.prices.proofs.Totals.{list_total, list_cost_is}
 
 pub list_total_step : (c : Class) (d free : ℕ) (jobs : List ℕ) (i x : ℕ) → i < length jobs → x ≡ time_on c (get_or jobs i 0) d → list_total c d free (drop i jobs) ≡ (free + x) + list_total c d (free + x) (drop (i + 1) jobs)
 list_total_step c d free jobs i x l e = rw e (at_drop_more (list_total c d free) jobs i 0 l)
 
-pub total_from_step : (c : Class) (ways : List (List ℕ)) (i : ℕ) → i < length ways → total_from c i (drop i ways) ≡ list_total c i (wait_in c i) (get_or ways i []) + total_from c (i + 1) (drop (i + 1) ways)
-total_from_step c ways i l = at_drop_more (total_from c i) ways i [] l ∙ (rw add-one refl)
+-- at the end of the list its ends are what it costs by places
+pub list_total_end : (c : Class) (d free sum i : ℕ) (jobs : List ℕ) → length jobs ≤ i → sum + list_total c d free (drop i jobs) ≡ list_total c d (wait_in c d) jobs → sum ≡ list_cost c d (wait_in c d) jobs
+list_total_end c d free sum i jobs l e = omega (arith, e, at_drop_all (list_total c d free) jobs i l, list_cost_is c d (wait_in c d) jobs)
+
+pub cost_from_step : (c : Class) (ways : List (List ℕ)) (i : ℕ) → i < length ways → cost_from c i (drop i ways) ≡ list_cost c i (wait_in c i) (get_or ways i []) + cost_from c (i + 1) (drop (i + 1) ways)
+cost_from_step c ways i l = at_drop_more (cost_from c i) ways i [] l ∙ (rw add-one refl)
 
 -- the queue that a loop reads is the way's
 pub queue_at : (w qs : List (List ℕ)) (i : ℕ) (q jobs : List ℕ) → qs ≡ w → i < length qs → q ≡ get_or qs i q → jobs ≡ q → jobs ≡ get_or w i []
 queue_at w qs i q jobs same l is seen = seen ∙ is ∙ get_or_default qs i q [] l ∙ ap (λ v. get_or v i []) same
 
 -- one device on in a loop over the lists of a way, as the code reads them
-pub total_step : (c : Class) (w : List (List ℕ)) (i x d : ℕ) (jobs : List ℕ) → i < length w → d ≡ i → jobs ≡ get_or w i [] → x ≡ list_total c d (wait_in c d) jobs → total_from c i (drop i w) ≡ x + total_from c (i + 1) (drop (i + 1) w)
+pub total_step : (c : Class) (w : List (List ℕ)) (i x d : ℕ) (jobs : List ℕ) → i < length w → d ≡ i → jobs ≡ get_or w i [] → x ≡ list_cost c d (wait_in c d) jobs → cost_from c i (drop i w) ≡ x + cost_from c (i + 1) (drop (i + 1) w)
 total_step c w i x d jobs l at is e =
-    let s : total_from c i (drop i w) ≡ list_total c i (wait_in c i) (get_or w i []) + total_from c (i + 1) (drop (i + 1) w) = total_from_step c w i l in
-    let v : x ≡ list_total c i (wait_in c i) (get_or w i []) = e ∙ ap (λ n. list_total c n (wait_in c n) jobs) at ∙ ap (list_total c i (wait_in c i)) is in
+    let s : cost_from c i (drop i w) ≡ list_cost c i (wait_in c i) (get_or w i []) + cost_from c (i + 1) (drop (i + 1) w) = cost_from_step c w i l in
+    let v : x ≡ list_cost c i (wait_in c i) (get_or w i []) = e ∙ ap (λ n. list_cost c n (wait_in c n) jobs) at ∙ ap (list_cost c i (wait_in c i)) is in
     omega (arith, s, v)
 
-pub total_end : (c : Class) (w qs : List (List ℕ)) (i sum : ℕ) → qs ≡ w → length qs ≤ i → sum + total_from c i (drop i w) ≡ total_of c w → sum ≡ total_of c w
+pub total_end : (c : Class) (w qs : List (List ℕ)) (i sum : ℕ) → qs ≡ w → length qs ≤ i → sum + cost_from c i (drop i w) ≡ total_by_places c w → sum ≡ total_by_places c w
 total_end c w qs i s same l e =
-    let z : total_from c i (drop i w) ≡ 0 = at_drop_all (total_from c i) w i (let n : length qs ≡ length w = ap length same in omega arith) in
+    let z : cost_from c i (drop i w) ≡ 0 = at_drop_all (cost_from c i) w i (let n : length qs ≡ length w = ap length same in omega arith) in
     omega (arith, z, e)
 
 pub busy_time_step : (c : Class) (d : ℕ) (jobs : List ℕ) (i x : ℕ) → i < length jobs → x ≡ time_on c (get_or jobs i 0) d → busy_time c d (drop i jobs) ≡ x + busy_time c d (drop (i + 1) jobs)

@@ -7,10 +7,11 @@ use Rattle.std.proofs.lemmas.List.{get_or_past}
 use Rattle.std.proofs.lemmas.List.Sums.{sum_by-cons, sum_by-append}
 use Rattle.cost_table.specs.Class.{Class, IsClass, time_in, wait_in}
 use Rattle.prices.specs.Way.{IsWay, queue_of, times_named}
-use Rattle.prices.specs.Total.{IsBest, time_on, list_total, total_from, total_of}
+use Rattle.prices.specs.Total.{IsBest, time_on, total_of}
 use Rattle.prices.specs.Timetable.{Slot, end_of, Apart, slots_naming, IsTimetable, slots_total}
 use Rattle.cost_table.proofs.Places.{timed_device}
-use Rattle.prices.proofs.Totals.{list_total-later}
+use Rattle.prices.proofs.Totals.{list_total, total_from, list_total-later}
+use Rattle.prices.proofs.Completions.{total_is}
 use Rattle.prices.proofs.Duality.{some_value}
 
 -- a slot goes before the first that starts after its end
@@ -245,16 +246,17 @@ way_of_timetable c ss ok t =
     let n = length c.waits in
     let small : All (λ s. s.device < n) ss = on_devices c ok ss t.able in
     let way = way_from c 0 n ss in
-    let a : total_of c way ≤ weight_from c (end_of c) 0 n ss = way_total_at_most c 0 n ss t.after_wait (apart_all c ss t.apart) in
+    let is_way : IsWay c way = record {
+      one_list_each = length-way_from c 0 n ss;
+      known = way_known c (Contains c.ids) 0 n ss t.known;
+      once = λ k d l. count-way_from c (get_or c.ids k d) 0 n ss ∙ weight_from_all c (one_if (get_or c.ids k d)) n ss small ∙ sym (slots_naming_is ss (get_or c.ids k d)) ∙ t.once k d l;
+      able = way_able c n ss t.able;
+    } in
+    let a : total_from c 0 way ≤ weight_from c (end_of c) 0 n ss = way_total_at_most c 0 n ss t.after_wait (apart_all c ss t.apart) in
     let b : weight_from c (end_of c) 0 n ss ≡ weight (end_of c) ss = weight_from_all c (end_of c) n ss small in (
       way,
-      record {
-        one_list_each = length-way_from c 0 n ss;
-        known = way_known c (Contains c.ids) 0 n ss t.known;
-        once = λ k d l. count-way_from c (get_or c.ids k d) 0 n ss ∙ weight_from_all c (one_if (get_or c.ids k d)) n ss small ∙ sym (slots_naming_is ss (get_or c.ids k d)) ∙ t.once k d l;
-        able = way_able c n ss t.able;
-      },
-      omega (arith, a, b, slots_total_is c ss),
+      is_way,
+      omega (arith, a, b, slots_total_is c ss, total_is c ok way is_way),
     )
 
 -- no timetable has a smaller total than a best way

@@ -1,7 +1,17 @@
--- the total of a way by places from the end
+-- Totals list by list, as they are added up, and by places from the end.
 use Rattle.std.proofs.Common.{◌≡◌, ℕ, suc, ◌+◌, ◌*◌, List, [], ◌∷◌, length, refl, ap, ◌∙◌, arith}
 use Rattle.cost_table.specs.Class.{Class, wait_in}
-use Rattle.prices.specs.Total.{time_on, list_total, list_cost, total_from, cost_from}
+use Rattle.prices.specs.Total.{time_on, list_cost, cost_from}
+
+-- the ends of a list's jobs, on a device that is free at a moment
+abbrev pub list_total : Class → ℕ → ℕ → List ℕ → ℕ
+list_total c device free [] = 0
+list_total c device free (job ∷ jobs) = (free + time_on c job device) + list_total c device (free + time_on c job device) jobs
+
+-- those of all lists, for the devices from one on
+abbrev pub total_from : Class → ℕ → List (List ℕ) → ℕ
+total_from c device [] = 0
+total_from c device (jobs ∷ lists) = list_total c device (wait_in c device) jobs + total_from c (suc device) lists
 
 -- a device that is free t later ends each job t later
 pub list_total-later : (c : Class) (d free t : ℕ) (jobs : List ℕ) → list_total c d (free + t) jobs ≡ list_total c d free jobs + length jobs * t

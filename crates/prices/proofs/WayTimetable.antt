@@ -1,15 +1,17 @@
 -- each way is a timetable of its own total
-use Rattle.std.proofs.Common.{◌≡◌, ◌==◌, ℕ, suc, ◌+◌, ◌≤◌, List, [], ◌∷◌, ◌++◌, length, get_or, refl, sym, ap, ◌∙◌, subst, arith, inl, IsSome, All, AllPairs, Contains, count_by, zero-add}
-use Rattle.std.specs.List.{concat}
+use Rattle.std.proofs.Common.{◌≡◌, ◌==◌, true, false, ℕ, suc, ◌+◌, ◌≤◌, List, [], ◌∷◌, ◌++◌, length, get_or, refl, sym, ap, ◌∙◌, subst, arith, inl, IsSome, All, AllPairs, Contains, count_by, zero-add}
+use Rattle.std.specs.List.{concat, list_any}
 use Rattle.std.proofs.lemmas.List.{map-append, get_or-map, length-map}
 use Rattle.std.proofs.lemmas.List.Elements.{All-head, All-tail, All-cons, All-nil, All-append}
 use Rattle.std.proofs.lemmas.List.Kept.{AllPairs-cons}
-use Rattle.cost_table.specs.Class.{Class, time_in, wait_in}
+use Rattle.cost_table.specs.Class.{Class, IsClass, time_in, wait_in}
 use Rattle.prices.specs.Way.{IsWay, times_named}
-use Rattle.prices.specs.Total.{time_on, list_total, total_from, total_of}
-use Rattle.prices.specs.Timetable.{Slot, Apart, IsTimetable, slots_total, slots_of_list, slots_from, own_slots}
+use Rattle.prices.specs.Total.{time_on, busy_time, up_to, completion_of, total_of}
+use Rattle.prices.specs.Timetable.{Slot, end_of, Apart, IsTimetable, slots_total, slots_of_list, slots_from, own_slots}
 use Rattle.prices.proofs.Timetables.{jobs_of, Apart_all, count-jobs_of, slots_naming_is}
 use Rattle.prices.proofs.Duality.{AbleFrom, able_from}
+use Rattle.prices.proofs.Totals.{list_total, total_from}
+use Rattle.prices.proofs.Completions.{Distinct, distinct_parts, distinct_names, up_to-here, up_to-later, has_own, has_other, completion_from, completion_here, completion_later, completion_is, total_is}
 
 list_slots_total : (c : Class) (d free : ℕ) (q : List ℕ) → slots_total c (slots_of_list c d free q) ≡ list_total c d free q
 list_slots_total c d free [] = refl
@@ -106,5 +108,42 @@ own_timetable c w h =
     }
 
 -- and their total is the way's
-pub own_total : (c : Class) (w : List (List ℕ)) → slots_total c (own_slots c w) ≡ total_of c w
-own_total c w = slots_from_total c 0 w
+pub own_total : (c : Class) → IsClass c → (w : List (List ℕ)) → IsWay c w → slots_total c (own_slots c w) ≡ total_of c w
+own_total c ok w h = slots_from_total c 0 w ∙ sym (total_is c ok w h)
+
+-- ---- each ends when its job is complete
+
+-- what holds of the jobs of a list holds of those of its slots
+slots_have : (P : ℕ → Type 0) (c : Class) (d free : ℕ) (q : List ℕ) → All P q → All (λ s. P s.job) (slots_of_list c d free q)
+slots_have P c d free q h = all_of_jobs P (slots_of_list c d free q) (subst (All P) (sym (list_jobs c d free q)) h)
+
+list_ends : (c : Class) (d free : ℕ) (q : List ℕ) → Distinct q → All (λ s. end_of c s ≡ free + busy_time c d (up_to s.job q)) (slots_of_list c d free q)
+list_ends c d free [] h = All-nil (λ s. end_of c s ≡ free + busy_time c d (up_to s.job []))
+list_ends c d free (j ∷ js) h =
+    let later : List Slot = slots_of_list c d (free + time_on c j d) js in
+    let rest = list_ends c d (free + time_on c j d) js h.1 in
+    let others : All (λ s. ¬ (j ≡ s.job)) later = slots_have (λ y. ¬ (j ≡ y)) c d (free + time_on c j d) js h.0 in
+    All-cons (λ s. end_of c s ≡ free + busy_time c d (up_to s.job (j ∷ js))) (record { job = j; device = d; start = free }) later
+    (let own : busy_time c d (up_to j (j ∷ js)) ≡ time_on c j d + 0 = ap (busy_time c d) (up_to-here j js) in omega (arith, own))
+    (λ k x l.
+    let s = get_or later k x in
+    let more : busy_time c d (up_to s.job (j ∷ js)) ≡ time_on c j d + busy_time c d (up_to s.job js) = ap (busy_time c d) (up_to-later j js s.job (others k x l)) in
+    omega (arith, more, rest k x l))
+
+slot_ends : (c : Class) (d : ℕ) (qs : List (List ℕ)) → Distinct (concat qs) → All (λ s. end_of c s ≡ completion_from c d qs s.job) (slots_from c d qs)
+slot_ends c d [] h = All-nil (λ s. end_of c s ≡ completion_from c d [] s.job)
+slot_ends c d (q ∷ qs) h =
+    let parts = distinct_parts q (concat qs) h in
+    let own = slots_have (λ job. list_any (λ id. id == job) q ≡ true) c d (wait_in c d) q (has_own q) in
+    let ends = list_ends c d (wait_in c d) q parts.0 in
+    let rest = slot_ends c (suc d) qs parts.1 in
+    let others = all_of_jobs (λ job. list_any (λ id. id == job) q ≡ false) (slots_from c (suc d) qs) (subst (All (λ job. list_any (λ id. id == job) q ≡ false)) (sym (from_jobs c (suc d) qs)) (has_other q (concat qs) parts.2)) in
+    All-append (λ s. end_of c s ≡ completion_from c d (q ∷ qs) s.job) (slots_of_list c d (wait_in c d) q) (slots_from c (suc d) qs)
+    (λ k x l. ends k x l ∙ sym (completion_here c d q qs (get_or (slots_of_list c d (wait_in c d) q) k x).job (own k x l)))
+    (λ k x l. rest k x l ∙ sym (completion_later c d q qs (get_or (slots_from c (suc d) qs) k x).job (others k x l)))
+
+pub own_ends : (c : Class) (w : List (List ℕ)) → IsWay c w → All (λ s. end_of c s ≡ completion_of c w s.job) (own_slots c w)
+own_ends c w h k x l = slot_ends c 0 w (distinct_names c w h) k x l ∙ sym (completion_is c w (get_or (own_slots c w) k x).job)
+
+pub own_end : (c : Class) (w : List (List ℕ)) → IsWay c w → (s : Slot) → Contains (own_slots c w) s → end_of c s ≡ completion_of c w s.job
+own_end c w h s found = rw found.2 at (own_ends c w h found.0 s found.1)

@@ -2,12 +2,7 @@
 use Rattle.std.specs.Prelude.{ℕ, suc, ◌+◌, ◌*◌, ◌≤◌, List, [], ◌∷◌, length, All}
 use Rattle.base_types.specs.declared.limits.TheConstants.Limits.{JOB_TIME}
 use Rattle.cost_table.specs.Class.{Class, wait_in}
-use Rattle.prices.specs.Total.{time_on}
-
--- the time that a list of jobs takes on a device
-abbrev pub busy_time : Class → ℕ → List ℕ → ℕ
-busy_time c device [] = 0
-busy_time c device (job ∷ jobs) = time_on c job device + busy_time c device jobs
+use Rattle.prices.specs.Total.{busy_time}
 
 -- for the devices from one on
 abbrev pub waits_from : Class → ℕ → List (List ℕ) → List ℕ

@@ -1,8 +1,8 @@
 //! Laws of ways and prices. Their functions do nothing: their contracts are what they are for.
 ghost use Rattle.std.specs.Prelude.{◌≡◌, ◌*◌, ◌≤◌, ℕ, List, All, pos, neg_ℤ, ◌≤ℤ◌};
 ghost use Rattle.prices.specs.Way.{IsWay};
-ghost use Rattle.prices.specs.Total.{IsBest, total_of};
-ghost use Rattle.prices.specs.Timetable.{Slot, IsTimetable, own_slots, slots_total};
+ghost use Rattle.prices.specs.Total.{IsBest, completion_of, total_of};
+ghost use Rattle.prices.specs.Timetable.{Slot, IsTimetable, end_of, own_slots, slots_total};
 ghost use Rattle.prices.specs.Prices.{AreFair};
 
 use crate::price_lists::PricedWay;
@@ -40,12 +40,16 @@ pub fn timetable_no_better(class: &ClassProblem)
     let _class = class.ids();
 }
 
-/// The starts of a way are a timetable of the way's total.
+/// The starts of a way are a timetable of the way's total, in which each job ends when it is complete.
 pub fn way_is_timetable(class: &ClassProblem, way: &Way)
     requires { IsWay class.now way.now }
     ensures timetable { IsTimetable class.now (own_slots class.now way.now) }
     ensures total { slots_total class.now (own_slots class.now way.now) ≡ total_of class.now way.now }
-{}
+    ensures ends { All (λ slot. end_of class.now slot ≡ completion_of class.now way.now slot.job) (own_slots class.now way.now) }
+{
+    // Reading the class makes its invariant known.
+    let _class = class.ids();
+}
 
 /// The total of a best way is at most that of each timetable.
 pub fn best_at_most_timetables(class: &ClassProblem, way: &Way)

@@ -2,7 +2,7 @@
 ghost use Rattle.std.specs.Prelude.{◌≡◌, ◌^◌, ◌<◌, length};
 ghost use Rattle.cost_table.specs.Class.{wait_in};
 ghost use Rattle.prices.specs.Way.{IsWay};
-ghost use Rattle.prices.specs.Total.{time_on, list_total, total_of, cost_of};
+ghost use Rattle.prices.specs.Total.{time_on, list_cost, total_of, total_by_places};
 
 use crate::way::Way;
 use base_types::{DeviceId, JobId};
@@ -16,7 +16,7 @@ use cost_table::ClassProblem;
 pub fn total(class: &ClassProblem, way: &Way) -> u64
     requires { IsWay class.now way.now }
     ensures completions { result ≡ total_of class.now way.now }
-    ensures places { result ≡ cost_of class.now way.now }
+    ensures places { result ≡ total_by_places class.now way.now }
 {
     // Reading the class makes its invariant known.
     let _class = class.ids();
@@ -27,12 +27,12 @@ pub fn total(class: &ClassProblem, way: &Way) -> u64
     sum
 }
 
-/// The sum of the completions of the jobs of one device.
+/// The sum of the completions of the jobs of one device, which is what they cost by places.
 #[tactic(auto, using(crate::proofs::Steps::list_total_step))]
 fn queue_total(class: &ClassProblem, device: DeviceId, jobs: &[JobId]) -> u64
     requires device { device < length class.now.waits }
-    requires fits { list_total class.now device (wait_in class.now device) jobs.now < 2 ^ 64 }
-    ensures { result ≡ list_total class.now device (wait_in class.now device) jobs.now }
+    requires fits { list_cost class.now device (wait_in class.now device) jobs.now < 2 ^ 64 }
+    ensures { result ≡ list_cost class.now device (wait_in class.now device) jobs.now }
 {
     let mut free = class.wait(device);
     let mut sum = 0;

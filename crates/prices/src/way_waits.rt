@@ -2,7 +2,8 @@
 ghost use Rattle.std.specs.Prelude.{◌≡◌, ◌↔◌, ◌+◌, ◌^◌, ◌<◌, length, IfOk, IsTrue};
 ghost use Rattle.cost_table.specs.Class.{wait_in};
 ghost use Rattle.prices.specs.Way.{IsWay};
-ghost use Rattle.prices.specs.Waits.{busy_time, GrowsByTimes, waits_after as waits_left};
+ghost use Rattle.prices.specs.Total.{busy_time};
+ghost use Rattle.prices.specs.Waits.{GrowsByTimes, waits_after as waits_left};
 
 use crate::way::Way;
 use crate::way_total::time_or_zero;

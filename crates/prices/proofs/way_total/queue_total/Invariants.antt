@@ -1,6 +1,6 @@
 use Rattle.std.proofs.Common.{◌≡◌, ◌+◌, drop}
 use Rattle.cost_table.specs.Class.{wait_in}
-use Rattle.prices.specs.Total.{list_total}
+use Rattle.prices.proofs.Totals.{list_total}
 use Rattle.prices.proofs.way_total.queue_total.Given as goal
 
 abbrev pub invariant-loop-job : goal.invariant-loop-job

@@ -1,8 +1,8 @@
-use Rattle.std.proofs.Common.{◌≡◌, ◌<◌, [], length, get_or, arith, ap, refl, ◌∙◌}
+use Rattle.std.proofs.Common.{◌≡◌, ◌<◌, [], length, get_or, arith, ap, refl, sym, ◌∙◌}
 use Rattle.prices.proofs.Steps.{queue_at, total_step, total_end}
-use Rattle.prices.proofs.Bounds.{total_small}
-use Rattle.prices.proofs.Totals.{cost_from_is}
-use Rattle.prices.specs.Total.{list_total}
+use Rattle.prices.proofs.Bounds.{places_small}
+use Rattle.prices.proofs.Completions.{by_places}
+use Rattle.prices.specs.Total.{list_cost}
 use Rattle.cost_table.specs.Class.{wait_in}
 use Rattle.prices.proofs.way_total.total.Goals as goal
 
@@ -12,9 +12,9 @@ queue_total-sum-requires-clause-fits c =
     let below : c.loop-place.place < length c.args.way.now = omega (arith, c.loop-place-test.true, ap length c.queues-queue-items.ensures) in
     omega (
       arith,
-      total_small c.args.class.now c.ids-class.ensures.class c.args.way.now c.requires,
+      places_small c.args.class.now c.ids-class.ensures.class c.args.way.now c.requires,
       c.loop-place.invariant,
-      total_step c.args.class.now c.args.way.now c.loop-place.place (list_total c.args.class.now c.new.result (wait_in c.args.class.now c.new.result) c.jobs.result.now) c.new.result c.jobs.result.now below c.new.ensures queue refl,
+      total_step c.args.class.now c.args.way.now c.loop-place.place (list_cost c.args.class.now c.new.result (wait_in c.args.class.now c.new.result) c.jobs.result.now) c.new.result c.jobs.result.now below c.new.ensures queue refl,
     )
 
 pub overflow_add-sum : goal.overflow_add-sum
@@ -23,12 +23,12 @@ overflow_add-sum c =
     let below : c.loop-place.place < length c.args.way.now = omega (arith, c.loop-place-test.true, ap length c.queues-queue-items.ensures) in
     omega (
       arith,
-      total_small c.args.class.now c.ids-class.ensures.class c.args.way.now c.requires,
+      places_small c.args.class.now c.ids-class.ensures.class c.args.way.now c.requires,
       c.loop-place.invariant,
       total_step c.args.class.now c.args.way.now c.loop-place.place c.queue_total-sum.result c.new.result c.jobs.result.now below c.new.ensures queue c.queue_total-sum.ensures,
     )
 
-pub returns-clause-places : goal.returns-clause-places
-returns-clause-places c =
+pub returns-clause-completions : goal.returns-clause-completions
+returns-clause-completions c =
     total_end c.args.class.now c.args.way.now c.queues-queue-items.result.now c.loop-place.place c.loop-place.sum c.queues-queue-items.ensures c.loop-place-test.false c.loop-place.invariant
-    ∙ cost_from_is c.args.class.now 0 c.args.way.now
+    ∙ sym (by_places c.args.class.now c.ids-class.ensures.class c.args.way.now c.requires)

@@ -1,6 +1,6 @@
 use Rattle.std.proofs.Common.{◌≡◌, ◌+◌, drop}
 use Rattle.cost_table.specs.Class.{wait_in}
-use Rattle.prices.specs.Waits.{busy_time}
+use Rattle.prices.specs.Total.{busy_time}
 use Rattle.prices.proofs.way_waits.free_after.Given as goal
 
 abbrev pub invariant-loop-job : goal.invariant-loop-job
