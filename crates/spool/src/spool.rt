@@ -82,8 +82,8 @@ impl Spool {
         self.entries.len()
     }
 
-    /// All jobs, by rising id, each with its documents. No more are unfinished than
-    /// [`base_types::Limits::UNFINISHED_JOBS`].
+    /// All jobs, by rising id, each with its documents. Each id is within its range, and no more are
+    /// unfinished than [`base_types::Limits::UNFINISHED_JOBS`].
     pub fn jobs(&self) -> &[SpooledJob]
         ensures value { result.now ≡ self.now.jobs }
         ensures kept { IsSpool self.now }
