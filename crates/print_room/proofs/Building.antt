@@ -7,14 +7,17 @@ use Rattle.std.proofs.lemmas.List.{get_or_past}
 use Rattle.std.proofs.lemmas.List.Elements.{Contains-get_or, All-map, All-weaker, filter_passes}
 use Rattle.base_types.specs.Needs.{JobNeeds}
 use Rattle.base_types.specs.Device.{Device}
-use Rattle.base_types.specs.declared.limits.TheConstants.Limits.{JOB_TIME, NOT_BEFORE, UNFINISHED_JOBS, DEVICES}
+use Rattle.base_types.specs.declared.limits.TheConstants.Limits.{JOB_TIME, NOT_BEFORE, UNFINISHED_JOBS, DEVICES, AMOUNT}
 use Rattle.job_objects.specs.Job.{JobRecord}
 use Rattle.capabilities.specs.Able.{IsAble}
 use Rattle.base_types.specs.declared.needs.Cause.{Cause}
 use Rattle.capabilities.specs.Cause.{HasAbleDevice}
 use Rattle.capabilities.proofs.Causes.{cause_none}
-use Rattle.cost_table.specs.Class.{Class, time_in}
+use Rattle.cost_table.specs.Class.{Class, IsClass, time_in}
 use Rattle.cost_table.specs.ClassJob.{JobOfClass, CanBuild, IsClassOf, printer_of}
+use Rattle.prices.specs.Way.{IsWay}
+use Rattle.prices.specs.Total.{total_of}
+use Rattle.prices.proofs.Bounds.{total_within}
 use Rattle.assignment.specs.Entries.{EachAble}
 use Rattle.spool.specs.Spool.{IsSpool}
 use Rattle.print_room.specs.State.{State, sets_of}
@@ -79,7 +82,7 @@ module _ (s : State) (spool : IsSpool s.spool) where
   pub ready_rises : RisesFrom 0 (map (λ j. j.id) (ready_of s))
   ready_rises = ready_ids_rise s.spool spool s.paused
 
-  ready_few : length (ready_of s) ≤ UNFINISHED_JOBS
+  pub ready_few : length (ready_of s) ≤ UNFINISHED_JOBS
   ready_few = omega (arith, ready_unfinished s.paused s.spool.jobs, spool.few_unfinished)
 
   above_few : (p : ℕ) → jobs_above p s ≤ UNFINISHED_JOBS
@@ -102,6 +105,12 @@ module _ (s : State) (spool : IsSpool s.spool) where
       few_jobs = few;
       few_devices = devices;
     }
+
+  -- under the waits that the classes above leave, a total is within the range of a text
+  pub total_bounded : (p : ℕ) (c : Class) (way : List (List ℕ)) (total : ℕ) → IsClass c → All (λ wait. wait ≤ NOT_BEFORE + jobs_above p s * JOB_TIME) c.waits → IsWay c way → total ≡ total_of c way → total ≤ AMOUNT
+  total_bounded p c way total ok short is_way stated =
+      let few : jobs_above p s ≤ UNFINISHED_JOBS = above_few p in
+      omega (arith, stated, total_within c ok (NOT_BEFORE + UNFINISHED_JOBS * JOB_TIME) (λ k d below. omega (arith, short k d below, few)) way is_way)
 
 -- each job of the problem has a device that is able
 able_at : (jobs : List JobOfClass) (devices : List Device) (sets : List (List ℕ)) (waits : List ℕ) (c : Class) → IsClassOf jobs devices sets waits c → (job : JobOfClass) → Contains jobs job → HasAbleDevice job.needs (printer_of job.needs sets) devices → (device : ℕ) × IsSome (time_in c job.id device)

@@ -30,7 +30,7 @@ map_ids : (jobs : List JobRecord) → map (λ j. j.id) (map job_of_class jobs) �
 map_ids [] = refl
 map_ids (job ∷ jobs) = ap (λ (xs : List ℕ). job.id ∷ xs) (map_ids jobs)
 
-ids_of_class : (s : State) (ws : List ℕ) (class : PlannedClass) → IsPlannedBest s ws class → class.problem.ids ≡ map (λ j. j.id) (class_of s class.priority)
+pub ids_of_class : (s : State) (ws : List ℕ) (class : PlannedClass) → IsPlannedBest s ws class → class.problem.ids ≡ map (λ j. j.id) (class_of s class.priority)
 ids_of_class s ws class h = h.problem.ids ∙ map_ids (class_of s class.priority)
 
 -- ---- the waits follow
@@ -44,7 +44,7 @@ follow_next s waits (c ∷ e ∷ es) h (suc place) d below = follow_next s (wait
 -- ---- the priorities fall
 
 -- the numbers fall, and begin at most at one
-abbrev FallsTo : ℕ → List ℕ → Type 0
+abbrev pub FallsTo : ℕ → List ℕ → Type 0
 FallsTo top [] = Unit {0}
 FallsTo top (x ∷ xs) = (x < top) × FallsTo x xs
 
@@ -56,7 +56,7 @@ falls_step : (b : Bool) (p : ℕ) (xs : List ℕ) → FallsTo (suc p) xs → Fal
 falls_step true p xs h = (omega arith, h)
 falls_step false p xs h = falls_higher (suc p) (suc (suc p)) xs (omega arith) h
 
-falling_falls : (test : ℕ → Bool) (p : ℕ) → FallsTo (suc p) (filter test (falling p))
+pub falling_falls : (test : ℕ → Bool) (p : ℕ) → FallsTo (suc p) (filter test (falling p))
 unfolding falling
 falling_falls test zero = tt
 falling_falls test (suc p) = falls_step (test (suc p)) p (filter test (falling p)) (falling_falls test p)
@@ -94,7 +94,7 @@ other_priority s one other differ job a b =
     differ (grind arith)
 
 -- a stranded job has a cause
-abbrev stranded_test : State → JobRecord → Bool
+abbrev pub stranded_test : State → JobRecord → Bool
 stranded_test s job = is_some (cause_in s job)
 
 some_not_none : {A : Type 0} (o : Option A) → is_none o ≡ true → is_some o ≡ true → ⊥
@@ -105,7 +105,7 @@ entry_step : (c : Option Cause) (job : JobRecord) (rest : List Stranded) (kept :
 entry_step None job rest kept h = h
 entry_step (Some cause) job rest kept h = ap (λ (xs : List ℕ). job.id ∷ xs) h
 
-entry_ids : (s : State) (jobs : List JobRecord) → map (λ e. e.job) (filter_map (stranding s) jobs) ≡ map (λ j. j.id) (filter (stranded_test s) jobs)
+pub entry_ids : (s : State) (jobs : List JobRecord) → map (λ e. e.job) (filter_map (stranding s) jobs) ≡ map (λ j. j.id) (filter (stranded_test s) jobs)
 entry_ids s [] = refl
 entry_ids s (job ∷ jobs) = entry_step (cause_in s job) job (filter_map (stranding s) jobs) (filter (stranded_test s) jobs) (entry_ids s jobs)
 

@@ -3,6 +3,7 @@
 use Rattle.std.specs.Prelude.{ℕ, ◌≡◌, ◌⊎◌, true, List, [], length, Option, Some, None, slice_get, position}
 use Rattle.std.specs.Option.{option_and_then}
 use Rattle.base_types.specs.Device.{Device}
+use Rattle.settings_file.specs.Settings.{MeetsLimits}
 use Rattle.spool.specs.Document.{DocumentRecord}
 use Rattle.spool.specs.Spooled.{SpooledRecord}
 use Rattle.spool.specs.OnDevice.{is_on_device, documents_at}
@@ -28,6 +29,9 @@ pub record IsRoom (state : State) : Type 0 where
   pub agree : Agree state.devices state.spool.jobs
   -- it is known of each printer whether it is paused
   pub one_each : length state.paused ≡ length state.settings.printers
+  -- there is a device for each of the settings, which are within the limits
+  pub devices : length state.devices ≡ length state.settings.devices
+  pub settings : MeetsLimits state.settings
 
 -- the device at a place has its job still, and the spool the job's documents
 abbrev pub KeepsAt : ℕ → State → State → Type 0

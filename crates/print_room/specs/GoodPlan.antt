@@ -3,8 +3,9 @@
 -- machines, 1973; J. Bruno, E. G. Coffman and R. Sethi, Scheduling independent tasks to reduce mean
 -- finishing time, 1974).
 use Rattle.std.specs.Prelude.{ℕ, zero, suc, ◌≡◌, ◌≤◌, Bool, true, false, List, [], ◌∷◌, map, filter}
-use Rattle.base_types.specs.declared.limits.TheConstants.Limits.{HIGHEST_PRIORITY}
+use Rattle.base_types.specs.declared.limits.TheConstants.Limits.{HIGHEST_PRIORITY, AMOUNT}
 use Rattle.job_objects.specs.Job.{JobRecord}
+use Rattle.cost_table.specs.Class.{IsClass}
 use Rattle.cost_table.specs.ClassJob.{JobOfClass, IsClassOf}
 use Rattle.prices.specs.declared.plan.PlannedClass.{PlannedClass}
 use Rattle.prices.specs.Plan.{PlanRecord}
@@ -40,12 +41,15 @@ job_of_class job = record { id = job.id; needs = job.needs }
 
 -- A class, planned under these waits: its problem has just the class's jobs, with the time of each on
 -- each device that can print it; no way to assign and order them has a smaller total of completion
--- times, and no timetable with gaps; the prices prove that, and the total is stated.
+-- times, and no timetable with gaps; the prices prove that, and the total is stated. The problem's
+-- numbers are within their ranges, and the total is within that of a text.
 pub record IsPlannedBest (state : State) (waits : List ℕ) (class : PlannedClass) : Type 0 where
   pub problem : IsClassOf (map job_of_class (class_of state class.priority)) state.devices (sets_of state.settings) waits class.problem
   pub best : IsBest class.problem class.priced.way
   pub timetables : (slots : List Slot) → IsTimetable class.problem slots → total_of class.problem class.priced.way ≤ slots_total class.problem slots
   pub proved : IsProved class.problem class.priced.way class.priced.prices class.priced.total
+  pub in_range : IsClass class.problem
+  pub bounded : class.priced.total ≤ AMOUNT
 
 -- each class is best under the waits that the classes above it leave; the first has these
 abbrev pub AllPlannedBest : State → List ℕ → List PlannedClass → Type 0

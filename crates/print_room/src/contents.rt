@@ -22,8 +22,8 @@ impl PrintRoom {
         &self.settings
     }
 
-    /// The devices as they are now, in the settings' order. The job that one has is in the spool, as one
-    /// that a device has, and no other device has it.
+    /// The devices as they are now, in the settings' order: one for each of them. The job that one has is
+    /// in the spool, as one that a device has, and no other device has it.
     pub fn devices(&self) -> &[DeviceNow]
         ensures value { result.now ≡ self.now.devices }
         ensures kept { IsRoom self.now }

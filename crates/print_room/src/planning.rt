@@ -115,6 +115,8 @@ impl PrintRoom {
     {
         let Planned { mut classes, waits } = planned;
         let problem = build(self.alloc, jobs, &self.devices, &self.sets, waits)?;
+        // Reading the problem makes its invariant known.
+        let _problem = problem.ids();
         let priced = planner.plan_class(&problem)?;
         best_at_most_timetables(&problem, &priced.way);
         let waits = waits_after(self.alloc, &problem, &priced.way)?;

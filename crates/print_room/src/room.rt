@@ -38,6 +38,7 @@ impl Model for PrintRoom {
     ghost use Rattle.base_types.specs.declared.limits.TheConstants.Limits.{DEVICES};
     ghost use Rattle.print_room.specs.State.{State, AllKeepTime, sets_of};
     ghost use Rattle.print_room.specs.DeviceJobs.{Agree};
+    ghost use Rattle.settings_file.specs.Settings.{MeetsLimits};
 
     ghost Value = { State };
 
@@ -51,7 +52,7 @@ impl Model for PrintRoom {
       begun = c.begun.items;
     } };
 
-    ghost invariant = { λ c. AllKeepTime c.last c.devices.items × (length c.devices.items ≤ DEVICES) × (c.sets.items ≡ sets_of c.settings) × Agree c.devices.items c.spool.jobs × (length c.printers.items ≡ length c.settings.printers) };
+    ghost invariant = { λ c. AllKeepTime c.last c.devices.items × (length c.devices.items ≤ DEVICES) × (c.sets.items ≡ sets_of c.settings) × Agree c.devices.items c.spool.jobs × (length c.printers.items ≡ length c.settings.printers) × (length c.devices.items ≡ length c.settings.devices) × MeetsLimits c.settings };
 }
 
 impl PrintRoom {

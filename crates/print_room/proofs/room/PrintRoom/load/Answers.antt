@@ -3,6 +3,7 @@ use Rattle.std.specs.Vec.{with_items}
 use Rattle.std.proofs.lemmas.List.{with_items_is}
 use Rattle.base_types.specs.declared.device.Medium.{Medium}
 use Rattle.base_types.specs.Device.{Device}
+use Rattle.settings_file.specs.Settings.{MeetsLimits}
 use Rattle.print_room.specs.State.{State, with_device, holding, loaded_if, sets_of}
 use Rattle.print_room.specs.DeviceJobs.{Agree}
 use Rattle.print_room.specs.Activity.{KeepsTime}
@@ -37,11 +38,13 @@ invariant_of-self c =
     let loaded : (with_items c.device.inside.media c.load.new.media).items ≡ map (loaded_if c.args.names.now) c.device.inside.media.items =
     with_items_is c.device.inside.media c.load.new.media same ∙ (c.load.ensures ∙ ap (λ (ms : List Medium). map (loaded_if c.args.names.now) ms) c.deref_mut.ensures.value) in
     rw loaded
-    (subst (λ (ds : List Device). All (λ d. KeepsTime old.last d.activity) ds × (length ds ≤ DEVICES) × (old.sets.items ≡ sets_of old.settings) × Agree ds old.spool.jobs × (length old.printers.items ≡ length old.settings.printers))
+    (subst (λ (ds : List Device). All (λ d. KeepsTime old.last d.activity) ds × (length ds ≤ DEVICES) × (old.sets.items ≡ sets_of old.settings) × Agree ds old.spool.jobs × (length old.printers.items ≡ length old.settings.printers) × (length ds ≡ length old.settings.devices) × MeetsLimits old.settings)
     (sym (ap written c.device.view_is ∙ (ap written c.index_mut-device.ensures.value ∙ set_one change old.devices.items place c.index_mut-device.result.now inside))) (
       all_with (λ d. KeepsTime old.last d.activity) place change (λ d h. h) old.devices.items c.self.invariant.0,
       rw (length_with place change old.devices.items) c.self.invariant.1,
       c.self.invariant.2,
       agree_device place change old.devices.items old.spool.jobs d.0 d.1 (inl refl) c.self.invariant.3,
       c.self.invariant.4,
+      length_with place change old.devices.items ∙ c.self.invariant.5,
+      c.self.invariant.6,
     ))

@@ -22,4 +22,6 @@ invariant_of-result c =
       sets,
       rw (made, c.new.ensures) (no_jobs_agree c.args.settings.devices),
       printers,
+      ap (λ (ds : List Device). length ds) made ∙ length_opening c.args.settings.devices,
+      c.requires,
     )

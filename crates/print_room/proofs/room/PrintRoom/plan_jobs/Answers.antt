@@ -1,12 +1,12 @@
-use Rattle.std.proofs.Common.{◌≡◌, ◌≤◌, ◌++◌, ◌∷◌, [], ◌∙◌, ℕ, suc, List, map, length, true, sym, ap, subst, rules}
-use Rattle.base_types.specs.declared.limits.TheConstants.Limits.{DEVICES}
+use Rattle.std.proofs.Common.{◌≡◌, ◌≤◌, ◌+◌, ◌*◌, All, ◌++◌, ◌∷◌, [], ◌∙◌, ℕ, suc, List, map, length, true, sym, ap, subst, rules}
+use Rattle.base_types.specs.declared.limits.TheConstants.Limits.{DEVICES, JOB_TIME, NOT_BEFORE}
 use Rattle.cost_table.specs.ClassJob.{JobOfClass, IsClassOf}
 use Rattle.prices.specs.declared.plan.PlannedClass.{PlannedClass}
 use Rattle.print_room.specs.State.{State, sets_of}
 use Rattle.print_room.specs.Ready.{class_of}
 use Rattle.print_room.specs.GoodPlan.{is_some_job, job_of_class, IsPlannedBest}
-use Rattle.print_room.specs.Planned.{PlannedAbove}
-use Rattle.print_room.proofs.Building.{can_build, each_able, jobs_able, few_ids}
+use Rattle.print_room.specs.Planned.{PlannedAbove, jobs_above}
+use Rattle.print_room.proofs.Building.{can_build, each_able, jobs_able, few_ids, total_bounded}
 use Rattle.print_room.proofs.Priorities.{next_some}
 use Rattle.print_room.proofs.room.PrintRoom.plan_jobs.Goals as goal
 
@@ -39,6 +39,8 @@ returns g c below is =
       best = c.in_ok-priced.ensures.best;
       timetables = c.best_at_most_timetables.ensures;
       proved = c.in_ok-priced.ensures.proved;
+      in_range = c.ids-problem.ensures.class;
+      bounded = total_bounded s c.requires.spool c.args.priority c.in_ok-problem.problem c.in_ok-priced.priced.way c.in_ok-priced.priced.total c.ids-problem.ensures.class (subst (λ (ws : List ℕ). All (λ wait. wait ≤ NOT_BEFORE + jobs_above c.args.priority s * JOB_TIME) ws) (sym named.waits_given) c.requires.above.short) c.in_ok-priced.ensures.proved.is_way c.in_ok-priced.ensures.proved.stated;
     } in
     let few : length c.in_ok-problem.problem.ids ≤ length (class_of s (suc below)) = subst (λ (p : ℕ). length c.in_ok-problem.problem.ids ≤ length (class_of s p)) (sym is) (few_ids s c.args.priority c.args.planned.waits.items c.in_ok-problem.problem named) in
     let above : PlannedAbove s c.args.now (suc below) c.args.planned.classes.items c.args.planned.waits.items = subst (λ (p : ℕ). PlannedAbove s c.args.now p c.args.planned.classes.items c.args.planned.waits.items) (sym is) c.requires.above in
