@@ -1,10 +1,11 @@
-//! What every state after this one keeps, however it comes about.
+//! What holds of every state, and what every state after this one keeps, however it comes about.
 ghost use Rattle.std.specs.Prelude.{ℕ, List, Option};
 ghost use Rattle.prices.specs.Plan.{PlanRecord};
 ghost use Rattle.print_room.specs.declared.started.Started.{Started};
 ghost use Rattle.print_room.specs.State.{State};
 ghost use Rattle.print_room.specs.Dispatch.{Dispatches};
-ghost use Rattle.print_room.specs.DeviceJobs.{AllKeep};
+ghost use Rattle.print_room.specs.DeviceJobs.{AllKeep, IsRoom};
+ghost use Rattle.spool.specs.Spool.{IsSpool};
 ghost use Rattle.dispatcher.specs.declared.event.Event.{Event};
 ghost use Rattle.dispatcher.specs.declared.reply.Reply.{Reply};
 ghost use Rattle.dispatcher.specs.Step.{Step};
@@ -14,6 +15,16 @@ use crate::server_core::Core;
 use assignment::Planner;
 
 impl<P: Planner + Drop> Core<P> {
+    /// What holds of every state: what a print room keeps, and what a spool keeps.
+    pub fn is_kept(&self)
+        ensures room { IsRoom self.now }
+        ensures spool { IsSpool self.now.spool }
+    {
+        // Reading the devices and the jobs makes known what holds of them.
+        let _devices = self.room.devices();
+        let _jobs = self.room.spool().jobs();
+    }
+
     /// The documents of jobs that devices have stay, byte for byte, over each event and each dispatch;
     /// the reply to a report has those of the job that it ends, whole, and no other's are touched.
     pub fn documents_stay(&self)

@@ -1,0 +1,16 @@
+//! What holds of the text of each plan. The function does nothing: its contract is what it is for.
+ghost use Rattle.std.specs.Prelude.{ℕ};
+ghost use Rattle.prices.specs.Plan.{PlanRecord};
+ghost use Rattle.print_room.specs.GoodPlan.{IsGoodPlan};
+ghost use Rattle.written_plans.specs.Passes.{PassesAsText};
+
+use assignment::Planner;
+use dispatcher::Core;
+
+/// Each good plan of a core, at any moment, may be written as a text, with the names that the devices
+/// have in the settings: the text is read back as the plan, and the checker says yes to it.
+pub fn plan_is_its_text<P: Planner + Drop>(core: &Core<P>)
+    ensures { (now : ℕ) (plan : PlanRecord) → IsGoodPlan now core.now plan → PassesAsText core.now.settings plan }
+{
+    core.is_kept();
+}
