@@ -31,6 +31,10 @@ missed_job ids job place none match known =
     let below : place_of ids job < length ids = place_below ids job known in
     omega arith
 
+-- a class leaves as many waits as it has
+pub left_length : (class : PlannedClass) → IsWay class.problem class.priced.way → length (waits_after class.problem class.priced.way) ≡ length class.problem.waits
+left_length class way = length-waits_from class.problem 0 class.priced.way ∙ way.one_list_each
+
 pub filled : (n : ℕ) → false ≡ (n == 0) → 1 ≤ n
 filled zero e = absurd (cc)
 filled (suc n) e = omega arith
@@ -50,9 +54,5 @@ module _ (above : List PlannedClass) (last : PlannedClass) (is : last ≡ get_or
     pub follow_last : (c : Class) → WaitsFollow above c → c.waits ≡ waits_after last.problem last.priced.way
     follow_last c follow = follow (length above - 1) last (omega arith) last_found
 
-    last_way : AboveHaveWays above → IsWay last.problem last.priced.way
+    pub last_way : AboveHaveWays above → IsWay last.problem last.priced.way
     last_way ways = subst (λ class. IsWay class.problem class.priced.way) (sym is) (ways (length above - 1) last (omega arith))
-
-    -- and as many as its own
-    pub follow_length : (c : Class) → AboveHaveWays above → WaitsFollow above c → length c.waits ≡ length last.problem.waits
-    follow_length c ways follow = ap length (follow_last c follow) ∙ length-waits_from last.problem 0 last.priced.way ∙ (last_way ways).one_list_each

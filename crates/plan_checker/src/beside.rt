@@ -1,5 +1,7 @@
 //! Whether a job stands elsewhere in the plan, and whether waits follow from the class above.
 ghost use Rattle.std.specs.Prelude.{◌≡◌, ◌↔◌, All, IsTrue};
+ghost use Rattle.prices.specs.Way.{IsWay};
+ghost use Rattle.prices.specs.Waits.{waits_after};
 ghost use Rattle.plan_checker.specs.Beside.{AboveHaveWays, NoneElsewhere, NotAbove, NotStranded, WaitsFollow};
 
 use base_types::JobId;
@@ -52,9 +54,17 @@ pub(crate) fn waits_follow(class: &ClassProblem, above: &[PlannedClass]) -> bool
     if above.is_empty() {
         return true;
     }
-    let last = &above[above.len() - 1];
-    if class.waits().len() != last.problem.waits().len() {
+    leaves(&above[above.len() - 1], class)
+}
+
+/// Whether a class leaves just the waits of the next one.
+#[tactic(auto, using(crate::proofs::Above::left_length))]
+fn leaves(class: &PlannedClass, next: &ClassProblem) -> bool
+    requires { IsWay class.now.problem class.now.priced.way }
+    ensures { IsTrue result ↔ (next.now.waits ≡ waits_after class.now.problem class.now.priced.way) }
+{
+    if next.waits().len() != class.problem.waits().len() {
         return false;
     }
-    leaves_waits(&last.problem, &last.priced.way, class.waits())
+    leaves_waits(&class.problem, &class.priced.way, next.waits())
 }
