@@ -23,7 +23,7 @@ use Rattle.spool.specs.Spool.{IsSpool}
 use Rattle.print_room.specs.State.{State, sets_of}
 use Rattle.print_room.specs.Ready.{ready_of, belongs, class_of, cause_in}
 use Rattle.print_room.specs.GoodPlan.{job_of_class}
-use Rattle.print_room.specs.Planned.{jobs_above}
+use Rattle.print_room.proofs.Planned.{jobs_above}
 use Rattle.spool.proofs.RisingIds.{RisesFrom, increasing_from_rises, filter_rises, ready_ids_rise}
 use Rattle.print_room.proofs.Readying.{ready_unfinished, count_short}
 
@@ -85,7 +85,7 @@ module _ (s : State) (spool : IsSpool s.spool) where
   pub ready_few : length (ready_of s) ≤ UNFINISHED_JOBS
   ready_few = omega (arith, ready_unfinished s.paused s.spool.jobs, spool.few_unfinished)
 
-  above_few : (p : ℕ) → jobs_above p s ≤ UNFINISHED_JOBS
+  pub above_few : (p : ℕ) → jobs_above p s ≤ UNFINISHED_JOBS
   above_few p = omega (arith, count_short (λ j. nat_lt p j.priority) (ready_of s), ready_few)
 
   module _ (p : ℕ) (waits : List ℕ) (jobs : List JobOfClass) (is : jobs ≡ map job_of_class (class_of s p)) where
@@ -96,21 +96,19 @@ module _ (s : State) (spool : IsSpool s.spool) where
     few : length jobs ≤ UNFINISHED_JOBS
     few = omega (arith, ap (λ (js : List JobOfClass). length js) is, length_class (class_of s p), length_filter (belongs s p) (ready_of s), ready_few)
 
-    pub can_build : All (λ job. HasAbleDevice job.needs (printer_of job.needs (sets_of s.settings)) s.devices) jobs → length waits ≡ length s.devices → All (λ wait. wait ≤ NOT_BEFORE + jobs_above p s * JOB_TIME) waits → length s.devices ≤ DEVICES → CanBuild jobs s.devices (sets_of s.settings) waits
+    pub can_build : All (λ job. HasAbleDevice job.needs (printer_of job.needs (sets_of s.settings)) s.devices) jobs → length waits ≡ length s.devices → All (λ wait. wait ≤ NOT_BEFORE + UNFINISHED_JOBS * JOB_TIME) waits → length s.devices ≤ DEVICES → CanBuild jobs s.devices (sets_of s.settings) waits
     can_build able each short devices = record {
       rising = rising;
       known_printers = λ k d below. known_printer (get_or jobs k d).needs (sets_of s.settings) s.devices (able k d below);
       one_wait_each = each;
-      short_waits = λ k d below. omega (arith, short k d below, above_few p);
+      short_waits = λ k d below. omega (arith, short k d below);
       few_jobs = few;
       few_devices = devices;
     }
 
-  -- under the waits that the classes above leave, a total is within the range of a text
-  pub total_bounded : (p : ℕ) (c : Class) (way : List (List ℕ)) (total : ℕ) → IsClass c → All (λ wait. wait ≤ NOT_BEFORE + jobs_above p s * JOB_TIME) c.waits → IsWay c way → total ≡ total_of c way → total ≤ AMOUNT
-  total_bounded p c way total ok short is_way stated =
-      let few : jobs_above p s ≤ UNFINISHED_JOBS = above_few p in
-      omega (arith, stated, total_within c ok (NOT_BEFORE + UNFINISHED_JOBS * JOB_TIME) (λ k d below. omega (arith, short k d below, few)) way is_way)
+-- under the waits that the classes above leave, a total is within the range of a text
+pub total_bounded : (c : Class) (way : List (List ℕ)) (total : ℕ) → IsClass c → All (λ wait. wait ≤ NOT_BEFORE + UNFINISHED_JOBS * JOB_TIME) c.waits → IsWay c way → total ≡ total_of c way → total ≤ AMOUNT
+total_bounded c way total ok short is_way stated = omega (arith, stated, total_within c ok (NOT_BEFORE + UNFINISHED_JOBS * JOB_TIME) short way is_way)
 
 -- each job of the problem has a device that is able
 able_at : (jobs : List JobOfClass) (devices : List Device) (sets : List (List ℕ)) (waits : List ℕ) (c : Class) → IsClassOf jobs devices sets waits c → (job : JobOfClass) → Contains jobs job → HasAbleDevice job.needs (printer_of job.needs sets) devices → (device : ℕ) × IsSome (time_in c job.id device)

@@ -1,6 +1,7 @@
 pub mod Devices
 pub mod Readying
 pub mod Building
+pub mod Planned
 pub mod Priorities
 pub mod Checked
 pub mod Starts

@@ -13,7 +13,7 @@ use Rattle.print_room.specs.State.{State}
 use Rattle.print_room.specs.Ready.{ready_of, belongs, class_of, cause_in}
 use Rattle.print_room.specs.GoodPlan.{is_some_job, falling, priorities_of, waits_of, IsPlannedBest, AllPlannedBest}
 use Rattle.print_room.specs.Gathered.{gathered_of, highest_within}
-use Rattle.print_room.specs.Planned.{PlannedAbove, left_by, jobs_above}
+use Rattle.print_room.proofs.Planned.{PlannedAbove, left_by, jobs_above}
 use Rattle.print_room.proofs.Readying.{highest_least, none_above}
 
 pub best_more : (s : State) (waits : List ℕ) (classes : List PlannedClass) (class : PlannedClass) → AllPlannedBest s waits classes → IsPlannedBest s (left_by waits classes) class → AllPlannedBest s waits (classes ++ class ∷ [])

@@ -7,6 +7,5 @@ pub mod Jobs
 pub mod Ready
 pub mod GoodPlan
 pub mod Gathered
-pub mod Planned
 pub mod Dispatch
 pub mod Beginning

@@ -1,11 +1,11 @@
 //! The plan of the ready jobs, class by class.
-ghost use Rattle.std.specs.Prelude.{◌≡◌, ◌≤◌, ℕ, List, suc, true, map, All, IfOk, OnOk};
-ghost use Rattle.base_types.specs.declared.limits.TheConstants.Limits.{NOT_BEFORE};
+ghost use Rattle.std.specs.Prelude.{◌≡◌, ◌+◌, ◌*◌, ◌≤◌, length, true, map, All, IfOk, OnOk};
+ghost use Rattle.base_types.specs.declared.limits.TheConstants.Limits.{JOB_TIME, NOT_BEFORE, UNFINISHED_JOBS};
+ghost use Rattle.prices.specs.Waits.{GrowsByTimes, waits_after as waits_left};
 ghost use Rattle.spool.specs.Spool.{IsSpool};
 ghost use Rattle.print_room.specs.Ready.{class_of};
-ghost use Rattle.print_room.specs.GoodPlan.{IsGoodPlan, is_some_job, job_of_class, waits_of};
+ghost use Rattle.print_room.specs.GoodPlan.{AllPlannedBest, IsGoodPlan, IsPlannedBest, is_some_job, job_of_class, priorities_of, waits_of};
 ghost use Rattle.print_room.specs.Gathered.{gathered_of};
-ghost use Rattle.print_room.specs.Planned.{PlannedAbove};
 
 use crate::activity::wait_of;
 use crate::ready::{ReadyJob, class_jobs, highest_within, stranded};
@@ -17,11 +17,11 @@ use plan_checker::proved_plan_is_yes;
 use prices::{Plan, PlannedClass, best_at_most_timetables, waits_after};
 use std::alloc::AllocError;
 
-/// The classes planned so far, the highest first, and when each device is free after them, in ms.
+/// A class that is planned, and when each device is free after it, in ms.
 #[derive(Drop)]
 struct Planned {
-    classes: Vec<PlannedClass>,
-    waits: Vec<u64>,
+    class: PlannedClass,
+    left: Vec<u64>,
 }
 
 impl PrintRoom {
@@ -51,19 +51,20 @@ impl PrintRoom {
         requires later { self.now.last ≤ now }
         requires ready { ready.now ≡ gathered_of self.now }
         requires spool { IsSpool self.now.spool }
-        ensures { IfOk result (λ classes. (waits : List ℕ) × PlannedAbove self.now now 0 classes.items waits) }
+        ensures priorities { IfOk result (λ classes. map (λ class. class.priority) classes.items ≡ priorities_of self.now) }
+        ensures best { IfOk result (λ classes. AllPlannedBest self.now (waits_of now self.now) classes.items) }
     {
-        let mut planned = Planned {
-            classes: Vec::new(self.alloc),
-            waits: self.waits(now)?,
-        };
+        let mut classes = Vec::new(self.alloc);
+        let mut waits = self.waits(now)?;
         let mut next = highest_within(ready, Limits::HIGHEST_PRIORITY);
         while let Some(priority) = next {
             let below = priority.level() - 1;
-            planned = self.plan_class(planner, now, priority, ready, planned)?;
+            let Planned { class, left } = self.plan_class(planner, priority, ready, waits)?;
+            classes.push(class)?;
+            waits = left;
             next = highest_within(ready, below);
         }
-        Ok(planned.classes)
+        Ok(classes)
     }
 
     /// When each device is free, in ms from a moment.
@@ -79,52 +80,57 @@ impl PrintRoom {
         Ok(waits)
     }
 
-    /// Plans the class of a priority below those planned so far, which has a job.
+    /// Plans the class of a priority under the waits that those above leave.
     fn plan_class<P: Planner>(
         &self,
         planner: &P,
-        now: Moment,
         priority: Priority,
         ready: &[ReadyJob<'_>],
-        planned: Planned,
+        waits: Vec<u64>,
     ) -> Result<Planned, AllocError>
-        requires above { PlannedAbove self.now now priority planned.classes.items planned.waits.items }
         requires ready { ready.now ≡ gathered_of self.now }
-        requires some { is_some_job (class_of self.now priority) ≡ true }
         requires spool { IsSpool self.now.spool }
-        ensures { IfOk result (λ next. (below : ℕ) → suc below ≡ priority → PlannedAbove self.now now below next.classes.items next.waits.items) }
+        requires one_each { length waits.items ≡ length self.now.devices }
+        requires short { All (λ wait. wait ≤ NOT_BEFORE + UNFINISHED_JOBS * JOB_TIME) waits.items }
+        ensures priority { IfOk result (λ planned. planned.class.priority ≡ priority) }
+        ensures best { IfOk result (λ planned. IsPlannedBest self.now waits.items planned.class) }
+        ensures left { IfOk result (λ planned. planned.left.items ≡ waits_left planned.class.problem planned.class.priced.way) }
+        ensures one_each { IfOk result (λ planned. length planned.left.items ≡ length waits.items) }
+        ensures grows { IfOk result (λ planned. GrowsByTimes planned.class.problem planned.left.items) }
     {
         let jobs = class_jobs(self.alloc, ready, priority)?;
-        self.plan_jobs(planner, now, priority, &jobs, planned)
+        self.plan_jobs(planner, priority, &jobs, waits)
     }
 
-    /// Plans the jobs of a class of a priority below those planned so far.
+    /// Plans these jobs, those of the class of a priority.
     fn plan_jobs<P: Planner>(
         &self,
         planner: &P,
-        now: Moment,
         priority: Priority,
         jobs: &[ClassJob<'_>],
-        planned: Planned,
+        waits: Vec<u64>,
     ) -> Result<Planned, AllocError>
-        requires above { PlannedAbove self.now now priority planned.classes.items planned.waits.items }
         requires jobs { jobs.now ≡ map job_of_class (class_of self.now priority) }
-        requires some { is_some_job (class_of self.now priority) ≡ true }
         requires spool { IsSpool self.now.spool }
-        ensures { IfOk result (λ next. (below : ℕ) → suc below ≡ priority → PlannedAbove self.now now below next.classes.items next.waits.items) }
+        requires one_each { length waits.items ≡ length self.now.devices }
+        requires short { All (λ wait. wait ≤ NOT_BEFORE + UNFINISHED_JOBS * JOB_TIME) waits.items }
+        ensures priority { IfOk result (λ planned. planned.class.priority ≡ priority) }
+        ensures best { IfOk result (λ planned. IsPlannedBest self.now waits.items planned.class) }
+        ensures left { IfOk result (λ planned. planned.left.items ≡ waits_left planned.class.problem planned.class.priced.way) }
+        ensures one_each { IfOk result (λ planned. length planned.left.items ≡ length waits.items) }
+        ensures grows { IfOk result (λ planned. GrowsByTimes planned.class.problem planned.left.items) }
     {
-        let Planned { mut classes, waits } = planned;
         let problem = build(self.alloc, jobs, &self.devices, &self.sets, waits)?;
         // Reading the problem makes its invariant known.
         let _problem = problem.ids();
         let priced = planner.plan_class(&problem)?;
         best_at_most_timetables(&problem, &priced.way);
-        let waits = waits_after(self.alloc, &problem, &priced.way)?;
-        classes.push(PlannedClass {
+        let left = waits_after(self.alloc, &problem, &priced.way)?;
+        let class = PlannedClass {
             priority,
             problem,
             priced,
-        })?;
-        Ok(Planned { classes, waits })
+        };
+        Ok(Planned { class, left })
     }
 }
