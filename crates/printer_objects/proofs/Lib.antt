@@ -1,3 +1,4 @@
 pub mod Searches
 pub mod Listing
 pub mod Taken
+pub mod Spelt

@@ -1,12 +1,12 @@
 -- Attributes of the kinds that the tables have (RFC 8010, section 3.9).
-use Rattle.std.specs.Prelude.{ℕ, ◌+◌, ◌/◌, pos, min, map, List, [], ◌∷◌, Option, Some, None}
+use Rattle.std.specs.Prelude.{ℕ, ◌+◌, ◌/◌, pos, min, map, take, List, [], ◌∷◌, Option, Some, None}
 use Rattle.ipp_codec.specs.Message.{IppValue, plain, IppAttribute}
 use Rattle.ipp_codec.specs.Typed.{bytes_of_integer}
 use Rattle.ipp_codec.specs.Tag as tags
 use Rattle.job_objects.specs.declared.reason.Reason.{Reason}
 use Rattle.job_objects.specs.declared.reason.JobReasons.{JobReasons}
 use Rattle.job_objects.specs.Reasons.{keyword_of}
-use Rattle.printer_objects.specs.declared.attribute.TheConstants.{LAST_INTEGER, MILLIS_PER_SECOND}
+use Rattle.printer_objects.specs.declared.attribute.TheConstants.{LAST_INTEGER, MILLIS_PER_SECOND, VALUE_BYTES}
 
 -- one value
 abbrev pub alone : List ℕ → IppValue → IppAttribute
@@ -23,8 +23,12 @@ enumerated n = plain tags.enumeration (bytes_of_integer (pos (min n LAST_INTEGER
 abbrev pub no_value : IppValue
 no_value = plain tags.no_value []
 
+-- a text of a kind: of one with more bytes than a value can have, its front
+unfoldable pub text : ℕ → List ℕ → IppValue
+text tag bytes = plain tag (take VALUE_BYTES bytes)
+
 abbrev pub keyword : List ℕ → IppValue
-keyword word = plain tags.keyword word
+keyword word = text tags.keyword word
 
 -- a moment in ms, in seconds begun since the start, or no value before it has come
 abbrev pub time : Option ℕ → IppValue
@@ -47,4 +51,4 @@ enumerations name (code ∷ codes) = record { name = name; first = enumerated co
 -- texts of a kind, or no value where there is none
 abbrev pub texts_attribute : List ℕ → ℕ → List (List ℕ) → IppAttribute
 texts_attribute name tag [] = alone name no_value
-texts_attribute name tag (text ∷ texts) = record { name = name; first = plain tag text; others = map (plain tag) texts }
+texts_attribute name tag (first ∷ others) = record { name = name; first = text tag first; others = map (text tag) others }

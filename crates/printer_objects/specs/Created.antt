@@ -1,20 +1,20 @@
 -- What the creation of a job is answered with (RFC 8011, section 4.2.1.2): the job group.
 use Rattle.std.specs.Prelude.{ℕ, Bool, List, [], ◌∷◌, codes}
-use Rattle.ipp_codec.specs.Message.{plain, IppGroup}
+use Rattle.ipp_codec.specs.Message.{IppGroup}
 use Rattle.ipp_codec.specs.Tag as tags
 use Rattle.job_objects.specs.declared.job_state.JobState.{JobState}
 use Rattle.job_objects.specs.declared.reason.JobReasons.{JobReasons}
 use Rattle.job_objects.specs.Job.{JobRecord}
 use Rattle.job_objects.specs.JobState.{state_code}
 use Rattle.job_objects.specs.Reasons.{reasons_of}
-use Rattle.printer_objects.specs.Attribute.{alone, number, enumerated, reasons_attribute}
+use Rattle.printer_objects.specs.Attribute.{alone, text, number, enumerated, reasons_attribute}
 use Rattle.printer_objects.specs.JobShown.{job_uri}
 
 -- its URI, its id, its state and the reasons of that, in this order
 abbrev pub created_attributes : List ℕ → ℕ → JobState → JobReasons → IppGroup
 created_attributes uri_base id state reasons = record {
   tag = tags.job_attributes;
-  attributes = alone (codes "job-uri") (plain tags.uri (job_uri uri_base id))
+  attributes = alone (codes "job-uri") (text tags.uri (job_uri uri_base id))
       ∷ alone (codes "job-id") (number id)
       ∷ alone (codes "job-state") (enumerated (state_code state))
       ∷ reasons_attribute (codes "job-state-reasons") reasons

@@ -3,7 +3,7 @@ use Rattle.std.specs.Prelude.{ℕ, ◌+◌, ◌-◌, ◌/◌, Bool, true, false,
 use Rattle.std.specs.Fmt.{decimal}
 use Rattle.base_types.specs.declared.needs.Sides.{Sides}
 use Rattle.base_types.specs.declared.needs.Sides.TheVariants as side
-use Rattle.ipp_codec.specs.Message.{plain, IppAttribute, IppGroup}
+use Rattle.ipp_codec.specs.Message.{IppAttribute, IppGroup}
 use Rattle.ipp_codec.specs.Tag as tags
 use Rattle.job_objects.specs.Job.{JobRecord}
 use Rattle.job_objects.specs.JobState.{state_code}
@@ -11,7 +11,7 @@ use Rattle.job_objects.specs.Reasons.{reasons_of}
 use Rattle.printer_objects.specs.declared.job_shown.TheConstants.{OCTETS_PER_K}
 use Rattle.printer_objects.specs.declared.job_attribute.JobAttribute.{JobAttribute}
 use Rattle.printer_objects.specs.declared.job_attribute.JobAttribute.TheVariants.{Uri, Id, PrinterUri, Name, OriginatingUserName, State, StateReasons, NumberOfDocuments, KOctets, Impressions, TimeAtCreation, TimeAtProcessing, TimeAtCompleted, PrinterUpTime, Copies, HoldUntil, Priority, Media, Sides as SidesOf, Finishings}
-use Rattle.printer_objects.specs.Attribute.{alone, number, enumerated, keyword, time, reasons_attribute}
+use Rattle.printer_objects.specs.Attribute.{alone, text, number, enumerated, keyword, time, reasons_attribute}
 use Rattle.printer_objects.specs.Finishing.{each_finishing, finishings_attribute}
 use Rattle.printer_objects.specs.JobAttribute.{job_attribute_name}
 
@@ -57,11 +57,11 @@ sides_keyword side.ShortEdge = codes "two-sided-short-edge"
 
 -- the values of an attribute under its name
 abbrev pub valued : List ℕ → ShownJob → JobAttribute → IppAttribute
-valued name shown Uri = alone name (plain tags.uri (job_uri shown.uri_base shown.job.id))
+valued name shown Uri = alone name (text tags.uri (job_uri shown.uri_base shown.job.id))
 valued name shown Id = alone name (number shown.job.id)
-valued name shown PrinterUri = alone name (plain tags.uri (printer_uri shown.uri_base shown.printer_name))
-valued name shown Name = alone name (plain tags.name shown.job.name)
-valued name shown OriginatingUserName = alone name (plain tags.name shown.job.owner)
+valued name shown PrinterUri = alone name (text tags.uri (printer_uri shown.uri_base shown.printer_name))
+valued name shown Name = alone name (text tags.name shown.job.name)
+valued name shown OriginatingUserName = alone name (text tags.name shown.job.owner)
 valued name shown State = alone name (enumerated (state_code shown.job.state))
 valued name shown StateReasons = reasons_attribute name (reasons_of shown.job shown.printer_paused)
 valued name shown NumberOfDocuments = alone name (number shown.job.documents)

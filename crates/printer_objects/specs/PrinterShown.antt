@@ -7,7 +7,7 @@ use Rattle.printer_objects.specs.declared.attribute.TheConstants.{MILLIS_PER_SEC
 use Rattle.printer_objects.specs.declared.printer_attribute.PrinterAttribute.{PrinterAttribute}
 use Rattle.printer_objects.specs.declared.printer_attribute.PrinterAttribute.TheVariants.{UriSupported, UriSecuritySupported, UriAuthenticationSupported, Name, State, StateReasons, IppVersionsSupported, OperationsSupported, MultipleDocumentJobsSupported, MultipleOperationTimeOut, CharsetConfigured, CharsetSupported, NaturalLanguageConfigured, GeneratedNaturalLanguageSupported, DocumentFormatDefault, DocumentFormatSupported, IsAcceptingJobs, QueuedJobCount, PdlOverrideSupported, UpTime, CompressionSupported, CopiesDefault, CopiesSupported, HoldUntilDefault, HoldUntilSupported, PriorityDefault, PrioritySupported, MediaDefault, MediaSupported, MediaReady, SidesDefault, SidesSupported, FinishingsDefault, FinishingsSupported}
 use Rattle.printer_objects.specs.PrinterState.{printer_state_code, printer_state_of, printer_reason_of, printer_keyword}
-use Rattle.printer_objects.specs.Attribute.{alone, number, enumerated, keyword, time, texts_attribute}
+use Rattle.printer_objects.specs.Attribute.{alone, text, number, enumerated, keyword, time, texts_attribute}
 use Rattle.printer_objects.specs.JobShown.{printer_uri}
 use Rattle.printer_objects.specs.PrinterAttribute.{printer_attribute_name, printer_table, is_wanted_of_printer}
 use Rattle.printer_objects.specs.Operation.{operation_table}
@@ -32,21 +32,21 @@ pub record ShownPrinter : Type 0 where
 
 -- the values of an attribute under its name
 abbrev pub valued_of_printer : List ℕ → ShownPrinter → PrinterAttribute → IppAttribute
-valued_of_printer name shown UriSupported = alone name (plain tags.uri (printer_uri shown.uri_base shown.offer.printer.name))
+valued_of_printer name shown UriSupported = alone name (text tags.uri (printer_uri shown.uri_base shown.offer.printer.name))
 valued_of_printer name shown UriSecuritySupported = alone name (keyword (codes "none"))
 valued_of_printer name shown UriAuthenticationSupported = alone name (keyword (codes "requesting-user-name"))
-valued_of_printer name shown Name = alone name (plain tags.name shown.offer.printer.name)
+valued_of_printer name shown Name = alone name (text tags.name shown.offer.printer.name)
 valued_of_printer name shown State = alone name (enumerated (printer_state_code (printer_state_of shown.busy shown.paused)))
 valued_of_printer name shown StateReasons = alone name (keyword (printer_keyword (printer_reason_of shown.busy shown.paused)))
 valued_of_printer name shown IppVersionsSupported = alone name (keyword (codes "1.1"))
 valued_of_printer name shown OperationsSupported = operations_attribute name operation_table
 valued_of_printer name shown MultipleDocumentJobsSupported = alone name (plain tags.boolean (1 ∷ []))
 valued_of_printer name shown MultipleOperationTimeOut = alone name (number (INCOMING_JOB_TIME / MILLIS_PER_SECOND))
-valued_of_printer name shown CharsetConfigured = alone name (plain tags.charset (codes "utf-8"))
-valued_of_printer name shown CharsetSupported = alone name (plain tags.charset (codes "utf-8"))
-valued_of_printer name shown NaturalLanguageConfigured = alone name (plain tags.natural_language (codes "en"))
-valued_of_printer name shown GeneratedNaturalLanguageSupported = alone name (plain tags.natural_language (codes "en"))
-valued_of_printer name shown DocumentFormatDefault = alone name (plain tags.mime_media_type shown.offer.printer.format_default)
+valued_of_printer name shown CharsetConfigured = alone name (text tags.charset (codes "utf-8"))
+valued_of_printer name shown CharsetSupported = alone name (text tags.charset (codes "utf-8"))
+valued_of_printer name shown NaturalLanguageConfigured = alone name (text tags.natural_language (codes "en"))
+valued_of_printer name shown GeneratedNaturalLanguageSupported = alone name (text tags.natural_language (codes "en"))
+valued_of_printer name shown DocumentFormatDefault = alone name (text tags.mime_media_type shown.offer.printer.format_default)
 valued_of_printer name shown DocumentFormatSupported = texts_attribute name tags.mime_media_type (formats_of shown.offer)
 valued_of_printer name shown IsAcceptingJobs = alone name (plain tags.boolean (1 ∷ []))
 valued_of_printer name shown QueuedJobCount = alone name (number shown.queued)

@@ -1,9 +1,9 @@
 //! Attributes of the kinds that the tables have.
-ghost use Rattle.std.specs.Prelude.{◌≡◌, IfOk, pos, min, [], ◌∷◌, codes};
+ghost use Rattle.std.specs.Prelude.{◌≡◌, IfOk, pos, min, [], ◌∷◌, codes, take};
 ghost use Rattle.ipp_codec.specs.Message.{plain};
 ghost use Rattle.ipp_codec.specs.Owned.{value_owned};
 ghost use Rattle.ipp_codec.specs.Tag as tags;
-ghost use Rattle.printer_objects.specs.Attribute.{alone, number, enumerated, keyword, no_value, time, reasons_attribute, texts_attribute};
+ghost use Rattle.printer_objects.specs.Attribute.{alone, text, number, enumerated, keyword, no_value, time, reasons_attribute, texts_attribute};
 
 use base_types::{Moment, Text};
 use ipp_codec::{Attribute, Value, ValueTag};
@@ -14,6 +14,8 @@ use std::alloc::{AllocError, Global};
 pub(crate) const LAST_INTEGER: u64 = 2_147_483_647;
 /// Times are shown in seconds.
 pub(crate) const MILLIS_PER_SECOND: u64 = 1_000;
+/// The most bytes of a value: their number is a short integer with a sign (RFC 8010, section 3.8).
+pub(crate) const VALUE_BYTES: usize = 32_767;
 
 /// One value that is bytes of a kind.
 pub(crate) fn bytes(
@@ -28,18 +30,50 @@ pub(crate) fn bytes(
     Attribute::new(alloc, name.as_bytes(), value)
 }
 
+/// As many bytes of a text as a value can have.
+fn front(bytes: &[u8]) -> &[u8]
+    ensures { result.now ≡ take VALUE_BYTES bytes.now }
+{
+    if bytes.len() > VALUE_BYTES {
+        &bytes[..VALUE_BYTES]
+    } else {
+        bytes
+    }
+}
+
+/// A text of a kind, as a value: of one with more bytes than a value can have, its front.
+#[tactic(auto, unfolding(crate::specs::Attribute::text))]
+pub(crate) fn text_value(alloc: Global, tag: ValueTag, bytes: &[u8]) -> Result<Value, AllocError>
+    ensures { IfOk result (λ value. value_owned value ≡ text tag bytes.now) }
+{
+    Value::copy_of(alloc, tag, front(bytes))
+}
+
+/// One text of a kind.
+pub(crate) fn text(
+    alloc: Global,
+    name: &str,
+    tag: ValueTag,
+    bytes: &[u8],
+) -> Result<Attribute, AllocError>
+    ensures { IfOk result (λ a. a ≡ alone name.now (text tag bytes.now)) }
+{
+    let value = text_value(alloc, tag, bytes)?;
+    Attribute::new(alloc, name.as_bytes(), value)
+}
+
 /// One keyword (RFC 8010, section 3.9).
 pub(crate) fn keyword(alloc: Global, name: &str, word: &[u8]) -> Result<Attribute, AllocError>
     ensures { IfOk result (λ a. a ≡ alone name.now (keyword word.now)) }
 {
-    bytes(alloc, name, ValueTag::KEYWORD, word)
+    text(alloc, name, ValueTag::KEYWORD, word)
 }
 
 /// The natural language of all texts of the server: English.
 pub(crate) fn english(alloc: Global, name: &str) -> Result<Attribute, AllocError>
-    ensures { IfOk result (λ a. a ≡ alone name.now (plain tags.natural_language (codes "en"))) }
+    ensures { IfOk result (λ a. a ≡ alone name.now (text tags.natural_language (codes "en"))) }
 {
-    bytes(alloc, name, ValueTag::NATURAL_LANGUAGE, b"en")
+    text(alloc, name, ValueTag::NATURAL_LANGUAGE, b"en")
 }
 
 /// One boolean, which is true.
@@ -102,10 +136,10 @@ pub(crate) fn reasons(
     ensures { IfOk result (λ a. a ≡ reasons_attribute name.now reasons) }
 {
     let first = reasons.first.keyword();
-    let mut attribute = bytes(alloc, name, ValueTag::KEYWORD, first.as_bytes())?;
+    let mut attribute = keyword(alloc, name, first.as_bytes())?;
     if let Some(second) = reasons.second {
-        let keyword = second.keyword();
-        let value = Value::copy_of(alloc, ValueTag::KEYWORD, keyword.as_bytes())?;
+        let second = second.keyword();
+        let value = text_value(alloc, ValueTag::KEYWORD, second.as_bytes())?;
         attribute.push(value)?;
     }
     Ok(attribute)
@@ -123,9 +157,9 @@ pub(crate) fn texts(
     let [first, others @ ..] = texts else {
         return no_value(alloc, name);
     };
-    let mut attribute = bytes(alloc, name, tag, first.as_bytes())?;
-    for text in others {
-        let value = Value::copy_of(alloc, tag, text.as_bytes())?;
+    let mut attribute = text(alloc, name, tag, first.as_bytes())?;
+    for other in others {
+        let value = text_value(alloc, tag, other.as_bytes())?;
         attribute.push(value)?;
     }
     Ok(attribute)

@@ -2,7 +2,7 @@
 ghost use Rattle.std.specs.Prelude.{◌≡◌, IfOk};
 ghost use Rattle.printer_objects.specs.Created.{created_attributes};
 
-use crate::attribute::{bytes, enumerated, number, reasons};
+use crate::attribute::{enumerated, number, reasons, text};
 use crate::job_shown::job_uri;
 use base_types::{JobId, Text};
 use ipp_codec::{Group, GroupTag, ValueTag};
@@ -24,7 +24,7 @@ pub fn created_job_attributes(
 {
     let mut group = Group::new(alloc, GroupTag::JOB);
     let uri = job_uri(alloc, uri_base, id)?;
-    group.push(bytes(alloc, "job-uri", ValueTag::URI, &uri)?)?;
+    group.push(text(alloc, "job-uri", ValueTag::URI, &uri)?)?;
     group.push(number(alloc, "job-id", u64::from(id.number()))?)?;
     group.push(enumerated(alloc, "job-state", state.code())?)?;
     group.push(reasons(alloc, "job-state-reasons", why)?)?;

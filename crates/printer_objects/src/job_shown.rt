@@ -2,7 +2,7 @@
 ghost use Rattle.std.specs.Prelude.{◌≡◌, ◌++◌, IfOk, None, Some};
 ghost use Rattle.printer_objects.specs.JobShown.{job_uri, printer_uri, hold_until, sides_keyword, k_octets, impressions_shown, job_shown, job_attributes};
 
-use crate::attribute::{bytes, enumerated, keyword, number, reasons, time};
+use crate::attribute::{enumerated, keyword, number, reasons, text, time};
 use crate::finishing::{each_finishing, finishings};
 use crate::job_attribute::JobAttribute;
 use base_types::{JobId, Moment, Sides, Text};
@@ -67,16 +67,16 @@ impl JobAttribute {
         match self {
             JobAttribute::Uri => {
                 let uri = job_uri(alloc, shown.uri_base, job.id)?;
-                bytes(alloc, name, ValueTag::URI, &uri)
+                text(alloc, name, ValueTag::URI, &uri)
             }
             JobAttribute::Id => number(alloc, name, u64::from(job.id.number())),
             JobAttribute::PrinterUri => {
                 let uri = printer_uri(alloc, shown.uri_base, shown.printer_name)?;
-                bytes(alloc, name, ValueTag::URI, &uri)
+                text(alloc, name, ValueTag::URI, &uri)
             }
-            JobAttribute::Name => bytes(alloc, name, ValueTag::NAME, job.name.as_bytes()),
+            JobAttribute::Name => text(alloc, name, ValueTag::NAME, job.name.as_bytes()),
             JobAttribute::OriginatingUserName => {
-                bytes(alloc, name, ValueTag::NAME, job.owner.as_bytes())
+                text(alloc, name, ValueTag::NAME, job.owner.as_bytes())
             }
             JobAttribute::State => enumerated(alloc, name, job.state.code()),
             JobAttribute::StateReasons => {

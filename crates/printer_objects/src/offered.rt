@@ -3,11 +3,11 @@ ghost use Rattle.std.specs.Prelude.{◌≡◌, IfOk};
 ghost use Rattle.printer_objects.specs.Attribute.{alone};
 ghost use Rattle.printer_objects.specs.Offered.{operations_attribute, range, hold_untils_attribute, sides_attribute};
 
-use crate::attribute::{bytes, enumerated, enumeration, keyword, no_value};
+use crate::attribute::{bytes, enumerated, enumeration, keyword, no_value, text_value};
 use crate::job_shown::sides_keyword;
 use crate::operation::Operation;
 use base_types::{Limits, Sides};
-use ipp_codec::{Attribute, Value, ValueTag};
+use ipp_codec::{Attribute, ValueTag};
 use std::alloc::{AllocError, Global};
 
 /// The operations; no value where there are none.
@@ -44,7 +44,7 @@ pub(crate) fn hold_untils(alloc: Global, name: &str) -> Result<Attribute, AllocE
     ensures { IfOk result (λ a. a ≡ hold_untils_attribute name.now) }
 {
     let mut attribute = keyword(alloc, name, b"no-hold")?;
-    let value = Value::copy_of(alloc, ValueTag::KEYWORD, b"indefinite")?;
+    let value = text_value(alloc, ValueTag::KEYWORD, b"indefinite")?;
     attribute.push(value)?;
     Ok(attribute)
 }
@@ -59,7 +59,7 @@ pub(crate) fn sides(alloc: Global, name: &str, sides: &[Sides]) -> Result<Attrib
     let mut attribute = keyword(alloc, name, sides_keyword(*first).as_bytes())?;
     for sides in others {
         let keyword = sides_keyword(*sides);
-        let value = Value::copy_of(alloc, ValueTag::KEYWORD, keyword.as_bytes())?;
+        let value = text_value(alloc, ValueTag::KEYWORD, keyword.as_bytes())?;
         attribute.push(value)?;
     }
     Ok(attribute)

@@ -3,7 +3,7 @@ ghost use Rattle.std.specs.Prelude.{◌≡◌, IfOk, Some};
 ghost use Rattle.printer_objects.specs.PrinterShown.{printer_shown, printer_attributes};
 
 use crate::attribute::{
-    MILLIS_PER_SECOND, bytes, english, enumerated, keyword, number, texts, time, yes,
+    MILLIS_PER_SECOND, english, enumerated, keyword, number, text, texts, time, yes,
 };
 use crate::finishing::{NO_FINISHING, supported_finishings};
 use crate::job_shown::printer_uri;
@@ -79,7 +79,7 @@ impl PrinterAttribute {
         match self {
             PrinterAttribute::UriSupported => {
                 let uri = printer_uri(alloc, shown.uri_base, &settings.name)?;
-                bytes(alloc, name, ValueTag::URI, &uri)
+                text(alloc, name, ValueTag::URI, &uri)
             }
             PrinterAttribute::UriSecuritySupported => keyword(alloc, name, b"none"),
             PrinterAttribute::UriAuthenticationSupported => keyword(
@@ -87,7 +87,7 @@ impl PrinterAttribute {
                 name,
                 b"requesting-user-name",
             ),
-            PrinterAttribute::Name => bytes(alloc, name, ValueTag::NAME, settings.name.as_bytes()),
+            PrinterAttribute::Name => text(alloc, name, ValueTag::NAME, settings.name.as_bytes()),
             PrinterAttribute::State => {
                 let state = printer_state(shown.printer, shown.busy);
                 enumerated(alloc, name, state.code())
@@ -103,11 +103,11 @@ impl PrinterAttribute {
                 let seconds = Limits::INCOMING_JOB_TIME / MILLIS_PER_SECOND;
                 number(alloc, name, seconds)
             }
-            PrinterAttribute::CharsetConfigured => bytes(alloc, name, ValueTag::CHARSET, b"utf-8"),
-            PrinterAttribute::CharsetSupported => bytes(alloc, name, ValueTag::CHARSET, b"utf-8"),
+            PrinterAttribute::CharsetConfigured => text(alloc, name, ValueTag::CHARSET, b"utf-8"),
+            PrinterAttribute::CharsetSupported => text(alloc, name, ValueTag::CHARSET, b"utf-8"),
             PrinterAttribute::NaturalLanguageConfigured => english(alloc, name),
             PrinterAttribute::GeneratedNaturalLanguageSupported => english(alloc, name),
-            PrinterAttribute::DocumentFormatDefault => bytes(
+            PrinterAttribute::DocumentFormatDefault => text(
                 alloc,
                 name,
                 ValueTag::MIME_MEDIA_TYPE,

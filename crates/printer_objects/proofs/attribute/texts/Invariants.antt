@@ -1,6 +1,6 @@
 use Rattle.std.proofs.Common.{◌≡◌, take, map}
-use Rattle.ipp_codec.specs.Message.{plain}
+use Rattle.printer_objects.specs.Attribute.{text}
 use Rattle.printer_objects.proofs.attribute.texts.Given as goal
 
-abbrev pub invariant-loop-text : goal.invariant-loop-text
-invariant-loop-text l = l.attribute ≡ record l.initial.attribute { others = map (plain l.tag) (take l.text-index l.others) }
+abbrev pub invariant-loop-other : goal.invariant-loop-other
+invariant-loop-other l = l.attribute ≡ record l.initial.attribute { others = map (text l.tag) (take l.other-index l.others) }

@@ -1,8 +1,7 @@
 use Rattle.std.proofs.Common.{◌≡◌, take, map}
-use Rattle.ipp_codec.specs.Message.{plain}
-use Rattle.ipp_codec.specs.Tag as tags
+use Rattle.printer_objects.specs.Attribute.{keyword}
 use Rattle.printer_objects.specs.JobShown.{sides_keyword}
 use Rattle.printer_objects.proofs.offered.sides.Given as goal
 
 abbrev pub invariant-loop-sides : goal.invariant-loop-sides
-invariant-loop-sides l = l.attribute ≡ record l.initial.attribute { others = map (plain tags.keyword) (map sides_keyword (take l.sides-index l.others)) }
+invariant-loop-sides l = l.attribute ≡ record l.initial.attribute { others = map keyword (map sides_keyword (take l.sides-index l.others)) }
