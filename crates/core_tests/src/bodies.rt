@@ -1,5 +1,5 @@
 //! A whole body, and a reply of a status alone.
-use dispatcher::{Event, IppAnswer, PrintJob, Status, Target};
+use dispatcher::{AnswerGroups, Event, IppAnswer, PrintJob, Status, Target};
 use job_template::RequestAttributes;
 use replies::{Asked, AskedReader, ipp_event, ipp_refusal, ipp_reply};
 use std::alloc::{AllocError, Global};
@@ -90,7 +90,7 @@ fn reply_of_a_status_alone(rt: HostRuntime) -> Result<(), Fail> {
     let answer = IppAnswer {
         status: Status::NotFound,
         unsupported: RequestAttributes::new(rt.alloc()),
-        groups: Vec::new(rt.alloc()),
+        groups: AnswerGroups::new(rt.alloc()),
     };
     let reply = ipp_reply(rt.alloc(), answer, 1)?;
     assert!(rt; reply.as_slice() == NOT_FOUND);

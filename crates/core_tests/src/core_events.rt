@@ -1,4 +1,7 @@
 //! Events that come to the core, and what a dispatch after each comes to.
+ghost use Rattle.std.specs.Prelude.{◌<◌, IfOk, length};
+ghost use Rattle.ipp_codec.specs.Grammar.{IsAttribute, IsName};
+
 mod best;
 mod formats;
 mod lpd;
@@ -108,7 +111,9 @@ fn at(millis: u64) -> Moment {
 }
 
 /// The keyword of the sides.
-fn keyword_of(sides: Sides) -> &'static [u8] {
+fn keyword_of(sides: Sides) -> &'static [u8]
+    ensures { length result.now < 0x8000 }
+{
     match sides {
         Sides::One => b"one-sided",
         Sides::LongEdge => b"two-sided-long-edge",
@@ -117,19 +122,28 @@ fn keyword_of(sides: Sides) -> &'static [u8] {
 }
 
 /// An attribute of one integer.
-fn number(alloc: Global, name: &[u8], number: u32) -> Result<Attribute, AllocError> {
+fn number(alloc: Global, name: &[u8], number: u32) -> Result<Attribute, AllocError>
+    requires { IsName name.now }
+    ensures { IfOk result IsAttribute }
+{
     let value = Value::integer(alloc, i32::try_from(number).unwrap_or(0))?;
     Attribute::new(alloc, name, value)
 }
 
+/// The attribute of the sides.
+fn sides(alloc: Global, sides: Sides) -> Result<Attribute, AllocError>
+    ensures { IfOk result IsAttribute }
+{
+    let value = Value::copy_of(alloc, ValueTag::KEYWORD, keyword_of(sides))?;
+    Attribute::new(alloc, b"sides", value)
+}
+
 /// The job group of a job.
 fn job_group(alloc: Global, asked: Asked) -> Result<RequestAttributes, AllocError> {
-    let sides = Value::copy_of(alloc, ValueTag::KEYWORD, keyword_of(asked.sides))?;
-    let sides = Attribute::new(alloc, b"sides", sides)?;
-    let mut attributes = Vec::with_capacity(alloc, 3)?;
-    attributes.push(number(alloc, b"job-priority", u32::from(asked.priority))?)?;
-    attributes.push(sides)?;
-    attributes.push(number(alloc, b"copies", asked.copies)?)?;
+    let priority = number(alloc, b"job-priority", u32::from(asked.priority))?;
+    let sides = sides(alloc, asked.sides)?;
+    let copies = number(alloc, b"copies", asked.copies)?;
+    let attributes = Vec::from_array(alloc, [priority, sides, copies])?;
     Ok(RequestAttributes::from_vec(attributes))
 }
 

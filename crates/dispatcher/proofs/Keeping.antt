@@ -75,7 +75,7 @@ sent_free request old sent is =
     let job = behind (named_job request.job.target old) (sent_to_job request old) sent is in
     let printer = behind (printer_of_job job.0 old) (sent_to_printer request old job.0) sent job.1 in
     let format = behind (format_asked request.form printer.0.offer) (sent_in_format request old job.0) sent printer.1 in
-    let one : Sent = record { job = job.0.id; format = format.0; group = sent_group old job.0 request.last } in
+    let one : Sent = record { job = job.0.id; format = format.0; groups = sent_group old job.0 request.last ∷ [] } in
     let free = at_last (sending_refusal job.0.id request.job.user (length request.octets) request.last old) one sent format.1 in
     subst (λ (id : ℕ). sending_refusal id request.job.user (length request.octets) request.last old ≡ None) free.1 free.0
 

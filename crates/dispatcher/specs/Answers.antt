@@ -12,7 +12,7 @@ use Rattle.print_room.specs.State.{State}
 
 -- an answer of just this status, what isn't supported, and these groups
 abbrev pub IsAnswer : Status → List IppAttribute → List IppGroup → Answer → Type 0
-IsAnswer status unsupported groups (Says.Ipp answer) = (answer.status ≡ status) × (answer.unsupported ≡ unsupported) × (answer.groups.items ≡ groups)
+IsAnswer status unsupported groups (Says.Ipp answer) = (answer.status ≡ status) × (answer.unsupported ≡ unsupported) × (answer.groups ≡ groups)
 IsAnswer status unsupported groups (Says.Lpd answer) = ⊥
 IsAnswer status unsupported groups Says.Nothing = ⊥
 

@@ -28,7 +28,7 @@ sent_group old job last =
 abbrev pub sent_in_format : SendDocument → State → JobRecord → List ℕ → Result Sent Refusal
 sent_in_format request old job format =
     unrefused (sending_refusal job.id request.job.user (length request.octets) request.last old) >>= (λ _.
-    Ok (record { job = job.id; format = format; group = sent_group old job request.last }))
+    Ok (record { job = job.id; format = format; groups = sent_group old job request.last ∷ [] }))
 
 -- by its form
 abbrev pub sent_to_printer : SendDocument → State → JobRecord → NamedPrinter → Result Sent Refusal
@@ -44,7 +44,7 @@ sent_of request old = named_job request.job.target old >>= sent_to_job request o
 
 -- the job is answered, and has the document
 pub record SendsIt (now : ℕ) (old : State) (request : SendDocument) (sent : Sent) (reply : Reply) (new : State) : Type 0 where
-  pub replies : Replies Went.Ok [] (sent.group ∷ []) reply
+  pub replies : Replies Went.Ok [] sent.groups reply
   pub state : new ≡ sending now sent.job (record { format = sent.format; contents = request.octets }) request.last old
 
 -- one reply and one state after it

@@ -6,11 +6,11 @@ ghost use Rattle.dispatcher.specs.Checks.{named_job, named_printer};
 ghost use Rattle.dispatcher.specs.GetPrinterAttributes.{ShowsPrinter};
 ghost use Rattle.dispatcher.specs.GetJobAttributes.{ShowsJob};
 
+use crate::answer_groups::AnswerGroups;
 use crate::checks::{NamedPrinter, named_job, named_printer};
 use crate::event::{GetJobAttributes, GetPrinterAttributes};
-use crate::reply::{Reply, one_group, refuse, show};
+use crate::reply::{Reply, refuse, show};
 use base_types::{Moment, Text};
-use ipp_codec::Group;
 use job_objects::Job;
 use listings::{job_group, printer_group};
 use print_room::PrintRoom;
@@ -44,11 +44,11 @@ fn printer_groups(
     printer: &NamedPrinter<'_>,
     now: Moment,
     requested: &[Text],
-) -> Result<Vec<Group>, AllocError>
-    ensures { IfOk result (λ groups. groups.items ≡ printer_group printer.now.place printer.now.offer now requested.now room.now ∷ []) }
+) -> Result<AnswerGroups, AllocError>
+    ensures { IfOk result (λ groups. groups ≡ printer_group printer.now.place printer.now.offer now requested.now room.now ∷ []) }
 {
     let group = printer_group(alloc, room, printer.place, &printer.offer, now, requested)?;
-    one_group(alloc, group)
+    AnswerGroups::one(alloc, group)
 }
 
 /// Answers the attributes of a job, or why not. A refusal takes no memory.
@@ -79,9 +79,9 @@ fn job_groups(
     job: &Job,
     now: Moment,
     requested: &[Text],
-) -> Result<Vec<Group>, AllocError>
-    ensures { IfOk result (λ groups. groups.items ≡ job_group now requested.now room.now job.now ∷ []) }
+) -> Result<AnswerGroups, AllocError>
+    ensures { IfOk result (λ groups. groups ≡ job_group now requested.now room.now job.now ∷ []) }
 {
     let group = job_group(alloc, room, job, now, requested)?;
-    one_group(alloc, group)
+    AnswerGroups::one(alloc, group)
 }

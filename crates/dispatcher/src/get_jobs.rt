@@ -1,8 +1,10 @@
 //! What a Get-Jobs is answered (RFC 8011, section 4.2.6).
 ghost use Rattle.std.specs.Prelude.{◌≡◌, ◌≤◌, IfOk, IsOk, IsErr, OnErr};
 ghost use Rattle.std.specs.Option.{option_copied};
+ghost use Rattle.listings.specs.Groups.{job_groups};
 ghost use Rattle.dispatcher.specs.GetJobs.{ListsJobs, finished_asked, owner_asked, wanted_of};
 
+use crate::answer_groups::AnswerGroups;
 use crate::checks::{Refusal, named_printer};
 use crate::event::{GetJobs, WhichJobs};
 use crate::reply::{Reply, refuse, show};
@@ -45,8 +47,22 @@ pub(crate) fn get_jobs(
         owner: owner_asked(mine, &asked.user),
         limit,
     };
-    let groups = job_groups(alloc, room, &wanted, now, requested.names())?;
+    let groups = listed_groups(alloc, room, &wanted, now, requested.names())?;
     Ok(show(alloc, room, groups, now))
+}
+
+/// A group for each job that is wanted.
+fn listed_groups(
+    alloc: Global,
+    room: &PrintRoom,
+    wanted: &Wanted<'_>,
+    now: Moment,
+    requested: &[Text],
+) -> Result<AnswerGroups, AllocError>
+    ensures { IfOk result (λ groups. groups ≡ job_groups wanted.now now requested.now room.now) }
+{
+    let groups = job_groups(alloc, room, wanted, now, requested)?;
+    Ok(AnswerGroups::from_vec(groups))
 }
 
 /// Whether the finished jobs are asked for; a which-jobs that isn't supported is answered as it came.

@@ -3,6 +3,7 @@ ghost use Rattle.std.specs.Prelude.{◌≡◌, ◌≤◌, []};
 ghost use Rattle.job_objects.specs.declared.job_change.JobChange.TheVariants as Change;
 ghost use Rattle.dispatcher.specs.HoldJob.{ChangesJob, HoldsJob, ReleasesJob};
 
+use crate::answer_groups::AnswerGroups;
 use crate::checks::{named_job, refused_change};
 use crate::event::{HoldJob, HoldUntil, JobRequest};
 use crate::reply::{Reply, refuse, taken_with};
@@ -42,7 +43,7 @@ fn hold(
     match room.hold(id, &request.user, now) {
         Ok(()) => {
             let status = taken_with(&unsupported);
-            Reply::answered(alloc, status, unsupported, Vec::new(alloc))
+            Reply::answered(alloc, status, unsupported, AnswerGroups::new(alloc))
         }
         Err(cause) => refuse(alloc, room, refused_change(alloc, cause), now),
     }

@@ -14,6 +14,7 @@
 //! Tests stand in `core_tests`.
 #![tactic(auto)]
 
+mod answer_groups;
 mod apply;
 mod cancel_job;
 mod checks;
@@ -37,6 +38,7 @@ mod submission;
 mod submit_files;
 mod validate_job;
 
+pub use answer_groups::AnswerGroups;
 pub use dispatch::Dispatched;
 pub use event::{
     AskedJob, DocumentForm, Event, GetJobAttributes, GetJobs, GetPrinterAttributes, HoldJob,

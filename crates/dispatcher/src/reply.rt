@@ -1,17 +1,17 @@
 //! What an event is answered.
-ghost use Rattle.std.specs.Prelude.{◌≡◌, ◌≤◌, ◌∷◌, [], IfOk};
+ghost use Rattle.std.specs.Prelude.{◌≡◌, ◌≤◌, []};
 ghost use Rattle.dispatcher.specs.declared.status.Status.TheVariants as Went;
 ghost use Rattle.dispatcher.specs.Answers.{IsAnswer, Refuses, Replies, Shows, taken_with};
 
+use crate::answer_groups::AnswerGroups;
 use crate::checks::Refusal;
 use crate::status::Status;
 use base_types::{DeviceId, JobId, Moment};
-use ipp_codec::Group;
 use job_template::RequestAttributes;
 use print_room::PrintRoom;
 use queues::QueueListing;
 use spool::Document;
-use std::alloc::{AllocError, Global};
+use std::alloc::Global;
 
 /// A cancel to send: the device still has the job.
 #[derive(Clone, Copy, Debug, PartialEq, Eq)]
@@ -27,7 +27,7 @@ pub struct IppAnswer {
     /// What of the request isn't supported, as it came or with the tag for unsupported values.
     pub unsupported: RequestAttributes,
     /// The groups of jobs or of the printer.
-    pub groups: Vec<Group>,
+    pub groups: AnswerGroups,
 }
 
 /// The answer to an LPD client.
@@ -66,9 +66,9 @@ impl Reply {
         alloc: Global,
         status: Status,
         unsupported: RequestAttributes,
-        groups: Vec<Group>,
+        groups: AnswerGroups,
     ) -> Reply
-        ensures { Replies status unsupported groups.items result }
+        ensures { Replies status unsupported groups result }
     {
         Reply {
             answer: Answer::Ipp(IppAnswer {
@@ -89,7 +89,7 @@ impl Reply {
             alloc,
             Status::Ok,
             RequestAttributes::new(alloc),
-            Vec::new(alloc),
+            AnswerGroups::new(alloc),
         )
     }
 
@@ -103,7 +103,7 @@ impl Reply {
             answer: Answer::Ipp(IppAnswer {
                 status: Status::Ok,
                 unsupported: RequestAttributes::new(alloc),
-                groups: Vec::new(alloc),
+                groups: AnswerGroups::new(alloc),
             }),
             cancels,
             documents: Vec::new(alloc),
@@ -150,15 +150,6 @@ impl Reply {
     }
 }
 
-/// One group.
-pub(crate) fn one_group(alloc: Global, group: Group) -> Result<Vec<Group>, AllocError>
-    ensures { IfOk result (λ groups. groups.items ≡ group ∷ []) }
-{
-    let mut groups = Vec::with_capacity(alloc, 1)?;
-    groups.push(group)?;
-    Ok(groups)
-}
-
 /// How a job is taken or found to be one that would be, by what isn't supported.
 pub(crate) fn taken_with(unsupported: &RequestAttributes) -> Status
     ensures { result ≡ taken_with unsupported.now }
@@ -180,13 +171,13 @@ pub(crate) fn refuse(alloc: Global, room: &mut PrintRoom, refusal: Refusal, now:
         unsupported,
     } = refusal;
     room.advance(now);
-    Reply::answered(alloc, status, unsupported, Vec::new(alloc))
+    Reply::answered(alloc, status, unsupported, AnswerGroups::new(alloc))
 }
 
 /// Answers these groups.
-pub(crate) fn show(alloc: Global, room: &mut PrintRoom, groups: Vec<Group>, now: Moment) -> Reply
+pub(crate) fn show(alloc: Global, room: &mut PrintRoom, groups: AnswerGroups, now: Moment) -> Reply
     requires { room.old.last ≤ now }
-    ensures { Shows now room.old groups.items result room.new }
+    ensures { Shows now room.old groups result room.new }
 {
     room.advance(now);
     Reply::answered(alloc, Status::Ok, RequestAttributes::new(alloc), groups)

@@ -4,14 +4,14 @@ ghost use Rattle.std.specs.Prelude.{◌≡◌, ◌≤◌, ◌∷◌, [], IfOk, I
 ghost use Rattle.print_room.specs.Jobs.{sending_refusal};
 ghost use Rattle.dispatcher.specs.SendDocument.{SendsDocument, SendsIt, sent_group, sent_in_format, sent_to_printer, sent_to_job, sent_of};
 
+use crate::answer_groups::AnswerGroups;
 use crate::checks::{
     NamedPrinter, Refusal, format_asked, named_job, printer_of_job, refused_change,
 };
 use crate::event::SendDocument;
-use crate::reply::{Reply, one_group, refuse};
+use crate::reply::{Reply, refuse};
 use crate::status::Status;
 use base_types::{JobId, Moment, Text};
-use ipp_codec::Group;
 use job_objects::{Job, JobState, waiting_reasons};
 use job_template::RequestAttributes;
 use print_room::PrintRoom;
@@ -20,12 +20,12 @@ use spool::Document;
 use std::alloc::{AllocError, Global};
 
 /// The job that a document is sent to, where nothing stands against it: the document's format, and the
-/// group that shows the job after it.
+/// group that shows the job after it, alone.
 #[derive(Drop)]
 pub(crate) struct Sent {
     pub(crate) job: JobId,
     pub(crate) format: Text,
-    pub(crate) group: Group,
+    pub(crate) groups: AnswerGroups,
 }
 
 /// Adds the document of a Send-Document request to its job, or says why not.
@@ -65,8 +65,11 @@ fn send(
         last,
         ..
     } = request;
-    let Sent { job, format, group } = sent;
-    let groups = one_group(alloc, group)?;
+    let Sent {
+        job,
+        format,
+        groups,
+    } = sent;
     let document = Document {
         format,
         contents: octets,
@@ -147,22 +150,28 @@ fn sent_in_format(
     if let Err(cause) = room.admits_document(job.id, &request.job.user, octets, request.last) {
         return Ok(Err(refused_change(alloc, cause)));
     }
-    let group = sent_group(alloc, room, job, request.last)?;
+    let groups = sent_groups(alloc, room, job, request.last)?;
     let format = format.copied(alloc)?;
     Ok(Ok(Sent {
         job: job.id,
         format,
-        group,
+        groups,
     }))
 }
 
 /// The group that shows the job after a document: others are still to come, unless it was the last.
-fn sent_group(alloc: Global, room: &PrintRoom, job: &Job, last: bool) -> Result<Group, AllocError>
-    ensures { IfOk result (λ group. group ≡ sent_group room.now job.now last) }
+fn sent_groups(
+    alloc: Global,
+    room: &PrintRoom,
+    job: &Job,
+    last: bool,
+) -> Result<AnswerGroups, AllocError>
+    ensures { IfOk result (λ groups. groups ≡ sent_group room.now job.now last ∷ []) }
 {
     let paused = room.is_paused(job.needs.printer);
     let state = JobState::waiting(!last, job.held);
     let reasons = waiting_reasons(!last, job.held, job.stranded, paused);
     let settings = room.settings();
-    created_job_attributes(alloc, &settings.uri_base, job.id, state, reasons)
+    let group = created_job_attributes(alloc, &settings.uri_base, job.id, state, reasons)?;
+    AnswerGroups::one(alloc, group)
 }

@@ -3,11 +3,10 @@ ghost use Rattle.std.specs.Prelude.{◌≡◌, ◌≤◌, ◌∷◌, [], IfOk, I
 ghost use Rattle.spool.specs.Calls.{is_full, new_refusal};
 ghost use Rattle.dispatcher.specs.Submission.{job_asked, group_of};
 
+use crate::answer_groups::AnswerGroups;
 use crate::checks::{NamedPrinter, Refusal, room_for, unsupported_asked};
 use crate::event::AskedJob;
-use crate::reply::one_group;
 use base_types::{Limits, Moment, PrinterId};
-use ipp_codec::Group;
 use job_objects::{JobState, waiting_reasons};
 use job_template::{RequestAttributes, medium_of, template_of};
 use print_room::PrintRoom;
@@ -80,14 +79,14 @@ pub(crate) fn groups_of(
     room: &PrintRoom,
     job: &NewJob,
     incoming: bool,
-) -> Result<Vec<Group>, AllocError>
+) -> Result<AnswerGroups, AllocError>
     requires { new_refusal room.now.spool job.now.documents ≡ None }
-    ensures { IfOk result (λ groups. groups.items ≡ group_of room.now job.now incoming ∷ []) }
+    ensures { IfOk result (λ groups. groups ≡ group_of room.now job.now incoming ∷ []) }
 {
     let id = room.spool().next_id().unwrap();
     let state = JobState::waiting(incoming, job.held);
     let reasons = waiting_reasons(incoming, job.held, false, room.is_paused(job.printer));
     let settings = room.settings();
     let group = created_job_attributes(alloc, &settings.uri_base, id, state, reasons)?;
-    one_group(alloc, group)
+    AnswerGroups::one(alloc, group)
 }

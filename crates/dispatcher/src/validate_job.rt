@@ -3,6 +3,7 @@
 ghost use Rattle.std.specs.Prelude.{◌≡◌, ◌≤◌};
 ghost use Rattle.dispatcher.specs.ValidateJob.{Validates, ValidatesJob, validated_of, validated_of_printer};
 
+use crate::answer_groups::AnswerGroups;
 use crate::checks::{NamedPrinter, Refusal, format_asked, named_printer, unsupported_asked};
 use crate::event::ValidateJob;
 use crate::reply::{Reply, refuse, taken_with};
@@ -34,7 +35,7 @@ fn answer(alloc: Global, room: &mut PrintRoom, unsupported: RequestAttributes, n
 {
     let status = taken_with(&unsupported);
     room.advance(now);
-    Reply::answered(alloc, status, unsupported, Vec::new(alloc))
+    Reply::answered(alloc, status, unsupported, AnswerGroups::new(alloc))
 }
 
 /// What of a request isn't supported, or the first reason against it.

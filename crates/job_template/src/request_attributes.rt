@@ -1,6 +1,8 @@
 //! The attributes of a request's job group, and what of them is returned (RFC 8011, section 4.1.7).
 ghost use Rattle.std.specs.Prelude.{◌≡◌, ◌==◌, [], map, filter, not, length};
+ghost use Rattle.std.specs.List.{AllByRecursion};
 ghost use Rattle.std.specs.Option.{option_copied};
+ghost use Rattle.ipp_codec.specs.Grammar.{IsAttribute};
 ghost use Rattle.job_template.specs.Template.{named, is_supported};
 ghost use Rattle.job_template.specs.Unsupported.{returned, unsupported_of};
 
@@ -12,8 +14,8 @@ use printer_objects::Offer;
 use std::alloc::Global;
 use std::marker::Model;
 
-/// Attributes of a request, of different names, in their order. In clauses they are the list of what
-/// they say.
+/// Attributes of a request, of different names, in their order: each has a spelling. In clauses they
+/// are the list of what they say.
 #[derive(Drop)]
 pub struct RequestAttributes {
     attributes: Vec<Attribute>,
@@ -22,7 +24,9 @@ pub struct RequestAttributes {
 impl Model for RequestAttributes {
     ghost use Rattle.std.specs.Prelude.{List};
     ghost use Rattle.std.specs.Coded.{coded_list};
+    ghost use Rattle.std.specs.List.{AllByRecursion};
     ghost use Rattle.ipp_codec.specs.Code.{attribute_code};
+    ghost use Rattle.ipp_codec.specs.Grammar.{IsAttribute};
     ghost use Rattle.ipp_codec.specs.Message.{IppAttribute};
 
     ghost Value = { List IppAttribute };
@@ -30,6 +34,8 @@ impl Model for RequestAttributes {
     ghost coded = { coded_list attribute_code };
 
     ghost view = { λ a. a.attributes.items };
+
+    ghost invariant = { λ a. AllByRecursion IsAttribute a.attributes.items };
 }
 
 impl RequestAttributes {
@@ -44,6 +50,7 @@ impl RequestAttributes {
 
     /// These, which have different names.
     pub fn from_vec(attributes: Vec<Attribute>) -> RequestAttributes
+        requires { AllByRecursion IsAttribute attributes.items }
         ensures { result ≡ attributes.items }
     {
         RequestAttributes { attributes }
@@ -51,7 +58,8 @@ impl RequestAttributes {
 
     /// The attributes themselves.
     pub fn into_vec(self) -> Vec<Attribute>
-        ensures { result.items ≡ self }
+        ensures value { result.items ≡ self }
+        ensures spelt { AllByRecursion IsAttribute result.items }
     {
         self.attributes
     }

@@ -41,6 +41,10 @@ pub record Heard (bytes : List ℕ) (reader : ReaderState) : Type 0 where
   pub stands : Stands bytes reader.decoder
   pub kept : KeptAt reader.decoder.stage bytes reader
 
+-- a decoder that was fed some bytes
+abbrev pub WasFed : DecoderState → Type 0
+WasFed decoder = (bytes : List ℕ) × Stands bytes decoder
+
 -- ---- what a whole body asks, of which the decoder was fed all and this document was kept
 
 -- it is the document of the bytes, where that is read

@@ -2,7 +2,6 @@
 use Rattle.std.specs.Prelude.{ℕ, ◌≡◌, ◌++◌, Bool, true, false, if◌then◌else◌, List, [], ◌∷◌, codes}
 use Rattle.ipp_codec.specs.Message.{plain, IppAttribute, IppGroup, IppMessage}
 use Rattle.ipp_codec.specs.Spelling.{spelling}
-use Rattle.ipp_codec.specs.Grammar.{IsMessage}
 use Rattle.ipp_codec.specs.Tag as tags
 use Rattle.dispatcher.specs.declared.reply.IppAnswer.{IppAnswer}
 use Rattle.dispatcher.specs.declared.status.Status.{Status}
@@ -44,9 +43,8 @@ refusal_bytes status id = spelling (reply_of status id [])
 
 abbrev pub message_of : IppAnswer → ℕ → IppMessage
 message_of answer id =
-    reply_of answer.status id (unsupported_of answer.status answer.unsupported ++ answer.groups.items)
+    reply_of answer.status id (unsupported_of answer.status answer.unsupported ++ answer.groups)
 
--- the spelling of the answer where it has one, else its status alone
+-- the one spelling of the answer's message
 pub record IsReply (answer : IppAnswer) (id : ℕ) (bytes : List ℕ) : Type 0 where
-  pub spelt : IsMessage (message_of answer id) → bytes ≡ spelling (message_of answer id)
-  pub refused : ¬ (IsMessage (message_of answer id)) → bytes ≡ refusal_bytes answer.status id
+  pub spelt : bytes ≡ spelling (message_of answer id)

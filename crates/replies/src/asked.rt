@@ -1,7 +1,7 @@
 //! What a body asks.
 ghost use Rattle.std.specs.Prelude.{◌≡◌, IfOk, OnErr};
 ghost use Rattle.replies.specs.Asked.{Asks, status_of};
-ghost use Rattle.replies.specs.Reader.{AsksOf, AsksUnderOf, AsksByOf, RequestsOf};
+ghost use Rattle.replies.specs.Reader.{WasFed, AsksOf, AsksUnderOf, AsksByOf, RequestsOf};
 
 use crate::asked_reader::AskedReader;
 use crate::event::event_of;
@@ -40,6 +40,7 @@ pub(crate) fn asked_of(
     decoder: &Decoder,
     document: &mut Pages,
 ) -> Result<Asked, AllocError>
+    requires { WasFed decoder.now }
     ensures asked { IfOk result (λ asked. AsksOf decoder.now document.old asked) }
     ensures err { OnErr result (document.new ≡ document.old) }
 {
@@ -56,6 +57,7 @@ fn asked_under(
     decoder: &Decoder,
     document: &mut Pages,
 ) -> Result<Asked, AllocError>
+    requires { WasFed decoder.now }
     ensures asked { IfOk result (λ asked. AsksUnderOf header decoder.now document.old asked) }
     ensures err { OnErr result (document.new ≡ document.old) }
 {
@@ -73,6 +75,7 @@ fn asked_by(
     decoder: &Decoder,
     document: &mut Pages,
 ) -> Result<Asked, AllocError>
+    requires { WasFed decoder.now }
     ensures asked { IfOk result (λ asked. AsksByOf operation request_id decoder.now document.old asked) }
     ensures err { OnErr result (document.new ≡ document.old) }
 {
@@ -89,6 +92,7 @@ fn event_by(
     decoder: &Decoder,
     document: &mut Pages,
 ) -> Result<Result<Event, Status>, AllocError>
+    requires { WasFed decoder.now }
     ensures requests { IfOk result (λ event. RequestsOf operation decoder.now document.old event) }
     ensures err { OnErr result (document.new ≡ document.old) }
 {

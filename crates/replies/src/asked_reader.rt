@@ -24,11 +24,13 @@ pub struct AskedReader {
 }
 
 impl Model for AskedReader {
-    ghost use Rattle.replies.specs.Reader.{ReaderState};
+    ghost use Rattle.replies.specs.Reader.{ReaderState, WasFed};
 
     ghost Value = { ReaderState };
 
     ghost view = { λ r. record { decoder = r.decoder; document = r.document } };
+
+    ghost invariant = { λ r. WasFed r.decoder };
 }
 
 impl AskedReader {

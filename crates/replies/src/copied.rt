@@ -1,5 +1,6 @@
 //! Attributes of a request that are kept: copies of what came.
 ghost use Rattle.std.specs.Prelude.{◌≡◌, ◌∷◌, [], IfOk};
+ghost use Rattle.ipp_codec.specs.Grammar.{IsAttribute, IsGroup};
 ghost use Rattle.ipp_codec.specs.Views.{group_shown};
 ghost use Rattle.replies.specs.Attributes.{as_it_came, first_of_each};
 
@@ -16,6 +17,7 @@ pub(crate) fn as_it_came(
     group: &GroupView<'_>,
     which: OperationAttribute,
 ) -> Result<RequestAttributes, AllocError>
+    requires { IsGroup (group_shown group.now) }
     ensures { IfOk result (λ attributes. attributes ≡ as_it_came which (group_shown group.now)) }
 {
     match attribute_of(group, which) {
@@ -26,6 +28,7 @@ pub(crate) fn as_it_came(
 
 /// One attribute.
 fn alone(alloc: Global, attribute: Attribute) -> Result<RequestAttributes, AllocError>
+    requires { IsAttribute attribute }
     ensures { IfOk result (λ attributes. attributes ≡ attribute ∷ []) }
 {
     let mut attributes = Vec::new(alloc);
@@ -38,6 +41,7 @@ pub(crate) fn first_of_each(
     alloc: Global,
     group: &GroupView<'_>,
 ) -> Result<RequestAttributes, AllocError>
+    requires { IsGroup (group_shown group.now) }
     ensures { IfOk result (λ attributes. attributes ≡ first_of_each (group_shown group.now).attributes) }
 {
     let mut names = BTreeSet::new(alloc);

@@ -1,5 +1,6 @@
 //! What a message asks, by its operation.
 ghost use Rattle.std.specs.Prelude.{◌≡◌, IfOk, OnErr};
+ghost use Rattle.ipp_codec.specs.Grammar.{IsGroup, IsMessage};
 ghost use Rattle.ipp_codec.specs.Views.{group_shown, message_shown};
 ghost use Rattle.replies.specs.Request.{job_attributes};
 ghost use Rattle.replies.specs.Event.{is_complete, asked_in, event_in, event_of};
@@ -24,6 +25,7 @@ pub(crate) fn event_of(
     message: &MessageView<'_>,
     document: &mut Pages,
 ) -> Result<Result<Event, Status>, AllocError>
+    requires { IsMessage (message_shown message.now) }
     ensures event { IfOk result (λ event. event ≡ event_of operation (message_shown message.now) document.old) }
     ensures err { OnErr result (document.new ≡ document.old) }
 {
@@ -41,6 +43,8 @@ fn asked_in(
     group: &GroupView<'_>,
     document: &mut Pages,
 ) -> Result<Result<Event, Status>, AllocError>
+    requires message { IsMessage (message_shown message.now) }
+    requires group { IsGroup (group_shown group.now) }
     ensures event { IfOk result (λ event. event ≡ asked_in operation (group_shown group.now) (job_attributes (message_shown message.now)) document.old) }
     ensures err { OnErr result (document.new ≡ document.old) }
 {
@@ -77,6 +81,8 @@ fn event_in(
     group: &GroupView<'_>,
     document: &mut Pages,
 ) -> Result<Event, AllocError>
+    requires message { IsMessage (message_shown message.now) }
+    requires group { IsGroup (group_shown group.now) }
     ensures event { IfOk result (λ event. event ≡ event_in operation (group_shown group.now) (job_attributes (message_shown message.now)) document.old) }
     ensures err { OnErr result (document.new ≡ document.old) }
 {

@@ -1,5 +1,6 @@
 //! What is read of a request for a new job: Print-Job, Validate-Job and Create-Job.
 ghost use Rattle.std.specs.Prelude.{◌≡◌, IfOk, OnErr};
+ghost use Rattle.ipp_codec.specs.Grammar.{IsMessage};
 ghost use Rattle.ipp_codec.specs.Views.{group_shown, message_shown};
 ghost use Rattle.replies.specs.JobCreation.{asked_job_of, form_of, print_job_of, validate_job_of};
 ghost use Rattle.replies.specs.Request.{job_attributes};
@@ -19,6 +20,7 @@ pub(crate) fn asked_job_of(
     message: &MessageView<'_>,
     group: &GroupView<'_>,
 ) -> Result<AskedJob, AllocError>
+    requires { IsMessage (message_shown message.now) }
     ensures { IfOk result (λ job. job ≡ asked_job_of (group_shown group.now) (job_attributes (message_shown message.now))) }
 {
     Ok(AskedJob {
@@ -48,6 +50,7 @@ pub(crate) fn print_job_of(
     group: &GroupView<'_>,
     document: &mut Pages,
 ) -> Result<PrintJob, AllocError>
+    requires { IsMessage (message_shown message.now) }
     ensures request { IfOk result (λ request. request ≡ print_job_of (group_shown group.now) (job_attributes (message_shown message.now)) document.old) }
     ensures err { OnErr result (document.new ≡ document.old) }
 {
@@ -63,6 +66,7 @@ pub(crate) fn validate_job_of(
     message: &MessageView<'_>,
     group: &GroupView<'_>,
 ) -> Result<ValidateJob, AllocError>
+    requires { IsMessage (message_shown message.now) }
     ensures { IfOk result (λ request. request ≡ validate_job_of (group_shown group.now) (job_attributes (message_shown message.now))) }
 {
     Ok(ValidateJob {

@@ -1,5 +1,6 @@
 //! What is read of a request about one job.
 ghost use Rattle.std.specs.Prelude.{◌≡◌, IfOk, OnErr};
+ghost use Rattle.ipp_codec.specs.Grammar.{IsGroup};
 ghost use Rattle.ipp_codec.specs.Views.{group_shown};
 ghost use Rattle.replies.specs.JobRequests.{job_request_of, send_document_of, hold_until_of, hold_job_of, get_job_attributes_of};
 
@@ -47,6 +48,7 @@ pub(crate) fn send_document_of(
 
 /// Until when a job is to be held.
 fn hold_until_of(alloc: Global, group: &GroupView<'_>) -> Result<HoldUntil, AllocError>
+    requires { IsGroup (group_shown group.now) }
     ensures { IfOk result (λ until. until ≡ hold_until_of (group_shown group.now)) }
 {
     let which = OperationAttribute::JobHoldUntil;
@@ -65,6 +67,7 @@ fn hold_until_of(alloc: Global, group: &GroupView<'_>) -> Result<HoldUntil, Allo
 
 /// What is read of a Hold-Job.
 pub(crate) fn hold_job_of(alloc: Global, group: &GroupView<'_>) -> Result<HoldJob, AllocError>
+    requires { IsGroup (group_shown group.now) }
     ensures { IfOk result (λ request. request ≡ hold_job_of (group_shown group.now)) }
 {
     Ok(HoldJob {

@@ -1,5 +1,6 @@
 //! What is read of a request about a printer and its jobs.
 ghost use Rattle.std.specs.Prelude.{◌≡◌, IfOk};
+ghost use Rattle.ipp_codec.specs.Grammar.{IsGroup};
 ghost use Rattle.ipp_codec.specs.Views.{group_shown};
 ghost use Rattle.replies.specs.PrinterRequests.{printer_request_of, get_printer_attributes_of, which_of, limit_of, get_jobs_of};
 
@@ -41,6 +42,7 @@ pub(crate) fn get_printer_attributes_of(
 
 /// Which jobs are asked for.
 fn which_of(alloc: Global, group: &GroupView<'_>) -> Result<WhichJobs, AllocError>
+    requires { IsGroup (group_shown group.now) }
     ensures { IfOk result (λ which. which ≡ which_of (group_shown group.now)) }
 {
     let which = OperationAttribute::WhichJobs;
@@ -67,6 +69,7 @@ fn limit_of(group: &GroupView<'_>) -> Option<u32>
 
 /// What is read of a Get-Jobs.
 pub(crate) fn get_jobs_of(alloc: Global, group: &GroupView<'_>) -> Result<GetJobs, AllocError>
+    requires { IsGroup (group_shown group.now) }
     ensures { IfOk result (λ request. request ≡ get_jobs_of (group_shown group.now)) }
 {
     Ok(GetJobs {

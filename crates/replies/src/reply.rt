@@ -1,8 +1,8 @@
 //! Answers as bytes.
 ghost use Rattle.std.specs.Prelude.{◌≡◌, ◌∷◌, IfOk};
+ghost use Rattle.ipp_codec.specs.Grammar.{IsMessage};
 ghost use Rattle.replies.specs.Reply.{opening_group, tells_unsupported, unsupported_of, message_of, IsReply};
 
-use crate::refusal::ipp_refusal;
 use dispatcher::{IppAnswer, Status};
 use ipp_codec::{
     Attribute, EncodeFault, Group, GroupTag, Message, Value, ValueTag, Version, encode,
@@ -14,33 +14,34 @@ use std::alloc::{AllocError, Global};
 pub fn ipp_reply(alloc: Global, answer: IppAnswer, request_id: u32) -> Result<Vec<u8>, AllocError>
     ensures { IfOk result (λ bytes. IsReply answer request_id bytes.items) }
 {
-    let status = answer.status;
     let message = message_of(alloc, answer, request_id)?;
     let mut bytes = Vec::new(alloc);
     match encode(&message, &mut bytes) {
         Ok(()) => Ok(bytes),
-        // No answer of this server has a part outside the grammar.
-        Err(EncodeFault::Unspellable) => Vec::from_slice(alloc, &ipp_refusal(status, request_id)),
+        Err(EncodeFault::Unspellable) => unreachable!(),
         Err(EncodeFault::OutOfMemory) => Err(AllocError),
     }
 }
 
 /// The message of an answer.
 fn message_of(alloc: Global, answer: IppAnswer, request_id: u32) -> Result<Message, AllocError>
-    ensures { IfOk result (λ message. message ≡ message_of answer request_id) }
+    ensures value { IfOk result (λ message. message ≡ message_of answer request_id) }
+    ensures spelt { IfOk result IsMessage }
 {
     let IppAnswer {
         status,
         unsupported,
-        mut groups,
+        groups,
     } = answer;
+    let unsupported = unsupported.into_vec();
+    let mut groups = groups.into_vec();
     let version = Version { major: 1, minor: 1 };
     let mut message = Message::new(alloc, version, status.code(), request_id);
     message.push(opening_group(alloc)?)?;
     if tells_unsupported(status) && !unsupported.is_empty() {
         message.push(Group {
             tag: GroupTag::UNSUPPORTED,
-            attributes: unsupported.into_vec(),
+            attributes: unsupported,
         })?;
     }
     message.groups.append(&mut groups)?;

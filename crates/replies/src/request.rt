@@ -1,5 +1,6 @@
 //! Which messages are requests, and who asks.
 ghost use Rattle.std.specs.Prelude.{◌≡◌, option_map, IfOk};
+ghost use Rattle.ipp_codec.specs.Grammar.{IsMessage};
 ghost use Rattle.ipp_codec.specs.Views.{attribute_shown, group_shown, message_shown};
 ghost use Rattle.replies.specs.Request.{is_request_id, is_named, begins_request, is_operation_group, operation_group, job_group, job_attributes, is_utf8, user_of};
 
@@ -57,6 +58,7 @@ pub(crate) fn job_attributes(
     alloc: Global,
     message: &MessageView<'_>,
 ) -> Result<RequestAttributes, AllocError>
+    requires { IsMessage (message_shown message.now) }
     ensures { IfOk result (λ attributes. attributes ≡ job_attributes (message_shown message.now)) }
 {
     match job_group(message) {

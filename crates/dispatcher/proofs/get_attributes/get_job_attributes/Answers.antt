@@ -1,4 +1,4 @@
-use Rattle.std.proofs.Common.{rules, ◌≡◌, ◌∙◌, ◌∷◌, [], List, ℕ, Result, MatchResult, ap, subst, sym}
+use Rattle.std.proofs.Common.{◌≡◌, ◌∙◌, ◌∷◌, [], List, ℕ, Result, MatchResult, ap, subst, sym}
 use Rattle.ipp_codec.specs.Message.{IppGroup}
 use Rattle.job_objects.specs.Job.{JobRecord}
 use Rattle.listings.specs.Groups.{job_group}
@@ -12,6 +12,6 @@ returns-clause-ok c =
     let old : State = c.args.room.now in
     let asked : List (List ℕ) = c.args.request.now.requested in
     let group : List (List ℕ) → List IppGroup = λ requested. job_group c.args.now requested old c.in-Ok.job.now ∷ [] in
-    let are : c.in_ok-groups.groups.items ≡ group asked = c.in_ok-groups.ensures ∙ ap group c.names-requested.ensures in
+    let are : c.in_ok-groups.groups ≡ group asked = c.in_ok-groups.ensures ∙ ap group c.names-requested.ensures in
     subst (λ (r : Result JobRecord Refusal). MatchResult r (λ job. Shows c.args.now old (job_group c.args.now asked old job ∷ []) c.show.result c.show.new.room) (λ refusal. Refuses c.args.now old refusal c.show.result c.show.new.room)) (sym c.in-Ok.ensures)
     (subst (λ (gs : List IppGroup). Shows c.args.now old gs c.show.result c.show.new.room) are c.show.ensures)

@@ -1,4 +1,4 @@
-use Rattle.std.proofs.Common.{rules, ◌≡◌, ◌∙◌, ◌∷◌, [], List, ℕ, Result, MatchResult, ap, subst, sym}
+use Rattle.std.proofs.Common.{◌≡◌, ◌∙◌, ◌∷◌, [], List, ℕ, Result, MatchResult, ap, subst, sym}
 use Rattle.ipp_codec.specs.Message.{IppGroup}
 use Rattle.listings.specs.Groups.{printer_group}
 use Rattle.print_room.specs.State.{State}
@@ -12,6 +12,6 @@ returns-clause-ok c =
     let old : State = c.args.room.now in
     let asked : List (List ℕ) = c.args.request.now.requested in
     let group : List (List ℕ) → List IppGroup = λ requested. printer_group c.in-Ok.printer.place c.in-Ok.printer.offer c.args.now requested old ∷ [] in
-    let are : c.in_ok-groups.groups.items ≡ group asked = c.in_ok-groups.ensures ∙ ap group c.names-requested.ensures in
+    let are : c.in_ok-groups.groups ≡ group asked = c.in_ok-groups.ensures ∙ ap group c.names-requested.ensures in
     subst (λ (r : Result NamedPrinter Refusal). MatchResult r (λ printer. Shows c.args.now old (printer_group printer.place printer.offer c.args.now asked old ∷ []) c.show.result c.show.new.room) (λ refusal. Refuses c.args.now old refusal c.show.result c.show.new.room)) (sym (sym c.named_printer.ensures ∙ c.in-Ok.is))
     (subst (λ (gs : List IppGroup). Shows c.args.now old gs c.show.result c.show.new.room) are c.show.ensures)

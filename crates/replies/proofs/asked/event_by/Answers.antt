@@ -16,3 +16,6 @@ returns-in-Ok-clause-requests c =
 pub returns-in-Err-clause-requests : goal.returns-in-Err-clause-requests
 returns-in-Err-clause-requests c = λ bytes stands holds.
     subst (λ (s : Status). Requests c.args.operation bytes (Err s)) (sym c.status_of.ensures) (fault_requests c.args.operation c.in-Err.fault bytes ((c.in-Err.ensures {u = tt}).decoded bytes stands))
+
+pub event_of-requires : goal.event_of-requires
+event_of-requires c = ((c.in-Ok.ensures {u = tt}).decoded c.requires.0 c.requires.1).2.0

@@ -1,6 +1,9 @@
-use Rattle.std.proofs.Common.{rules, ◌≡◌, ◌∷◌, [], ◌++◌}
+use Rattle.std.proofs.Common.{rules, ◌≡◌, ◌∷◌, [], ◌++◌, sym, subst}
+use Rattle.std.specs.List.{AllByRecursion}
+use Rattle.ipp_codec.specs.Grammar.{IsAttribute}
 use Rattle.ipp_codec.specs.Views.{attribute_shown, attributes_left, group_shown}
 use Rattle.replies.proofs.FirstOfEach.{none_kept, one_new, one_again}
+use Rattle.replies.proofs.Spelt.{each_first}
 use Rattle.replies.proofs.copied.first_of_each.Goals as goal
 
 pub loop-attribute-init : goal.loop-attribute-init
@@ -23,3 +26,6 @@ loop-attribute-preserved c =
     let next : attributes_left c.loop-attribute.attribute-iterator ≡ a ∷ attributes_left c.next.new.self = search rules in
     let both = one_again c.loop-attribute.names c.insert.new.self c.name.result c.loop-attribute.kept.items a (attributes_left c.loop-attribute.attribute-iterator) (attributes_left c.next.new.self) (group_shown c.args.group.now).attributes c.in_ok-insert.field-0 next c.name.ensures c.in_ok-insert.ensures.added c.if-branch.false (search rules) c.loop-attribute.invariant.2 c.loop-attribute.invariant.3 in
     (tt, tt, both.0, both.1)
+
+pub from_vec-requires : goal.from_vec-requires
+from_vec-requires c = subst (AllByRecursion IsAttribute) (sym (search rules)) (each_first (group_shown c.args.group.now).attributes c.requires.attributes)
