@@ -13,6 +13,7 @@
 //! Tests stand in `server_tests`.
 #![tactic(auto)]
 
+mod ahead;
 mod clock;
 mod ends;
 mod entrance;

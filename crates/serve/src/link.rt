@@ -1,21 +1,29 @@
 //! A connection's socket.
 ghost use Rattle.std.specs.Io.{ReadsAtMost, WritesAtMost};
 
+use crate::ahead::{AHEAD, Ahead};
 use crate::patience::Patience;
 use crate::visits::Leave;
 use base_types::Moment;
 use mio::event::Event;
 use mio::net::TcpStream;
+use std::alloc::Global;
 use std::io;
 use std::io::{ErrorKind, Read, Write};
 
 /// A connection's socket, with what was told of it, and what is left of its peer's time. The system is
-/// asked for nothing that would have to wait: where a call had to, none is made until something is told.
+/// asked for nothing that would have to wait: where a call had to, or gave less than was asked for, none
+/// is made until something is told.
 #[derive(Drop)]
 pub(crate) struct Link {
     stream: TcpStream,
     readable: bool,
     writable: bool,
+    /// Its peer has ended: once all is read, a read tells so.
+    ends: bool,
+    /// The last read gave all that it asked for: more may be there.
+    much: bool,
+    ahead: Ahead,
     patience: Patience,
     /// Whether its peer's time is counted: a device may be silent for as long as it likes.
     timed: bool,
@@ -29,11 +37,14 @@ fn waits() -> io::Error {
 
 impl Link {
     /// The socket of a connection that has just come.
-    pub(crate) fn new(stream: TcpStream, moment: Moment, timed: bool) -> Link {
+    pub(crate) fn new(alloc: Global, stream: TcpStream, moment: Moment, timed: bool) -> Link {
         Link {
             stream,
             readable: true,
             writable: true,
+            ends: false,
+            much: false,
+            ahead: Ahead::new(alloc),
             patience: Patience::new(moment),
             timed,
             leave: Leave::Served,
@@ -52,7 +63,8 @@ impl Link {
 
     /// Takes what a wait told.
     pub(crate) fn told(&mut self, event: &Event) {
-        self.readable |= event.is_readable() || event.is_read_closed() || event.is_error();
+        self.ends |= event.is_read_closed() || event.is_error();
+        self.readable |= event.is_readable() || self.ends;
         self.writable |= event.is_writable() || event.is_write_closed() || event.is_error();
     }
 
@@ -77,15 +89,56 @@ impl Link {
     pub(crate) fn read(&mut self, buffer: &mut [u8], moment: Moment) -> io::Result<usize>
         ensures { ReadsAtMost result buffer.new }
     {
+        let read = self.next(buffer);
+        if let Ok(count) = &read {
+            self.patience.came(*count, moment);
+        }
+        read
+    }
+
+    /// The next bytes: of those that were read ahead, if there are any, else of the socket.
+    fn next(&mut self, buffer: &mut [u8]) -> io::Result<usize>
+        ensures { ReadsAtMost result buffer.new }
+    {
+        if !self.ahead.is_empty() {
+            return Ok(self.ahead.take(buffer));
+        }
         if !self.readable {
             return Err(waits());
         }
+        if !self.much {
+            self.ahead.rest();
+            return self.read_piece(buffer);
+        }
+        self.read_ahead()?;
+        Ok(self.ahead.take(buffer))
+    }
+
+    /// Reads of the socket.
+    fn read_piece(&mut self, buffer: &mut [u8]) -> io::Result<usize>
+        ensures { ReadsAtMost result buffer.new }
+    {
         let read = self.stream.read(buffer);
-        match &read {
-            Ok(count) => self.patience.came(*count, moment),
+        self.heed(&read, buffer.len());
+        read
+    }
+
+    /// Reads of the socket ahead.
+    fn read_ahead(&mut self) -> io::Result<usize> {
+        let read = self.ahead.read(&mut self.stream);
+        self.heed(&read, AHEAD);
+        read
+    }
+
+    /// Heeds what came of a read that asked for so many bytes: where it gave fewer, no more are there.
+    fn heed(&mut self, read: &io::Result<usize>, asked: usize) {
+        match read {
+            Ok(count) => {
+                self.much = *count == asked;
+                self.readable = self.much || self.ends;
+            }
             Err(error) => self.readable = error.kind() != ErrorKind::WouldBlock,
         }
-        read
     }
 
     /// Writes some bytes.

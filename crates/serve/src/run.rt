@@ -112,9 +112,14 @@ impl Server {
     }
 
     /// Waits until something happens at a socket or a client has been silent for too long, or for this
-    /// many ms; not at all where the turns since the last call of this found something to do.
+    /// many ms; not at all where the turns since the last call of this found something to do. Then the
+    /// system is asked what happened once a ms at most.
     pub fn rest(&mut self, most: u64) -> io::Result<()> {
-        let pause = if self.sockets.take_worked() {
+        let worked = self.sockets.take_worked();
+        if worked && self.sockets.has_just_waited() {
+            return Ok(());
+        }
+        let pause = if worked {
             0
         } else {
             self.sockets.time_left(most)

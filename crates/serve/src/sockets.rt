@@ -47,6 +47,7 @@ struct Doors {
 /// answered, is taken as one that has ended. A device never is.
 #[derive(Drop)]
 pub struct Sockets {
+    alloc: Global,
     doors: Doors,
     links: Slab<Link>,
     poll: Poll,
@@ -56,6 +57,8 @@ pub struct Sockets {
     worked: bool,
     /// The moment by which silence is measured.
     moment: Moment,
+    /// That of the last wait.
+    waited: Moment,
     /// Who comes and goes, where that is kept.
     visits: Option<Visits>,
 }
@@ -111,6 +114,7 @@ impl Sockets {
             devices: Entrance::open(net, &poll, SocketAddr::new(address, ports.devices), DEVICES)?,
         };
         Ok(Sockets {
+            alloc,
             doors,
             links: Slab::with_capacity(alloc, Limits::CONNECTIONS)?,
             events: Events::with_capacity(alloc, EVENTS)?,
@@ -118,6 +122,7 @@ impl Sockets {
             failures: 0,
             worked: false,
             moment: Moment::start(),
+            waited: Moment::start(),
             visits: None,
         })
     }
@@ -159,9 +164,15 @@ impl Sockets {
     ///
     /// Each change is told of once, and kept until a call finds that it has to wait.
     pub fn wait(&mut self, most: Duration) -> io::Result<()> {
+        self.waited = self.moment;
         self.poll.poll(&mut self.events, Some(most))?;
         tell(&self.events, &mut self.doors, &mut self.links);
         Ok(())
+    }
+
+    /// Whether the last wait was at this moment: what happened since is at most a ms old.
+    pub(crate) fn has_just_waited(&self) -> bool {
+        self.waited == self.moment
     }
 
     /// The ms until the first client has no time left, at most so many.
@@ -197,7 +208,7 @@ impl Sockets {
             Token(self.links.vacant_key()),
             Interest::READABLE | Interest::WRITABLE,
         )?;
-        let link = Link::new(stream, self.moment, door != Door::Devices);
+        let link = Link::new(self.alloc, stream, self.moment, door != Door::Devices);
         Ok((link, peer))
     }
 
