@@ -1,0 +1,89 @@
+#!/usr/bin/env python3
+"""Plays each example again and again, each time with one request for memory refused, the first one first, and compares
+what comes of it: the same output as ever, or with status 3 a front of it. Where connections are open the server may also
+go on, as it does for want of memory: a reply of 0x0505, an LPD byte 01, a connection that is closed. Ends with status 1
+where anything else came.
+
+    tools/refuse_memory.py [--each N] [NAME..]      (all examples where none is named)
+
+With --each N at most N requests of an example are refused, at even distances. PRINTD names the program; without it, it is
+the one that ./printd built. It wants a C compiler.
+"""
+import argparse
+import collections
+import os
+import pathlib
+import subprocess
+import sys
+import tempfile
+
+sys.path.insert(0, str(pathlib.Path(__file__).resolve().parent / "clients"))
+from running import PROGRAM, TOP  # noqa: E402
+
+EXAMPLES = TOP / "crates/play_examples/data"
+SECONDS = 60
+
+
+def command(example):
+    """The words that play an example."""
+    return [PROGRAM, "check"] if example.suffix == ".plan" else [PROGRAM, "replay"]
+
+
+def play(library, example, refused):
+    """The status and the output where the request of this number is refused, and how many requests there were."""
+    told, tells = os.pipe()
+    environment = {**os.environ, "LD_PRELOAD": library, "REFUSE": str(refused), "COUNT_TO": str(tells)}
+    with example.open("rb") as events:
+        run = subprocess.run(
+            command(example), stdin=events, stdout=subprocess.PIPE, stderr=subprocess.DEVNULL,
+            env=environment, pass_fds=[tells], timeout=SECONDS, check=False)
+    os.close(tells)
+    with os.fdopen(told) as count:
+        words = count.read().split()
+    return run.returncode, run.stdout, int(words[-1]) if words else 0
+
+
+def outcome(run, wanted, connects):
+    """What came of a refused request."""
+    status, output, _ = run
+    if (status, output) == wanted[:2]:
+        return "as ever"
+    if connects and status == 0:
+        return "went on"
+    return "stopped" if status == 3 and (connects or wanted[1].startswith(output)) else "wrong"
+
+
+def refuse_each(library, example, most):
+    """How many requests there were, how many runs ended in which way, and after which requests something else came."""
+    wanted = play(library, example, 0)
+    connects = b"\nopen " in example.read_bytes()
+    ways, wrong = collections.Counter(), []
+    for refused in range(1, wanted[2] + 1, max(1, -(-wanted[2] // most))):
+        way = outcome(play(library, example, refused), wanted, connects)
+        ways[way] += 1
+        if way == "wrong":
+            wrong.append(refused)
+    return wanted[2], ways, wrong
+
+
+def main():
+    words = argparse.ArgumentParser()
+    words.add_argument("--each", type=int, default=1 << 40)
+    words.add_argument("names", nargs="*")
+    chosen = words.parse_args()
+    examples = sorted(path for path in EXAMPLES.iterdir() if path.suffix in (".trace", ".plan"))
+    bad = False
+    with tempfile.TemporaryDirectory() as folder:
+        library = f"{folder}/refuse.so"
+        subprocess.run(["cc", "-shared", "-fPIC", "-O2", "-o", library, TOP / "tools/memory/refuse.c", "-ldl"], check=True)
+        for example in examples:
+            if chosen.names and example.stem not in chosen.names:
+                continue
+            count, ways, wrong = refuse_each(library, example, chosen.each)
+            print(f"{example.name}: {count} requests;", ", ".join(f"{runs} {way}" for way, runs in ways.items()), *wrong[:9], flush=True)
+            bad = bad or bool(wrong)
+    sys.exit(1 if bad else 0)
+
+
+if __name__ == "__main__":
+    main()
