@@ -16,7 +16,8 @@ use Rattle.spool.specs.Jobs.{spooled_at, with_job, documents_told}
 use Rattle.spool.specs.OnDevice.{is_on_device, documents_at, AllStay}
 use Rattle.spool.specs.Submission.{Submission, spooled_of}
 use Rattle.spool.specs.Kept.{retained}
-use Rattle.print_room.specs.Jobs.{is_operator, with_job_taken, sending_refusal, sending, changing, cancel_by, canceling, canceling_each, expiring}
+use Rattle.print_room.specs.Jobs.{asker_of, with_job_taken, sending_refusal, sending, changing, cancel_by, canceling, canceling_each, expiring}
+use Rattle.spool.specs.Asker.{AskerRecord}
 use Rattle.spool.specs.Calls.{or_else, asking_refusal, taking_refusal, document_refusal, adds, is_too_large, with_document, closed_if}
 use Rattle.spool.specs.declared.refusal.SpoolRefusal.{SpoolRefusal}
 use Rattle.spool.specs.declared.refusal.SpoolRefusal.TheVariants as Why
@@ -145,13 +146,13 @@ still_incoming true large free = refl
 still_incoming false large free = absurd (cc)
 
 -- a job that takes a document isn't on a device
-sent_off : (id : ℕ) (name : List ℕ) (operator : Bool) (octets : ℕ) (last : Bool) (jobs : List SpooledRecord) → All IsSound jobs → document_refusal name operator octets last (spooled_at id jobs) ≡ None → is_on_device id jobs ≡ false
-sent_off id name operator octets last jobs sound free = at (spooled_at id jobs) (sound_found id jobs sound) free
+sent_off : (id : ℕ) (asker : AskerRecord) (octets : ℕ) (last : Bool) (jobs : List SpooledRecord) → All IsSound jobs → document_refusal asker octets last (spooled_at id jobs) ≡ None → is_on_device id jobs ≡ false
+sent_off id asker octets last jobs sound free = at (spooled_at id jobs) (sound_found id jobs sound) free
   where
-    at : (o : Option SpooledRecord) → IfSome o IsSound → document_refusal name operator octets last o ≡ None → option_map_or (λ s. s.on_device) o false ≡ false
+    at : (o : Option SpooledRecord) → IfSome o IsSound → document_refusal asker octets last o ≡ None → option_map_or (λ s. s.on_device) o false ≡ false
     at None fits free = refl
     at (Some s) fits free =
-        incoming_off s fits (still_incoming s.job.incoming (adds octets last && is_too_large octets s.job) (later_free (asking_refusal name operator (Some s)) (taking_refusal octets (adds octets last) (Some s)) free))
+        incoming_off s fits (still_incoming s.job.incoming (adds octets last && is_too_large octets s.job) (later_free (asking_refusal asker (Some s)) (taking_refusal octets (adds octets last) (Some s)) free))
 
 attached_stay : (added : Bool) (id : ℕ) (document : DocumentRecord) (now : ℕ) (jobs : List SpooledRecord) → is_on_device id jobs ≡ false → AllStay jobs (with_document added id document now jobs)
 attached_stay false id document now jobs off one on = stay_same jobs one on
@@ -168,7 +169,7 @@ pub sends_keep : (now id : ℕ) (name : List ℕ) (document : DocumentRecord) (l
 sends_keep now id name document last old spool agree free =
     let jobs = old.spool.jobs in
     let taken = with_document (adds (length document.contents) last) id document now jobs in
-    let off = sent_off id name (is_operator name old) (length document.contents) last jobs spool.sound free in
+    let off = sent_off id (asker_of name old) (length document.contents) last jobs spool.sound free in
     keep_from old (sending now id document last old) (λ place one has. has) (stay_then jobs taken (closed_if last id now taken) (attached_stay (adds (length document.contents) last) id document now jobs off) (closed_stay last id now taken)) agree
 
 pub expires_keep : (now : ℕ) (old : State) → Agree old.devices old.spool.jobs → AllKeep old (expiring now old)

@@ -3,7 +3,7 @@ ghost use Rattle.std.specs.Prelude.{◌≡◌, ◌≤◌, [], true, false, None,
 ghost use Rattle.job_objects.specs.declared.job_change.JobChange.TheVariants as Change;
 ghost use Rattle.spool.specs.Calls.{new_refusal, cancel_refusal, IsRefusal};
 ghost use Rattle.spool.specs.Jobs.{spooled_at};
-ghost use Rattle.print_room.specs.Jobs.{Submits, is_operator, sending_refusal, sending, asked_refusal, changing, canceling_refusal, canceling, expiring};
+ghost use Rattle.print_room.specs.Jobs.{Submits, is_operator, asker_of, sending_refusal, sending, asked_refusal, changing, canceling_refusal, canceling, expiring};
 ghost use Rattle.print_room.specs.DeviceJobs.{AllKeep};
 
 use crate::room::{PrintRoom, is_named};
@@ -65,9 +65,8 @@ impl PrintRoom {
         ensures returned { IfErr result (λ refused. refused.document ≡ document) }
         ensures refused { IfErr result (λ refused. IsRefusal (sending_refusal id name.now (length document.contents) last self.old) refused.refusal) }
     {
-        let is_operator = self.is_operator(name);
-        let asker = Asker { name, is_operator };
-        self.spool.add_document(id, asker, document, last, now)?;
+        let asker = self.asker(name);
+        self.spool.add_document(id, &asker, document, last, now)?;
         self.advance(now);
         Ok(())
     }
@@ -84,9 +83,8 @@ impl PrintRoom {
         ensures ok { OnOk result (sending_refusal id name.now octets last self.now ≡ None) }
         ensures refused { IfErr result (λ refusal. sending_refusal id name.now octets last self.now ≡ Some refusal) }
     {
-        let is_operator = self.is_operator(name);
-        let asker = Asker { name, is_operator };
-        self.spool.admits_document(id, asker, octets, last)
+        let asker = self.asker(name);
+        self.spool.admits_document(id, &asker, octets, last)
     }
 
     /// Holds a job that waits, for someone (RFC 8011, section 4.3.5). It takes no memory.
@@ -99,9 +97,8 @@ impl PrintRoom {
         ensures keep { OnOk result (AllKeep self.old self.new) }
         ensures refused { IfErr result (λ refusal. asked_refusal id name.now Change.Hold now self.old ≡ Some refusal) }
     {
-        let is_operator = self.is_operator(name);
-        let asker = Asker { name, is_operator };
-        self.spool.hold(id, asker, now)?;
+        let asker = self.asker(name);
+        self.spool.hold(id, &asker, now)?;
         self.advance(now);
         Ok(())
     }
@@ -117,9 +114,8 @@ impl PrintRoom {
         ensures keep { OnOk result (AllKeep self.old self.new) }
         ensures refused { IfErr result (λ refusal. asked_refusal id name.now Change.Release now self.old ≡ Some refusal) }
     {
-        let is_operator = self.is_operator(name);
-        let asker = Asker { name, is_operator };
-        self.spool.release(id, asker, now)?;
+        let asker = self.asker(name);
+        self.spool.release(id, &asker, now)?;
         self.advance(now);
         Ok(())
     }
@@ -135,9 +131,8 @@ impl PrintRoom {
         ensures keep { OnOk result (AllKeep self.old self.new) }
         ensures refused { IfErr result (λ refusal. canceling_refusal id name.now self.old ≡ Some refusal) }
     {
-        let is_operator = self.is_operator(name);
-        let asker = Asker { name, is_operator };
-        self.cancel_for(id, asker, now)
+        let asker = self.asker(name);
+        self.cancel_for(id, &asker, now)
     }
 
     /// Cancels a job that isn't finished, for someone of whom it is told whether they are an operator.
@@ -147,14 +142,14 @@ impl PrintRoom {
     pub fn cancel_for(
         &mut self,
         id: JobId,
-        asker: Asker<'_>,
+        asker: &Asker<'_>,
         now: Moment,
     ) -> Result<(), SpoolRefusal>
         requires { self.old.last ≤ now }
-        ensures ok { OnOk result ((cancel_refusal asker.entry.name.now asker.entry.is_operator (spooled_at id self.old.spool.jobs) ≡ None) × (self.new ≡ canceling now id asker.entry.name.now self.old)) }
+        ensures ok { OnOk result ((cancel_refusal asker.now (spooled_at id self.old.spool.jobs) ≡ None) × (self.new ≡ canceling now id asker.now.name self.old)) }
         ensures kept { OnErr result (self.new ≡ self.old) }
         ensures keep { OnOk result (AllKeep self.old self.new) }
-        ensures refused { IfErr result (λ refusal. cancel_refusal asker.entry.name.now asker.entry.is_operator (spooled_at id self.old.spool.jobs) ≡ Some refusal) }
+        ensures refused { IfErr result (λ refusal. cancel_refusal asker.now (spooled_at id self.old.spool.jobs) ≡ Some refusal) }
     {
         self.spool.cancel(id, asker, now)?;
         self.advance(now);
@@ -166,9 +161,18 @@ impl PrintRoom {
         ensures ok { OnOk result (canceling_refusal id name.now self.now ≡ None) }
         ensures refused { IfErr result (λ refusal. canceling_refusal id name.now self.now ≡ Some refusal) }
     {
-        let is_operator = self.is_operator(name);
-        let asker = Asker { name, is_operator };
-        self.spool.admits_cancel(id, asker)
+        let asker = self.asker(name);
+        self.spool.admits_cancel(id, &asker)
+    }
+
+    /// The one of this name who asks.
+    fn asker<'a>(&self, name: &'a Text) -> Asker<'a>
+        ensures { result ≡ asker_of name.entry.now self.now }
+    {
+        Asker {
+            name,
+            is_operator: self.is_operator(name),
+        }
     }
 
     /// Whether a name is an operator's.

@@ -91,7 +91,7 @@ fn cancel(
         name: &name,
         is_operator,
     };
-    Ok(spool.cancel(id, asker, moment).is_ok())
+    Ok(spool.cancel(id, &asker, moment).is_ok())
 }
 
 /// How a job stands after its cancel, and after the device is done, which hands out its documents.

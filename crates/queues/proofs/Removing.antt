@@ -14,7 +14,7 @@ use Rattle.job_objects.specs.declared.job_change.JobChange.TheVariants.{Cancel}
 use Rattle.job_objects.specs.declared.job_state.JobState.{JobState}
 use Rattle.job_objects.specs.declared.job_state.JobState.TheVariants.{Pending, PendingHeld, Processing, Stopped, Canceled, Aborted, Completed}
 use Rattle.printer_objects.specs.PrinterState.{is_busy_with, is_printing_or_stopped}
-use Rattle.spool.specs.Asker.{may_ask, canceler_of}
+use Rattle.spool.specs.Asker.{AskerRecord, may_ask, canceler_of}
 use Rattle.base_types.specs.declared.limits.TheConstants.Limits.{FINISHED_JOBS_KEPT}
 use Rattle.spool.specs.Calls.{cancel_refusal, or_else}
 use Rattle.spool.specs.declared.refusal.SpoolRefusal.TheVariants as Why
@@ -25,7 +25,7 @@ use Rattle.spool.specs.Spooled.{SpooledRecord, changed, is_settled, settled}
 use Rattle.print_room.specs.Jobs.{cancel_by, canceling}
 use Rattle.print_room.specs.State.{State}
 use Rattle.queues.specs.declared.request.RemoveJobs.{RemoveJobs}
-use Rattle.queues.specs.Removal.{active_job, is_active, is_named, is_root, may_remove, named_jobs, names_for}
+use Rattle.queues.specs.Removal.{active_job, is_active, is_named, may_remove, named_jobs, names_for, remover}
 
 -- ---- numbers that rise
 
@@ -148,9 +148,9 @@ unfinished_kept : (jobs : List SpooledRecord) (s : SpooledRecord) → is_finishe
 unfinished_kept jobs s unfinished = ap (λ (b : Bool). not (b && not s.on_device) || nat_lt (later_jobs jobs s) FINISHED_JOBS_KEPT) unfinished
 
 -- nothing stands against the cancel of a job that was found, by one who may ask for it
-free : (name : List ℕ) (operator : Bool) (test : SpooledRecord → Bool) (jobs : List SpooledRecord) (s : SpooledRecord) → Rises (map (λ s. s.job.id) jobs) → find test jobs ≡ Some s → may_ask name operator s.job ≡ true → is_finished s.job.state ≡ false → cancel_refusal name operator (spooled_at s.job.id jobs) ≡ None
-free name operator test jobs s rising is may unfinished =
-    ap (λ (o : Option SpooledRecord). cancel_refusal name operator o) (found_at test jobs s rising is)
+free : (asker : AskerRecord) (test : SpooledRecord → Bool) (jobs : List SpooledRecord) (s : SpooledRecord) → Rises (map (λ s. s.job.id) jobs) → find test jobs ≡ Some s → may_ask asker s.job ≡ true → is_finished s.job.state ≡ false → cancel_refusal asker (spooled_at s.job.id jobs) ≡ None
+free asker test jobs s rising is may unfinished =
+    ap (λ (o : Option SpooledRecord). cancel_refusal asker o) (found_at test jobs s rising is)
     ∙ (ap (λ (b : Bool). or_else (cond b None (Some Why.NotAuthorized)) (cond (is_finished s.job.state) (Some Why.NotPossible) None)) may
     ∙ ap (λ (b : Bool). cond b (Some Why.NotPossible) None) unfinished)
 
@@ -186,7 +186,7 @@ spool_rises state spool = rises (map (λ s. s.job.id) state.spool.jobs) (AllPair
 
 -- what is known of the first that is named: nothing stands against its cancel, after which the others are named
 pub record Next (now place : ℕ) (request : RemoveJobs) (state : State) (id : ℕ) : Type 0 where
-  pub is_free : cancel_refusal request.agent (is_root request.agent) (spooled_at id state.spool.jobs) ≡ None
+  pub is_free : cancel_refusal (remover request.agent) (spooled_at id state.spool.jobs) ≡ None
   pub others : named_jobs place request state ≡ id ∷ named_jobs place request (canceling now id request.agent state)
 
 next_found : (now place : ℕ) (request : RemoveJobs) (state : State) (s : SpooledRecord) → IsSpool state.spool → find (λ s. is_named place request s.job) state.spool.jobs ≡ Some s → Next now place request state s.job.id
@@ -200,7 +200,7 @@ next_found now place request state s spool is =
     let gone : test (changed change now s) ≡ false = finished_unnamed place request (changed change now s).job (canceled_ends (option_map_or (λ x. canceler_of request.agent x.job) (spooled_at s.job.id jobs) Operator) now s named.0) in
     let left = filter_within test (is_kept after) (λ x passes. unfinished_kept after x (named_unfinished place request x.job passes).0) after in
     record {
-      is_free = free request.agent (is_root request.agent) test jobs s rising is named.1 named.0;
+      is_free = free (remover request.agent) test jobs s rising is named.1 named.0;
       others = ap (λ (xs : List SpooledRecord). map (λ x. x.job.id) xs) (taken test (changed change now) jobs s rising is gone ∙ ap (λ (xs : List SpooledRecord). s ∷ xs) (sym left));
     }
 
@@ -229,15 +229,15 @@ busy_unfinished Canceled is = absurd (true≢false (sym is))
 busy_unfinished Aborted is = absurd (true≢false (sym is))
 busy_unfinished Completed is = absurd (true≢false (sym is))
 
-pub active_free : (place : ℕ) (agent : List ℕ) (state : State) (id : ℕ) → IsSpool state.spool → active_job place agent state ≡ Some id → cancel_refusal agent (is_root agent) (spooled_at id state.spool.jobs) ≡ None
+pub active_free : (place : ℕ) (agent : List ℕ) (state : State) (id : ℕ) → IsSpool state.spool → active_job place agent state ≡ Some id → cancel_refusal (remover agent) (spooled_at id state.spool.jobs) ≡ None
 active_free place agent state id spool is = at (find (λ s. is_active place agent s.job) state.spool.jobs) refl is
   where
-    at : (o : Option SpooledRecord) → find (λ s. is_active place agent s.job) state.spool.jobs ≡ o → option_map (λ s. s.job.id) o ≡ Some id → cancel_refusal agent (is_root agent) (spooled_at id state.spool.jobs) ≡ None
+    at : (o : Option SpooledRecord) → find (λ s. is_active place agent s.job) state.spool.jobs ≡ o → option_map (λ s. s.job.id) o ≡ Some id → cancel_refusal (remover agent) (spooled_at id state.spool.jobs) ≡ None
     at None found none = absurd (cc)
     at (Some s) found some =
         let test : SpooledRecord → Bool = λ s. is_active place agent s.job in
         let same : s.job.id ≡ id = cc in
         let parts = both (is_busy_with place s.job) (may_remove agent s.job) (found_passes test state.spool.jobs s found) in
         let busy = both (s.job.needs.printer == place) (is_printing_or_stopped s.job.state) parts.0 in
-        subst (λ (n : ℕ). cancel_refusal agent (is_root agent) (spooled_at n state.spool.jobs) ≡ None) same
-        (free agent (is_root agent) test state.spool.jobs s (spool_rises state spool) found parts.1 (busy_unfinished s.job.state busy.1))
+        subst (λ (n : ℕ). cancel_refusal (remover agent) (spooled_at n state.spool.jobs) ≡ None) same
+        (free (remover agent) test state.spool.jobs s (spool_rises state spool) found parts.1 (busy_unfinished s.job.state busy.1))

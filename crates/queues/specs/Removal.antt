@@ -7,7 +7,7 @@ use Rattle.text.specs.Digits.{decimal_in}
 use Rattle.job_objects.specs.Job.{JobRecord}
 use Rattle.job_objects.specs.JobState.{is_finished}
 use Rattle.printer_objects.specs.PrinterState.{is_busy_with}
-use Rattle.spool.specs.Asker.{may_ask}
+use Rattle.spool.specs.Asker.{AskerRecord, may_ask}
 use Rattle.print_room.specs.State.{State}
 use Rattle.queues.specs.Queue.{queue_of}
 use Rattle.queues.specs.declared.request.RemoveJobs.{RemoveJobs}
@@ -15,9 +15,13 @@ use Rattle.queues.specs.declared.request.RemoveJobs.{RemoveJobs}
 abbrev pub is_root : List ℕ → Bool
 is_root agent = bytes_eq agent (codes "root")
 
+-- root removes as an operator does
+abbrev pub remover : List ℕ → AskerRecord
+remover agent = record { name = agent; is_operator = is_root agent }
+
 -- root may remove any job, others their own
 abbrev pub may_remove : List ℕ → JobRecord → Bool
-may_remove agent job = may_ask agent (is_root agent) job
+may_remove agent job = may_ask (remover agent) job
 
 -- digits alone name the job of that id; anything else names jobs by their owner, where it is root who says it
 abbrev pub names_for : List ℕ → List ℕ → JobRecord → Bool

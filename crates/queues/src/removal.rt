@@ -6,7 +6,7 @@ ghost use Rattle.spool.specs.Calls.{cancel_refusal};
 ghost use Rattle.spool.specs.Jobs.{spooled_at};
 ghost use Rattle.spool.specs.Spool.{IsSpool};
 ghost use Rattle.print_room.specs.Jobs.{canceling, canceling_each};
-ghost use Rattle.queues.specs.Removal.{active_job, is_active, is_named, is_root, may_remove, named_jobs, names_for, removed_from, removed_jobs};
+ghost use Rattle.queues.specs.Removal.{active_job, is_active, is_named, is_root, may_remove, named_jobs, names_for, removed_from, removed_jobs, remover};
 
 use crate::queue::queue_of;
 use crate::request::RemoveJobs;
@@ -159,7 +159,7 @@ fn remove_named(room: &mut PrintRoom, place: usize, request: &RemoveJobs, now: M
 /// Cancels an unfinished job that the agent may remove.
 fn cancel(room: &mut PrintRoom, id: JobId, agent: &Text, now: Moment)
     requires later { room.old.last ≤ now }
-    requires free { cancel_refusal agent.now (is_root agent.now) (spooled_at id room.old.spool.jobs) ≡ None }
+    requires free { cancel_refusal (remover agent.now) (spooled_at id room.old.spool.jobs) ≡ None }
     ensures { room.new ≡ canceling now id agent.now room.old }
 {
     let is_operator = is_root(agent);
@@ -167,5 +167,5 @@ fn cancel(room: &mut PrintRoom, id: JobId, agent: &Text, now: Moment)
         name: agent,
         is_operator,
     };
-    let _canceled = room.cancel_for(id, asker, now);
+    let _canceled = room.cancel_for(id, &asker, now);
 }

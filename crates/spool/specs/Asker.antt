@@ -5,8 +5,13 @@ use Rattle.job_objects.specs.declared.job.Canceler.{Canceler}
 use Rattle.job_objects.specs.declared.job.Canceler.TheVariants.{Owner, Operator}
 use Rattle.job_objects.specs.Job.{JobRecord}
 
-abbrev pub may_ask : List ℕ → Bool → JobRecord → Bool
-may_ask name is_operator job = is_operator || bytes_eq name job.owner
+-- who asks: the name that a request claims, and whether it is an operator's
+pub record AskerRecord : Type 0 where
+  pub name : List ℕ
+  pub is_operator : Bool
+
+abbrev pub may_ask : AskerRecord → JobRecord → Bool
+may_ask asker job = asker.is_operator || bytes_eq asker.name job.owner
 
 -- an operator who cancels their own job does so as its owner
 abbrev pub canceler_of : List ℕ → JobRecord → Canceler

@@ -13,7 +13,7 @@ use Rattle.job_objects.specs.JobStep.{job_after}
 use Rattle.spool.specs.declared.refusal.SpoolRefusal.{SpoolRefusal}
 use Rattle.spool.specs.declared.refusal.SpoolRefusal.TheVariants as Why
 use Rattle.spool.specs.Document.{DocumentRecord, octets_of}
-use Rattle.spool.specs.Asker.{may_ask, canceler_of}
+use Rattle.spool.specs.Asker.{AskerRecord, may_ask, canceler_of}
 use Rattle.spool.specs.Spooled.{SpooledRecord, changed, attached, marked}
 use Rattle.spool.specs.Submission.{Submission, spooled_of}
 use Rattle.spool.specs.Jobs.{SpoolRecord, with_job}
@@ -51,9 +51,9 @@ pub record Takes (old : SpoolRecord) (new : Submission) (incoming : Bool) (id : 
 -- ---- a change that someone asks for
 
 -- why someone may not change a job, whatever its state
-abbrev pub asking_refusal : List ℕ → Bool → Option SpooledRecord → Option SpoolRefusal
-asking_refusal name is_operator None = Some Why.NotFound
-asking_refusal name is_operator (Some spooled) = if may_ask name is_operator spooled.job then None else Some Why.NotAuthorized
+abbrev pub asking_refusal : AskerRecord → Option SpooledRecord → Option SpoolRefusal
+asking_refusal asker None = Some Why.NotFound
+asking_refusal asker (Some spooled) = if may_ask asker spooled.job then None else Some Why.NotAuthorized
 
 -- whether the state of a job allows a change
 abbrev pub allows : JobChange → ℕ → Option SpooledRecord → Bool
@@ -65,14 +65,14 @@ or_else (Some cause) later = Some cause
 or_else None later = later
 
 -- why a change that someone asks for isn't made
-abbrev pub change_refusal : List ℕ → Bool → JobChange → ℕ → Option SpooledRecord → Option SpoolRefusal
-change_refusal name is_operator change now found =
-    or_else (asking_refusal name is_operator found) (if allows change now found then None else Some Why.NotPossible)
+abbrev pub change_refusal : AskerRecord → JobChange → ℕ → Option SpooledRecord → Option SpoolRefusal
+change_refusal asker change now found =
+    or_else (asking_refusal asker found) (if allows change now found then None else Some Why.NotPossible)
 
 -- why someone can't cancel a job: they may not change it, or it is finished
-abbrev pub cancel_refusal : List ℕ → Bool → Option SpooledRecord → Option SpoolRefusal
-cancel_refusal name is_operator found =
-    or_else (asking_refusal name is_operator found) (if option_map_or (λ s. is_finished s.job.state) found false then Some Why.NotPossible else None)
+abbrev pub cancel_refusal : AskerRecord → Option SpooledRecord → Option SpoolRefusal
+cancel_refusal asker found =
+    or_else (asking_refusal asker found) (if option_map_or (λ s. is_finished s.job.state) found false then Some Why.NotPossible else None)
 
 -- as whom someone cancels a job
 abbrev pub cancel_of : List ℕ → Option SpooledRecord → JobChange
@@ -96,9 +96,9 @@ taking_refusal octets added found =
     else None) found None
 
 -- why a document of so many octets that someone sends isn't taken, if there is a cause other than out of memory
-abbrev pub document_refusal : List ℕ → Bool → ℕ → Bool → Option SpooledRecord → Option SpoolRefusal
-document_refusal name is_operator octets last found =
-    or_else (asking_refusal name is_operator found) (taking_refusal octets (adds octets last) found)
+abbrev pub document_refusal : AskerRecord → ℕ → Bool → Option SpooledRecord → Option SpoolRefusal
+document_refusal asker octets last found =
+    or_else (asking_refusal asker found) (taking_refusal octets (adds octets last) found)
 
 -- the jobs with the document, if it is added
 abbrev pub with_document : Bool → ℕ → DocumentRecord → ℕ → List SpooledRecord → List SpooledRecord

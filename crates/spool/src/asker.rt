@@ -1,36 +1,46 @@
 //! Who asks for a change of a job.
-ghost use Rattle.std.specs.Prelude.{◌≡◌, ◌||◌, IsTrue, ◌↔◌};
+ghost use Rattle.std.specs.Prelude.{◌≡◌};
 ghost use Rattle.std.specs.Str.{bytes_eq};
 ghost use Rattle.spool.specs.Asker.{may_ask, canceler_of};
 
 use base_types::Text;
 use job_objects::{Canceler, Job};
+use std::marker::Model;
 
-/// Who asks for something: the name that the request claims, and whether it is an operator's.
-#[derive(Clone, Copy, Debug)]
+/// Who asks for something: the name that the request claims, and whether it is an operator's. In
+/// clauses it is a record of the same fields.
+#[derive(Debug, Drop)]
 pub struct Asker<'a> {
     pub name: &'a Text,
     pub is_operator: bool,
 }
 
+impl<'a> Model for Asker<'a> {
+    ghost use Rattle.spool.specs.Asker.{AskerRecord};
+
+    ghost Value = { AskerRecord };
+
+    ghost view = { λ a. record { name = a.name.now; is_operator = a.is_operator } };
+}
+
 impl Asker<'_> {
     /// Whether the name is that of the job's owner.
-    fn owns(self, job: &Job) -> bool
-        ensures { result ≡ bytes_eq self.entry.name.now job.now.owner }
+    fn owns(&self, job: &Job) -> bool
+        ensures { result ≡ bytes_eq self.now.name job.now.owner }
     {
         self.name.as_bytes() == job.owner.as_bytes()
     }
 
     /// Whether the job may be changed for them: they own it, or are an operator.
-    pub(crate) fn may_change(self, job: &Job) -> bool
-        ensures { result ≡ may_ask self.entry.name.now self.entry.is_operator job.now }
+    pub(crate) fn may_change(&self, job: &Job) -> bool
+        ensures { result ≡ may_ask self.now job.now }
     {
         self.is_operator || self.owns(job)
     }
 
     /// As whom they cancel a job.
-    pub(crate) fn canceler(self, job: &Job) -> Canceler
-        ensures { result ≡ canceler_of self.entry.name.now job.now }
+    pub(crate) fn canceler(&self, job: &Job) -> Canceler
+        ensures { result ≡ canceler_of self.now.name job.now }
     {
         if self.owns(job) {
             Canceler::Owner

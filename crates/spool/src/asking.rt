@@ -37,9 +37,9 @@ impl Spool {
     }
 
     /// Whether someone may change the job of this id, whatever its state.
-    pub(crate) fn may_change(&self, id: JobId, asker: Asker<'_>) -> Result<(), SpoolRefusal>
-        ensures ok { OnOk result (asking_refusal asker.entry.name.now asker.entry.is_operator (spooled_at id self.now.jobs) ≡ None) }
-        ensures refused { IfErr result (λ refusal. asking_refusal asker.entry.name.now asker.entry.is_operator (spooled_at id self.now.jobs) ≡ Some refusal) }
+    pub(crate) fn may_change(&self, id: JobId, asker: &Asker<'_>) -> Result<(), SpoolRefusal>
+        ensures ok { OnOk result (asking_refusal asker.now (spooled_at id self.now.jobs) ≡ None) }
+        ensures refused { IfErr result (λ refusal. asking_refusal asker.now (spooled_at id self.now.jobs) ≡ Some refusal) }
     {
         let Some(spooled) = self.spooled(id) else {
             return Err(SpoolRefusal::NotFound);
@@ -52,32 +52,32 @@ impl Spool {
     }
 
     /// Holds a job that no device has yet.
-    pub fn hold(&mut self, id: JobId, asker: Asker<'_>, now: Moment) -> Result<(), SpoolRefusal>
-        ensures ok { OnOk result ((change_refusal asker.entry.name.now asker.entry.is_operator Change.Hold now (spooled_at id self.old.jobs) ≡ None) × (self.new ≡ record self.old { jobs = with_job id (changed Change.Hold now) self.old.jobs })) }
+    pub fn hold(&mut self, id: JobId, asker: &Asker<'_>, now: Moment) -> Result<(), SpoolRefusal>
+        ensures ok { OnOk result ((change_refusal asker.now Change.Hold now (spooled_at id self.old.jobs) ≡ None) × (self.new ≡ record self.old { jobs = with_job id (changed Change.Hold now) self.old.jobs })) }
         ensures kept { OnErr result (self.new ≡ self.old) }
         ensures stay { OnOk result (AllStay self.old.jobs self.new.jobs) }
-        ensures refused { IfErr result (λ refusal. change_refusal asker.entry.name.now asker.entry.is_operator Change.Hold now (spooled_at id self.old.jobs) ≡ Some refusal) }
+        ensures refused { IfErr result (λ refusal. change_refusal asker.now Change.Hold now (spooled_at id self.old.jobs) ≡ Some refusal) }
     {
         self.ask(id, asker, JobChange::Hold, now)
     }
 
     /// Holds a job no more. Of a job that a device has it changes nothing.
-    pub fn release(&mut self, id: JobId, asker: Asker<'_>, now: Moment) -> Result<(), SpoolRefusal>
-        ensures ok { OnOk result ((change_refusal asker.entry.name.now asker.entry.is_operator Change.Release now (spooled_at id self.old.jobs) ≡ None) × (self.new ≡ record self.old { jobs = with_job id (changed Change.Release now) self.old.jobs })) }
+    pub fn release(&mut self, id: JobId, asker: &Asker<'_>, now: Moment) -> Result<(), SpoolRefusal>
+        ensures ok { OnOk result ((change_refusal asker.now Change.Release now (spooled_at id self.old.jobs) ≡ None) × (self.new ≡ record self.old { jobs = with_job id (changed Change.Release now) self.old.jobs })) }
         ensures kept { OnErr result (self.new ≡ self.old) }
         ensures stay { OnOk result (AllStay self.old.jobs self.new.jobs) }
-        ensures refused { IfErr result (λ refusal. change_refusal asker.entry.name.now asker.entry.is_operator Change.Release now (spooled_at id self.old.jobs) ≡ Some refusal) }
+        ensures refused { IfErr result (λ refusal. change_refusal asker.now Change.Release now (spooled_at id self.old.jobs) ≡ Some refusal) }
     {
         self.ask(id, asker, JobChange::Release, now)
     }
 
     /// Cancels a job that isn't finished. A device that has it keeps it, with its documents, until it
     /// says that it is done.
-    pub fn cancel(&mut self, id: JobId, asker: Asker<'_>, now: Moment) -> Result<(), SpoolRefusal>
-        ensures ok { OnOk result (let found = spooled_at id self.old.jobs in let change = cancel_of asker.entry.name.now found in (cancel_refusal asker.entry.name.now asker.entry.is_operator found ≡ None) × (self.new ≡ record self.old { jobs = retained (with_job id (changed change now) self.old.jobs) })) }
+    pub fn cancel(&mut self, id: JobId, asker: &Asker<'_>, now: Moment) -> Result<(), SpoolRefusal>
+        ensures ok { OnOk result (let found = spooled_at id self.old.jobs in let change = cancel_of asker.now.name found in (cancel_refusal asker.now found ≡ None) × (self.new ≡ record self.old { jobs = retained (with_job id (changed change now) self.old.jobs) })) }
         ensures kept { OnErr result (self.new ≡ self.old) }
         ensures stay { OnOk result (AllStay self.old.jobs self.new.jobs) }
-        ensures refused { IfErr result (λ refusal. cancel_refusal asker.entry.name.now asker.entry.is_operator (spooled_at id self.old.jobs) ≡ Some refusal) }
+        ensures refused { IfErr result (λ refusal. cancel_refusal asker.now (spooled_at id self.old.jobs) ≡ Some refusal) }
     {
         let spool = &*self;
         spool.admits_cancel(id, asker)?;
@@ -88,9 +88,9 @@ impl Spool {
     }
 
     /// Why a cancel would be refused, if it would be.
-    pub fn admits_cancel(&self, id: JobId, asker: Asker<'_>) -> Result<(), SpoolRefusal>
-        ensures ok { OnOk result (cancel_refusal asker.entry.name.now asker.entry.is_operator (spooled_at id self.now.jobs) ≡ None) }
-        ensures refused { IfErr result (λ refusal. cancel_refusal asker.entry.name.now asker.entry.is_operator (spooled_at id self.now.jobs) ≡ Some refusal) }
+    pub fn admits_cancel(&self, id: JobId, asker: &Asker<'_>) -> Result<(), SpoolRefusal>
+        ensures ok { OnOk result (cancel_refusal asker.now (spooled_at id self.now.jobs) ≡ None) }
+        ensures refused { IfErr result (λ refusal. cancel_refusal asker.now (spooled_at id self.now.jobs) ≡ Some refusal) }
     {
         self.may_change(id, asker)?;
         if self.is_finished(id) {
@@ -111,8 +111,8 @@ impl Spool {
     }
 
     /// How someone cancels the job of this id.
-    fn cancel_by(&self, id: JobId, asker: Asker<'_>) -> JobChange
-        ensures { result ≡ cancel_of asker.entry.name.now (spooled_at id self.now.jobs) }
+    fn cancel_by(&self, id: JobId, asker: &Asker<'_>) -> JobChange
+        ensures { result ≡ cancel_of asker.now.name (spooled_at id self.now.jobs) }
     {
         match self.spooled(id) {
             Some(spooled) => JobChange::Cancel(asker.canceler(spooled.job())),
@@ -124,14 +124,14 @@ impl Spool {
     fn ask(
         &mut self,
         id: JobId,
-        asker: Asker<'_>,
+        asker: &Asker<'_>,
         change: JobChange,
         now: Moment,
     ) -> Result<(), SpoolRefusal>
-        ensures ok { OnOk result ((change_refusal asker.entry.name.now asker.entry.is_operator change now (spooled_at id self.old.jobs) ≡ None) × (self.new ≡ record self.old { jobs = with_job id (changed change now) self.old.jobs })) }
+        ensures ok { OnOk result ((change_refusal asker.now change now (spooled_at id self.old.jobs) ≡ None) × (self.new ≡ record self.old { jobs = with_job id (changed change now) self.old.jobs })) }
         ensures kept { OnErr result (self.new ≡ self.old) }
         ensures stay { OnOk result (AllStay self.old.jobs self.new.jobs) }
-        ensures refused { IfErr result (λ refusal. change_refusal asker.entry.name.now asker.entry.is_operator change now (spooled_at id self.old.jobs) ≡ Some refusal) }
+        ensures refused { IfErr result (λ refusal. change_refusal asker.now change now (spooled_at id self.old.jobs) ≡ Some refusal) }
     {
         self.may_change(id, asker)?;
         match self.change(id, change, now) {

@@ -36,16 +36,16 @@ impl Spool {
     pub fn add_document(
         &mut self,
         id: JobId,
-        asker: Asker<'_>,
+        asker: &Asker<'_>,
         document: Document,
         last: bool,
         now: Moment,
     ) -> Result<(), RefusedDocument>
-        ensures ok { OnOk result ((document_refusal asker.entry.name.now asker.entry.is_operator (length document.contents) last (spooled_at id self.old.jobs) ≡ None) × (self.new ≡ record self.old { jobs = closed_if last id now (with_document (adds (length document.contents) last) id document now self.old.jobs) })) }
+        ensures ok { OnOk result ((document_refusal asker.now (length document.contents) last (spooled_at id self.old.jobs) ≡ None) × (self.new ≡ record self.old { jobs = closed_if last id now (with_document (adds (length document.contents) last) id document now self.old.jobs) })) }
         ensures kept { OnErr result (self.new ≡ self.old) }
         ensures stay { OnOk result (AllStay self.old.jobs self.new.jobs) }
         ensures returned { IfErr result (λ refused. refused.document ≡ document) }
-        ensures refused { IfErr result (λ refused. IsRefusal (document_refusal asker.entry.name.now asker.entry.is_operator (length document.contents) last (spooled_at id self.old.jobs)) refused.refusal) }
+        ensures refused { IfErr result (λ refused. IsRefusal (document_refusal asker.now (length document.contents) last (spooled_at id self.old.jobs)) refused.refusal) }
     {
         let octets = document.contents.len();
         let added = adds(octets, last);
@@ -66,13 +66,13 @@ impl Spool {
     pub fn admits_document(
         &self,
         id: JobId,
-        asker: Asker<'_>,
+        asker: &Asker<'_>,
         octets: usize,
         last: bool,
     ) -> Result<(), SpoolRefusal>
-        ensures ok { OnOk result (document_refusal asker.entry.name.now asker.entry.is_operator octets last (spooled_at id self.now.jobs) ≡ None) }
+        ensures ok { OnOk result (document_refusal asker.now octets last (spooled_at id self.now.jobs) ≡ None) }
         ensures off { OnOk result (is_on_device id self.now.jobs ≡ false) }
-        ensures refused { IfErr result (λ refusal. document_refusal asker.entry.name.now asker.entry.is_operator octets last (spooled_at id self.now.jobs) ≡ Some refusal) }
+        ensures refused { IfErr result (λ refusal. document_refusal asker.now octets last (spooled_at id self.now.jobs) ≡ Some refusal) }
     {
         self.may_change(id, asker)?;
         self.may_take(id, octets, adds(octets, last))
