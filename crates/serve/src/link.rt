@@ -107,11 +107,17 @@ impl Link {
             return Err(waits());
         }
         if !self.much {
-            self.ahead.rest();
             return self.read_piece(buffer);
         }
         self.read_ahead()?;
         Ok(self.ahead.take(buffer))
+    }
+
+    /// Gives the memory for what is read ahead back, where nothing is left in it.
+    pub(crate) fn rest(&mut self) {
+        if self.ahead.is_empty() {
+            self.ahead.rest();
+        }
     }
 
     /// Reads of the socket.

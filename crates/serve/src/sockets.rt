@@ -98,6 +98,15 @@ fn tell(events: &Events, doors: &mut Doors, links: &mut Slab<Link>) {
     }
 }
 
+/// Has each socket give the memory back that it needs only in a rush.
+fn rest(links: &mut Slab<Link>) {
+    for key in 0..links.capacity() {
+        if let Some(link) = links.get_mut(key) {
+            link.rest();
+        }
+    }
+}
+
 impl Sockets {
     /// Listens at the three doors. The error is the system's: a port in use, an address that isn't the
     /// machine's, or out of memory.
@@ -161,11 +170,15 @@ impl Sockets {
     }
 
     /// Waits until something happens at a socket or a client has no time left, but no longer than this.
+    /// Where nothing happened, the sockets give back what they need only in a rush.
     ///
     /// Each change is told of once, and kept until a call finds that it has to wait.
     pub fn wait(&mut self, most: Duration) -> io::Result<()> {
         self.waited = self.moment;
         self.poll.poll(&mut self.events, Some(most))?;
+        if self.events.is_empty() && !most.is_zero() {
+            rest(&mut self.links);
+        }
         tell(&self.events, &mut self.doors, &mut self.links);
         Ok(())
     }
