@@ -4,6 +4,7 @@ ghost use Rattle.replay.specs.Wire.{has_input};
 
 use server::memory_wire::Memory;
 use server::{Answer, Door, Wire, WireId};
+use std::io::IoSlice;
 
 /// A wire in memory, of which is noted what its polls came to.
 #[derive(Drop)]
@@ -81,7 +82,7 @@ impl Wire for TraceWire {
         answer
     }
 
-    fn poll_write(&mut self, id: WireId, bytes: &[u8]) -> Answer<usize> {
+    fn poll_write(&mut self, id: WireId, bytes: &[IoSlice<'_>]) -> Answer<usize> {
         let answer = self.memory.poll_write(id, bytes);
         match answer {
             Answer::Done(_) | Answer::End => self.stir(),

@@ -1,5 +1,6 @@
 //! A connection's socket.
 ghost use Rattle.std.specs.Io.{ReadsAtMost, WritesAtMost};
+ghost use Rattle.std.specs.Io.Slices.{io_slices_bytes};
 
 use crate::ahead::{AHEAD, Ahead};
 use crate::patience::Patience;
@@ -9,7 +10,7 @@ use mio::event::Event;
 use mio::net::TcpStream;
 use std::alloc::Global;
 use std::io;
-use std::io::{ErrorKind, Read, Write};
+use std::io::{ErrorKind, IoSlice, Read};
 
 /// A connection's socket, with what was told of it, and what is left of its peer's time. The system is
 /// asked for nothing that would have to wait: where a call had to, or gave less than was asked for, none
@@ -148,13 +149,13 @@ impl Link {
     }
 
     /// Writes some bytes.
-    pub(crate) fn write(&mut self, bytes: &[u8], moment: Moment) -> io::Result<usize>
-        ensures { WritesAtMost result bytes.now }
+    pub(crate) fn write(&mut self, bytes: &[IoSlice<'_>], moment: Moment) -> io::Result<usize>
+        ensures { WritesAtMost result (io_slices_bytes bytes.now) }
     {
         if !self.writable {
             return Err(waits());
         }
-        let written = self.stream.write(bytes);
+        let written = self.stream.write_vectored(bytes);
         match &written {
             Ok(_) => self.patience.went(moment),
             Err(error) => self.writable = error.kind() != ErrorKind::WouldBlock,

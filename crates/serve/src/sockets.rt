@@ -10,7 +10,7 @@ use mio::{Events, Interest, Poll, Token};
 use server::{Answer, Door, Wire, WireId};
 use slab::Slab;
 use std::alloc::Global;
-use std::io::ErrorKind;
+use std::io::{ErrorKind, IoSlice};
 use std::net::{IpAddr, Net, SocketAddr};
 use std::time::Duration;
 use std::{io, mem};
@@ -334,7 +334,7 @@ impl Wire for Sockets {
         }
     }
 
-    fn poll_write(&mut self, id: WireId, bytes: &[u8]) -> Answer<usize> {
+    fn poll_write(&mut self, id: WireId, bytes: &[IoSlice<'_>]) -> Answer<usize> {
         if self.has_no_time(id) {
             return Answer::End;
         }

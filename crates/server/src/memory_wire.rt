@@ -1,11 +1,13 @@
 //! A wire in memory: what its peers send is there from the start, and what they get is kept. It
 //! stands in for sockets where a run is to be the same each time.
-ghost use Rattle.std.specs.Prelude.{◌≡◌, ◌<◌, ◌≤◌, length, take, IsTrue, IsFalse, IfSome, IfNone, IfOk, OnErr, Some, true, false, []};
+ghost use Rattle.std.specs.Prelude.{◌≡◌, ◌<◌, ◌≤◌, ℕ, List, ◌++◌, length, take, IsTrue, IsFalse, IfSome, IfNone, IfOk, OnErr, Some, true, false, []};
+ghost use Rattle.std.specs.Io.Slices.{io_slices_bytes};
 ghost use Rattle.server.specs.Memory.{Sends, Gets, comes, next_at, is_open, ends_reading, ends_writing};
 
 use crate::wire::{Answer, Door, Wire, WireId};
 use std::alloc::{AllocError, Global};
 use std::cmp::min;
+use std::io::IoSlice;
 use std::marker::Model;
 use text::drop_front;
 
@@ -210,6 +212,16 @@ impl Peer {
     }
 }
 
+/// The first part of the bytes.
+fn first_of<'a>(bytes: &[IoSlice<'a>]) -> &'a [u8]
+    ensures { (rest : List ℕ) × (io_slices_bytes bytes.now ≡ result.now ++ rest) }
+{
+    match bytes {
+        [first, ..] => first.as_slice(),
+        [] => &[],
+    }
+}
+
 impl Wire for Memory {
     ghost use Rattle.server.specs.Memory.{MemoryPolls};
 
@@ -249,7 +261,7 @@ impl Wire for Memory {
         }
     }
 
-    fn poll_write(&mut self, id: WireId, bytes: &[u8]) -> Answer<usize> {
+    fn poll_write(&mut self, id: WireId, bytes: &[IoSlice<'_>]) -> Answer<usize> {
         if self.fails() {
             return Answer::Fault;
         }
@@ -257,7 +269,7 @@ impl Wire for Memory {
             return Answer::End;
         }
         let place = id as usize;
-        match self.peers[place].get(bytes) {
+        match self.peers[place].get(first_of(bytes)) {
             Ok(Some(n)) => Answer::Done(n),
             Ok(None) => Answer::Waiting,
             Err(_) => {

@@ -2,6 +2,7 @@
 ghost use Rattle.std.specs.Prelude.{◌≡◌, ◌<◌, ◌≤◌, ◌+◌, ◌++◌, [], IfOk, OnOk, OnErr, ◌==◌, nat_lt, length, drop, slice_index_or, vec_len, vec_capacity};
 ghost use Rattle.std.specs.List.{flat_map, All};
 ghost use Rattle.device_link.specs.Orders.{cancel_line, job_line};
+ghost use Rattle.std.specs.Io.Slices.{io_slice_bytes, io_slices_bytes};
 ghost use Rattle.spool.specs.Document.{IsFrontOf};
 ghost use Rattle.server.specs.Exchange.{http_reply, refusal_head};
 ghost use Rattle.server.specs.Output.{OffersFront, IsSome, joined};
@@ -13,6 +14,7 @@ use http::StatusCode;
 use http_front::{Refusal, write_head};
 use spool::{Document, Octets, Pages};
 use std::alloc::{AllocError, Global};
+use std::io::IoSlice;
 use std::marker::Model;
 
 /// How many bytes may wait on a connection without any memory but what it took when it was accepted.
@@ -28,6 +30,18 @@ pub(crate) enum Offered {
     Waiting,
     /// An end or a fault.
     Ended,
+}
+
+/// Octets from a place on, as many as lie together, and the place behind them.
+fn part(octets: &Octets, start: usize) -> (IoSlice<'_>, usize)
+    requires { start ≤ length octets.now }
+    ensures front { IsFrontOf (io_slice_bytes result.0) (drop start octets.now) }
+    ensures behind { result.1 ≡ start + length (io_slice_bytes result.0) }
+    ensures within { result.1 ≤ length octets.now }
+{
+    let piece = octets.piece(start);
+    let left = octets.len() - start - piece.len();
+    (IoSlice::new(piece), octets.len() - left)
 }
 
 /// The rest of octets that others may own too. In clauses it is the list of them, which isn't empty.
@@ -57,12 +71,16 @@ impl Rest {
         Rest { octets, start: 0 }
     }
 
-    /// A front of them.
-    fn front(&self) -> &[u8]
-        ensures front { IsFrontOf result.now self.now }
+    /// A front of them, in the parts in which it lies: as many as a system call takes.
+    fn front(&self) -> [IoSlice<'_>; 4]
+        ensures front { IsFrontOf (io_slices_bytes result) self.now }
         ensures some { 0 < length self.now }
     {
-        self.octets.piece(self.start)
+        let (first, second_at) = part(&self.octets, self.start);
+        let (second, third_at) = part(&self.octets, second_at);
+        let (third, fourth_at) = part(&self.octets, third_at);
+        let (fourth, _) = part(&self.octets, fourth_at);
+        [first, second, third, fourth]
     }
 
     /// How many they are.
@@ -229,7 +247,7 @@ fn offer_first<W: Wire>(shared: &mut Vec<Rest>, id: WireId, wire: &mut W) -> Off
     ensures offers { OffersFront W.polled id (joined shared.old.items) wire.old result (joined shared.new.items) wire.new }
     ensures some { All IsSome shared.new.items }
 {
-    match wire.poll_write(id, shared[0].front()) {
+    match wire.poll_write(id, &shared[0].front()) {
         Answer::Done(count) => {
             pass(shared, count);
             Offered::Done(count)
@@ -261,7 +279,7 @@ fn offer_text<W: Wire>(text: &mut Vec<u8>, id: WireId, wire: &mut W) -> Offered
     ensures offers { OffersFront W.polled id text.old.items wire.old result text.new.items wire.new }
     ensures capacity { vec_capacity text.new ≡ vec_capacity text.old }
 {
-    match wire.poll_write(id, text) {
+    match wire.poll_write(id, &[IoSlice::new(text)]) {
         Answer::Done(count) => {
             drop_taken(text, count);
             Offered::Done(count)
