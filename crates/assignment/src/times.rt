@@ -1,6 +1,6 @@
 //! The times that a planner reads, and how often it looked.
-ghost use Rattle.std.specs.Prelude.{◌≡◌, ℕ, ◌+◌, ◌*◌, ◌^◌, ◌<◌, ◌≤◌, IfOk, length};
-ghost use Rattle.cost_table.specs.Class.{Class, IsClass, time_in};
+ghost use Rattle.std.specs.Prelude.{◌≡◌, ℕ, ◌+◌, ◌*◌, ◌^◌, ◌<◌, ◌≤◌, [], IfOk, None, length, slice_index_or};
+ghost use Rattle.cost_table.specs.Class.{Class, IsClass, place_of, time_in};
 ghost use Rattle.assignment.specs.Entries.{IsRead, IsReadRow};
 
 use crate::costs::{Costs, TimeRow, UNABLE};
@@ -38,11 +38,13 @@ pub trait Times {
         ensures looked { looked self.new ≡ looked self.old + 1 };
 }
 
-/// A class problem, and how often one of its entries was looked at.
+/// A class problem, how often one of its entries was looked at, and where the job of the last look
+/// stands: the next look mostly asks for the same one.
 #[derive(Debug, Drop)]
 pub struct Counted<'a> {
     class: &'a ClassProblem,
     looks: u64,
+    near: usize,
 }
 
 impl<'a> Counted<'a> {
@@ -51,7 +53,11 @@ impl<'a> Counted<'a> {
         ensures class { result.class.now ≡ class.now }
         ensures looks { result.looks ≡ 0 }
     {
-        Counted { class, looks: 0 }
+        Counted {
+            class,
+            looks: 0,
+            near: 0,
+        }
     }
 }
 
@@ -74,7 +80,33 @@ impl<'a> Times for Counted<'a> {
 
     fn time(&mut self, job: JobId, device: DeviceId) -> Option<u64> {
         self.looks += 1;
-        self.class.time(job, device)
+        self.near = place_near(self.class, job, self.near);
+        entry(self.class, self.near, device)
+    }
+}
+
+/// Where a job stands in the class, or the number of its jobs where it is none of them. The place
+/// `near` is looked at first.
+fn place_near(class: &ClassProblem, job: JobId, near: usize) -> usize
+    ensures { result ≡ place_of class.now.ids job }
+{
+    let ids = class.ids();
+    if near < ids.len() && ids[near] == job {
+        return near;
+    }
+    match class.place(job) {
+        Some(place) => place,
+        None => ids.len(),
+    }
+}
+
+/// The entry of a row of the class; none where there is no such row.
+fn entry(class: &ClassProblem, place: usize, device: DeviceId) -> Option<u64>
+    ensures { result ≡ slice_index_or (slice_index_or class.now.rows place []) device None }
+{
+    match class.rows().get(place) {
+        Some(row) => row.times().get(device.place()).copied().flatten(),
+        None => None,
     }
 }
 
@@ -95,7 +127,7 @@ pub(crate) fn read<T: Times>(alloc: Global, times: &mut T) -> Result<Entries, Al
 {
     let ids = Vec::from_slice(alloc, times.ids())?;
     let waits = Vec::from_slice(alloc, times.waits())?;
-    let mut rows = Vec::new(alloc);
+    let mut rows = Vec::with_capacity(alloc, ids.len())?;
     for place in 0..ids.len() {
         rows.push(read_row(alloc, times, ids[place], waits.len())?)?;
     }
@@ -117,7 +149,7 @@ fn read_row<T: Times>(
     ensures same { T.class times.new ≡ T.class times.old }
     ensures looked { T.looked times.new ≤ T.looked times.old + devices }
 {
-    let mut entries = Vec::new(alloc);
+    let mut entries = Vec::with_capacity(alloc, devices)?;
     for place in 0..devices {
         entries.push(times.time(job, DeviceId::new(place)).unwrap_or(UNABLE))?;
     }

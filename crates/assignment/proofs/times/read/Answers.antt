@@ -14,9 +14,9 @@ loop-place-preserved g c =
     let job : c.index.result.now ≡ get_or ids.items at 0 = get_or_read ids.items at _ (omega (arith, c.loop-place-test.true, c.len-place-end.ensures, ids.ok.0)) c.index.ensures 0 in
     record {
       len = omega (arith, (c.in_ok-push.ensures {u = tt}).len, i.len);
-      read = rows_more (g.T.Times.class c.args.times.now) ids.items rows.items _ c.in_ok-read_row.field-0 at (vec_len waits) c.index.result.now (omega (arith, rows.ok.0, i.len)) (c.in_ok-push.ensures {u = tt}).items job (rw (← i.same, ← c.len.ensures) row.read) i.read;
+      read = rows_more (g.T.Times.class c.args.times.now) ids.items rows.items _ c.in_ok-read_row.field-0 at (vec_len waits) c.index.result.now (omega (arith, rows.ok.0, i.len)) (c.in_ok-push.ensures {u = tt}).items job (rw (← i.same, ← c.len-in-loop-place.ensures) row.read) i.read;
       same = row.same ∙ i.same;
-      looked = looked_more (g.T.Times.looked c.args.times.now) at (vec_len waits) (g.T.Times.looked c.read_row.new.times) (g.T.Times.looked c.loop-place.times) i.looked (omega (arith, row.looked, c.len.ensures));
+      looked = looked_more (g.T.Times.looked c.args.times.now) at (vec_len waits) (g.T.Times.looked c.read_row.new.times) (g.T.Times.looked c.loop-place.times) i.looked (omega (arith, row.looked, c.len-in-loop-place.ensures));
     }
 
 pub returns-clause-read : goal.returns-clause-read
