@@ -6,7 +6,7 @@ use Rattle.assignment.specs.declared.search.Exit.{Exit}
 use Rattle.assignment.specs.declared.search.TheConstants.{UNSETTLED, FAR}
 use Rattle.assignment.specs.declared.costs.TheConstants.{UNABLE}
 use Rattle.assignment.specs.Costs.{nowhere}
-use Rattle.assignment.specs.Search.{IsRelaxed, IsSearched}
+use Rattle.assignment.specs.Search.{AreNears, IsRelaxed, IsSearched}
 
 pub record Begins (cost : ℕ → Place → ℕ) (jobs prices : List ℕ) (seats : List Place) (rents : List ℕ) (free : List Place) (L F L' F' R : List ℕ) (E E' : Exit) (n : ℕ) : Type 0 where
   pub low : (job : ℕ) (place : Place) → cost job place ≤ UNABLE
@@ -101,3 +101,15 @@ begun {jobs} {free} {R} {n} h =
       exit_place = out.0;
       exit_edge = rw out.2 (omega (arith, out.1));
     }
+
+pub nears_begun : {cost : ℕ → Place → ℕ} {jobs prices : List ℕ} {seats : List Place} {rents : List ℕ} {free : List Place} {L F L' F' R : List ℕ} {E E' : Exit} {n : ℕ} → Begins cost jobs prices seats rents free L F L' F' R E E' n → (N : List ℕ) → length N ≡ length free
+    → ((f : ℕ) → f < length free → get_or N f 0 ≤ get_or L n 0 + (cost (get_or jobs n 0) (get_or free f nowhere) - get_or prices n 0))
+    → AreNears cost jobs prices free L' R N n
+nears_begun h N one_each taken = record {
+  one_each = one_each;
+  at = λ q f le lt ne.
+      let uncharged = h.uncharged in
+      let here = taken f lt in
+      let same = h.rest in
+      rw (is_root h q le ne) (omega arith);
+}

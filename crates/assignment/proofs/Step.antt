@@ -5,7 +5,7 @@ use Rattle.assignment.specs.declared.costs.Place.{Place}
 use Rattle.assignment.specs.declared.search.Exit.{Exit}
 use Rattle.assignment.specs.declared.search.TheConstants.{UNSETTLED, FAR}
 use Rattle.assignment.specs.Costs.{nowhere}
-use Rattle.assignment.specs.Search.{IsReached, IsRelaxed, IsSearched}
+use Rattle.assignment.specs.Search.{IsReached, AreNears, IsRelaxed, IsSearched}
 
 pub record Settles (cost : ℕ → Place → ℕ) (jobs prices : List ℕ) (seats : List Place) (rents : List ℕ) (free : List Place) (L F R L' F' R' : List ℕ) (E E' : Exit) (top s n : ℕ) : Type 0 where
   pub fair : (q c : ℕ) → q ≤ n → c < n → get_or prices q 0 ≤ cost (get_or jobs q 0) (get_or seats c nowhere) + get_or rents c 0
@@ -225,4 +225,22 @@ searched_now h root = record {
   exit_settled = (exit_now h).1;
   exit_place = (exit_now h).2;
   exit_edge = (exit_now h).3;
+}
+
+-- and so are the free places' distances kept
+pub nears_now : {cost : ℕ → Place → ℕ} {jobs prices : List ℕ} {seats : List Place} {rents : List ℕ} {free : List Place} {L F R L' F' R' : List ℕ} {E E' : Exit} {top s n : ℕ} → Settles cost jobs prices seats rents free L F R L' F' R' E E' top s n → (N N' : List ℕ) → AreNears cost jobs prices free L R N n → length N' ≡ length free
+    → ((f : ℕ) → f < length free → get_or N' f 0 ≤ get_or N f 0)
+    → ((f : ℕ) → f < length free → get_or N' f 0 ≤ get_or L s 0 + (cost (get_or jobs s 0) (get_or free f nowhere) - get_or prices s 0))
+    → AreNears cost jobs prices free L' R' N' n
+nears_now {L} {R'} {s} {n} h N N' old one_each kept taken = record {
+  one_each = one_each;
+  at = λ q f le lt ne.
+      let same = length_same h q le ne in
+      elim (settled_now h q ne) [
+        | inl e ↦
+            let fair = h.fair_free s f (omega (arith, h.here)) lt in
+            let here = taken f lt in
+            rw same (rw e (omega arith))
+        | inr d ↦ let was = old.at q f le lt d.1 in let less = kept f lt in omega arith
+      ];
 }

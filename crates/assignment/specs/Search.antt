@@ -60,6 +60,14 @@ pub record IsSized (s : Seating) (x : Search) : Type 0 where
   pub froms : vec_len x.froms ≡ vec_len s.seats + 1
   pub ranks : vec_len x.ranks ≡ vec_len s.seats + 1
 
+-- what is kept for each free place is no farther than the way of any settled job to it
+pub record AreNears (cost : ℕ → Place → ℕ) (jobs prices : List ℕ) (free : List Place) (lengths ranks nears : List ℕ) (n : ℕ) : Type 0 where
+  pub one_each : length nears ≡ length free
+  pub at : (q f : ℕ) → q ≤ n → f < length free → slice_index ranks q ≢ UNSETTLED → slice_index nears f + slice_index prices q ≤ slice_index lengths q + cost (slice_index jobs q) (slice_index_or free f nowhere)
+
+abbrev pub KeepsNears : Costs → Seating → List Place → Search → Type 0
+KeepsNears t s free x = AreNears (cost_of t) s.jobs.items s.prices.items free x.lengths.items x.ranks.items x.nears.items (vec_len s.seats)
+
 abbrev pub SearchedFrom : Costs → Seating → List Place → Search → Type 0
 SearchedFrom t s free x = IsSearched (cost_of t) s.jobs.items s.prices.items s.seats.items s.rents.items free x.lengths.items x.froms.items x.ranks.items x.exit x.settled (vec_len s.seats)
 
@@ -76,8 +84,8 @@ pub record IsFinished (s : Seating) (x : Search) : Type 0 where
   pub far : (c : ℕ) → c < vec_len s.seats → slice_index x.ranks.items c ≡ UNSETTLED → x.exit.length ≤ slice_index x.lengths.items c
   pub room : x.settled < UNSETTLED
 
--- a search from a new job at seat n before any way is taken
-pub record IsBlank (n : ℕ) (x : Search) : Type 0 where
+-- a search from a new job at seat n for one of so many free places, before any way is taken
+pub record IsBlank (n places : ℕ) (x : Search) : Type 0 where
   pub lengths : vec_len x.lengths ≡ n + 1
   pub froms : vec_len x.froms ≡ n + 1
   pub ranks : vec_len x.ranks ≡ n + 1
@@ -89,3 +97,4 @@ pub record IsBlank (n : ℕ) (x : Search) : Type 0 where
   pub far_exit : x.exit.length ≡ FAR
   pub settled : x.settled ≡ 1
   pub counted : open_count x.ranks.items ≤ n
+  pub nears : vec_len x.nears ≡ places

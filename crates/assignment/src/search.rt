@@ -4,7 +4,7 @@ ghost use Rattle.std.specs.Prelude.{◌≡◌, ◌≢◌, ℕ, ◌+◌, ◌-◌,
 ghost use Rattle.assignment.specs.Costs.{cost_at, cost_of, nowhere};
 ghost use Rattle.assignment.specs.Lanes.{IsLane, IsLaned};
 ghost use Rattle.assignment.specs.Seating.{IsFair, HasNewJob};
-ghost use Rattle.assignment.specs.Search.{IsNearestOf, IsReached, IsRelaxed, IsExitOf, IsSized, SearchedFrom, IsBlank, IsFinished, open_count};
+ghost use Rattle.assignment.specs.Search.{IsNearestOf, IsReached, IsRelaxed, IsExitOf, IsSized, SearchedFrom, IsBlank, IsFinished, KeepsNears, open_count};
 
 use crate::costs::{Costs, Place, UNABLE, cost, on_device};
 use crate::lanes::Lane;
@@ -24,6 +24,14 @@ pub(crate) struct Exit {
     pub(crate) from: usize,
 }
 
+/// A settled seat: which one, how far it is, and what its job is charged.
+#[derive(Clone, Copy, Debug)]
+struct Origin {
+    seat: usize,
+    base: u64,
+    price: u64,
+}
+
 /// The ways from a settled seat: how far the seat is, what its job is charged, and the charge from
 /// which on a place is no nearer than the exit.
 #[derive(Clone, Copy, Debug)]
@@ -34,25 +42,29 @@ struct Ways {
     most: u64,
 }
 
+/// The search so far: of each seat how far it is, from which one it was reached and as which one it
+/// was settled, and of each free place how far it is.
 #[derive(Debug, Drop)]
 pub(crate) struct Search {
     pub(crate) lengths: Vec<u64>,
     pub(crate) froms: Vec<usize>,
     pub(crate) ranks: Vec<usize>,
+    pub(crate) nears: Vec<u64>,
     pub(crate) exit: Exit,
     pub(crate) settled: usize,
 }
 
-/// A search from the new job, before any way is taken.
-fn blank(alloc: Global, new: usize, len: usize) -> Result<Search, AllocError>
+/// A search from the new job for one of so many places, before any way is taken.
+fn blank(alloc: Global, new: usize, len: usize, places: usize) -> Result<Search, AllocError>
     requires { len ≡ new + 1 }
-    ensures { IfOk result (λ x. IsBlank new x) }
+    ensures { IfOk result (λ x. IsBlank new places x) }
 {
     let mut lengths = vec![in alloc; FAR; len]?;
     lengths[new] = 0;
     let froms = vec![in alloc; new; len]?;
     let mut ranks = vec![in alloc; UNSETTLED; len]?;
     ranks[new] = 0;
+    let nears = vec![in alloc; FAR; places]?;
     let exit = Exit {
         length: FAR,
         place: 0,
@@ -62,6 +74,7 @@ fn blank(alloc: Global, new: usize, len: usize) -> Result<Search, AllocError>
         lengths,
         froms,
         ranks,
+        nears,
         exit,
         settled: 1,
     })
@@ -82,9 +95,10 @@ fn begin(
     ensures sizes { IfOk result (λ x. IsSized seating.now x) }
     ensures searched { IfOk result (λ x. SearchedFrom costs.now seating.now free.now x) }
     ensures counted { IfOk result (λ x. x.settled + open_count x.ranks.items ≤ vec_len x.ranks) }
+    ensures nears { IfOk result (λ x. KeepsNears costs.now seating.now free.now x) }
 {
     let new = seating.seats.len();
-    let mut search = blank(alloc, new, seating.jobs.len())?;
+    let mut search = blank(alloc, new, seating.jobs.len(), free.len())?;
     leave(costs, seating, free, &mut search, new);
     relax(costs, lanes, seating, &mut search, new);
     Ok(search)
@@ -107,6 +121,7 @@ pub(crate) fn search_exit(
     ensures sizes { IfOk result (λ x. IsSized seating.now x) }
     ensures searched { IfOk result (λ x. SearchedFrom costs.now seating.now free.now x) }
     ensures finished { IfOk result (λ x. IsFinished seating.now x) }
+    ensures nears { IfOk result (λ x. KeepsNears costs.now seating.now free.now x) }
 {
     let mut search = begin(alloc, costs, lanes, seating, free)?;
     'settling: loop {
@@ -149,6 +164,7 @@ fn settle(
     requires fair_free { IsFair (cost_of costs.now) seating.now.jobs.items seating.now.prices.items free.now [] }
     requires rents_low { (k : ℕ) → k < vec_len seating.now.seats → slice_index seating.now.rents.items k ≤ UNABLE }
     requires searched { SearchedFrom costs.now seating.now free.now search.old }
+    requires nears { KeepsNears costs.now seating.now free.now search.old }
     requires here { c < vec_len seating.now.seats }
     requires unsettled { slice_index search.old.ranks.items c ≡ UNSETTLED }
     requires least { (k : ℕ) → k < vec_len seating.now.seats → slice_index search.old.ranks.items k ≡ UNSETTLED
@@ -157,6 +173,7 @@ fn settle(
     requires room { search.old.settled < UNSETTLED }
     ensures sizes { IsSized seating.now search.new }
     ensures searched { SearchedFrom costs.now seating.now free.now search.new }
+    ensures nears { KeepsNears costs.now seating.now free.now search.new }
     ensures ranks { search.new.ranks.items ≡ slice_set search.old.ranks.items c search.old.settled }
     ensures settled { search.new.settled ≡ search.old.settled + 1 }
 {
@@ -179,7 +196,7 @@ fn relax(costs: &Costs, lanes: &[Lane], seating: &Seating, search: &mut Search, 
     requires fair { (c : ℕ) → c < vec_len seating.now.seats
         → slice_index seating.now.prices.items q ≤ cost_of costs.now (slice_index seating.now.jobs.items q) (slice_index_or seating.now.seats.items c nowhere) + slice_index seating.now.rents.items c }
     ensures sizes { IsSized seating.now search.new }
-    ensures same { (search.new.ranks ≡ search.old.ranks) × (search.new.exit ≡ search.old.exit) × (search.new.settled ≡ search.old.settled) }
+    ensures same { (search.new.ranks ≡ search.old.ranks) × (search.new.exit ≡ search.old.exit) × (search.new.settled ≡ search.old.settled) × (search.new.nears ≡ search.old.nears) }
     ensures relaxed { (c : ℕ) → c < vec_len seating.now.seats
         → IsRelaxed search.old.exit.length (slice_index search.old.ranks.items c) q
         (slice_index search.old.lengths.items q + (cost_of costs.now (slice_index seating.now.jobs.items q) (slice_index_or seating.now.seats.items c nowhere) + slice_index seating.now.rents.items c - slice_index seating.now.prices.items q))
@@ -222,7 +239,7 @@ fn relax_lane(
     requires fair { (c : ℕ) → c < vec_len seating.now.seats
         → ways.price ≤ cost_at waits.now row.now (slice_index_or seating.now.seats.items c nowhere) + slice_index seating.now.rents.items c }
     ensures sizes { IsSized seating.now search.new }
-    ensures same { (search.new.ranks ≡ search.old.ranks) × (search.new.exit ≡ search.old.exit) × (search.new.settled ≡ search.old.settled) }
+    ensures same { (search.new.ranks ≡ search.old.ranks) × (search.new.exit ≡ search.old.exit) × (search.new.settled ≡ search.old.settled) × (search.new.nears ≡ search.old.nears) }
     ensures relaxed { (c : ℕ) → c < vec_len seating.now.seats → (slice_index_or seating.now.seats.items c nowhere).device ≡ device
         → IsRelaxed search.old.exit.length (slice_index search.old.ranks.items c) ways.origin
         (ways.base + (cost_at waits.now row.now (slice_index_or seating.now.seats.items c nowhere) + slice_index seating.now.rents.items c - ways.price))
@@ -251,7 +268,7 @@ fn take_way(search: &mut Search, c: usize, length: u64, q: usize)
     requires froms_in { c < vec_len search.old.froms }
     requires ranks_in { c < vec_len search.old.ranks }
     ensures sizes { (vec_len search.new.lengths ≡ vec_len search.old.lengths) × (vec_len search.new.froms ≡ vec_len search.old.froms) }
-    ensures same { (search.new.ranks ≡ search.old.ranks) × (search.new.exit ≡ search.old.exit) × (search.new.settled ≡ search.old.settled) }
+    ensures same { (search.new.ranks ≡ search.old.ranks) × (search.new.exit ≡ search.old.exit) × (search.new.settled ≡ search.old.settled) × (search.new.nears ≡ search.old.nears) }
     ensures relaxed { IsRelaxed search.old.exit.length (slice_index search.old.ranks.items c) q length
         (slice_index search.old.lengths.items c) (slice_index search.new.lengths.items c) (slice_index search.old.froms.items c) (slice_index search.new.froms.items c) }
     ensures others { (k : ℕ) → k ≢ c
@@ -269,7 +286,7 @@ fn reach_seat(search: &mut Search, c: usize, length: u64, q: usize)
     requires froms_in { c < vec_len search.old.froms }
     requires ranks_in { c < vec_len search.old.ranks }
     ensures sizes { (vec_len search.new.lengths ≡ vec_len search.old.lengths) × (vec_len search.new.froms ≡ vec_len search.old.froms) }
-    ensures same { (search.new.ranks ≡ search.old.ranks) × (search.new.exit ≡ search.old.exit) × (search.new.settled ≡ search.old.settled) }
+    ensures same { (search.new.ranks ≡ search.old.ranks) × (search.new.exit ≡ search.old.exit) × (search.new.settled ≡ search.old.settled) × (search.new.nears ≡ search.old.nears) }
     ensures reached { IsReached (slice_index search.old.ranks.items c) q length
         (slice_index search.old.lengths.items c) (slice_index search.new.lengths.items c) (slice_index search.old.froms.items c) (slice_index search.new.froms.items c) }
     ensures others { (k : ℕ) → k ≢ c
@@ -281,51 +298,65 @@ fn reach_seat(search: &mut Search, c: usize, length: u64, q: usize)
     }
 }
 
-/// Takes the nearest free place by way of the job at `q`, where it is nearer.
+/// Takes the ways of the job at `q` to the free places, and the nearest of them where it is nearer.
 fn leave(costs: &Costs, seating: &Seating, free: &[Place], search: &mut Search, q: usize)
     requires sizes { IsSized seating.now search.old }
+    requires one_each { vec_len search.old.nears ≡ length free.now }
     requires here { q ≤ vec_len seating.now.seats }
     requires near { slice_index search.old.lengths.items q ≤ UNABLE }
     requires fair { (f : ℕ) → f < length free.now
         → slice_index seating.now.prices.items q ≤ cost_of costs.now (slice_index seating.now.jobs.items q) (slice_index_or free.now f nowhere) }
-    ensures same { search.new ≡ record search.old { exit = search.new.exit } }
+    ensures same { search.new ≡ record search.old { nears = search.new.nears; exit = search.new.exit } }
     ensures nearer { search.new.exit.length ≤ search.old.exit.length }
     ensures every { (f : ℕ) → f < length free.now
         → search.new.exit.length ≤ slice_index search.old.lengths.items q + (cost_of costs.now (slice_index seating.now.jobs.items q) (slice_index_or free.now f nowhere) - slice_index seating.now.prices.items q) }
     ensures edge { (search.new.exit ≡ search.old.exit)
         ⊎ IsExitOf (cost_of costs.now) (slice_index seating.now.jobs.items q) (slice_index seating.now.prices.items q) (slice_index search.old.lengths.items q) q free.now search.new.exit }
+    ensures one_each { vec_len search.new.nears ≡ length free.now }
+    ensures kept { (f : ℕ) → f < length free.now → slice_index search.new.nears.items f ≤ slice_index search.old.nears.items f }
+    ensures taken { (f : ℕ) → f < length free.now
+        → slice_index search.new.nears.items f ≤ slice_index search.old.lengths.items q + (cost_of costs.now (slice_index seating.now.jobs.items q) (slice_index_or free.now f nowhere) - slice_index seating.now.prices.items q) }
 {
     let job = seating.jobs[q];
-    let price = seating.prices[q];
-    let base = search.lengths[q];
-    search.exit = nearest_free(costs, job, price, base, q, free, search.exit);
+    let origin = Origin {
+        seat: q,
+        base: search.lengths[q],
+        price: seating.prices[q],
+    };
+    search.exit = nearest_free(costs, job, origin, free, &mut search.nears, search.exit);
 }
 
+/// The nearest free place so far, with the ways of a job taken.
 fn nearest_free(
     costs: &Costs,
     job: usize,
-    price: u64,
-    base: u64,
-    q: usize,
+    origin: Origin,
     free: &[Place],
+    nears: &mut [u64],
     exit: Exit,
 ) -> Exit
-    requires near { base ≤ UNABLE }
-    requires fair { (f : ℕ) → f < length free.now → price ≤ cost_of costs.now job (slice_index_or free.now f nowhere) }
+    requires one_each { length nears.old ≡ length free.now }
+    requires near { origin.base ≤ UNABLE }
+    requires fair { (f : ℕ) → f < length free.now → origin.price ≤ cost_of costs.now job (slice_index_or free.now f nowhere) }
     ensures nearer { result.length ≤ exit.length }
     ensures every { (f : ℕ) → f < length free.now
-        → result.length ≤ base + (cost_of costs.now job (slice_index_or free.now f nowhere) - price) }
-    ensures edge { (result ≡ exit) ⊎ IsExitOf (cost_of costs.now) job price base q free.now result }
+        → result.length ≤ origin.base + (cost_of costs.now job (slice_index_or free.now f nowhere) - origin.price) }
+    ensures edge { (result ≡ exit) ⊎ IsExitOf (cost_of costs.now) job origin.price origin.base origin.seat free.now result }
+    ensures one_each { length nears.new ≡ length free.now }
+    ensures kept { (f : ℕ) → f < length free.now → slice_index nears.new f ≤ slice_index nears.old f }
+    ensures taken { (f : ℕ) → f < length free.now
+        → slice_index nears.new f ≤ origin.base + (cost_of costs.now job (slice_index_or free.now f nowhere) - origin.price) }
 {
     let row = costs.row(job);
     let mut best = exit;
-    for (place, at) in free.iter().enumerate() {
-        let length = base + (cost(&costs.waits, row, *at) - price);
+    for (place, near) in nears.iter_mut().enumerate() {
+        let length = origin.base + (cost(&costs.waits, row, free[place]) - origin.price);
+        *near = (*near).min(length);
         if length < best.length {
             best = Exit {
                 length,
                 place,
-                from: q,
+                from: origin.seat,
             };
         }
     }

@@ -50,7 +50,7 @@ pub(crate) fn insert(
     seating.prices.push(0)?;
     let mut search = search_exit(alloc, costs, lanes, seating, free)?;
     raise_all(seating, &search);
-    tighten(costs, seating, &search, free, slacks);
+    tighten(&search, slacks);
     let place = free[search.exit.place];
     add_seat(seating, &mut search, place)?;
     move_jobs(seating, &search, last);
@@ -88,37 +88,15 @@ fn raise(values: &mut [u64], lengths: &[u64], reach: u64)
     }
 }
 
-/// Lowers the slacks to what the prices leave that may have risen: those of the jobs that are no
-/// farther than the exit.
-fn tighten(costs: &Costs, seating: &Seating, search: &Search, free: &[Place], slacks: &mut [u64])
-    requires sizes { IsSized seating.now search.now }
-    requires few { length slacks.old ≤ length free.now }
-    requires fair { (q f : ℕ) → q ≤ vec_len seating.now.seats → f < length free.now
-        → slice_index seating.now.prices.items q ≤ cost_of costs.now (slice_index seating.now.jobs.items q) (slice_index_or free.now f nowhere) }
+/// Lowers the slacks to how much farther than the exit the free places are.
+fn tighten(search: &Search, slacks: &mut [u64])
+    requires few { length slacks.old ≤ vec_len search.now.nears }
     ensures len { length slacks.new ≡ length slacks.old }
     ensures less { (f : ℕ) → f < length slacks.old → slice_index slacks.new f ≤ slice_index slacks.old f }
-    ensures near { (q f : ℕ) → q ≤ vec_len seating.now.seats → slice_index search.now.lengths.items q ≤ search.now.exit.length → f < length slacks.old
-        → slice_index seating.now.prices.items q + slice_index slacks.new f ≤ cost_of costs.now (slice_index seating.now.jobs.items q) (slice_index_or free.now f nowhere) }
+    ensures near { (f : ℕ) → f < length slacks.old → slice_index slacks.new f ≤ slice_index search.now.nears.items f - search.now.exit.length }
 {
-    for q in 0..seating.jobs.len() {
-        if search.lengths[q] <= search.exit.length {
-            tighten_by(costs, seating.jobs[q], seating.prices[q], free, slacks);
-        }
-    }
-}
-
-/// Lowers the slacks to what the price of one job leaves.
-fn tighten_by(costs: &Costs, job: usize, price: u64, free: &[Place], slacks: &mut [u64])
-    requires few { length slacks.old ≤ length free.now }
-    requires fair { (f : ℕ) → f < length free.now → price ≤ cost_of costs.now job (slice_index_or free.now f nowhere) }
-    ensures len { length slacks.new ≡ length slacks.old }
-    ensures less { (f : ℕ) → f < length slacks.old → slice_index slacks.new f ≤ slice_index slacks.old f }
-    ensures near { (f : ℕ) → f < length slacks.old
-        → price + slice_index slacks.new f ≤ cost_of costs.now job (slice_index_or free.now f nowhere) }
-{
-    let row = costs.row(job);
     for (f, slack) in slacks.iter_mut().enumerate() {
-        *slack = (*slack).min(cost(&costs.waits, row, free[f]) - price);
+        *slack = (*slack).min(search.nears[f].saturating_sub(search.exit.length));
     }
 }
 

@@ -40,5 +40,6 @@ returns c =
       root_rank = at_end rs.items c.args.new c.args.len 0 lr c.requires;
       far_exit = search rules;
       settled = search rules;
+      nears = omega (arith, (c.in_ok-nears.ensures {u = tt}).len);
       counted = omega (arith, count, open_count-le rs.items, c.requires);
     }

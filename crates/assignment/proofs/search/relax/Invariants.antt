@@ -9,6 +9,7 @@ invariant-loop-device l = record {
   ranks : l.search.ranks ≡ l.fn.search.ranks;
   exit : l.search.exit ≡ l.fn.search.exit;
   settled : l.search.settled ≡ l.fn.search.settled;
+  nears : l.search.nears ≡ l.fn.search.nears;
   root : get_or l.search.lengths.items (vec_len l.seating.seats) 0 ≡ get_or l.fn.search.lengths.items (vec_len l.seating.seats) 0;
   own : get_or l.search.lengths.items l.q 0 ≡ get_or l.fn.search.lengths.items l.q 0;
   done : (c : ℕ) → c < vec_len l.seating.seats → (get_or l.seating.seats.items c nowhere).device < l.device

@@ -75,6 +75,7 @@ loop-after-preserved c =
       ranks = search rules;
       exit = search rules;
       settled = search rules;
+      nears = search rules;
       charge = p.2;
       done = λ k lt is below. elim (cases_eq k seat) [
         | inl e ↦ rw e (relaxed_here _ _ _ _ _ _ _ _ _ _ _ _ _ t.relaxed (sym reach) (sym rank) (omega (arith, p.4, rent)) (sym rest.0) (sym rest.1))

@@ -19,5 +19,6 @@ pub settling-preserved : goal.settling-preserved
 settling-preserved c = record {
   sizes = c.settle.ensures.sizes;
   searched = c.settle.ensures.searched;
+  nears = c.settle.ensures.nears;
   counted = omega (arith, settled_one c, ap open_count c.settle.ensures.ranks, c.settle.ensures.settled, c.settling.invariant.counted, c.settle.ensures.sizes.ranks, c.settling.invariant.sizes.ranks);
 }

@@ -4,11 +4,11 @@ use Rattle.std.proofs.lemmas.List.{get_or-set_same, get_or-set_other}
 use Rattle.assignment.specs.declared.search.Search.{Search}
 use Rattle.assignment.specs.Costs.{cost_of, nowhere}
 use Rattle.assignment.proofs.Charges.{cost_of-low}
-use Rattle.assignment.proofs.Step.{Settles, searched_now}
+use Rattle.assignment.proofs.Step.{Settles, nears_now, searched_now}
 use Rattle.assignment.proofs.search.settle.Goals as goal
 
-pub returns-clause-searched : goal.returns-clause-searched
-returns-clause-searched c =
+settles_here : (c : goal.After-relax) → Settles (cost_of c.args.costs.now) c.args.seating.now.jobs.items c.args.seating.now.prices.items c.args.seating.now.seats.items c.args.seating.now.rents.items c.args.free.now c.args.search.now.lengths.items c.args.search.now.froms.items c.args.search.now.ranks.items c.relax.new.search.lengths.items c.relax.new.search.froms.items c.relax.new.search.ranks.items c.args.search.now.exit c.relax.new.search.exit c.args.search.now.settled c.args.c (vec_len c.args.seating.now.seats)
+settles_here c =
     let s = c.args.seating.now in
     let x = c.args.search.now in
     let y = c.leave.new.search in
@@ -17,12 +17,11 @@ returns-clause-searched c =
     let el : y.lengths.items ≡ x.lengths.items = ap (λ (v : Search). v.lengths.items) c.leave.ensures.same in
     let ef : y.froms.items ≡ x.froms.items = ap (λ (v : Search). v.froms.items) c.leave.ensures.same in
     let ey : y.ranks.items ≡ set x.ranks.items c.args.c x.settled = ap (λ (v : Search). v.ranks.items) c.leave.ensures.same in
-    let es = c.relax.ensures.same.2 ∙ ap (λ (v : Search). v.settled) c.leave.ensures.same in
     let er : z.ranks.items ≡ set x.ranks.items c.args.c x.settled = ap (λ (v : Vec ℕ). v.items) c.relax.ensures.same.0 ∙ ey in
     let ex : z.exit ≡ y.exit = c.relax.ensures.same.1 in
     let in_ranks : c.args.c < length x.ranks.items = omega (arith, x.ranks.ok.0, r.sizes.ranks, r.here) in
     let top : get_or (set x.ranks.items c.args.c x.settled) c.args.c 0 ≡ x.settled = get_or-set_same _ _ _ _ in_ranks in
-    let h : Settles (cost_of c.args.costs.now) s.jobs.items s.prices.items s.seats.items s.rents.items c.args.free.now x.lengths.items x.froms.items x.ranks.items z.lengths.items z.froms.items z.ranks.items x.exit z.exit x.settled c.args.c (vec_len s.seats) = record {
+    record {
       fair = λ q k le lt. r.fair.at q k (omega (arith, s.jobs.ok.0, r.sizes.jobs)) (omega (arith, s.seats.ok.0));
       fair_free = λ q k le lt. omega (arith, r.fair_free.at q k (omega (arith, s.jobs.ok.0, r.sizes.jobs)) lt);
       old = r.searched;
@@ -38,9 +37,24 @@ returns-clause-searched c =
       exit_le = rw ex c.leave.ensures.nearer;
       exit_every = λ f lt. rw ex (c.leave.ensures.every f lt);
       exit_edge = elim c.leave.ensures.edge [ inl e ↦ inl (ex ∙ e) | inr k ↦ inr (rw ex (k.0, k.1, k.2)) ];
-    } in
+    }
+
+pub returns-clause-searched : goal.returns-clause-searched
+returns-clause-searched c =
+    let s = c.args.seating.now in
+    let x = c.args.search.now in
+    let r = c.requires in
+    let es = c.relax.ensures.same.2 ∙ ap (λ (v : Search). v.settled) c.leave.ensures.same in
+    let er : c.relax.new.search.ranks.items ≡ set x.ranks.items c.args.c x.settled = ap (λ (v : Vec ℕ). v.items) c.relax.ensures.same.0 ∙ ap (λ (v : Search). v.ranks.items) c.leave.ensures.same in
     let apart : vec_len s.seats ≢ c.args.c = omega (arith, r.here) in
-    rw es (searched_now h (rw er (get_or-set_other x.ranks.items c.args.c (vec_len s.seats) x.settled 0 apart ∙ r.searched.root_rank)))
+    rw es (searched_now (settles_here c) (rw er (get_or-set_other x.ranks.items c.args.c (vec_len s.seats) x.settled 0 apart ∙ r.searched.root_rank)))
+
+pub returns-clause-nears : goal.returns-clause-nears
+returns-clause-nears c =
+    let kept = ap (λ (v : Vec ℕ). v.items) c.relax.ensures.same.3 in
+    let len = ap (λ (v : Vec ℕ). vec_len v) c.relax.ensures.same.3 in
+    let z = c.relax.new.search.nears in
+    nears_now (settles_here c) c.args.search.now.nears.items z.items c.requires.nears (omega (arith, len, z.ok.0, c.leave.ensures.one_each)) (λ f lt. rw kept (c.leave.ensures.kept f lt)) (λ f lt. rw kept (c.leave.ensures.taken f lt))
 
 pub relax-requires-clause-reach : goal.relax-requires-clause-reach
 relax-requires-clause-reach c =

@@ -38,25 +38,6 @@ seat_pushed xs ys n v e l = (λ k below. rw e (get_or_append_left xs (v ∷ []) 
 pushed : (xs ys : List ℕ) (n v : ℕ) → ys ≡ xs ++ v ∷ [] → length xs ≡ n → ((k : ℕ) → k < n → get_or ys k 0 ≡ get_or xs k 0) × (get_or ys n 0 ≡ v)
 pushed xs ys n v e l = (λ k below. rw e (get_or_append_left xs (v ∷ []) 0 k (omega arith)), rw e (get_or_push xs v 0 n l))
 
-pub tighten-requires-clause-fair : goal.tighten-requires-clause-fair
-tighten-requires-clause-fair c =
-    let s = c.args.seating.now in
-    let x = c.in_ok-search.search in
-    let y = c.raise_all.new.seating in
-    let n = vec_len s.seats in
-    let ej : c.push.new.self.items ≡ s.jobs.items ++ c.args.job ∷ [] = (c.in_ok-push.ensures {u = tt}).items in
-    let ep : c.push-2.new.self.items ≡ s.prices.items ++ 0 ∷ [] = (c.in_ok-push-2.ensures {u = tt}).items in
-    let found = c.in_ok-search.ensures {u = tt} in
-    let up = c.raise_all.ensures in
-    let len : vec_len c.push-2.new.self ≡ n + 1 = omega (arith, (c.in_ok-push-2.ensures {u = tt}).len, c.requires.seated.prices) in
-    let h : Raises (cost_of c.args.costs.now) c.push.new.self.items c.push-2.new.self.items s.seats.items s.rents.items c.args.free.now x.lengths.items x.froms.items x.ranks.items y.prices.items y.rents.items x.exit x.settled n =
-    raises_from _ s.jobs.items s.prices.items _ _ _ _ _ _ _ _ _ _ _ _ n c.args.job ej ep (omega (arith, s.jobs.ok.0, c.requires.seated.jobs)) (omega (arith, s.prices.ok.0, c.requires.seated.prices)) (omega (arith, s.seats.ok.0))
-    c.requires.seated.fair c.requires.seated.fair_free c.requires.seated.tight found.searched found.finished.far
-    (λ q le. up.prices q (omega arith)) (λ k lt. up.rents k (omega (arith, c.requires.seated.rents))) in
-    let jobs_is : y.jobs.items ≡ c.push.new.self.items = ap (λ (v : Vec ℕ). v.items) up.same.0 in
-    let es : vec_len y.seats ≡ n = ap (λ (v : Vec Place). vec_len v) up.same.1 in
-    λ q f le lt. rw jobs_is (free_up h q f (omega (arith, le, es)) lt)
-
 pub move_jobs-requires-clause-falling : goal.move_jobs-requires-clause-falling
 move_jobs-requires-clause-falling c =
     let s = c.args.seating.now in
@@ -170,6 +151,11 @@ returns-clause-room c =
       | inl e ↦ rw (e, from.1) found.searched.exit_origin
       | inr d ↦ let lt : k < n = omega arith in rw (from.0 k lt) (found.searched.origin k lt)
     ] in
-    let room = room_up (cost_of c.args.costs.now) s.jobs.items s.prices.items c.push.new.self.items c.push-2.new.self.items y.prices.items x.lengths.items c.args.free.now c.args.slacks.now c.tighten.new.slacks x.exit.length n c.args.job ej ep (omega (arith, s.jobs.ok.0, c.requires.seated.jobs)) (omega (arith, s.prices.ok.0, c.requires.seated.prices))
-    c.requires.room found.searched.root (λ q le. up.prices q (omega arith)) tight.less (λ q f le reach lf. rw (← raised_is) (tight.near q f (omega (arith, le, es)) reach lf)) in
+    let h : Raises (cost_of c.args.costs.now) c.push.new.self.items c.push-2.new.self.items s.seats.items s.rents.items c.args.free.now x.lengths.items x.froms.items x.ranks.items y.prices.items y.rents.items x.exit x.settled n =
+    raises_from _ s.jobs.items s.prices.items _ _ _ _ _ _ _ _ _ _ _ _ n c.args.job ej ep (omega (arith, s.jobs.ok.0, c.requires.seated.jobs)) (omega (arith, s.prices.ok.0, c.requires.seated.prices)) (omega (arith, s.seats.ok.0))
+    c.requires.seated.fair c.requires.seated.fair_free c.requires.seated.tight found.searched found.finished.far
+    (λ q le. up.prices q (omega arith)) (λ k lt. up.rents k (omega (arith, c.requires.seated.rents))) in
+    let fair : (q f : ℕ) → q ≤ n → f < length c.args.free.now → get_or y.prices.items q 0 ≤ cost_of c.args.costs.now (get_or c.push.new.self.items q 0) (get_or c.args.free.now f nowhere) = λ q f le lt. free_up h q f le lt in
+    let room = room_up (cost_of c.args.costs.now) s.jobs.items s.prices.items c.push.new.self.items c.push-2.new.self.items y.prices.items x.lengths.items x.ranks.items x.nears.items c.args.free.now c.args.slacks.now c.tighten.new.slacks x.exit.length n c.args.job ej ep (omega (arith, s.jobs.ok.0, c.requires.seated.jobs)) (omega (arith, s.prices.ok.0, c.requires.seated.prices))
+    c.requires.room c.requires.few found.searched.root_rank found.finished.far found.searched.within (λ q le. up.prices q (omega arith)) fair found.nears tight.less tight.near in
     record { at = λ q f lq lf. room_moved (cost_of c.args.costs.now) c.push.new.self.items z.jobs.items y.prices.items z.prices.items w.froms.items w.ranks.items c.args.free.now c.tighten.new.slacks (length c.args.slacks.now) n inside (λ k le. rw (jobs_is, prices_is, en) at (last.moved k (omega (arith, en)))) room q f (omega (arith, lq, z.jobs.ok.0, last.jobs_len, en)) (omega (arith, lf, tight.len)) }
