@@ -7,6 +7,7 @@ pub mod Filled
 pub mod Gaps
 pub mod Laid
 pub mod LaneGrowth
+pub mod Listed
 pub mod Nearest
 pub mod Opening
 pub mod Proving

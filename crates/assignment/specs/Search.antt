@@ -1,6 +1,6 @@
 -- The search for the nearest free place: shortest ways from a new job over the seats, by Dijkstra's
 -- method (E. W. Dijkstra, A note on two problems in connexion with graphs, 1959).
-use Rattle.std.specs.Prelude.{◌≡◌, ◌≢◌, ◌⊎◌, ℕ, ◌+◌, ◌-◌, ◌<◌, ◌≤◌, List, Option, Some, None, length, slice_index, slice_index_or, sum_by, if◌then◌else◌, ◌==◌, vec_len}
+use Rattle.std.specs.Prelude.{◌≡◌, ◌≢◌, ◌⊎◌, ℕ, ◌+◌, ◌-◌, ◌<◌, ◌≤◌, List, Option, Some, None, length, slice_index, slice_index_or, slice_set, nat_lt, sum_by, if◌then◌else◌, ◌==◌, vec_len}
 use Rattle.assignment.specs.declared.costs.Costs.{Costs}
 use Rattle.assignment.specs.declared.costs.Place.{Place}
 use Rattle.assignment.specs.declared.costs.TheConstants.{UNABLE}
@@ -79,6 +79,30 @@ open_of r = if r == UNSETTLED then 1 else 0
 unfoldable pub open_count : List ℕ → ℕ
 open_count ranks = sum_by open_of ranks
 
+-- 1 for the length of a seat that no way reached yet, 0 for another
+abbrev pub far_of : ℕ → ℕ
+far_of length = if nat_lt length FAR then 0 else 1
+
+-- how many seats no way reached yet
+unfoldable pub far_count : List ℕ → ℕ
+far_count lengths = sum_by far_of lengths
+
+-- the first `count` of so many entries are the seats that were reached: each one that is unsettled is there, and there
+-- is room for those that are far
+pub record AreListed (lengths ranks reached : List ℕ) (count len : ℕ) : Type 0 where
+  pub room : count + far_count lengths < len
+  pub known : (i : ℕ) → i < count → slice_index reached i + 1 < len
+  pub there : (c : ℕ) → c + 1 < len → slice_index ranks c ≡ UNSETTLED → slice_index lengths c < FAR → (i : ℕ) × (i < count) × (slice_index reached i ≡ c)
+
+pub record IsListed (x : Search) : Type 0 where
+  pub len : vec_len x.reached ≡ vec_len x.lengths
+  pub seats : AreListed x.lengths.items x.ranks.items x.reached.items x.count (vec_len x.reached)
+
+-- what becomes of the list where a seat is reached that has this length
+abbrev pub IsNoted : (length c : ℕ) (reached reached' : List ℕ) (count count' : ℕ) → Type 0
+IsNoted length c reached reached' count count' =
+    ((FAR ≤ length) × (reached' ≡ slice_set reached count c) × (count' ≡ count + 1)) ⊎ ((length < FAR) × (reached' ≡ reached) × (count' ≡ count))
+
 -- no unsettled seat is nearer than the nearest free place
 pub record IsFinished (s : Seating) (x : Search) : Type 0 where
   pub far : (c : ℕ) → c < vec_len s.seats → slice_index x.ranks.items c ≡ UNSETTLED → x.exit.length ≤ slice_index x.lengths.items c
@@ -98,3 +122,4 @@ pub record IsBlank (n places : ℕ) (x : Search) : Type 0 where
   pub settled : x.settled ≡ 1
   pub counted : open_count x.ranks.items ≤ n
   pub nears : vec_len x.nears ≡ places
+  pub listed : IsListed x

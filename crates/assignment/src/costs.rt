@@ -87,11 +87,14 @@ pub(crate) fn cost(waits: &[u64], row: &[u64], place: Place) -> u64
     }
 }
 
-/// The cost with a time and a wait. A sum or product that is cut off at the greatest number is above
-/// [`UNABLE`] as the whole one is.
+/// The cost with a time and a wait. Where they are in the range of a class, and so is the number of
+/// places after it, 64 bits are enough, and faster.
 fn cost_with(time: u64, wait: u64, after: u64) -> u64
     ensures { result ≡ min (wait + suc after * time) UNABLE }
 {
-    let behind = after.saturating_mul(time);
-    wait.saturating_add(time.saturating_add(behind)).min(UNABLE)
+    if after < Limits::UNFINISHED_JOBS as u64 && time <= UNABLE && wait <= UNABLE {
+        return (wait + time * (after + 1)).min(UNABLE);
+    }
+    let work = u128::from(time) * (u128::from(after) + 1);
+    (u128::from(wait) + work).min(u128::from(UNABLE)) as u64
 }

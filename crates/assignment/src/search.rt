@@ -4,7 +4,7 @@ ghost use Rattle.std.specs.Prelude.{◌≡◌, ◌≢◌, ℕ, ◌+◌, ◌-◌,
 ghost use Rattle.assignment.specs.Costs.{cost_at, cost_of, nowhere};
 ghost use Rattle.assignment.specs.Lanes.{IsLane, IsLaned};
 ghost use Rattle.assignment.specs.Seating.{IsFair, HasNewJob};
-ghost use Rattle.assignment.specs.Search.{IsNearestOf, IsReached, IsRelaxed, IsExitOf, IsSized, SearchedFrom, IsBlank, IsFinished, KeepsNears, open_count};
+ghost use Rattle.assignment.specs.Search.{IsNearestOf, IsReached, IsRelaxed, IsExitOf, IsSized, SearchedFrom, IsBlank, IsFinished, IsListed, IsNoted, KeepsNears, open_count};
 
 use crate::costs::{Costs, Place, UNABLE, cost, on_device};
 use crate::lanes::Lane;
@@ -43,13 +43,16 @@ struct Ways {
 }
 
 /// The search so far: of each seat how far it is, from which one it was reached and as which one it
-/// was settled, and of each free place how far it is.
+/// was settled, and of each free place how far it is. The first `count` entries of `reached` are the
+/// seats that were reached.
 #[derive(Debug, Drop)]
 pub(crate) struct Search {
     pub(crate) lengths: Vec<u64>,
     pub(crate) froms: Vec<usize>,
     pub(crate) ranks: Vec<usize>,
     pub(crate) nears: Vec<u64>,
+    pub(crate) reached: Vec<usize>,
+    pub(crate) count: usize,
     pub(crate) exit: Exit,
     pub(crate) settled: usize,
 }
@@ -65,6 +68,7 @@ fn blank(alloc: Global, new: usize, len: usize, places: usize) -> Result<Search,
     let mut ranks = vec![in alloc; UNSETTLED; len]?;
     ranks[new] = 0;
     let nears = vec![in alloc; FAR; places]?;
+    let reached = vec![in alloc; new; len]?;
     let exit = Exit {
         length: FAR,
         place: 0,
@@ -75,6 +79,8 @@ fn blank(alloc: Global, new: usize, len: usize, places: usize) -> Result<Search,
         froms,
         ranks,
         nears,
+        reached,
+        count: 0,
         exit,
         settled: 1,
     })
@@ -96,6 +102,7 @@ fn begin(
     ensures searched { IfOk result (λ x. SearchedFrom costs.now seating.now free.now x) }
     ensures counted { IfOk result (λ x. x.settled + open_count x.ranks.items ≤ vec_len x.ranks) }
     ensures nears { IfOk result (λ x. KeepsNears costs.now seating.now free.now x) }
+    ensures listed { IfOk result (λ x. IsListed x) }
 {
     let new = seating.seats.len();
     let mut search = blank(alloc, new, seating.jobs.len(), free.len())?;
@@ -132,18 +139,23 @@ pub(crate) fn search_exit(
     }
 }
 
-/// The nearest of the unsettled seats that are nearer than the exit, if there is one.
+/// The nearest of the unsettled seats that are nearer than the exit, if there is one. It is one of
+/// those that were reached.
 fn nearest(search: &Search, seats: usize) -> Option<usize>
-    requires lengths_in { seats ≤ vec_len search.now.lengths }
-    requires ranks_in { seats ≤ vec_len search.now.ranks }
+    requires listed { IsListed search.now }
+    requires lengths_in { vec_len search.now.lengths ≡ seats + 1 }
+    requires ranks_in { vec_len search.now.ranks ≡ seats + 1 }
+    requires near { search.now.exit.length ≤ FAR }
     ensures { IsNearestOf search.now.lengths.items search.now.ranks.items seats search.now.exit.length result }
 {
     let mut nearest = None;
     let mut least = search.exit.length;
-    for (c, length) in search.lengths[..seats].iter().enumerate() {
-        if *length < least && search.ranks[c] == UNSETTLED {
+    for at in 0..search.count {
+        let c = search.reached[at];
+        let length = search.lengths[c];
+        if length < least && search.ranks[c] == UNSETTLED {
             nearest = Some(c);
-            least = *length;
+            least = length;
         }
     }
     nearest
@@ -165,6 +177,7 @@ fn settle(
     requires rents_low { (k : ℕ) → k < vec_len seating.now.seats → slice_index seating.now.rents.items k ≤ UNABLE }
     requires searched { SearchedFrom costs.now seating.now free.now search.old }
     requires nears { KeepsNears costs.now seating.now free.now search.old }
+    requires listed { IsListed search.old }
     requires here { c < vec_len seating.now.seats }
     requires unsettled { slice_index search.old.ranks.items c ≡ UNSETTLED }
     requires least { (k : ℕ) → k < vec_len seating.now.seats → slice_index search.old.ranks.items k ≡ UNSETTLED
@@ -174,6 +187,7 @@ fn settle(
     ensures sizes { IsSized seating.now search.new }
     ensures searched { SearchedFrom costs.now seating.now free.now search.new }
     ensures nears { KeepsNears costs.now seating.now free.now search.new }
+    ensures listed { IsListed search.new }
     ensures ranks { search.new.ranks.items ≡ slice_set search.old.ranks.items c search.old.settled }
     ensures settled { search.new.settled ≡ search.old.settled + 1 }
 {
@@ -187,6 +201,7 @@ fn settle(
 /// way of the job at `q`.
 fn relax(costs: &Costs, lanes: &[Lane], seating: &Seating, search: &mut Search, q: usize)
     requires sizes { IsSized seating.now search.old }
+    requires listed { IsListed search.old }
     requires laned { IsLaned (vec_len costs.now.waits) seating.now.seats.items lanes.now }
     requires here { q ≤ vec_len seating.now.seats }
     requires near { slice_index search.old.lengths.items q ≤ UNABLE }
@@ -196,6 +211,7 @@ fn relax(costs: &Costs, lanes: &[Lane], seating: &Seating, search: &mut Search, 
     requires fair { (c : ℕ) → c < vec_len seating.now.seats
         → slice_index seating.now.prices.items q ≤ cost_of costs.now (slice_index seating.now.jobs.items q) (slice_index_or seating.now.seats.items c nowhere) + slice_index seating.now.rents.items c }
     ensures sizes { IsSized seating.now search.new }
+    ensures listed { IsListed search.new }
     ensures same { (search.new.ranks ≡ search.old.ranks) × (search.new.exit ≡ search.old.exit) × (search.new.settled ≡ search.old.settled) × (search.new.nears ≡ search.old.nears) }
     ensures relaxed { (c : ℕ) → c < vec_len seating.now.seats
         → IsRelaxed search.old.exit.length (slice_index search.old.ranks.items c) q
@@ -231,6 +247,7 @@ fn relax_lane(
     ways: Ways,
 )
     requires sizes { IsSized seating.now search.old }
+    requires listed { IsListed search.old }
     requires lane { IsLane device seating.now.seats.items lane.now }
     requires near { ways.base ≤ UNABLE }
     requires reach { search.old.exit.length + ways.price ≤ ways.base + UNABLE }
@@ -239,6 +256,7 @@ fn relax_lane(
     requires fair { (c : ℕ) → c < vec_len seating.now.seats
         → ways.price ≤ cost_at waits.now row.now (slice_index_or seating.now.seats.items c nowhere) + slice_index seating.now.rents.items c }
     ensures sizes { IsSized seating.now search.new }
+    ensures listed { IsListed search.new }
     ensures same { (search.new.ranks ≡ search.old.ranks) × (search.new.exit ≡ search.old.exit) × (search.new.settled ≡ search.old.settled) × (search.new.nears ≡ search.old.nears) }
     ensures relaxed { (c : ℕ) → c < vec_len seating.now.seats → (slice_index_or seating.now.seats.items c nowhere).device ≡ device
         → IsRelaxed search.old.exit.length (slice_index search.old.ranks.items c) ways.origin
@@ -264,15 +282,18 @@ fn relax_lane(
 /// Reaches the seat `c` by way of `q`, over the given length, where that is nearer than the exit.
 #[inline]
 fn take_way(search: &mut Search, c: usize, length: u64, q: usize)
-    requires lengths_in { c < vec_len search.old.lengths }
+    requires lengths_in { c + 1 < vec_len search.old.lengths }
     requires froms_in { c < vec_len search.old.froms }
     requires ranks_in { c < vec_len search.old.ranks }
+    requires listed { IsListed search.old }
+    requires near { search.old.exit.length ≤ FAR }
     ensures sizes { (vec_len search.new.lengths ≡ vec_len search.old.lengths) × (vec_len search.new.froms ≡ vec_len search.old.froms) }
     ensures same { (search.new.ranks ≡ search.old.ranks) × (search.new.exit ≡ search.old.exit) × (search.new.settled ≡ search.old.settled) × (search.new.nears ≡ search.old.nears) }
     ensures relaxed { IsRelaxed search.old.exit.length (slice_index search.old.ranks.items c) q length
         (slice_index search.old.lengths.items c) (slice_index search.new.lengths.items c) (slice_index search.old.froms.items c) (slice_index search.new.froms.items c) }
     ensures others { (k : ℕ) → k ≢ c
         → (slice_index search.new.lengths.items k ≡ slice_index search.old.lengths.items k) × (slice_index search.new.froms.items k ≡ slice_index search.old.froms.items k) }
+    ensures listed { IsListed search.new }
 {
     if length < search.exit.length {
         reach_seat(search, c, length, q);
@@ -282,19 +303,37 @@ fn take_way(search: &mut Search, c: usize, length: u64, q: usize)
 /// Reaches the seat `c` by way of `q`, over the given length, where it is unsettled and that is
 /// shorter.
 fn reach_seat(search: &mut Search, c: usize, length: u64, q: usize)
-    requires lengths_in { c < vec_len search.old.lengths }
+    requires lengths_in { c + 1 < vec_len search.old.lengths }
     requires froms_in { c < vec_len search.old.froms }
     requires ranks_in { c < vec_len search.old.ranks }
+    requires listed { IsListed search.old }
+    requires near { length < FAR }
     ensures sizes { (vec_len search.new.lengths ≡ vec_len search.old.lengths) × (vec_len search.new.froms ≡ vec_len search.old.froms) }
     ensures same { (search.new.ranks ≡ search.old.ranks) × (search.new.exit ≡ search.old.exit) × (search.new.settled ≡ search.old.settled) × (search.new.nears ≡ search.old.nears) }
     ensures reached { IsReached (slice_index search.old.ranks.items c) q length
         (slice_index search.old.lengths.items c) (slice_index search.new.lengths.items c) (slice_index search.old.froms.items c) (slice_index search.new.froms.items c) }
     ensures others { (k : ℕ) → k ≢ c
         → (slice_index search.new.lengths.items k ≡ slice_index search.old.lengths.items k) × (slice_index search.new.froms.items k ≡ slice_index search.old.froms.items k) }
+    ensures listed { IsListed search.new }
 {
     if search.ranks[c] == UNSETTLED && length < search.lengths[c] {
+        note_seat(search, c);
         search.lengths[c] = length;
         search.froms[c] = q;
+    }
+}
+
+/// Lists the seat `c` as one that is reached, unless one of the ways before reached it.
+fn note_seat(search: &mut Search, c: usize)
+    requires lengths_in { c < vec_len search.old.lengths }
+    requires listed { IsListed search.old }
+    ensures same { search.new ≡ record search.old { reached = search.new.reached; count = search.new.count } }
+    ensures len { vec_len search.new.reached ≡ vec_len search.old.reached }
+    ensures noted { IsNoted (slice_index search.old.lengths.items c) c search.old.reached.items search.new.reached.items search.old.count search.new.count }
+{
+    if search.lengths[c] >= FAR {
+        search.reached[search.count] = c;
+        search.count += 1;
     }
 }
 

@@ -1,8 +1,8 @@
-use Rattle.std.proofs.Common.{◌≡◌, ℕ, length, vec_len, get_or, ap, subst, inl, inr, ◌∙◌, arith}
+use Rattle.std.proofs.Common.{◌≡◌, ℕ, length, vec_len, get_or, ap, subst, sym, inl, inr, ◌∙◌, arith}
 use Rattle.std.specs.Global.{Vec}
 use Rattle.assignment.specs.declared.search.Search.{Search}
 use Rattle.assignment.specs.Costs.{cost_of, nowhere}
-use Rattle.assignment.specs.Search.{IsBlank}
+use Rattle.assignment.specs.Search.{IsBlank, IsListed}
 use Rattle.assignment.proofs.Opening.{Begins, begun, nears_begun}
 use Rattle.assignment.proofs.Charges.{cost_of-low}
 use Rattle.assignment.proofs.search.begin.Goals as goal
@@ -65,6 +65,9 @@ returns-clause-counted c =
     let es = c.relax.ensures.same.2 ∙ ap (λ (v : Search). v.settled) c.leave.ensures.same in
     let ranks = c.relax.ensures.same.0 ∙ ap (λ (v : Search). v.ranks) c.leave.ensures.same in
     rw (es, ranks) (omega (arith, b.settled, b.counted, b.ranks))
+
+pub relax-requires-clause-listed : goal.relax-requires-clause-listed
+relax-requires-clause-listed c = subst IsListed (sym c.leave.ensures.same) (let b = c.in_ok-search.ensures {u = tt} in record { len = b.listed.len; seats = b.listed.seats })
 
 pub relax-requires-clause-reach : goal.relax-requires-clause-reach
 relax-requires-clause-reach c =

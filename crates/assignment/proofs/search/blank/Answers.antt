@@ -2,6 +2,7 @@ use Rattle.std.proofs.Common.{◌≡◌, ◌≢◌, ℕ, ◌+◌, ◌<◌, List,
 use Rattle.std.proofs.Math.ListN.{replicate}
 use Rattle.std.proofs.lemmas.List.{get_or-set_same, get_or-set_other, get_or-replicate}
 use Rattle.assignment.specs.declared.search.TheConstants.{UNSETTLED, FAR}
+use Rattle.assignment.proofs.Listed.{far_count-le, far_count-reached}
 use Rattle.assignment.proofs.Count.{open_count-set, open_count-le}
 use Rattle.assignment.proofs.search.blank.Goals as goal
 
@@ -29,6 +30,10 @@ returns c =
     let lr : length rs.items ≡ c.args.len = omega (arith, rs.ok.0, gave_r.len) in
     let at : get_or rs.items c.args.new 0 ≡ UNSETTLED = rw er (get_or-replicate c.args.len c.args.new UNSETTLED 0 (omega (arith, c.requires))) in
     let count = open_count-set rs.items c.args.new 0 (omega (arith, c.requires)) at (λ e. omega (arith, e)) in
+    let ts = c.in_ok-reached.reached in
+    let gave_t = c.in_ok-reached.ensures {u = tt} in
+    let first : get_or ls.items c.args.new 0 ≡ FAR = rw el (get_or-replicate c.args.len c.args.new FAR 0 (omega (arith, c.requires))) in
+    let far = far_count-reached ls.items c.args.new 0 (omega (arith, c.requires)) (omega (arith, first)) (omega arith) in
     record {
       lengths = omega (arith, gave_l.len, c.requires);
       froms = omega (arith, gave_f.len, c.requires);
@@ -40,6 +45,14 @@ returns c =
       root_rank = at_end rs.items c.args.new c.args.len 0 lr c.requires;
       far_exit = search rules;
       settled = search rules;
+      listed = record {
+        len = omega (arith, ts.ok.0, gave_t.len, gave_l.len);
+        seats = record {
+          room = omega (arith, far, far_count-le ls.items, c.requires, gave_t.len);
+          known = λ i lt. absurd (omega (arith, lt));
+          there = λ k lt unsettled short. absurd (omega (arith, short, others ls.items c.args.new c.args.len FAR 0 k el c.requires (omega (arith, lt, c.requires, gave_t.len))));
+        };
+      };
       nears = omega (arith, (c.in_ok-nears.ensures {u = tt}).len);
       counted = omega (arith, count, open_count-le rs.items, c.requires);
     }

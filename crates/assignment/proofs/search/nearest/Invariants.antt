@@ -3,8 +3,8 @@ use Rattle.assignment.specs.declared.search.TheConstants.{UNSETTLED}
 use Rattle.assignment.proofs.Nearest.{IsFound}
 use Rattle.assignment.proofs.search.nearest.Given as goal
 
-abbrev pub invariant-loop-c : goal.invariant-loop-c
-invariant-loop-c l = record {
-  found : IsFound l.fn.search.lengths.items l.fn.search.ranks.items l.c l.fn.search.exit.length l.least l.nearest;
-  least : (k : ℕ) → k < l.c → get_or l.fn.search.ranks.items k 0 ≡ UNSETTLED → l.least ≤ get_or l.fn.search.lengths.items k 0;
+abbrev pub invariant-loop-at : goal.invariant-loop-at
+invariant-loop-at l = record {
+  found : IsFound l.search.lengths.items l.search.ranks.items l.seats l.search.exit.length l.least l.nearest;
+  least : (i : ℕ) → i < l.at → get_or l.search.ranks.items (get_or l.search.reached.items i 0) 0 ≡ UNSETTLED → l.least ≤ get_or l.search.lengths.items (get_or l.search.reached.items i 0) 0;
 }

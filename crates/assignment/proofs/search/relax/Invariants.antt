@@ -1,11 +1,12 @@
 use Rattle.std.proofs.Common.{◌≡◌, ℕ, ◌+◌, ◌-◌, ◌<◌, ◌≤◌, vec_len, get_or}
 use Rattle.assignment.specs.Costs.{cost_of, nowhere}
-use Rattle.assignment.specs.Search.{IsRelaxed, IsSized}
+use Rattle.assignment.specs.Search.{IsListed, IsRelaxed, IsSized}
 use Rattle.assignment.proofs.search.relax.Given as goal
 
 abbrev pub invariant-loop-device : goal.invariant-loop-device
 invariant-loop-device l = record {
   sizes : IsSized l.seating l.search;
+  listed : IsListed l.search;
   ranks : l.search.ranks ≡ l.fn.search.ranks;
   exit : l.search.exit ≡ l.fn.search.exit;
   settled : l.search.settled ≡ l.fn.search.settled;

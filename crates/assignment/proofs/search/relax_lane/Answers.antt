@@ -71,6 +71,7 @@ loop-after-preserved c =
     let stands : (get_or s.seats.items seat nowhere).after ≡ at = ap (λ (x : Place). x.after) p.1 in
     let rest = i.rest seat (omega (arith, p.0)) (λ _ _. omega (arith, stands)) in
     record {
+      listed = t.listed;
       sizes = search rules;
       ranks = search rules;
       exit = search rules;

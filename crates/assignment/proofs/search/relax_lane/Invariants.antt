@@ -1,12 +1,13 @@
 use Rattle.std.proofs.Common.{◌≡◌, ℕ, ◌+◌, ◌-◌, ◌*◌, ◌<◌, ◌≤◌, vec_len, get_or}
 use Rattle.assignment.specs.declared.costs.TheConstants.{UNABLE}
 use Rattle.assignment.specs.Costs.{cost_at, nowhere}
-use Rattle.assignment.specs.Search.{IsRelaxed, IsSized}
+use Rattle.assignment.specs.Search.{IsListed, IsRelaxed, IsSized}
 use Rattle.assignment.proofs.search.relax_lane.Given as goal
 
 abbrev pub invariant-loop-after : goal.invariant-loop-after
 invariant-loop-after l = record {
   sizes : IsSized l.seating l.search;
+  listed : IsListed l.search;
   ranks : l.search.ranks ≡ l.fn.search.ranks;
   exit : l.search.exit ≡ l.fn.search.exit;
   settled : l.search.settled ≡ l.fn.search.settled;

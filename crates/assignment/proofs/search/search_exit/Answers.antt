@@ -20,5 +20,6 @@ settling-preserved c = record {
   sizes = c.settle.ensures.sizes;
   searched = c.settle.ensures.searched;
   nears = c.settle.ensures.nears;
+  listed = c.settle.ensures.listed;
   counted = omega (arith, settled_one c, ap open_count c.settle.ensures.ranks, c.settle.ensures.settled, c.settling.invariant.counted, c.settle.ensures.sizes.ranks, c.settling.invariant.sizes.ranks);
 }

@@ -1,5 +1,5 @@
 use Rattle.std.proofs.Common.{◌+◌, ◌≤◌, vec_len}
-use Rattle.assignment.specs.Search.{IsSized, KeepsNears, SearchedFrom, open_count}
+use Rattle.assignment.specs.Search.{IsListed, IsSized, KeepsNears, SearchedFrom, open_count}
 use Rattle.assignment.proofs.search.search_exit.Given as goal
 
 abbrev pub invariant-settling : goal.invariant-settling
@@ -7,6 +7,7 @@ invariant-settling l = record {
   sizes : IsSized l.seating l.search;
   searched : SearchedFrom l.costs l.seating l.free l.search;
   nears : KeepsNears l.costs l.seating l.free l.search;
+  listed : IsListed l.search;
   counted : l.search.settled + open_count l.search.ranks.items ≤ vec_len l.search.ranks;
 }
 

@@ -4,6 +4,7 @@ use Rattle.std.proofs.lemmas.List.{get_or-set_same, get_or-set_other}
 use Rattle.assignment.specs.declared.search.Search.{Search}
 use Rattle.assignment.specs.Costs.{cost_of, nowhere}
 use Rattle.assignment.proofs.Charges.{cost_of-low}
+use Rattle.assignment.proofs.Listed.{listed_settled}
 use Rattle.assignment.proofs.Step.{Settles, nears_now, searched_now}
 use Rattle.assignment.proofs.search.settle.Goals as goal
 
@@ -55,6 +56,20 @@ returns-clause-nears c =
     let len = ap (λ (v : Vec ℕ). vec_len v) c.relax.ensures.same.3 in
     let z = c.relax.new.search.nears in
     nears_now (settles_here c) c.args.search.now.nears.items z.items c.requires.nears (omega (arith, len, z.ok.0, c.leave.ensures.one_each)) (λ f lt. rw kept (c.leave.ensures.kept f lt)) (λ f lt. rw kept (c.leave.ensures.taken f lt))
+
+pub relax-requires-clause-listed : goal.relax-requires-clause-listed
+relax-requires-clause-listed c =
+    let x = c.args.search.now in
+    let y = c.leave.new.search in
+    let r = c.requires in
+    let el : y.lengths ≡ x.lengths = ap (λ (v : Search). v.lengths) c.leave.ensures.same in
+    let ey : y.ranks.items ≡ set x.ranks.items c.args.c x.settled = ap (λ (v : Search). v.ranks.items) c.leave.ensures.same in
+    let et : y.reached ≡ x.reached = ap (λ (v : Search). v.reached) c.leave.ensures.same in
+    let ek : y.count ≡ x.count = ap (λ (v : Search). v.count) c.leave.ensures.same in
+    record {
+      len = rw (el, et) r.listed.len;
+      seats = rw (el, ey, et, ek) (listed_settled x.lengths.items x.ranks.items x.reached.items x.count (vec_len x.reached) c.args.c x.settled r.listed.seats r.unsettled);
+    }
 
 pub relax-requires-clause-reach : goal.relax-requires-clause-reach
 relax-requires-clause-reach c =
