@@ -95,6 +95,15 @@ fn cost_with(time: u64, wait: u64, after: u64) -> u64
     if after < Limits::UNFINISHED_JOBS as u64 && time <= UNABLE && wait <= UNABLE {
         return (wait + time * (after + 1)).min(UNABLE);
     }
+    wide_cost(time, wait, after)
+}
+
+/// The cost with a time and a wait, of any size.
+#[cold]
+#[inline(never)]
+fn wide_cost(time: u64, wait: u64, after: u64) -> u64
+    ensures { result ≡ min (wait + suc after * time) UNABLE }
+{
     let work = u128::from(time) * (u128::from(after) + 1);
     (u128::from(wait) + work).min(u128::from(UNABLE)) as u64
 }
