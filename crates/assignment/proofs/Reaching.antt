@@ -43,3 +43,17 @@ placed waits row seats lane device after n charge time next base price E h lt le
 -- the charge up to a place, whether it fits or not
 pub charged : (waits row : List ℕ) (device after charge time next : ℕ) → charge ≡ get_or waits device UNABLE + after * get_or row device UNABLE → time ≡ get_or row device UNABLE → next ≡ min (charge + time) 18446744073709551615 → next ≤ get_or waits device UNABLE + (after + 1) * get_or row device UNABLE
 charged waits row device after charge time next ec et en = omega (arith, times_more after (get_or row device UNABLE))
+
+-- what is left of the most that a place may be charged
+pub left_more : (waits row : List ℕ) (device after left time most : ℕ) → left ≡ most - (get_or waits device UNABLE + after * get_or row device UNABLE) → time ≡ get_or row device UNABLE → left - time ≡ most - (get_or waits device UNABLE + (after + 1) * get_or row device UNABLE)
+left_more waits row device after left time most is et = omega (arith, is, et, times_more after (get_or row device UNABLE))
+
+pub left_none : (waits row : List ℕ) (device after left time most : ℕ) → left ≡ most - (get_or waits device UNABLE + after * get_or row device UNABLE) → time ≡ get_or row device UNABLE → left ≤ time → most ≤ get_or waits device UNABLE + (after + 1) * get_or row device UNABLE
+left_none waits row device after left time most is et none = omega (arith, is, et, none, times_more after (get_or row device UNABLE))
+
+pub left_placed : (waits row : List ℕ) (seats : List Place) (lane : List ℕ) (device after n left time base price E most : ℕ) → IsLane device seats lane → after < length lane → length seats ≡ n
+    → left ≡ most - (get_or waits device UNABLE + after * get_or row device UNABLE) → time ≡ get_or row device UNABLE → time < left → most ≡ (E + price) - base → E + price ≤ base + UNABLE
+    → (get_or lane after 0 < n) × (get_or seats (get_or lane after 0) nowhere ≡ place_on device after) × (cost_at waits row (get_or seats (get_or lane after 0) nowhere) ≡ most - (left - time))
+left_placed waits row seats lane device after n left time base price E most h lt len is et short most_is reach =
+    let p = placed waits row seats lane device after n (most - left) time (most - (left - time)) base price E h lt len (omega (arith, is, short)) et (omega (arith, is, short, most_is, reach)) (omega (arith, is, short, most_is)) reach in
+    (p.0, p.1, p.4)

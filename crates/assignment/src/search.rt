@@ -235,8 +235,8 @@ fn relax(costs: &Costs, lanes: &[Lane], seating: &Seating, search: &mut Search, 
     }
 }
 
-/// Shortens the lengths of one device's seats as [`relax`] does, for a job with these times. Once the
-/// charge of a place is as much as may be, so is that of each place before it.
+/// Shortens the lengths of one device's seats as [`relax`] does, for a job with these times. Once
+/// nothing is left of the most that a place may be charged, nothing is for each place before it.
 fn relax_lane(
     waits: &[u64],
     row: &[u64],
@@ -267,36 +267,43 @@ fn relax_lane(
         → (slice_index search.new.lengths.items c ≡ slice_index search.old.lengths.items c) × (slice_index search.new.froms.items c ≡ slice_index search.old.froms.items c) }
 {
     let time = on_device(row, device);
-    let mut charge = on_device(waits, device);
+    let mut left = ways.most.saturating_sub(on_device(waits, device));
     for after in 0..lane.len() {
-        charge = charge.saturating_add(time);
-        if charge >= ways.most {
+        if time >= left {
             return;
         }
+        left -= time;
         let c = lane[after];
-        let length = ways.base + (charge + seating.rents[c] - ways.price);
-        take_way(search, c, length, ways.origin);
+        take_way(search, c, seating.rents[c], left, ways);
     }
 }
 
-/// Reaches the seat `c` by way of `q`, over the given length, where that is nearer than the exit.
+/// Reaches the seat `c` with this rent by one of the ways, where that is nearer than the exit: its
+/// place is charged what is left of the most.
 #[inline]
-fn take_way(search: &mut Search, c: usize, length: u64, q: usize)
+fn take_way(search: &mut Search, c: usize, rent: u64, left: u64, ways: Ways)
     requires lengths_in { c + 1 < vec_len search.old.lengths }
     requires froms_in { c < vec_len search.old.froms }
     requires ranks_in { c < vec_len search.old.ranks }
     requires listed { IsListed search.old }
-    requires near { search.old.exit.length ≤ FAR }
+    requires left { left ≤ ways.most }
+    requires most { ways.most ≡ search.old.exit.length + ways.price - ways.base }
+    requires near { ways.base ≤ UNABLE }
+    requires reach { search.old.exit.length + ways.price ≤ ways.base + UNABLE }
+    requires rent_low { rent ≤ UNABLE }
+    requires fair { ways.price ≤ ways.most - left + rent }
     ensures sizes { (vec_len search.new.lengths ≡ vec_len search.old.lengths) × (vec_len search.new.froms ≡ vec_len search.old.froms) }
     ensures same { (search.new.ranks ≡ search.old.ranks) × (search.new.exit ≡ search.old.exit) × (search.new.settled ≡ search.old.settled) × (search.new.nears ≡ search.old.nears) }
-    ensures relaxed { IsRelaxed search.old.exit.length (slice_index search.old.ranks.items c) q length
+    ensures relaxed { IsRelaxed search.old.exit.length (slice_index search.old.ranks.items c) ways.origin (ways.base + (ways.most - left + rent - ways.price))
         (slice_index search.old.lengths.items c) (slice_index search.new.lengths.items c) (slice_index search.old.froms.items c) (slice_index search.new.froms.items c) }
     ensures others { (k : ℕ) → k ≢ c
         → (slice_index search.new.lengths.items k ≡ slice_index search.old.lengths.items k) × (slice_index search.new.froms.items k ≡ slice_index search.old.froms.items k) }
     ensures listed { IsListed search.new }
 {
-    if length < search.exit.length {
-        reach_seat(search, c, length, q);
+    if rent < left {
+        let charge = ways.most - left;
+        let length = ways.base + (charge + rent - ways.price);
+        reach_seat(search, c, length, ways.origin);
     }
 }
 

@@ -1,66 +1,77 @@
-use Rattle.std.proofs.Common.{◌≡◌, ◌≢◌, ℕ, ◌<◌, vec_len, get_or, ap, sym, inl, inr, ◌∙◌, arith, rules}
+use Rattle.std.proofs.Common.{◌≡◌, ◌≢◌, ℕ, ◌+◌, ◌*◌, ◌<◌, vec_len, get_or, ap, sym, inl, inr, ◌∙◌, arith, rules}
 use Rattle.std.specs.Global.{Vec}
 use Rattle.std.proofs.lemmas.Bool.{cases_eq, cases_lt}
 use Rattle.std.proofs.lemmas.List.{get_or_read}
 use Rattle.assignment.specs.declared.costs.Place.{Place}
 use Rattle.assignment.specs.declared.search.Exit.{Exit}
+use Rattle.assignment.specs.declared.costs.TheConstants.{UNABLE}
 use Rattle.assignment.specs.Costs.{nowhere}
 use Rattle.assignment.proofs.Nearest.{relaxed_before, relaxed_here}
-use Rattle.assignment.proofs.Reaching.{charged, dear_on, placed}
+use Rattle.assignment.proofs.Reaching.{dear_on, left_more, left_none, left_placed}
 use Rattle.assignment.proofs.search.relax_lane.Goals as goal
 
-pub returns-then-charge-ways-clause-relaxed : goal.returns-then-charge-ways-clause-relaxed
-returns-then-charge-ways-clause-relaxed c =
+pub returns-then-time-left-clause-relaxed : goal.returns-then-time-left-clause-relaxed
+returns-then-time-left-clause-relaxed c =
     let s = c.args.seating.now in
     let at = c.loop-after.after in
     let r = c.requires in
     let i = c.loop-after.invariant in
-    let dear = charged c.args.waits.now c.args.row.now c.args.device at c.loop-after.charge c.on_device-time.result c.saturating_add-charge.result i.charge c.on_device-time.ensures c.saturating_add-charge.ensures in
+    let none = left_none c.args.waits.now c.args.row.now c.args.device at c.loop-after.left c.on_device-time.result c.args.ways.most i.left c.on_device-time.ensures c.if-time-left.true in
     λ k lt on.
     let place = get_or s.seats.items k nowhere in
     elim (cases_lt place.after at) [
       | inl before ↦ i.done k lt on before
       | inr from ↦
           let rest = i.rest k (omega arith) (λ _ _. from) in
-          inl (dear_on c.args.waits.now c.args.row.now place c.args.device at c.saturating_add-charge.result c.args.ways.base c.args.ways.price (get_or s.rents.items k 0) c.args.search.now.exit.length on from dear (omega (arith, c.if-charge-ways.true, r.most)) r.reach (r.fair k lt), rest.0, rest.1)
+          inl (dear_on c.args.waits.now c.args.row.now place c.args.device at (get_or c.args.waits.now c.args.device UNABLE + (at + 1) * get_or c.args.row.now c.args.device UNABLE) c.args.ways.base c.args.ways.price (get_or s.rents.items k 0) c.args.search.now.exit.length on from (omega arith) (omega (arith, none, r.most)) r.reach (r.fair k lt), rest.0, rest.1)
     ]
 
-pub overflow_add-length : goal.overflow_add-length
-overflow_add-length c =
+pub take_way-requires-clause-rent_low : goal.take_way-requires-clause-rent_low
+take_way-requires-clause-rent_low c =
     let s = c.args.seating.now in
     let at = c.loop-after.after in
     let r = c.requires in
-    let p = placed c.args.waits.now c.args.row.now s.seats.items c.args.lane.now c.args.device at (vec_len s.seats) c.loop-after.charge c.on_device-time.result c.saturating_add-charge.result c.args.ways.base c.args.ways.price c.args.search.now.exit.length r.lane c.loop-after-test.true (omega (arith, s.seats.ok.0)) c.loop-after.invariant.charge c.on_device-time.ensures c.saturating_add-charge.ensures (omega (arith, c.if-charge-ways.false, r.most)) r.reach in
+    let p = left_placed c.args.waits.now c.args.row.now s.seats.items c.args.lane.now c.args.device at (vec_len s.seats) c.loop-after.left c.on_device-time.result c.args.ways.base c.args.ways.price c.args.search.now.exit.length c.args.ways.most r.lane c.loop-after-test.true (omega (arith, s.seats.ok.0)) c.loop-after.invariant.left c.on_device-time.ensures c.if-time-left.false r.most r.reach in
     let seat = get_or c.args.lane.now at 0 in
     let rent : c.index.result.now ≡ get_or s.rents.items seat 0 = get_or_read s.rents.items seat _ (omega (arith, p.0, r.sizes.rents, s.rents.ok.0)) c.index.ensures 0 in
-    omega (arith, p.3, rent, r.rents_low seat p.0)
+    omega (arith, rent, r.rents_low seat p.0)
 
-pub overflow_sub-length : goal.overflow_sub-length
-overflow_sub-length c =
+pub take_way-requires-clause-fair : goal.take_way-requires-clause-fair
+take_way-requires-clause-fair c =
     let s = c.args.seating.now in
     let at = c.loop-after.after in
     let r = c.requires in
-    let p = placed c.args.waits.now c.args.row.now s.seats.items c.args.lane.now c.args.device at (vec_len s.seats) c.loop-after.charge c.on_device-time.result c.saturating_add-charge.result c.args.ways.base c.args.ways.price c.args.search.now.exit.length r.lane c.loop-after-test.true (omega (arith, s.seats.ok.0)) c.loop-after.invariant.charge c.on_device-time.ensures c.saturating_add-charge.ensures (omega (arith, c.if-charge-ways.false, r.most)) r.reach in
+    let p = left_placed c.args.waits.now c.args.row.now s.seats.items c.args.lane.now c.args.device at (vec_len s.seats) c.loop-after.left c.on_device-time.result c.args.ways.base c.args.ways.price c.args.search.now.exit.length c.args.ways.most r.lane c.loop-after-test.true (omega (arith, s.seats.ok.0)) c.loop-after.invariant.left c.on_device-time.ensures c.if-time-left.false r.most r.reach in
     let seat = get_or c.args.lane.now at 0 in
     let rent : c.index.result.now ≡ get_or s.rents.items seat 0 = get_or_read s.rents.items seat _ (omega (arith, p.0, r.sizes.rents, s.rents.ok.0)) c.index.ensures 0 in
-    omega (arith, p.4, rent, r.fair seat p.0)
+    omega (arith, p.2, rent, r.fair seat p.0)
 
-pub overflow_add-length-in-loop-after : goal.overflow_add-length-in-loop-after
-overflow_add-length-in-loop-after c =
+pub take_way-requires-clause-lengths_in : goal.take_way-requires-clause-lengths_in
+take_way-requires-clause-lengths_in c =
     let s = c.args.seating.now in
     let at = c.loop-after.after in
     let r = c.requires in
-    let p = placed c.args.waits.now c.args.row.now s.seats.items c.args.lane.now c.args.device at (vec_len s.seats) c.loop-after.charge c.on_device-time.result c.saturating_add-charge.result c.args.ways.base c.args.ways.price c.args.search.now.exit.length r.lane c.loop-after-test.true (omega (arith, s.seats.ok.0)) c.loop-after.invariant.charge c.on_device-time.ensures c.saturating_add-charge.ensures (omega (arith, c.if-charge-ways.false, r.most)) r.reach in
+    let p = left_placed c.args.waits.now c.args.row.now s.seats.items c.args.lane.now c.args.device at (vec_len s.seats) c.loop-after.left c.on_device-time.result c.args.ways.base c.args.ways.price c.args.search.now.exit.length c.args.ways.most r.lane c.loop-after-test.true (omega (arith, s.seats.ok.0)) c.loop-after.invariant.left c.on_device-time.ensures c.if-time-left.false r.most r.reach in
     let seat = get_or c.args.lane.now at 0 in
     let rent : c.index.result.now ≡ get_or s.rents.items seat 0 = get_or_read s.rents.items seat _ (omega (arith, p.0, r.sizes.rents, s.rents.ok.0)) c.index.ensures 0 in
-    omega (arith, p.3, rent, r.rents_low seat p.0, r.near)
+    omega (arith, p.0, c.loop-after.invariant.sizes.lengths)
+
+pub take_way-requires-clause-left : goal.take_way-requires-clause-left
+take_way-requires-clause-left c =
+    let s = c.args.seating.now in
+    let at = c.loop-after.after in
+    let r = c.requires in
+    let p = left_placed c.args.waits.now c.args.row.now s.seats.items c.args.lane.now c.args.device at (vec_len s.seats) c.loop-after.left c.on_device-time.result c.args.ways.base c.args.ways.price c.args.search.now.exit.length c.args.ways.most r.lane c.loop-after-test.true (omega (arith, s.seats.ok.0)) c.loop-after.invariant.left c.on_device-time.ensures c.if-time-left.false r.most r.reach in
+    let seat = get_or c.args.lane.now at 0 in
+    let rent : c.index.result.now ≡ get_or s.rents.items seat 0 = get_or_read s.rents.items seat _ (omega (arith, p.0, r.sizes.rents, s.rents.ok.0)) c.index.ensures 0 in
+    omega (arith, c.loop-after.invariant.left)
 
 pub loop-after-preserved : goal.loop-after-preserved
 loop-after-preserved c =
     let s = c.args.seating.now in
     let at = c.loop-after.after in
     let r = c.requires in
-    let p = placed c.args.waits.now c.args.row.now s.seats.items c.args.lane.now c.args.device at (vec_len s.seats) c.loop-after.charge c.on_device-time.result c.saturating_add-charge.result c.args.ways.base c.args.ways.price c.args.search.now.exit.length r.lane c.loop-after-test.true (omega (arith, s.seats.ok.0)) c.loop-after.invariant.charge c.on_device-time.ensures c.saturating_add-charge.ensures (omega (arith, c.if-charge-ways.false, r.most)) r.reach in
+    let p = left_placed c.args.waits.now c.args.row.now s.seats.items c.args.lane.now c.args.device at (vec_len s.seats) c.loop-after.left c.on_device-time.result c.args.ways.base c.args.ways.price c.args.search.now.exit.length c.args.ways.most r.lane c.loop-after-test.true (omega (arith, s.seats.ok.0)) c.loop-after.invariant.left c.on_device-time.ensures c.if-time-left.false r.most r.reach in
     let seat = get_or c.args.lane.now at 0 in
     let rent : c.index.result.now ≡ get_or s.rents.items seat 0 = get_or_read s.rents.items seat _ (omega (arith, p.0, r.sizes.rents, s.rents.ok.0)) c.index.ensures 0 in
     let i = c.loop-after.invariant in
@@ -77,9 +88,9 @@ loop-after-preserved c =
       exit = search rules;
       settled = search rules;
       nears = search rules;
-      charge = p.2;
+      left = left_more c.args.waits.now c.args.row.now c.args.device at c.loop-after.left c.on_device-time.result c.args.ways.most i.left c.on_device-time.ensures;
       done = λ k lt is below. elim (cases_eq k seat) [
-        | inl e ↦ rw e (relaxed_here _ _ _ _ _ _ _ _ _ _ _ _ _ t.relaxed (sym reach) (sym rank) (omega (arith, p.4, rent)) (sym rest.0) (sym rest.1))
+        | inl e ↦ rw e (relaxed_here _ _ _ _ _ _ _ _ _ _ _ _ _ t.relaxed (sym reach) (sym rank) (omega (arith, p.2, rent)) (sym rest.0) (sym rest.1))
         | inr d ↦
             let other = t.others k d in
             let before : (get_or s.seats.items k nowhere).after < at = elim (cases_eq (get_or s.seats.items k nowhere).after at) [

@@ -12,7 +12,7 @@ invariant-loop-after l = record {
   exit : l.search.exit ≡ l.fn.search.exit;
   settled : l.search.settled ≡ l.fn.search.settled;
   nears : l.search.nears ≡ l.fn.search.nears;
-  charge : l.charge ≡ get_or l.waits l.device UNABLE + l.after * get_or l.row l.device UNABLE;
+  left : l.left ≡ l.ways.most - (get_or l.waits l.device UNABLE + l.after * get_or l.row l.device UNABLE);
   done : (c : ℕ) → c < vec_len l.seating.seats → (get_or l.seating.seats.items c nowhere).device ≡ l.device → (get_or l.seating.seats.items c nowhere).after < l.after
       → IsRelaxed l.fn.search.exit.length (get_or l.fn.search.ranks.items c 0) l.ways.origin (l.ways.base + (cost_at l.waits l.row (get_or l.seating.seats.items c nowhere) + get_or l.seating.rents.items c 0 - l.ways.price)) (get_or l.fn.search.lengths.items c 0) (get_or l.search.lengths.items c 0) (get_or l.fn.search.froms.items c 0) (get_or l.search.froms.items c 0);
   rest : (c : ℕ) → c ≤ vec_len l.seating.seats → (c < vec_len l.seating.seats → (get_or l.seating.seats.items c nowhere).device ≡ l.device → l.after ≤ (get_or l.seating.seats.items c nowhere).after)
