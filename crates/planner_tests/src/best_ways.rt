@@ -1,10 +1,37 @@
 //! The totals that the planners find.
-use crate::problems::{ALONE, THREE, TWO, class_of};
 use assignment::{Counted, Dense, Lazy, Planner, Times, each_able};
-use base_types::Limits;
-use cost_table::ClassProblem;
+use base_types::JobId;
+use cost_table::{ClassProblem, Row, is_class};
 use std::alloc::Global;
 use std::test::Fail;
+
+/// The times of three jobs on two devices.
+const THREE: &[&[Option<u64>]] = &[
+    &[Some(10), Some(20)],
+    &[Some(10), Some(12)],
+    &[Some(30), Some(15)],
+];
+
+/// The times of the first two of them.
+const TWO: &[&[Option<u64>]] = &[&[Some(10), Some(20)], &[Some(10), Some(12)]];
+
+/// The times of three jobs on one device.
+const ALONE: &[&[Option<u64>]] = &[&[Some(5)], &[Some(3)], &[Some(4)]];
+
+/// The class of jobs with these times, numbered from 1, and the waits, if each job has a device.
+fn class_of(alloc: Global, times: &[&[Option<u64>]], waits: &[u64]) -> Result<ClassProblem, Fail> {
+    let mut ids = Vec::new(alloc);
+    let mut rows = Vec::new(alloc);
+    for (number, row) in (1..).zip(times) {
+        ids.push(JobId::new(number).ok_or("id")?)?;
+        rows.push(Row::new(Vec::from_slice(alloc, *row)?))?;
+    }
+    let waits = Vec::from_slice(alloc, waits)?;
+    if !is_class(&ids, &rows, &waits) {
+        return Err(Fail::from("not a class"));
+    }
+    Ok(ClassProblem::from_rows(ids, rows, waits))
+}
 
 /// The total that a planner finds.
 fn planned(planner: &impl Planner, class: &ClassProblem) -> Result<u64, Fail> {
@@ -14,20 +41,11 @@ fn planned(planner: &impl Planner, class: &ClassProblem) -> Result<u64, Fail> {
     Ok(planner.plan_class(class)?.total)
 }
 
-/// The total that both planners find.
-fn agreed(alloc: Global, class: &ClassProblem) -> Result<u64, Fail> {
-    let total = planned(&Lazy::new(alloc), class)?;
-    if planned(&Dense::new(alloc), class)? != total {
-        return Err(Fail::from("the planners differ"));
-    }
-    Ok(total)
-}
-
 /// The best way is found, and each time looked at no more often than promised.
 #[test]
 fn best_of_three(rt: HostRuntime) -> Result<(), Fail> {
     let alloc = rt.alloc();
-    let class = class_of(alloc, &[1, 2, 3], THREE, &[0, 0])?;
+    let class = class_of(alloc, THREE, &[0, 0])?;
     if !each_able(&class) {
         return Err(Fail::from("a job without a device"));
     }
@@ -42,29 +60,14 @@ fn best_of_three(rt: HostRuntime) -> Result<(), Fail> {
 #[test]
 fn known_totals(rt: HostRuntime) -> Result<(), Fail> {
     let alloc = rt.alloc();
-    let rows: [(&[u32], &[&[Option<u64>]], &[u64], u64); 3] = [
-        (&[1, 2], TWO, &[100, 0], 44),
-        (&[1, 2, 3], ALONE, &[0], 22),
-        (&[1, 2], TWO, &[0, 15], 30),
+    let rows: [(&[&[Option<u64>]], &[u64], u64); 3] = [
+        (TWO, &[100, 0], 44),
+        (ALONE, &[0], 22),
+        (TWO, &[0, 15], 30),
     ];
-    for (numbers, times, waits, total) in rows {
-        let class = class_of(alloc, numbers, times, waits)?;
-        assert_eq!(rt; agreed(alloc, &class)?, total);
+    for (times, waits, total) in rows {
+        let class = class_of(alloc, times, waits)?;
+        assert_eq!(rt; planned(&Dense::new(alloc), &class)?, total);
     }
-    Ok(())
-}
-
-/// As many of the longest jobs as there may be, behind one another.
-#[test]
-fn largest_totals(rt: HostRuntime) -> Result<(), Fail> {
-    let alloc = rt.alloc();
-    let job: &[Option<u64>] = &[Some(Limits::JOB_TIME)];
-    let mut numbers = Vec::new(alloc);
-    for number in 1..=511 {
-        numbers.push(number)?;
-    }
-    let class = class_of(alloc, &numbers, &[job; 511], &[Limits::JOB_TIME])?;
-    let total = planned(&Lazy::new(alloc), &class)?;
-    assert_eq!(rt; total, 78_717_876_577_200_000);
     Ok(())
 }

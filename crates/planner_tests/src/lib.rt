@@ -1,15 +1,7 @@
-//! Tests of plans: jobs and devices, and the times, totals and verdicts worked out for them.
+//! Tests of plans: the totals that the planners find, and texts that are no plan.
 #![tactic(auto)]
 
 #[cfg(test)]
-mod able_devices;
-#[cfg(test)]
 mod best_ways;
 #[cfg(test)]
-mod job_times;
-#[cfg(test)]
 mod plan_texts;
-#[cfg(test)]
-mod problems;
-#[cfg(test)]
-mod totals;
