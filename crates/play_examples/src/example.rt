@@ -17,7 +17,7 @@ pub struct Example {
     pub status: ExitStatus,
 }
 
-pub const EXAMPLES: [Example; 98] = [
+pub const EXAMPLES: [Example; 112] = [
     Example {
         input: "two_devices.trace",
         output: "two_devices.out",
@@ -473,6 +473,90 @@ pub const EXAMPLES: [Example; 98] = [
         output: "lp_of_cups.out",
         program: Program::Replay,
         status: ExitStatus::Done,
+    },
+    Example {
+        input: "settings_missing.trace",
+        output: "settings_missing.out",
+        program: Program::Replay,
+        status: ExitStatus::Refused,
+    },
+    Example {
+        input: "settings_twice.trace",
+        output: "settings_twice.out",
+        program: Program::Replay,
+        status: ExitStatus::Refused,
+    },
+    Example {
+        input: "settings_rate_of_zero.trace",
+        output: "settings_rate_of_zero.out",
+        program: Program::Replay,
+        status: ExitStatus::Refused,
+    },
+    Example {
+        input: "settings_unknown_key.trace",
+        output: "settings_unknown_key.out",
+        program: Program::Replay,
+        status: ExitStatus::Refused,
+    },
+    Example {
+        input: "settings_unknown_device.trace",
+        output: "settings_unknown_device.out",
+        program: Program::Replay,
+        status: ExitStatus::Refused,
+    },
+    Example {
+        input: "settings_version_as_text.trace",
+        output: "settings_version_as_text.out",
+        program: Program::Replay,
+        status: ExitStatus::Refused,
+    },
+    Example {
+        input: "settings_no_toml.trace",
+        output: "settings_no_toml.out",
+        program: Program::Replay,
+        status: ExitStatus::Refused,
+    },
+    Example {
+        input: "settings_finishings_in_version_1.trace",
+        output: "settings_finishings_in_version_1.out",
+        program: Program::Replay,
+        status: ExitStatus::Refused,
+    },
+    Example {
+        input: "settings_unknown_finishing.trace",
+        output: "settings_unknown_finishing.out",
+        program: Program::Replay,
+        status: ExitStatus::Refused,
+    },
+    Example {
+        input: "settings_finishings_as_text.trace",
+        output: "settings_finishings_as_text.out",
+        program: Program::Replay,
+        status: ExitStatus::Refused,
+    },
+    Example {
+        input: "settings_many_devices.trace",
+        output: "settings_many_devices.out",
+        program: Program::Replay,
+        status: ExitStatus::Refused,
+    },
+    Example {
+        input: "settings_too_many_devices.trace",
+        output: "settings_too_many_devices.out",
+        program: Program::Replay,
+        status: ExitStatus::Refused,
+    },
+    Example {
+        input: "settings_none.trace",
+        output: "settings_none.out",
+        program: Program::Replay,
+        status: ExitStatus::Refused,
+    },
+    Example {
+        input: "settings_without_an_end.trace",
+        output: "settings_without_an_end.out",
+        program: Program::Replay,
+        status: ExitStatus::Refused,
     },
     Example {
         input: "two_classes.plan",
