@@ -1,8 +1,6 @@
 //! The table of a job's states.
 use base_types::{Finishings, JobId, Moment, Needs, PrinterId, Priority, Sides, Text};
-use job_objects::{
-    Canceler, Job, JobChange, JobReasons, JobState, Reason, StateRefusal, job_step, reasons,
-};
+use job_objects::{Canceler, Job, JobChange, JobState, job_step};
 use std::alloc::{AllocError, Global};
 use std::test::Fail;
 
@@ -108,35 +106,5 @@ fn state_table(rt: HostRuntime) -> Result<(), Fail> {
             assert_eq!(rt; stepped(rt.alloc(), from, change)?, tabled(state, code));
         }
     }
-    Ok(())
-}
-
-/// The hold of a canceled job stays, and it comes in no more.
-#[test]
-fn canceled_while_held(rt: HostRuntime) -> Result<(), Fail> {
-    let mut job = job(rt.alloc(), JobState::PendingHeld, true, true)?;
-    assert_eq!(rt;
-        job_step(&mut job, JobChange::Begin, Moment::start()),
-        Err(StateRefusal::NotPossible)
-    );
-    assert_eq!(rt;
-        reasons(&job, false),
-        JobReasons {
-            first: Reason::JobIncoming,
-            second: Some(Reason::JobHoldUntilSpecified)
-        }
-    );
-    assert!(rt;
-        job_step(
-            &mut job,
-            JobChange::Cancel(Canceler::Owner),
-            Moment::start()
-        )
-        .is_ok()
-    );
-    assert!(rt; job.held && !job.incoming);
-    let reason = reasons(&job, true);
-    assert_eq!(rt; reason.first.keyword(), "job-canceled-by-user");
-    assert_eq!(rt; reason.second, None);
     Ok(())
 }
