@@ -1,7 +1,5 @@
-//! Tests of the core over the whole planner, and of IPP bodies.
+//! Tests of the core over the whole planner.
 #![tactic(auto)]
 
 #[cfg(test)]
-mod bodies;
-#[cfg(test)]
-mod core_events;
+mod runs;

@@ -1,0 +1,79 @@
+//! Lists of events, and who hears of their plans.
+use assignment::Lazy;
+use base_types::{DeviceId, Moment, Report};
+use dispatcher::{Core, Dispatched, Event, Listener, Outcome, Timed};
+use replies::{Asked, ipp_event};
+use settings_file::read_settings;
+use std::alloc::Global;
+use std::test::Fail;
+
+const ONE_DEVICE: &str = "version = 1\n\
+uri_base = \"ipp://localhost:631\"\n\
+[[device]]\n\
+name = \"A\"\n\
+rate_one = 10\n\
+media = [\"iso_a4_210x297mm\"]\n\
+formats = [\"text/plain\"]\n\
+[[printer]]\n\
+name = \"lab\"\n\
+devices = [\"A\"]\n\
+media_default = \"iso_a4_210x297mm\"\n\
+format_default = \"text/plain\"\n";
+
+/// A Print-Job of five octets.
+const PRINT_JOB: &[u8] =
+    b"\x01\x01\x00\x02\x00\x00\x00\x01\x01\x47\x00\x12attributes-charset\x00\x05utf-8\x48\x00\x1Battributes-natural-language\x00\x02en\x45\x00\x0Bprinter-uri\x00\x20ipp://localhost:631/printers/lab\x03hello";
+
+/// How many plans and starts were heard of.
+#[derive(Drop)]
+struct Counts {
+    plans: u64,
+    starts: u64,
+}
+
+impl Listener for Counts {
+    ghost hears = { λ old plan started new. Unit {0} };
+
+    fn dispatched(&mut self, made: &Dispatched<'_>) {
+        if made.plan().is_some() {
+            self.plans = self.plans.wrapping_add(1);
+        }
+        self.starts = self.starts.wrapping_add(made.started().len() as u64);
+    }
+}
+
+/// The device runs, a job comes, and time goes on.
+fn day(alloc: Global) -> Result<Vec<Timed>, Fail> {
+    let Asked::Event(_, print) = ipp_event(alloc, PRINT_JOB)? else {
+        return Err(Fail::from("no event"));
+    };
+    let ready = Event::Report(DeviceId::new(0), Report::Ready);
+    let events = [ready, print, Event::Tick].map(|event| Timed {
+        event,
+        moment: Moment::start(),
+    });
+    Ok(Vec::from_array(alloc, events)?)
+}
+
+/// How many events of the day were dispatched, and how many plans and starts were heard of.
+fn heard(alloc: Global) -> Result<(usize, u64, u64), Fail> {
+    let settings = read_settings(alloc, ONE_DEVICE)?;
+    let mut core = Core::new(alloc, settings, Lazy::new(alloc))?;
+    let mut counts = Counts {
+        plans: 0,
+        starts: 0,
+    };
+    let outcomes = core.run(alloc, day(alloc)?, &mut counts)?;
+    let dispatched = outcomes
+        .iter()
+        .filter(|outcome| matches!(outcome, Outcome::Dispatched(_)))
+        .count();
+    Ok((dispatched, counts.plans, counts.starts))
+}
+
+/// One job comes to a device that runs: one plan, and one start.
+#[test]
+fn run_of_events(rt: HostRuntime) -> Result<(), Fail> {
+    assert_eq!(rt; heard(rt.alloc())?, (3, 1, 1));
+    Ok(())
+}
