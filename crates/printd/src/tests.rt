@@ -1,5 +1,4 @@
 mod checks;
-mod plans;
 mod serving;
 mod totals;
 
@@ -13,21 +12,6 @@ fn run(rt: &HostRuntime, trace: &str) -> (u8, Vec<u8>) {
     let mut input = trace.as_bytes();
     let status = run_replay(rt.alloc(), &mut input, &mut output, false);
     (status.code(), output)
-}
-
-#[test]
-fn refused_traces(rt: HostRuntime) {
-    let settings = "version = 1\n.\n";
-    let cases = [
-        ("", "refused settings NotToml\n"),
-        ("version = 1\n", "refused settings NotToml\n"),
-        (settings, "refused settings Missing uri_base\n"),
-    ];
-    for (trace, wanted) in cases {
-        let (status, output) = run(&rt, trace);
-        assert_eq!(rt; status, 2);
-        assert_eq!(rt; output.as_slice(), wanted.as_bytes());
-    }
 }
 
 #[test]
