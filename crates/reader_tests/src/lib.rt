@@ -2,14 +2,6 @@
 #![tactic(auto)]
 
 #[cfg(test)]
-mod device_lines;
-#[cfg(test)]
-mod http_requests;
-#[cfg(test)]
 mod ipp_messages;
-#[cfg(test)]
-mod lpd_sessions;
-#[cfg(test)]
-mod settings_texts;
 #[cfg(test)]
 mod text_bytes;

@@ -1,7 +1,5 @@
 //! What is said of bytes of text alone.
-use std::alloc::{AllocError, Global};
-use std::test::Fail;
-use text::{Unread, is_number, number_up_to, trimmed, without_parameters, words};
+use text::{is_number, number_up_to, trimmed, without_parameters};
 
 /// A value, and the same without its parameters: the media types of RFC 9110, section 8.3.1.
 const VALUES: [(&[u8], &[u8]); 5] = [
@@ -31,35 +29,4 @@ fn numbers_in_words(rt: HostRuntime) {
     assert!(rt; number_up_to(b"007", 7) == Some(7));
     assert!(rt; number_up_to(b"8", 7).is_none());
     assert!(rt; number_up_to(b"", 7).is_none());
-}
-
-/// The lengths of a text's words.
-fn lengths(alloc: Global, text: &[u8]) -> Result<Vec<usize>, AllocError> {
-    let mut lengths = Vec::new(alloc);
-    for word in &words(alloc, text)? {
-        lengths.push(word.len())?;
-    }
-    Ok(lengths)
-}
-
-#[test]
-fn words_between_spaces(rt: HostRuntime) -> Result<(), Fail> {
-    let lengths = lengths(rt.alloc(), b"PAGES 1  42 ")?;
-    assert!(rt; lengths.as_slice() == [5, 1, 0, 2, 0].as_slice());
-    Ok(())
-}
-
-#[test]
-fn bytes_read_in_pieces(rt: HostRuntime) -> Result<(), Fail> {
-    let mut unread = Unread::new(rt.alloc());
-    unread.append(b"one\ntw")?;
-    assert!(rt; unread.bytes() == b"one\ntw".as_slice());
-    unread.pass_line(3);
-    unread.append(b"o, three")?;
-    assert!(rt; unread.bytes() == b"two, three".as_slice());
-    let front = unread.take_front(3)?;
-    unread.pass(2);
-    assert!(rt; front.as_slice() == b"two".as_slice());
-    assert!(rt; unread.bytes() == b"three".as_slice());
-    Ok(())
 }
