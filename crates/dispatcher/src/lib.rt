@@ -11,7 +11,7 @@
 //! Nothing here reads a clock, a socket or a byte of a protocol: an event comes with its moment, and
 //! all that a request says stands in it. Real times are not spoken of, only estimates.
 //!
-//! Tests stand in `core_tests`.
+//! Its rows are traces of `play_examples`; `Core::run` is tested in `server_tests`.
 #![tactic(auto)]
 
 mod answer_groups;

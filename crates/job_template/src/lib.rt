@@ -6,7 +6,7 @@
 //! several attributes of a name the first acts is seen to where the request is read. Whether a
 //! request is refused for what isn't supported is no business of this crate.
 //!
-//! Tests stand in `core_tests`.
+//! Its rows are traces of `play_examples`.
 #![tactic(auto)]
 
 mod request_attribute;

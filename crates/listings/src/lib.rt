@@ -7,7 +7,7 @@
 //! plan has, by their completions, then all the rest by their ids; finished jobs from the latest back.
 //! That this is an order, and neither drops a job nor repeats one, is a law ([`listing_is_ordered`]).
 //! What an attribute says is promised below, in `printer_objects`. Nothing here changes a room, and
-//! each call's only error is want of memory. Tests stand in `core_tests`.
+//! each call's only error is want of memory. Its rows are traces of `play_examples`.
 #![tactic(auto)]
 
 mod entry;

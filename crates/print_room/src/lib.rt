@@ -4,7 +4,7 @@
 //! The one call is [`PrintRoom::dispatch`]: whenever a plan is made, each priority class has the least
 //! total of completion times, and each free device begins the first job of its list. Each other call
 //! makes exactly one state of another. What a request asks, and when a dispatch follows, is said above,
-//! in the core; no reply is made here. Tests stand in `core_tests`.
+//! in the core; no reply is made here. Its rows are traces of `play_examples`.
 #![tactic(auto)]
 
 mod activity;

@@ -5,7 +5,7 @@
 //! order of Get-Jobs), and that a removal cancels just the jobs that its agent may remove, by rising
 //! id ([`remove`]). What is answered and which devices are told stands above, in the core; the text of a
 //! listing is written above that. Operators of the settings play no part in
-//! LPD: `root` may remove any job, others their own. Tests stand in `core_tests`.
+//! LPD: `root` may remove any job, others their own. Its rows are traces of `play_examples`.
 #![tactic(auto)]
 
 mod entry;

@@ -8,7 +8,7 @@
 //! knows what the core does with an event, nor over which wire a body comes. `docs/IPP.md` has the rules
 //! for someone who writes a client.
 //!
-//! Tests stand in `core_tests`.
+//! Its rows are traces of `play_examples`.
 #![tactic(auto)]
 
 mod asked;

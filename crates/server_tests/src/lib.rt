@@ -1,8 +1,10 @@
-//! Tests of the engine over a wire in memory, and of a server over the system's sockets.
+//! Tests of the core's runs, of the engine over a wire in memory, and of a server over the system's sockets.
 #![tactic(auto)]
 
 #[cfg(test)]
 mod between_turns;
+#[cfg(test)]
+mod core_runs;
 #[cfg(test)]
 mod device_sessions;
 #[cfg(test)]

@@ -1,5 +1,0 @@
-//! Tests of the core over the whole planner.
-#![tactic(auto)]
-
-#[cfg(test)]
-mod runs;
