@@ -5,9 +5,7 @@
 
 ghost use Rattle.settings_file.specs.Settings.{MeetsLimits};
 
-mod words;
-
-use crate::words::{Asked, Serving, read_words};
+use command_line::{Asked, Serving, read_words};
 use plan_audit::run_check;
 use replay::run_replay;
 use serve::{Ports, Server, read_serve, serve, serve_logged};
@@ -79,7 +77,12 @@ fn serve_settings(
 ) -> io::Result<ExitStatus>
     requires { MeetsLimits settings }
 {
-    let mut server = Server::open(rt.alloc(), rt, settings, address, serving.ports)?;
+    let ports = Ports {
+        ipp: serving.ipp,
+        lpd: serving.lpd,
+        devices: serving.devices,
+    };
+    let mut server = Server::open(rt.alloc(), rt, settings, address, ports)?;
     match announce_and_serve(rt, &mut server, serving) {
         Ok(()) => Ok(ExitStatus::Done),
         Err(error) => Err(error),
@@ -146,6 +149,3 @@ fn main(rt: HostRuntime) -> ExitCode {
     };
     ExitCode::from(status.code())
 }
-
-#[cfg(test)]
-mod tests;

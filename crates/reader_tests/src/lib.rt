@@ -1,6 +1,8 @@
-//! Tests of what reads bytes: rows of bytes, and what is read of them.
+//! Tests of what reads bytes and words: rows of them, and what is read of each.
 #![tactic(auto)]
 
+#[cfg(test)]
+mod command_words;
 #[cfg(test)]
 mod ipp_messages;
 #[cfg(test)]

@@ -1,39 +1,14 @@
+//! The commands of `printd`, as `clap` reads them.
+
+use crate::asked::{Asked, Serving};
 use clap::error::ErrorKind;
 use clap::{Arg, ArgAction, ArgMatches, Command, Error};
-use serve::Ports;
 use std::alloc::{AllocError, Global};
 use std::io::Write;
 use streams::ExitStatus;
 
 /// Turns without an end: at ten a second, three thousand years.
 const MOST_TURNS: u64 = 1_000_000_000_000;
-
-/// What the program is asked to do.
-#[derive(Clone, Copy, Debug, PartialEq, Eq)]
-pub enum Asked<'a> {
-    /// Serve over sockets.
-    Serve(Serving<'a>),
-    /// Judge the settings of this file.
-    Settings { file: &'a str },
-    /// Replay a trace from standard input, and where the plans are asked for write the text of each.
-    Replay { plans: bool },
-    /// Judge the text of a plan from standard input, and where the starts are asked for tell when
-    /// each job starts.
-    Check { starts: bool },
-}
-
-/// How to serve.
-#[derive(Clone, Copy, Debug, PartialEq, Eq)]
-pub struct Serving<'a> {
-    /// The file of the settings.
-    pub settings: &'a str,
-    pub ports: Ports,
-    /// The address to listen at, as it was written.
-    pub address: &'a str,
-    pub turns: u64,
-    /// Whether what happens is written to standard error.
-    pub log: bool,
-}
 
 fn port<'a>(alloc: Global, name: &'a str, help: &'a str) -> Arg<'a> {
     Arg::new(alloc, name)
@@ -156,11 +131,9 @@ fn parse<'a>(alloc: Global, words: &'a [&'a str]) -> Result<ArgMatches<'a>, Erro
 fn serve_words<'a>(found: &ArgMatches<'a>) -> Option<Serving<'a>> {
     Some(Serving {
         settings: found.get_str("settings")?,
-        ports: Ports {
-            ipp: found.get_one::<u16>("ipp")?,
-            lpd: found.get_one::<u16>("lpd")?,
-            devices: found.get_one::<u16>("devices")?,
-        },
+        ipp: found.get_one::<u16>("ipp")?,
+        lpd: found.get_one::<u16>("lpd")?,
+        devices: found.get_one::<u16>("devices")?,
         address: found.get_str("address")?,
         turns: found.get_one::<u64>("turns").unwrap_or(MOST_TURNS),
         log: found.get_flag("log"),

@@ -1,0 +1,13 @@
+//! The words of the program's command line.
+//!
+//! It promises that what it does is safe and ends, and no more: which words are read, and the texts
+//! of `--help` and of what is wrong, are `clap`'s. It opens no file and looks at no port.
+//!
+//! Tests stand in `reader_tests`.
+#![tactic(auto)]
+
+mod asked;
+mod read;
+
+pub use asked::{Asked, Serving};
+pub use read::read_words;
