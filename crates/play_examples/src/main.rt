@@ -7,9 +7,11 @@
 #![tactic(auto)]
 
 mod example;
+mod many_jobs;
 mod texts;
 
 use crate::example::{EXAMPLES, Example, Program};
+use crate::many_jobs::CROWDS;
 use crate::texts::each_is_proved;
 use plan_audit::run_check;
 use replay::run_replay;
@@ -53,19 +55,42 @@ fn is_as_wanted(rt: &HostRuntime, example: &Example) -> io::Result<bool> {
     )
 }
 
-/// Plays them all: whether each is as it must be.
-fn play_all(rt: &HostRuntime) -> io::Result<bool> {
+/// Says of a file or a day by name whether what is written is as it must be.
+fn tell(rt: &HostRuntime, name: &str, as_wanted: bool) -> io::Result<()> {
+    if as_wanted {
+        println!(rt; "{name}: as wanted")
+    } else {
+        println!(rt; "{name}: DIFFERS")
+    }
+}
+
+/// Plays the files: whether each is as it must be.
+fn play_files(rt: &HostRuntime) -> io::Result<bool> {
     let mut all = true;
     for example in &EXAMPLES {
-        let name = example.input;
-        if is_as_wanted(rt, example)? {
-            println!(rt; "{name}: as wanted")?;
-        } else {
-            println!(rt; "{name}: DIFFERS")?;
-            all = false;
-        }
+        let as_wanted = is_as_wanted(rt, example)?;
+        tell(rt, example.input, as_wanted)?;
+        all = all && as_wanted;
     }
     Ok(all)
+}
+
+/// Plays the days with as many jobs as there can be: whether each is as it must be.
+fn play_crowds(rt: &HostRuntime) -> io::Result<bool> {
+    let mut all = true;
+    for crowd in CROWDS {
+        let as_wanted = crowd.is_as_wanted(rt.alloc())?;
+        tell(rt, crowd.name(), as_wanted)?;
+        all = all && as_wanted;
+    }
+    Ok(all)
+}
+
+/// Plays them all: whether each is as it must be.
+fn play_all(rt: &HostRuntime) -> io::Result<bool> {
+    let files = play_files(rt)?;
+    let crowds = play_crowds(rt)?;
+    Ok(files && crowds)
 }
 
 fn main(rt: HostRuntime) -> ExitCode {
