@@ -9,7 +9,7 @@ use Rattle.streams.specs.declared.exit_status.ExitStatus.{ExitStatus}
 use Rattle.streams.specs.declared.exit_status.ExitStatus.TheVariants as Ends
 use Rattle.streams.specs.Said.{Said, said_after}
 use Rattle.std.specs.Str.{IsUtf8}
-use Rattle.settings_file.specs.Settings.{ServerSettings}
+use Rattle.settings_file.specs.Settings.{ServerSettings, device_names}
 use Rattle.settings_file.specs.Reading.{settings_of}
 use Rattle.print_room.specs.Opening.{opening}
 use Rattle.server.specs.State.{EngineState}
@@ -18,7 +18,7 @@ use Rattle.replay.specs.declared.play.Play.{Play}
 use Rattle.replay.specs.Acting.{standing, Moves, IsStart, PlaysAll, PlaysFirst}
 use Rattle.replay.specs.Log.{LogRecord}
 use Rattle.replay.specs.Playing.{Standing, LinesPlay}
-use Rattle.replay.specs.Replay.{LinesGive, SettingsGive, SettingsLeave, TraceGives, names_of, start, settings_refused}
+use Rattle.replay.specs.Replay.{LinesGive, SettingsGive, SettingsLeave, TraceGives, start, settings_refused}
 
 abbrev refusal : List ℕ → Said
 refusal text = record { text = text; status = Ends.Refused }
@@ -52,11 +52,11 @@ lines_give : (texts : Bool) (read : ServerSettings) (play : Play) (number : ℕ)
 lines_give texts read play number lines before all starts none plays =
     let stands = plays.moves (opening read 1) [] starts.stands in
     let as_printed : plays.said ≡ all = sym (plays.printed ∙ alone before plays.said none) in
-    let named : LinesPlay texts (names_of read) number lines (standing play) plays.deeds plays.said = subst (λ (l : LogRecord). LinesPlay l.texts l.names number lines (standing play) plays.deeds plays.said) starts.log plays.plays in
+    let named : LinesPlay texts (device_names read) number lines (standing play) plays.deeds plays.said = subst (λ (l : LogRecord). LinesPlay l.texts l.names number lines (standing play) plays.deeds plays.said) starts.log plays.plays in
     record {
       deeds = plays.deeds;
       ledger = stands.0;
-      plays = subst (λ s. LinesPlay texts (names_of read) number lines start plays.deeds s) as_printed (subst (λ s. LinesPlay texts (names_of read) number lines s plays.deeds plays.said) starts.starts named);
+      plays = subst (λ s. LinesPlay texts (device_names read) number lines start plays.deeds s) as_printed (subst (λ s. LinesPlay texts (device_names read) number lines s plays.deeds plays.said) starts.starts named);
       runs = stands.1;
     }
 

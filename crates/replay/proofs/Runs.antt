@@ -6,7 +6,7 @@ use Rattle.std.proofs.lemmas.List.{append_assoc}
 use Rattle.std.proofs.lemmas.List.Elements.{All-head, All-tail}
 use Rattle.base_types.specs.declared.report.Report.{Report}
 use Rattle.base_types.specs.Report.{ReportRecord, report_of}
-use Rattle.settings_file.specs.Settings.{ServerSettings}
+use Rattle.settings_file.specs.Settings.{ServerSettings, device_names}
 use Rattle.print_room.specs.Opening.{opening}
 use Rattle.print_room.specs.State.{State}
 use Rattle.dispatcher.specs.declared.event.Event.{Event}
@@ -33,7 +33,7 @@ use Rattle.replay.specs.Log.{happenings_text}
 use Rattle.replay.specs.OneRun.{IsOfNoConnection, SpeaksOfNoConnection, PrintsEach, Part, nothing, then_part, IsOne, cancel_lines, BodyMeans, Means, moment_after, IsNoLine, LinesMean, IsOneRun}
 use Rattle.replay.specs.Playing.{Standing, IsReplyLine, Plays, may_come, IsBad, LinesPlay}
 use Rattle.replay.specs.Printed.{dispatch_lines, reply_line, cancel_line}
-use Rattle.replay.specs.Replay.{LinesGive, names_of, start}
+use Rattle.replay.specs.Replay.{LinesGive, start}
 use Rattle.replay.specs.TraceLine.{IsDeviceIn, IsLine}
 use Rattle.replay.proofs.Requests.{body_replied}
 
@@ -252,7 +252,7 @@ lines_meant texts names number (bytes ∷ more) old deeds said a b plain (inr (l
       );
     }
 
-pub lines_run : (texts : Bool) (settings : ServerSettings) (number : ℕ) (lines : List (List ℕ)) (said : Said) → SpeaksOfNoConnection (names_of settings) lines → LinesGive texts settings number lines said → IsOneRun texts settings number lines said
+pub lines_run : (texts : Bool) (settings : ServerSettings) (number : ℕ) (lines : List (List ℕ)) (said : Said) → SpeaksOfNoConnection (device_names settings) lines → LinesGive texts settings number lines said → IsOneRun texts settings number lines said
 lines_run texts settings number lines said plain gives =
-    let run = lines_meant texts (names_of settings) number lines start gives.deeds said (opening_ledger (opening settings 1)) gives.ledger plain gives.plays gives.runs in
+    let run = lines_meant texts (device_names settings) number lines start gives.deeds said (opening_ledger (opening settings 1)) gives.ledger plain gives.plays gives.runs in
     record { part = run.part; new = run.new; run = run.run; printed = run.printed }

@@ -1,7 +1,7 @@
 -- How a program plays a trace, step by step.
 use Rattle.std.specs.Prelude.{ℕ, ◌≡◌, ◌+◌, ◌||◌, Bool, true, false, List, [], ◌∷◌, ◌++◌, map, Option, Some}
 use Rattle.std.specs.Option.{ForSome}
-use Rattle.settings_file.specs.Settings.{ServerSettings}
+use Rattle.settings_file.specs.Settings.{ServerSettings, device_names}
 use Rattle.print_room.specs.Opening.{opening}
 use Rattle.print_room.specs.State.{State}
 use Rattle.server.specs.Polls.{Happening, Leads}
@@ -14,7 +14,7 @@ use Rattle.replay.specs.declared.play.Play.{Play}
 use Rattle.replay.specs.declared.trace.Line.{Line}
 use Rattle.replay.specs.Log.{LogRecord, happenings_text}
 use Rattle.replay.specs.Playing.{Standing, IsBad, may_come, Plays, LinesPlay, AreTillQuiet}
-use Rattle.replay.specs.Replay.{start, names_of}
+use Rattle.replay.specs.Replay.{start}
 use Rattle.replay.specs.TraceLine.{IsLine}
 use Rattle.replay.specs.Wire.{PeersSee, any_stirs, all_turns}
 
@@ -33,7 +33,7 @@ pub record IsReady (p : Play) : Type 0 where
 
 -- a server that starts with these settings
 pub record IsStart (texts : Bool) (settings : ServerSettings) (p : Play) : Type 0 where
-  pub log : p.log ≡ record { texts = texts; names = names_of settings; heard = Some [] }
+  pub log : p.log ≡ record { texts = texts; names = device_names settings; heard = Some [] }
   pub prompt : p.wire.failed ≡ false
   pub starts : standing p ≡ start
   pub stands : StandsAt (opening settings 1) [] p.engine

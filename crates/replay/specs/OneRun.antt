@@ -2,7 +2,7 @@
 use Rattle.std.specs.Prelude.{ℕ, suc, ◌≡◌, ◌⊎◌, Bool, All, List, [], ◌∷◌, ◌++◌, Option, codes}
 use Rattle.std.specs.List.{concat}
 use Rattle.std.specs.Fmt.{decimal}
-use Rattle.settings_file.specs.Settings.{ServerSettings}
+use Rattle.settings_file.specs.Settings.{ServerSettings, device_names}
 use Rattle.prices.specs.Plan.{PlanRecord}
 use Rattle.print_room.specs.Opening.{opening}
 use Rattle.print_room.specs.State.{State}
@@ -27,7 +27,6 @@ use Rattle.replay.specs.declared.trace.Line.{Line}
 use Rattle.replay.specs.declared.trace.Line.TheVariants as Form
 use Rattle.replay.specs.TraceLine.{IsLine}
 use Rattle.replay.specs.Printed.{dispatch_lines, reply_line, cancel_line}
-use Rattle.replay.specs.Replay.{names_of}
 
 -- ---- lines without connections
 
@@ -123,5 +122,5 @@ LinesMean names number (bytes ∷ more) moment all said =
 pub record IsOneRun (texts : Bool) (settings : ServerSettings) (number : ℕ) (lines : List (List ℕ)) (said : Said) : Type 0 where
   pub part : Part
   pub new : State
-  pub run : Run (PrintsEach texts (names_of settings)) (opening settings 1) [] part.events part.outcomes new part.heard
-  pub printed : LinesMean (names_of settings) number lines 0 part said
+  pub run : Run (PrintsEach texts (device_names settings)) (opening settings 1) [] part.events part.outcomes new part.heard
+  pub printed : LinesMean (device_names settings) number lines 0 part said

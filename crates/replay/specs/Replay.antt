@@ -1,9 +1,9 @@
 -- What `printd replay` writes, and its exit status, for each trace: what a server does that is told its lines.
-use Rattle.std.specs.Prelude.{ℕ, suc, ◌≡◌, ◌⊎◌, Bool, List, [], ◌++◌, Option, Ok, MatchResult, codes, map, take}
+use Rattle.std.specs.Prelude.{ℕ, suc, ◌≡◌, ◌⊎◌, Bool, List, [], ◌++◌, Option, Ok, MatchResult, codes, take}
 use Rattle.std.specs.Str.{IsUtf8}
 use Rattle.std.specs.Io.KnownBytes.{Appends}
 use Rattle.base_types.specs.declared.limits.TheConstants.Limits.{INPUT_BYTES}
-use Rattle.settings_file.specs.Settings.{ServerSettings}
+use Rattle.settings_file.specs.Settings.{ServerSettings, device_names}
 use Rattle.settings_file.specs.Fault.{Fault, not_toml, fault_words}
 use Rattle.settings_file.specs.Reading.{settings_of}
 use Rattle.print_room.specs.Opening.{opening}
@@ -18,9 +18,6 @@ use Rattle.replay.specs.Playing.{Standing, LinesPlay}
 
 -- ---- the lines
 
-abbrev pub names_of : ServerSettings → List (List ℕ)
-names_of settings = map (λ device. device.name) settings.devices
-
 -- a server that starts at moment 0, without connections
 abbrev pub start : Standing
 start = record { moment = 0; connections = []; peers = [] }
@@ -29,7 +26,7 @@ start = record { moment = 0; connections = []; peers = [] }
 pub record LinesGive (texts : Bool) (settings : ServerSettings) (number : ℕ) (lines : List (List ℕ)) (said : Said) : Type 0 where
   pub deeds : Trace
   pub ledger : Ledger
-  pub plays : LinesPlay texts (names_of settings) number lines start deeds said
+  pub plays : LinesPlay texts (device_names settings) number lines start deeds said
   pub runs : Runs deeds (opening_ledger (opening settings 1)) ledger
 
 -- ---- a trace

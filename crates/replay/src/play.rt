@@ -8,7 +8,6 @@ ghost use Rattle.replay.specs.Playing.{Calls, Serves, Turns, Plays, IsReplyLine,
 ghost use Rattle.replay.specs.Connections.{sending, ending, may_send};
 ghost use Rattle.replay.specs.Acting.{standing, IsReady, IsStart, Becomes, Does, TakesTurn, TakesTillQuiet, Acts};
 ghost use Rattle.replay.specs.Printed.{reply_line};
-ghost use Rattle.replay.specs.Replay.{names_of};
 
 use crate::connections::{
     Connection, empty_all, end_at, mark_closed, numbered, put_connection, send_at,
@@ -18,7 +17,7 @@ use crate::print::{put_connections, put_reply};
 use crate::trace::{Input, Line, Opening, read_line};
 use crate::wire::TraceWire;
 use assignment::Lazy;
-use base_types::{DeviceId, Moment, Report, Text};
+use base_types::{DeviceId, Moment, Report};
 use server::memory_wire::{Memory, Peer};
 use server::{Engine, Served};
 use settings_file::Settings;
@@ -36,17 +35,6 @@ pub(crate) struct Play {
     connections: Vec<Connection>,
     log: Log,
     moment: Moment,
-}
-
-/// The names of the devices.
-fn device_names(alloc: Global, settings: &Settings) -> Result<Vec<Text>, AllocError>
-    ensures { IfOk result (λ names. names.items ≡ names_of settings.now) }
-{
-    let mut names = Vec::with_capacity(alloc, settings.devices.len())?;
-    for device in &settings.devices {
-        names.push(device.name.copied(alloc)?)?;
-    }
-    Ok(names)
 }
 
 /// The line of a reply.
@@ -74,7 +62,7 @@ impl Play {
         requires { MeetsLimits settings }
         ensures { IfOk result (IsStart texts settings) }
     {
-        let names = device_names(alloc, &settings)?;
+        let names = settings.device_names(alloc)?;
         let engine = Engine::new(alloc, settings, Lazy::new(alloc))?;
         Ok(Play {
             alloc,

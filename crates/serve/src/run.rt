@@ -32,15 +32,6 @@ pub struct Server {
     begun: Begun,
 }
 
-/// The names of the devices.
-fn device_names(alloc: Global, settings: &Settings) -> Result<Vec<Text>, AllocError> {
-    let mut names = Vec::with_capacity(alloc, settings.devices.len())?;
-    for device in &settings.devices {
-        names.push(device.name.copied(alloc)?)?;
-    }
-    Ok(names)
-}
-
 /// Who came and went; nobody, where that isn't kept.
 fn all_of(alloc: Global, visits: Option<Visits>) -> Result<Vec<Visit>, AllocError> {
     match visits {
@@ -61,7 +52,7 @@ impl Server {
         requires { MeetsLimits settings }
     {
         let sockets = Sockets::bind(alloc, net, address, ports)?;
-        let names = device_names(alloc, &settings)?;
+        let names = settings.device_names(alloc)?;
         let engine = Engine::new(alloc, settings, Lazy::new(alloc))?;
         Ok(Server {
             alloc,

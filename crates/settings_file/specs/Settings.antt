@@ -1,5 +1,5 @@
 -- The settings of a server, and the limits that they keep.
-use Rattle.std.specs.Prelude.{ℕ, List, Option, ◌≤◌, ◌<◌, ◌≢◌, All, AllPairs, length}
+use Rattle.std.specs.Prelude.{ℕ, List, Option, ◌≤◌, ◌<◌, ◌≢◌, All, AllPairs, length, map}
 use Rattle.std.specs.Option.{ForSome}
 use Rattle.base_types.specs.Ranges.{IsRate, IsSetup}
 use Rattle.base_types.specs.declared.finishings.Finishings.{Finishings}
@@ -28,6 +28,10 @@ pub record ServerSettings : Type 0 where
   pub operators : List (List ℕ)
   pub devices : List DeviceEntry
   pub printers : List PrinterEntry
+
+-- the names of the devices, in their order
+abbrev pub device_names : ServerSettings → List (List ℕ)
+device_names settings = map (λ device. device.name) settings.devices
 
 -- a list within the bound on lists but that of a printer's devices
 abbrev pub IsShort : {A : Type 0} → List A → Type 0

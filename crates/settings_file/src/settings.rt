@@ -1,4 +1,8 @@
+ghost use Rattle.std.specs.Prelude.{◌≡◌, IfOk};
+ghost use Rattle.settings_file.specs.Settings.{device_names};
+
 use base_types::{Finishings, PrinterSet, Text};
+use std::alloc::{AllocError, Global};
 use std::marker::Model;
 
 /// The settings of a server. In clauses they are a record of the same fields.
@@ -26,6 +30,19 @@ impl Model for Settings {
       devices = s.devices.items;
       printers = s.printers.items;
     } };
+}
+
+impl Settings {
+    /// The names of the devices, in their order; out of memory is the only refusal.
+    pub fn device_names(&self, alloc: Global) -> Result<Vec<Text>, AllocError>
+        ensures { IfOk result (λ names. names.items ≡ device_names self.now) }
+    {
+        let mut names = Vec::with_capacity(alloc, self.devices.len())?;
+        for device in &self.devices {
+            names.push(device.name.copied(alloc)?)?;
+        }
+        Ok(names)
+    }
 }
 
 /// What the settings say of a device. In clauses it is a record of the same fields.

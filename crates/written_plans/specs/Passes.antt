@@ -1,6 +1,6 @@
 -- What the text of a plan has to do.
-use Rattle.std.specs.Prelude.{◌≡◌, map, Ok}
-use Rattle.settings_file.specs.Settings.{ServerSettings}
+use Rattle.std.specs.Prelude.{◌≡◌, Ok}
+use Rattle.settings_file.specs.Settings.{ServerSettings, device_names}
 use Rattle.prices.specs.Plan.{PlanRecord}
 use Rattle.plan_text.specs.NamedPlan.{NamedPlan}
 use Rattle.plan_text.specs.Whole.{plan_at}
@@ -10,7 +10,7 @@ use Rattle.plan_checker.specs.declared.verdict.PlanVerdict.TheVariants.{Yes}
 
 -- the plan, with the names that the devices have in the settings
 abbrev pub named_plan : ServerSettings → PlanRecord → NamedPlan
-named_plan settings plan = record { devices = map (λ device. device.name) settings.devices; plan = plan }
+named_plan settings plan = record { devices = device_names settings; plan = plan }
 
 -- The plan's text is read back as the plan, and the checker says yes to what is read.
 pub record PassesAsText (settings : ServerSettings) (plan : PlanRecord) : Type 0 where
