@@ -1,37 +1,21 @@
 //! The words of the program's command line.
 use command_line::{Asked, Serving, read_words};
-use std::alloc::Global;
+use std::alloc::{AllocError, Global};
+use std::test::Fail;
 use streams::ExitStatus;
 
-/// Words that are read, and what they ask for.
-const READ: [(&[&str], Asked<'static>); 6] = [
-    (&["printd", "replay"], Asked::Replay { plans: false }),
+/// Lines of words that are read, and what they ask for.
+const READ: [(&str, Asked<'static>); 6] = [
+    ("printd replay", Asked::Replay { plans: false }),
+    ("printd replay --plans", Asked::Replay { plans: true }),
+    ("printd check", Asked::Check { starts: false }),
+    ("printd check --starts", Asked::Check { starts: true }),
     (
-        &["printd", "replay", "--plans"],
-        Asked::Replay { plans: true },
-    ),
-    (&["printd", "check"], Asked::Check { starts: false }),
-    (
-        &["printd", "check", "--starts"],
-        Asked::Check { starts: true },
-    ),
-    (
-        &["printd", "settings", "lab.toml"],
+        "printd settings lab.toml",
         Asked::Settings { file: "lab.toml" },
     ),
     (
-        &[
-            "printd",
-            "serve",
-            "--settings",
-            "lab.toml",
-            "--ipp",
-            "631",
-            "--lpd",
-            "515",
-            "--devices",
-            "0",
-        ],
+        "printd serve --settings lab.toml --ipp 631 --lpd 515 --devices 0",
         Asked::Serve(Serving {
             settings: "lab.toml",
             ipp: 631,
@@ -44,88 +28,46 @@ const READ: [(&[&str], Asked<'static>); 6] = [
     ),
 ];
 
-/// Words that are refused: one that isn't known, one too few, a port that is none, turns out of range,
-/// and those that ask for help.
-const REFUSED: [&[&str]; 7] = [
-    &["printd", "reply"],
-    &["printd", "settings"],
-    &[
-        "printd",
-        "serve",
-        "--settings",
-        "lab.toml",
-        "--ipp",
-        "0",
-        "--lpd",
-        "0",
-    ],
-    &[
-        "printd",
-        "serve",
-        "--settings",
-        "lab.toml",
-        "--ipp",
-        "0",
-        "--devices",
-        "65536",
-        "--lpd",
-        "0",
-    ],
-    &[
-        "printd",
-        "serve",
-        "--settings",
-        "lab.toml",
-        "--ipp",
-        "0",
-        "--lpd",
-        "0",
-        "--devices",
-        "0",
-        "--turns",
-        "0",
-    ],
-    &[
-        "printd",
-        "serve",
-        "--settings",
-        "lab.toml",
-        "--ipp",
-        "0",
-        "--lpd",
-        "0",
-        "--devices",
-        "0",
-        "--turns",
-        "1000000000001",
-    ],
-    &["printd", "serve", "--help"],
+/// Lines of words that are refused: one that isn't known, one too few, a port that is none, turns out
+/// of range, and those that ask for help.
+const REFUSED: [&str; 7] = [
+    "printd reply",
+    "printd settings",
+    "printd serve --settings lab.toml --ipp 0 --lpd 0",
+    "printd serve --settings lab.toml --ipp 0 --devices 65536 --lpd 0",
+    "printd serve --settings lab.toml --ipp 0 --lpd 0 --devices 0 --turns 0",
+    "printd serve --settings lab.toml --ipp 0 --lpd 0 --devices 0 --turns 1000000000001",
+    "printd serve --help",
 ];
 
-/// Whether words are read as this, and nothing is written.
-fn is_read(alloc: Global, words: &[&str], asked: Asked<'_>) -> bool {
+/// Whether a line of words is read as this, and nothing is written.
+fn is_read(alloc: Global, line: &str, asked: Asked<'_>) -> Result<bool, AllocError> {
+    let words: Vec<&str> = line.split(' ').collect(alloc)?;
     let mut text = Vec::new(alloc);
-    read_words(alloc, words, &mut text) == Ok(asked) && text.is_empty()
+    Ok(read_words(alloc, &words, &mut text) == Ok(asked) && text.is_empty())
 }
 
-/// Whether words are refused, and something is written about them.
-fn is_refused(alloc: Global, words: &[&str]) -> bool {
+/// Whether a line of words is refused, and something is written about it.
+fn is_refused(alloc: Global, line: &str) -> Result<bool, AllocError> {
+    let words: Vec<&str> = line.split(' ').collect(alloc)?;
     let mut text = Vec::new(alloc);
-    read_words(alloc, words, &mut text) == Err(ExitStatus::Refused) && !text.is_empty()
+    Ok(read_words(alloc, &words, &mut text) == Err(ExitStatus::Refused) && !text.is_empty())
 }
 
 #[test]
-fn words_that_are_read(rt: HostRuntime) {
-    for (words, asked) in READ {
-        let read = is_read(rt.alloc(), words, asked);
+fn words_that_are_read(rt: HostRuntime) -> Result<(), Fail> {
+    for (line, asked) in READ {
+        let read = is_read(rt.alloc(), line, asked)?;
         assert!(rt; read);
     }
+    Ok(())
 }
 
 #[test]
-fn words_that_are_refused(rt: HostRuntime) {
-    for words in REFUSED {
-        let refused = is_refused(rt.alloc(), words);
+fn words_that_are_refused(rt: HostRuntime) -> Result<(), Fail> {
+    for line in REFUSED {
+        let refused = is_refused(rt.alloc(), line)?;
         assert!(rt; refused);
     }
+    Ok(())
 }
