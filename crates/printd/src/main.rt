@@ -8,8 +8,9 @@ ghost use Rattle.settings_file.specs.Settings.{MeetsLimits};
 use command_line::{Asked, Serving, read_words};
 use plan_audit::run_check;
 use replay::run_replay;
-use serve::{Ports, Server, read_serve, serve, serve_logged};
+use serve::{Ports, Server, serve, serve_logged};
 use settings_file::Settings;
+use startup::read_or_refuse;
 use std::alloc::AllocError;
 use std::io::ErrorKind;
 use std::net::IpAddr;
@@ -96,7 +97,7 @@ fn run_serve(rt: &HostRuntime, serving: Serving<'_>) -> io::Result<ExitStatus> {
         .parse::<IpAddr>()
         .map_err(|_| io::Error::from(ErrorKind::InvalidInput))?;
     let bytes = fs::read(rt, serving.settings)?;
-    match read_serve(rt.alloc(), &bytes, &mut rt.stderr()) {
+    match read_or_refuse(rt.alloc(), &bytes, &mut rt.stderr()) {
         Ok(settings) => serve_settings(rt, settings, address, serving),
         Err(status) => Ok(status),
     }
@@ -105,7 +106,7 @@ fn run_serve(rt: &HostRuntime, serving: Serving<'_>) -> io::Result<ExitStatus> {
 /// Judges the settings of a file. The error is the system's: of the file or the output.
 fn run_settings(rt: &HostRuntime, file: &str) -> io::Result<ExitStatus> {
     let bytes = fs::read(rt, file)?;
-    match read_serve(rt.alloc(), &bytes, &mut rt.stderr()) {
+    match read_or_refuse(rt.alloc(), &bytes, &mut rt.stderr()) {
         Ok(_settings) => {
             println!(rt; "ok")?;
             Ok(ExitStatus::Done)

@@ -8,6 +8,7 @@ use Rattle.replay.specs.Lines.{HasNoStop, lines_of}
 use Rattle.streams.specs.declared.exit_status.ExitStatus.{ExitStatus}
 use Rattle.streams.specs.declared.exit_status.ExitStatus.TheVariants as Ends
 use Rattle.streams.specs.Said.{Said, said_after}
+use Rattle.startup.specs.Refusal.{settings_refused}
 use Rattle.std.specs.Str.{IsUtf8}
 use Rattle.settings_file.specs.Settings.{ServerSettings, device_names}
 use Rattle.settings_file.specs.Reading.{settings_of}
@@ -18,7 +19,7 @@ use Rattle.replay.specs.declared.play.Play.{Play}
 use Rattle.replay.specs.Acting.{standing, Moves, IsStart, PlaysAll, PlaysFirst}
 use Rattle.replay.specs.Log.{LogRecord}
 use Rattle.replay.specs.Playing.{Standing, LinesPlay}
-use Rattle.replay.specs.Replay.{LinesGive, SettingsGive, SettingsLeave, TraceGives, start, settings_refused}
+use Rattle.replay.specs.Replay.{LinesGive, SettingsGive, SettingsLeave, TraceGives, start}
 
 abbrev refusal : List ℕ → Said
 refusal text = record { text = text; status = Ends.Refused }

@@ -4,7 +4,7 @@ use Rattle.std.specs.Str.{IsUtf8}
 use Rattle.std.specs.Io.KnownBytes.{Appends}
 use Rattle.base_types.specs.declared.limits.TheConstants.Limits.{INPUT_BYTES}
 use Rattle.settings_file.specs.Settings.{ServerSettings, device_names}
-use Rattle.settings_file.specs.Fault.{Fault, not_toml, fault_words}
+use Rattle.settings_file.specs.Fault.{not_toml}
 use Rattle.settings_file.specs.Reading.{settings_of}
 use Rattle.print_room.specs.Opening.{opening}
 use Rattle.server.specs.Ledger.{Ledger, opening_ledger}
@@ -13,6 +13,7 @@ use Rattle.streams.specs.declared.exit_status.ExitStatus.{ExitStatus}
 use Rattle.streams.specs.declared.exit_status.ExitStatus.TheVariants as Ends
 use Rattle.streams.specs.Input.{IsWhole, GaveMore}
 use Rattle.streams.specs.Said.{Said, refused_as}
+use Rattle.startup.specs.Refusal.{settings_refused}
 use Rattle.replay.specs.Lines.{lines_of, IsSplit, HasNoStop}
 use Rattle.replay.specs.Playing.{Standing, LinesPlay}
 
@@ -30,9 +31,6 @@ pub record LinesGive (texts : Bool) (settings : ServerSettings) (number : ℕ) (
   pub runs : Runs deeds (opening_ledger (opening settings 1)) ledger
 
 -- ---- a trace
-
-abbrev pub settings_refused : Fault → Said
-settings_refused fault = refused_as (fault_words fault)
 
 -- the settings, and the lines that come after so many
 abbrev pub SettingsGive : Bool → List ℕ → List ℕ → ℕ → Said → Type 0

@@ -9,17 +9,19 @@ ghost use Rattle.settings_file.specs.Fault.{Fault, fault_of};
 ghost use Rattle.settings_file.specs.Reading.{settings_of, IsFaultOf};
 ghost use Rattle.streams.specs.declared.exit_status.ExitStatus.TheVariants as Ends;
 ghost use Rattle.streams.specs.Said.{refused_as};
+ghost use Rattle.startup.specs.Refusal.{settings_refused};
 ghost use Rattle.replay.specs.Lines.{lines_of};
 ghost use Rattle.replay.specs.Acting.{IsReady, IsStart, PlaysAll, PlaysFirst};
-ghost use Rattle.replay.specs.Replay.{settings_refused, SettingsGive, SettingsLeave, TraceGives, TraceLeaves, InputGives, InputLeaves, Replays};
+ghost use Rattle.replay.specs.Replay.{SettingsGive, SettingsLeave, TraceGives, TraceLeaves, InputGives, InputLeaves, Replays};
 
 use crate::lines::{next_line, split_settings};
 use crate::play::Play;
 use base_types::Limits;
-use settings_file::{SettingsFault, read_settings_bytes, write_fault};
+use settings_file::{SettingsFault, read_settings_bytes};
+use startup::refusal_line;
 use std::alloc::{AllocError, Global};
 use std::io::{Read, Write};
-use streams::{ExitStatus, InputFault, read_whole, refused_line, write_front};
+use streams::{ExitStatus, InputFault, read_whole, write_front};
 
 /// Reads a trace to its end, runs it, writes what the server does, and gives the exit status.
 ///
@@ -147,17 +149,8 @@ fn refuse_settings(
     ensures ok { IfOk result (λ status. (status ≡ Ends.Refused) × (named : Fault) × (fault_of fault.now ≡ Some named) × (output.new.items ≡ output.old.items ++ (settings_refused named).text)) }
     ensures err { OnErr result (output.new.items ≡ output.old.items) }
 {
-    let line = settings_line(alloc, fault)?;
+    let line = refusal_line(alloc, fault)?;
     refuse(output, &line)
-}
-
-/// The line of refused settings.
-fn settings_line(alloc: Global, fault: &SettingsFault) -> Result<Vec<u8>, AllocError>
-    ensures { IfOk result (λ line. (named : Fault) × (fault_of fault.now ≡ Some named) × (line.items ≡ (settings_refused named).text)) }
-{
-    let mut words = Vec::new(alloc);
-    write_fault(fault, &mut words)?;
-    refused_line(alloc, &words)
 }
 
 /// A server that starts, of the bytes of its settings.

@@ -1,4 +1,3 @@
 pub mod Ends
 pub mod Patience
-pub mod Refusal
 pub mod Visits

@@ -1,8 +1,7 @@
-//! A server over the system's sockets, from its settings on.
+//! A server over the system's sockets.
 //!
-//! [`read_serve`] reads the settings of a file's bytes, or says what is wrong with them. [`Server`]
-//! listens at the three doors and takes turns; [`serve`] runs it for so many turns by the clock, and
-//! waits where nothing happens. [`serve_logged`] does the same, and writes what it hears.
+//! [`Server`] listens at the three doors and takes turns; [`serve`] runs it for so many turns by the
+//! clock, and waits where nothing happens. [`serve_logged`] does the same, and writes what it hears.
 //!
 //! [`Sockets`] is a [`server::Wire`] of sockets, none of which is waited for in a call, and of which the
 //! system is asked for nothing that it would have to wait for. A client that is silent for a minute has
@@ -21,10 +20,8 @@ mod link;
 mod log;
 mod patience;
 mod run;
-mod settings;
 mod sockets;
 mod visits;
 
 pub use run::{Server, serve, serve_logged};
-pub use settings::read_serve;
 pub use sockets::{Ports, Sockets};

@@ -1,9 +1,10 @@
 //! Clients over the system's sockets, in one process: they connect and write, then turns are taken,
 //! then the replies are read.
-use crate::exchanges::{BOTH_FRAMINGS, CHUNKED, LAST, NOT_POST, PLAIN, SETTINGS, TWO};
+use crate::exchanges::{BOTH_FRAMINGS, CHUNKED, Exchange, LAST, NOT_POST, PLAIN, SETTINGS, TWO};
 use crate::lpd_sessions::ONE_JOB;
 use base_types::Moment;
-use serve::{Ports, Server, read_serve};
+use serve::{Ports, Server};
+use startup::read_or_refuse;
 use std::io;
 use std::io::{Read, Write};
 use std::net::{IpAddr, Ipv4Addr, Shutdown, SocketAddr, TcpStream};
@@ -26,7 +27,7 @@ const TURNS: usize = 30;
 
 /// A server that has just started.
 fn start(rt: &HostRuntime) -> io::Result<Server> {
-    let settings = match read_serve(rt.alloc(), SETTINGS.as_bytes(), &mut rt.stderr()) {
+    let settings = match read_or_refuse(rt.alloc(), SETTINGS.as_bytes(), &mut rt.stderr()) {
         Ok(settings) => settings,
         Err(_) => return Err(io::Error::from(io::ErrorKind::InvalidData)),
     };
@@ -64,19 +65,10 @@ fn answered(rt: &HostRuntime, server: &mut Server, sent: &[u8]) -> io::Result<Ve
     Ok(bytes)
 }
 
-/// What a server that has just started answers.
-fn first_answer(rt: &HostRuntime, sent: &[u8]) -> io::Result<Vec<u8>> {
-    let mut server = start(rt)?;
-    answered(rt, &mut server, sent)
-}
-
-#[test]
-fn exchanges(rt: HostRuntime) -> Result<(), Fail> {
-    for exchange in [PLAIN, CHUNKED, LAST, TWO, BOTH_FRAMINGS, NOT_POST] {
-        let bytes = first_answer(&rt, exchange.sent)?;
-        assert!(rt; bytes.as_slice() == exchange.answered);
-    }
-    Ok(())
+/// Whether a client gets just its answer.
+fn is_answered(rt: &HostRuntime, server: &mut Server, exchange: Exchange) -> io::Result<bool> {
+    let bytes = answered(rt, server, exchange.sent)?;
+    Ok(bytes.as_slice() == exchange.answered)
 }
 
 /// A client comes, and goes away in the middle of a body.
@@ -90,18 +82,10 @@ fn leave_midway(rt: &HostRuntime, server: &mut Server) -> io::Result<()> {
     turns(server, 5)
 }
 
-/// What a second client gets, after a first that went away.
-fn after_one_gone(rt: &HostRuntime) -> io::Result<Vec<u8>> {
-    let mut server = start(rt)?;
-    leave_midway(rt, &mut server)?;
-    answered(rt, &mut server, PLAIN.sent)
-}
-
-#[test]
-fn client_goes_away(rt: HostRuntime) -> Result<(), Fail> {
-    let bytes = after_one_gone(&rt)?;
-    assert!(rt; bytes.as_slice() == PLAIN.answered);
-    Ok(())
+/// Whether a second client gets its answer, after a first that went away.
+fn goes_on_after_one_gone(rt: &HostRuntime, server: &mut Server) -> io::Result<bool> {
+    leave_midway(rt, server)?;
+    is_answered(rt, server, PLAIN)
 }
 
 /// So many clients that say nothing.
@@ -126,31 +110,17 @@ fn got_so_far(
     Ok(bytes)
 }
 
-/// How many bytes the last of 65 clients gets, 64 of which say nothing, before any has gone; and
-/// whether it gets its answer once one has.
-fn last_of_many(rt: &HostRuntime, server: &mut Server) -> io::Result<(usize, bool)> {
+/// Whether the last of 65 clients, 64 of which say nothing, gets nothing before any of them has gone,
+/// and its answer once one has.
+fn one_waits_for_a_place(rt: &HostRuntime, server: &mut Server) -> io::Result<bool> {
     let mut idle = crowd(rt, server, 64)?;
     turns(server, 70)?;
     let mut client = connect(rt, server)?;
     client.write_all(PLAIN.sent)?;
-    let early = got_so_far(rt, server, &mut client)?.len();
+    let early = got_so_far(rt, server, &mut client)?;
     drop(idle.pop());
     let late = got_so_far(rt, server, &mut client)?;
-    Ok((early, late.as_slice() == PLAIN.answered))
-}
-
-/// The same of a server that has just started.
-fn many(rt: &HostRuntime) -> io::Result<(usize, bool)> {
-    let mut server = start(rt)?;
-    last_of_many(rt, &mut server)
-}
-
-#[test]
-fn one_client_too_many(rt: HostRuntime) -> Result<(), Fail> {
-    let (early, answered) = many(&rt)?;
-    assert_eq!(rt; early, 0);
-    assert!(rt; answered);
-    Ok(())
+    Ok(early.is_empty() && late.as_slice() == PLAIN.answered)
 }
 
 /// Turns at a moment so many ms after the start.
@@ -171,9 +141,9 @@ fn has_ended(client: &mut TcpStream) -> bool {
     }
 }
 
-/// Whether a client that sends a part of a head, and then a byte at 30 s, is let go at 59,999 ms, and
-/// whether it is at 60,000.
-fn dribbles(rt: &HostRuntime, server: &mut Server) -> io::Result<(bool, bool)> {
+/// Whether a client that sends a part of a head, and then a byte at 30 s, is let go at 60,000 ms, and
+/// not at 59,999.
+fn head_has_a_minute(rt: &HostRuntime, server: &mut Server) -> io::Result<bool> {
     let mut client = connect(rt, server)?;
     client.write_all(b"POST / HT")?;
     turns_at(server, 0)?;
@@ -183,21 +153,7 @@ fn dribbles(rt: &HostRuntime, server: &mut Server) -> io::Result<(bool, bool)> {
     turns_at(server, 59_999)?;
     let early = has_ended(&mut client);
     turns_at(server, 60_000)?;
-    Ok((early, has_ended(&mut client)))
-}
-
-/// The same of a server that has just started.
-fn dribbles_at_first(rt: &HostRuntime) -> io::Result<(bool, bool)> {
-    let mut server = start(rt)?;
-    dribbles(rt, &mut server)
-}
-
-#[test]
-fn unfinished_head_has_a_minute(rt: HostRuntime) -> Result<(), Fail> {
-    let (early, late) = dribbles_at_first(&rt)?;
-    assert!(rt; !early);
-    assert!(rt; late);
-    Ok(())
+    Ok(!early && has_ended(&mut client))
 }
 
 /// Whether what a peer gets in so many turns is just this, as far as it has come.
@@ -229,19 +185,6 @@ fn lpd_job(rt: &HostRuntime, server: &mut Server) -> io::Result<bool> {
     let mut next = peer(rt, ports.lpd, b"\x03lab\n")?;
     let listed = gets(rt, server, &mut next, b"lab idle\nno entries\n")?;
     Ok(acknowledged && printed && listed)
-}
-
-/// The same with a server that has just started.
-fn lpd_job_at_first(rt: &HostRuntime) -> io::Result<bool> {
-    let mut server = start(rt)?;
-    lpd_job(rt, &mut server)
-}
-
-#[test]
-fn lpd_job_printed(rt: HostRuntime) -> Result<(), Fail> {
-    let printed = lpd_job_at_first(&rt)?;
-    assert!(rt; printed);
-    Ok(())
 }
 
 /// Adds what is logged in so many turns.
@@ -279,18 +222,78 @@ fn wanted_log(rt: &HostRuntime, ports: (u16, u16)) -> io::Result<String> {
     )?)
 }
 
-/// Whether a server that has just started logs just the lines that are wanted.
-fn logs_job(rt: &HostRuntime) -> io::Result<bool> {
-    let mut server = start(rt)?;
+/// Whether a server logs just the lines that are wanted.
+fn logs_job(rt: &HostRuntime, server: &mut Server) -> io::Result<bool> {
     let mut log = Vec::new(rt.alloc());
-    let ports = log_of_job(rt, &mut server, &mut log)?;
+    let ports = log_of_job(rt, server, &mut log)?;
     let wanted = wanted_log(rt, ports)?;
     Ok(log.as_slice() == wanted.as_bytes())
 }
 
+/// What happens to a server that has just started.
+#[derive(Clone, Copy)]
+enum Scene {
+    Exchange(Exchange),
+    ClientGoesAway,
+    OneClientTooMany,
+    UnfinishedHead,
+    LpdJob,
+    LoggedJob,
+}
+
+/// Whether it goes as it should.
+fn plays(rt: &HostRuntime, scene: Scene) -> io::Result<bool> {
+    let mut server = start(rt)?;
+    match scene {
+        Scene::Exchange(exchange) => is_answered(rt, &mut server, exchange),
+        Scene::ClientGoesAway => goes_on_after_one_gone(rt, &mut server),
+        Scene::OneClientTooMany => one_waits_for_a_place(rt, &mut server),
+        Scene::UnfinishedHead => head_has_a_minute(rt, &mut server),
+        Scene::LpdJob => lpd_job(rt, &mut server),
+        Scene::LoggedJob => logs_job(rt, &mut server),
+    }
+}
+
+#[test]
+fn exchanges(rt: HostRuntime) -> Result<(), Fail> {
+    for exchange in [PLAIN, CHUNKED, LAST, TWO, BOTH_FRAMINGS, NOT_POST] {
+        let played = plays(&rt, Scene::Exchange(exchange))?;
+        assert!(rt; played);
+    }
+    Ok(())
+}
+
+#[test]
+fn client_goes_away(rt: HostRuntime) -> Result<(), Fail> {
+    let played = plays(&rt, Scene::ClientGoesAway)?;
+    assert!(rt; played);
+    Ok(())
+}
+
+#[test]
+fn one_client_too_many(rt: HostRuntime) -> Result<(), Fail> {
+    let played = plays(&rt, Scene::OneClientTooMany)?;
+    assert!(rt; played);
+    Ok(())
+}
+
+#[test]
+fn unfinished_head_has_a_minute(rt: HostRuntime) -> Result<(), Fail> {
+    let played = plays(&rt, Scene::UnfinishedHead)?;
+    assert!(rt; played);
+    Ok(())
+}
+
+#[test]
+fn lpd_job_printed(rt: HostRuntime) -> Result<(), Fail> {
+    let played = plays(&rt, Scene::LpdJob)?;
+    assert!(rt; played);
+    Ok(())
+}
+
 #[test]
 fn job_and_connections_logged(rt: HostRuntime) -> Result<(), Fail> {
-    let logged = logs_job(&rt)?;
-    assert!(rt; logged);
+    let played = plays(&rt, Scene::LoggedJob)?;
+    assert!(rt; played);
     Ok(())
 }

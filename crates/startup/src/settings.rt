@@ -1,9 +1,9 @@
-//! The settings of a server that starts.
+//! Settings that are read, or refused.
 ghost use Rattle.std.specs.Prelude.{◌≡◌, IfOk, IfErr, OnOk, Ok, Some};
 ghost use Rattle.settings_file.specs.Settings.{MeetsLimits};
 ghost use Rattle.settings_file.specs.Fault.{Fault, fault_of};
 ghost use Rattle.settings_file.specs.Reading.{settings_of};
-ghost use Rattle.serve.specs.Refusal.{fault_line, Refuses, RefusesAs, Says};
+ghost use Rattle.startup.specs.Refusal.{settings_refused, Refuses, RefusesAs, Says};
 
 use settings_file::{Settings, SettingsFault, read_settings_bytes, write_fault};
 use std::alloc::{AllocError, Global};
@@ -16,7 +16,7 @@ use streams::{ExitStatus, refused_line, write_front};
 ///
 /// The exit status, once the line of the first fault is written to `err`: refused, or failed for
 /// lack of memory or a writer that fails. Bytes that aren't UTF-8 are no TOML.
-pub fn read_serve<W: Write>(
+pub fn read_or_refuse<W: Write>(
     alloc: Global,
     bytes: &[u8],
     err: &mut W,
@@ -32,9 +32,13 @@ pub fn read_serve<W: Write>(
     }
 }
 
-/// The line of a fault. The error is out of memory, which the fault may be already.
-fn line_of(alloc: Global, fault: &SettingsFault) -> Result<Vec<u8>, AllocError>
-    ensures { IfOk result (λ line. (named : Fault) × (fault_of fault.now ≡ Some named) × (line.items ≡ fault_line named)) }
+/// The line that says that settings are refused, and for which fault.
+///
+/// # Errors
+///
+/// Out of memory, which the fault may be already.
+pub fn refusal_line(alloc: Global, fault: &SettingsFault) -> Result<Vec<u8>, AllocError>
+    ensures { IfOk result (λ line. (named : Fault) × (fault_of fault.now ≡ Some named) × (line.items ≡ (settings_refused named).text)) }
 {
     let mut words = Vec::new(alloc);
     write_fault(fault, &mut words)?;
@@ -56,7 +60,7 @@ fn say<W: Write>(line: &[u8], err: &mut W) -> ExitStatus
 fn refuse<W: Write>(alloc: Global, fault: &SettingsFault, err: &mut W) -> ExitStatus
     ensures { RefusesAs (fault_of fault.now) (W.contents err.old) (W.contents err.new) result }
 {
-    match line_of(alloc, fault) {
+    match refusal_line(alloc, fault) {
         Ok(line) => say(&line, err),
         Err(_) => ExitStatus::Failed,
     }
