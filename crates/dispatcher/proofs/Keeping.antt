@@ -14,16 +14,16 @@ use Rattle.print_room.specs.Report.{Reports}
 use Rattle.print_room.specs.DeviceJobs.{AllKeep, KeepsOrEnds}
 use Rattle.ipp_codec.specs.Message.{IppAttribute, IppGroup}
 use Rattle.listings.specs.Groups.{printer_group, job_group, job_groups}
-use Rattle.dispatcher.specs.declared.event.Event.{Event}
-use Rattle.dispatcher.specs.declared.event.Event.TheVariants as Is
-use Rattle.dispatcher.specs.declared.event.SendDocument.{SendDocument}
-use Rattle.dispatcher.specs.declared.event.JobRequest.{JobRequest}
-use Rattle.dispatcher.specs.declared.event.HoldUntil.{HoldUntil}
-use Rattle.dispatcher.specs.declared.event.HoldUntil.TheVariants.{NoHold, Indefinite, Unsupported}
+use Rattle.events.specs.declared.event.Event.{Event}
+use Rattle.events.specs.declared.event.Event.TheVariants as Is
+use Rattle.events.specs.declared.event.SendDocument.{SendDocument}
+use Rattle.events.specs.declared.event.JobRequest.{JobRequest}
+use Rattle.events.specs.declared.event.HoldUntil.{HoldUntil}
+use Rattle.events.specs.declared.event.HoldUntil.TheVariants.{NoHold, Indefinite, Unsupported}
 use Rattle.dispatcher.specs.declared.submission.Accepted.{Accepted}
 use Rattle.dispatcher.specs.declared.send_document.Sent.{Sent}
 use Rattle.dispatcher.specs.declared.checks.Refusal.{Refusal}
-use Rattle.dispatcher.specs.declared.reply.Reply.{Reply}
+use Rattle.events.specs.declared.reply.Reply.{Reply}
 use Rattle.dispatcher.specs.Answers.{Refuses, Shows}
 use Rattle.dispatcher.specs.GetJobs.{wanted_of}
 use Rattle.dispatcher.specs.Checks.{named_job, named_printer, printer_of_job, format_asked, unrefused}
@@ -37,8 +37,8 @@ use Rattle.dispatcher.specs.PausePrinter.{PausesIt, paused_of}
 use Rattle.dispatcher.specs.SubmitFiles.{FilesJob, FilesNothing, filed_of}
 use Rattle.dispatcher.specs.ListQueue.{ListsIt, ListsNothing}
 use Rattle.dispatcher.specs.RemoveJobs.{RemovesJobs}
-use Rattle.queues.specs.declared.request.ListQueue.{ListQueue}
-use Rattle.queues.specs.declared.request.RemoveJobs.{RemoveJobs}
+use Rattle.events.specs.declared.queue.ListQueue.{ListQueue}
+use Rattle.events.specs.declared.queue.RemoveJobs.{RemoveJobs}
 use Rattle.queues.specs.Queue.{queue_of}
 use Rattle.queues.specs.Removal.{removed_jobs}
 use Rattle.dispatcher.specs.Step.{StepAt}

@@ -3,9 +3,9 @@ use Rattle.std.proofs.Common.{◌≡◌, ◌∙◌, ◌<◌, ◌+◌, ℕ, suc, 
 use Rattle.std.specs.Prelude.{◌≢◌, OnErr, Result, Ok, Err}
 use Rattle.spool.specs.Spooled.{SpooledRecord}
 use Rattle.print_room.specs.State.{State}
-use Rattle.queues.specs.declared.request.RemoveJobs.{RemoveJobs}
+use Rattle.events.specs.declared.queue.RemoveJobs.{RemoveJobs}
 use Rattle.queues.specs.Removal.{is_named}
-use Rattle.dispatcher.specs.declared.reply.Cancel.{Cancel}
+use Rattle.events.specs.declared.reply.Cancel.{Cancel}
 use Rattle.dispatcher.specs.CancelJob.{cancels_of}
 use Rattle.dispatcher.specs.RemoveJobs.{cancels_if_named, cancels_of_each}
 

@@ -2,31 +2,11 @@
 use Rattle.std.specs.Prelude.{ℕ, ◌≡◌, ◌==◌, if◌then◌else◌, List, [], length}
 use Rattle.ipp_codec.specs.Message.{IppAttribute, IppGroup}
 use Rattle.dispatcher.specs.declared.checks.Refusal.{Refusal}
-use Rattle.dispatcher.specs.declared.reply.Answer.{Answer}
-use Rattle.dispatcher.specs.declared.reply.Answer.TheVariants as Says
-use Rattle.dispatcher.specs.declared.reply.LpdAnswer.{LpdAnswer}
-use Rattle.dispatcher.specs.declared.reply.Reply.{Reply}
-use Rattle.dispatcher.specs.declared.status.Status.{Status}
-use Rattle.dispatcher.specs.declared.status.Status.TheVariants as Went
+use Rattle.events.specs.Reply.{Replies}
+use Rattle.events.specs.declared.reply.Reply.{Reply}
+use Rattle.events.specs.declared.status.Status.{Status}
+use Rattle.events.specs.declared.status.Status.TheVariants as Went
 use Rattle.print_room.specs.State.{State}
-
--- an answer of just this status, what isn't supported, and these groups
-abbrev pub IsAnswer : Status → List IppAttribute → List IppGroup → Answer → Type 0
-IsAnswer status unsupported groups (Says.Ipp answer) = (answer.status ≡ status) × (answer.unsupported ≡ unsupported) × (answer.groups ≡ groups)
-IsAnswer status unsupported groups (Says.Lpd answer) = ⊥
-IsAnswer status unsupported groups Says.Nothing = ⊥
-
--- a reply of just these: no cancels, no documents
-pub record Replies (status : Status) (unsupported : List IppAttribute) (groups : List IppGroup) (reply : Reply) : Type 0 where
-  pub answer : IsAnswer status unsupported groups reply.answer
-  pub cancels : reply.cancels.items ≡ []
-  pub documents : reply.documents.items ≡ []
-
--- this is answered to an LPD client: no cancels, no documents
-pub record AnswersLpd (said : LpdAnswer) (reply : Reply) : Type 0 where
-  pub answer : reply.answer ≡ Says.Lpd said
-  pub cancels : reply.cancels.items ≡ []
-  pub documents : reply.documents.items ≡ []
 
 -- how a job is taken or found to be one that would be, by what isn't supported
 abbrev pub taken_with : List IppAttribute → Status

@@ -2,12 +2,13 @@
 -- it is told, and keeps it until it says that it is done.
 use Rattle.std.specs.Prelude.{ℕ, ◌≡◌, List, [], map, option_to_list, Result, Ok, MatchResult}
 use Rattle.text.specs.Steps.{◌>>=◌}
-use Rattle.dispatcher.specs.declared.event.JobRequest.{JobRequest}
-use Rattle.dispatcher.specs.declared.reply.Cancel.{Cancel}
-use Rattle.dispatcher.specs.declared.reply.Reply.{Reply}
+use Rattle.events.specs.declared.event.JobRequest.{JobRequest}
+use Rattle.events.specs.declared.reply.Cancel.{Cancel}
+use Rattle.events.specs.declared.reply.Reply.{Reply}
 use Rattle.dispatcher.specs.declared.checks.Refusal.{Refusal}
-use Rattle.dispatcher.specs.declared.status.Status.TheVariants as Went
-use Rattle.dispatcher.specs.Answers.{IsAnswer, Refuses}
+use Rattle.events.specs.declared.status.Status.TheVariants as Went
+use Rattle.events.specs.Reply.{IsAnswer}
+use Rattle.dispatcher.specs.Answers.{Refuses}
 use Rattle.dispatcher.specs.Checks.{named_job, unrefused}
 use Rattle.print_room.specs.State.{State}
 use Rattle.print_room.specs.DeviceJobs.{device_of}

@@ -11,13 +11,13 @@ use Rattle.ipp_codec.specs.Message.{IppAttribute}
 use Rattle.printer_objects.specs.Offer.{OfferRecord, format_named}
 use Rattle.spool.specs.Calls.{is_full}
 use Rattle.job_template.specs.Unsupported.{unsupported_of}
-use Rattle.dispatcher.specs.declared.event.DocumentForm.{DocumentForm}
-use Rattle.dispatcher.specs.declared.event.Target.{Target}
-use Rattle.dispatcher.specs.declared.status.Status.{Status}
-use Rattle.dispatcher.specs.declared.status.Status.TheVariants as Went
+use Rattle.events.specs.declared.event.DocumentForm.{DocumentForm}
+use Rattle.events.specs.declared.event.Target.{Target}
+use Rattle.events.specs.declared.status.Status.{Status}
+use Rattle.events.specs.declared.status.Status.TheVariants as Went
 use Rattle.dispatcher.specs.declared.checks.NamedPrinter.{NamedPrinter}
 use Rattle.dispatcher.specs.declared.checks.Refusal.{Refusal}
-use Rattle.dispatcher.specs.declared.event.JobTarget.{JobTarget}
+use Rattle.events.specs.declared.event.JobTarget.{JobTarget}
 use Rattle.dispatcher.specs.Target.{printer_of, job_of}
 use Rattle.job_objects.specs.Job.{JobRecord}
 use Rattle.spool.specs.declared.refusal.SpoolRefusal.{SpoolRefusal}

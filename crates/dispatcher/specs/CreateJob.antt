@@ -2,11 +2,12 @@
 -- far as no document is asked about, and a job whose documents are still to come.
 use Rattle.std.specs.Prelude.{ℕ, ◌≡◌, true, [], ◌∷◌, Result, MatchResult}
 use Rattle.text.specs.Steps.{◌>>=◌}
-use Rattle.dispatcher.specs.declared.event.AskedJob.{AskedJob}
-use Rattle.dispatcher.specs.declared.reply.Reply.{Reply}
+use Rattle.events.specs.declared.event.AskedJob.{AskedJob}
+use Rattle.events.specs.declared.reply.Reply.{Reply}
 use Rattle.dispatcher.specs.declared.submission.Accepted.{Accepted}
 use Rattle.dispatcher.specs.declared.checks.Refusal.{Refusal}
-use Rattle.dispatcher.specs.Answers.{Replies, Refuses, taken_with}
+use Rattle.events.specs.Reply.{Replies}
+use Rattle.dispatcher.specs.Answers.{Refuses, taken_with}
 use Rattle.dispatcher.specs.Checks.{named_printer}
 use Rattle.dispatcher.specs.Submission.{job_asked, group_of}
 use Rattle.print_room.specs.State.{State}

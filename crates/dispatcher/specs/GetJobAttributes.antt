@@ -1,8 +1,8 @@
 -- What a Get-Job-Attributes request comes to (RFC 8011, section 4.3.4): the group of the job.
 use Rattle.std.specs.Prelude.{ℕ, [], ◌∷◌, MatchResult}
 use Rattle.listings.specs.Groups.{job_group}
-use Rattle.dispatcher.specs.declared.event.GetJobAttributes.{GetJobAttributes}
-use Rattle.dispatcher.specs.declared.reply.Reply.{Reply}
+use Rattle.events.specs.declared.event.GetJobAttributes.{GetJobAttributes}
+use Rattle.events.specs.declared.reply.Reply.{Reply}
 use Rattle.dispatcher.specs.Answers.{Refuses, Shows}
 use Rattle.dispatcher.specs.Checks.{named_job}
 use Rattle.print_room.specs.State.{State}

@@ -3,12 +3,12 @@ use Rattle.std.specs.Prelude.{ℕ, Bool, true, false, if◌then◌else◌, List,
 use Rattle.text.specs.Steps.{◌>>=◌}
 use Rattle.listings.specs.Listing.{WantedJobs}
 use Rattle.listings.specs.Groups.{job_groups}
-use Rattle.dispatcher.specs.declared.event.GetJobs.{GetJobs}
-use Rattle.dispatcher.specs.declared.event.WhichJobs.{WhichJobs}
-use Rattle.dispatcher.specs.declared.event.WhichJobs.TheVariants.{Completed, NotCompleted, Unsupported}
-use Rattle.dispatcher.specs.declared.reply.Reply.{Reply}
+use Rattle.events.specs.declared.event.GetJobs.{GetJobs}
+use Rattle.events.specs.declared.event.WhichJobs.{WhichJobs}
+use Rattle.events.specs.declared.event.WhichJobs.TheVariants.{Completed, NotCompleted, Unsupported}
+use Rattle.events.specs.declared.reply.Reply.{Reply}
 use Rattle.dispatcher.specs.declared.checks.Refusal.{Refusal}
-use Rattle.dispatcher.specs.declared.status.Status.TheVariants as Went
+use Rattle.events.specs.declared.status.Status.TheVariants as Went
 use Rattle.dispatcher.specs.Answers.{Refuses, Shows}
 use Rattle.dispatcher.specs.Checks.{named_printer}
 use Rattle.print_room.specs.State.{State}

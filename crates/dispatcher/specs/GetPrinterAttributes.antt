@@ -1,8 +1,8 @@
 -- What a Get-Printer-Attributes request comes to (RFC 8011, section 4.2.5): the group of the printer.
 use Rattle.std.specs.Prelude.{ℕ, [], ◌∷◌, MatchResult}
 use Rattle.listings.specs.Groups.{printer_group}
-use Rattle.dispatcher.specs.declared.event.GetPrinterAttributes.{GetPrinterAttributes}
-use Rattle.dispatcher.specs.declared.reply.Reply.{Reply}
+use Rattle.events.specs.declared.event.GetPrinterAttributes.{GetPrinterAttributes}
+use Rattle.events.specs.declared.reply.Reply.{Reply}
 use Rattle.dispatcher.specs.Answers.{Refuses, Shows}
 use Rattle.dispatcher.specs.Checks.{named_printer}
 use Rattle.print_room.specs.State.{State}

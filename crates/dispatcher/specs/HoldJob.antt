@@ -4,13 +4,14 @@ use Rattle.text.specs.Steps.{◌>>=◌}
 use Rattle.ipp_codec.specs.Message.{IppAttribute}
 use Rattle.job_objects.specs.declared.job_change.JobChange.{JobChange}
 use Rattle.job_objects.specs.declared.job_change.JobChange.TheVariants.{Hold, Release}
-use Rattle.dispatcher.specs.declared.event.HoldJob.{HoldJob}
-use Rattle.dispatcher.specs.declared.event.HoldUntil.{HoldUntil}
-use Rattle.dispatcher.specs.declared.event.HoldUntil.TheVariants.{NoHold, Indefinite, Unsupported}
-use Rattle.dispatcher.specs.declared.event.JobRequest.{JobRequest}
-use Rattle.dispatcher.specs.declared.reply.Reply.{Reply}
+use Rattle.events.specs.declared.event.HoldJob.{HoldJob}
+use Rattle.events.specs.declared.event.HoldUntil.{HoldUntil}
+use Rattle.events.specs.declared.event.HoldUntil.TheVariants.{NoHold, Indefinite, Unsupported}
+use Rattle.events.specs.declared.event.JobRequest.{JobRequest}
+use Rattle.events.specs.declared.reply.Reply.{Reply}
 use Rattle.dispatcher.specs.declared.checks.Refusal.{Refusal}
-use Rattle.dispatcher.specs.Answers.{Replies, Refuses, taken_with}
+use Rattle.events.specs.Reply.{Replies}
+use Rattle.dispatcher.specs.Answers.{Refuses, taken_with}
 use Rattle.dispatcher.specs.Checks.{named_job, unrefused}
 use Rattle.print_room.specs.State.{State}
 use Rattle.print_room.specs.Jobs.{asked_refusal, changing}

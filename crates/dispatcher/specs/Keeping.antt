@@ -3,8 +3,8 @@ use Rattle.std.specs.Prelude.{◌≡◌, List, []}
 use Rattle.spool.specs.Document.{DocumentRecord}
 use Rattle.print_room.specs.State.{State}
 use Rattle.print_room.specs.DeviceJobs.{AllKeep, KeepsOrEnds}
-use Rattle.dispatcher.specs.declared.event.Event.{Event}
-use Rattle.dispatcher.specs.declared.event.Event.TheVariants as Is
+use Rattle.events.specs.declared.event.Event.{Event}
+use Rattle.events.specs.declared.event.Event.TheVariants as Is
 
 -- they stay, byte for byte; a device's report hands out whole those of the job that it ends
 abbrev pub StepKeeps : Event → State → List DocumentRecord → State → Type 0

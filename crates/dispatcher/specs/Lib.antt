@@ -1,4 +1,3 @@
-pub mod Status
 pub mod Dispatched
 pub mod Lending
 pub mod Target

@@ -1,12 +1,12 @@
 -- What an LPD client that lists a queue is answered (RFC 1179, sections 5.3 and 5.4).
 use Rattle.std.specs.Prelude.{ℕ, ◌≡◌, [], MatchOption}
-use Rattle.dispatcher.specs.declared.reply.Answer.{Answer}
-use Rattle.dispatcher.specs.declared.reply.Answer.TheVariants.{Ipp, Lpd, Nothing}
-use Rattle.dispatcher.specs.declared.reply.LpdAnswer.{LpdAnswer}
-use Rattle.dispatcher.specs.declared.reply.LpdAnswer.TheVariants.{Taken, Queue, NoQueue}
-use Rattle.dispatcher.specs.declared.reply.Reply.{Reply}
-use Rattle.dispatcher.specs.Answers.{AnswersLpd}
-use Rattle.queues.specs.declared.request.ListQueue.{ListQueue}
+use Rattle.events.specs.declared.reply.Answer.{Answer}
+use Rattle.events.specs.declared.reply.Answer.TheVariants.{Ipp, Lpd, Nothing}
+use Rattle.events.specs.declared.reply.LpdAnswer.{LpdAnswer}
+use Rattle.events.specs.declared.reply.LpdAnswer.TheVariants.{Taken, Queue, NoQueue}
+use Rattle.events.specs.declared.reply.Reply.{Reply}
+use Rattle.events.specs.Reply.{AnswersLpd}
+use Rattle.events.specs.declared.queue.ListQueue.{ListQueue}
 use Rattle.queues.specs.Queue.{queue_of}
 use Rattle.queues.specs.Listing.{ShowsQueue}
 use Rattle.print_room.specs.State.{State}

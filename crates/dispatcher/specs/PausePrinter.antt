@@ -2,11 +2,12 @@
 -- pauses a printer, or ends its pause.
 use Rattle.std.specs.Prelude.{ℕ, ◌≡◌, Bool, [], Result, Ok, MatchResult}
 use Rattle.text.specs.Steps.{◌>>=◌}
-use Rattle.dispatcher.specs.declared.event.PrinterRequest.{PrinterRequest}
-use Rattle.dispatcher.specs.declared.reply.Reply.{Reply}
+use Rattle.events.specs.declared.event.PrinterRequest.{PrinterRequest}
+use Rattle.events.specs.declared.reply.Reply.{Reply}
 use Rattle.dispatcher.specs.declared.checks.Refusal.{Refusal}
-use Rattle.dispatcher.specs.declared.status.Status.TheVariants as Went
-use Rattle.dispatcher.specs.Answers.{Replies, Refuses}
+use Rattle.events.specs.declared.status.Status.TheVariants as Went
+use Rattle.events.specs.Reply.{Replies}
+use Rattle.dispatcher.specs.Answers.{Refuses}
 use Rattle.dispatcher.specs.Checks.{named_printer, by_operator}
 use Rattle.print_room.specs.State.{State}
 use Rattle.print_room.specs.Jobs.{pausing}

@@ -2,12 +2,13 @@
 -- makes, and what it is answered.
 use Rattle.std.specs.Prelude.{ℕ, ◌≡◌, false, List, [], ◌∷◌, length, Result, Ok, MatchResult}
 use Rattle.text.specs.Steps.{◌>>=◌}
-use Rattle.dispatcher.specs.declared.event.PrintJob.{PrintJob}
-use Rattle.dispatcher.specs.declared.reply.Reply.{Reply}
+use Rattle.events.specs.declared.event.PrintJob.{PrintJob}
+use Rattle.events.specs.declared.reply.Reply.{Reply}
 use Rattle.dispatcher.specs.declared.submission.Accepted.{Accepted}
 use Rattle.dispatcher.specs.declared.checks.NamedPrinter.{NamedPrinter}
 use Rattle.dispatcher.specs.declared.checks.Refusal.{Refusal}
-use Rattle.dispatcher.specs.Answers.{Replies, Refuses, taken_with}
+use Rattle.events.specs.Reply.{Replies}
+use Rattle.dispatcher.specs.Answers.{Refuses, taken_with}
 use Rattle.dispatcher.specs.Checks.{named_printer, format_asked}
 use Rattle.dispatcher.specs.Submission.{job_asked, of_documents, group_of}
 use Rattle.print_room.specs.State.{State}

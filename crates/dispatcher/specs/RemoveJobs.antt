@@ -3,11 +3,11 @@
 use Rattle.std.specs.Prelude.{ℕ, ◌≡◌, if◌then◌else◌, List, []}
 use Rattle.std.specs.List.{flat_map}
 use Rattle.job_objects.specs.Job.{JobRecord}
-use Rattle.dispatcher.specs.declared.reply.Answer.TheVariants as Says
-use Rattle.dispatcher.specs.declared.reply.Cancel.{Cancel}
-use Rattle.dispatcher.specs.declared.reply.Reply.{Reply}
+use Rattle.events.specs.declared.reply.Answer.TheVariants as Says
+use Rattle.events.specs.declared.reply.Cancel.{Cancel}
+use Rattle.events.specs.declared.reply.Reply.{Reply}
 use Rattle.dispatcher.specs.CancelJob.{cancels_of}
-use Rattle.queues.specs.declared.request.RemoveJobs.{RemoveJobs}
+use Rattle.events.specs.declared.queue.RemoveJobs.{RemoveJobs}
 use Rattle.queues.specs.Removal.{is_named, removed_jobs}
 use Rattle.print_room.specs.State.{State}
 use Rattle.print_room.specs.Jobs.{canceling_each}

@@ -1,8 +1,7 @@
 -- A run: events with their moments, each a step, and after each that is no query a dispatch.
 use Rattle.std.specs.Prelude.{◌≡◌, ◌≢◌, max, Bool, true, false, List, [], ◌∷◌, Option}
 use Rattle.prices.specs.Plan.{PlanRecord}
-use Rattle.dispatcher.specs.declared.event.Event.{Event}
-use Rattle.dispatcher.specs.declared.event.Event.TheVariants as Is
+use Rattle.events.specs.Event.{is_query}
 use Rattle.dispatcher.specs.declared.run.Timed.{Timed}
 use Rattle.dispatcher.specs.declared.run.Outcome.{Outcome}
 use Rattle.dispatcher.specs.declared.run.Outcome.TheVariants.{Dropped, Queried, Undispatched, Dispatched}
@@ -11,26 +10,6 @@ use Rattle.print_room.specs.State.{State}
 use Rattle.print_room.specs.Ready.{ready_of}
 use Rattle.dispatcher.specs.Step.{Step, TakesNoMemory}
 use Rattle.print_room.specs.Dispatch.{Dispatches}
-
--- whether an event only asks
-abbrev pub is_query : Event → Bool
-is_query (Is.PrintJob request) = false
-is_query (Is.ValidateJob request) = true
-is_query (Is.CreateJob request) = false
-is_query (Is.SendDocument request) = false
-is_query (Is.CancelJob request) = false
-is_query (Is.GetJobAttributes request) = true
-is_query (Is.GetJobs request) = true
-is_query (Is.GetPrinterAttributes request) = true
-is_query (Is.HoldJob request) = false
-is_query (Is.ReleaseJob request) = false
-is_query (Is.PausePrinter request) = false
-is_query (Is.ResumePrinter request) = false
-is_query (Is.SubmitFiles request) = false
-is_query (Is.ListQueue request) = true
-is_query (Is.RemoveJobs request) = false
-is_query (Is.Report device report) = false
-is_query Is.Tick = false
 
 -- what a listener hears of a dispatch: how its plan and what began change it
 abbrev pub Hearing : Type 0 → Type 1

@@ -8,13 +8,14 @@ use Rattle.job_objects.specs.JobState.{waiting_state}
 use Rattle.job_objects.specs.Reasons.{waiting_reasons}
 use Rattle.printer_objects.specs.Created.{created_attributes}
 use Rattle.spool.specs.Calls.{paused_at}
-use Rattle.dispatcher.specs.declared.event.SendDocument.{SendDocument}
-use Rattle.dispatcher.specs.declared.reply.Reply.{Reply}
+use Rattle.events.specs.declared.event.SendDocument.{SendDocument}
+use Rattle.events.specs.declared.reply.Reply.{Reply}
 use Rattle.dispatcher.specs.declared.send_document.Sent.{Sent}
 use Rattle.dispatcher.specs.declared.checks.NamedPrinter.{NamedPrinter}
 use Rattle.dispatcher.specs.declared.checks.Refusal.{Refusal}
-use Rattle.dispatcher.specs.declared.status.Status.TheVariants as Went
-use Rattle.dispatcher.specs.Answers.{Replies, Refuses}
+use Rattle.events.specs.declared.status.Status.TheVariants as Went
+use Rattle.events.specs.Reply.{Replies}
+use Rattle.dispatcher.specs.Answers.{Refuses}
 use Rattle.dispatcher.specs.Checks.{named_job, printer_of_job, format_asked, unrefused}
 use Rattle.print_room.specs.State.{State}
 use Rattle.print_room.specs.Jobs.{sending_refusal, sending}

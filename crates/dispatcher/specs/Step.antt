@@ -1,10 +1,10 @@
 -- A step: what an event does to the state, and what it is answered.
 use Rattle.std.specs.Prelude.{ℕ, ◌≡◌, max, true, false, [], None, IsErr}
 use Rattle.base_types.specs.declared.report.Report.{Report}
-use Rattle.dispatcher.specs.declared.event.Event.{Event}
-use Rattle.dispatcher.specs.declared.event.Event.TheVariants as Is
-use Rattle.dispatcher.specs.declared.reply.Reply.{Reply}
-use Rattle.dispatcher.specs.declared.reply.Answer.TheVariants as Says
+use Rattle.events.specs.declared.event.Event.{Event}
+use Rattle.events.specs.declared.event.Event.TheVariants as Is
+use Rattle.events.specs.declared.reply.Reply.{Reply}
+use Rattle.events.specs.declared.reply.Answer.TheVariants as Says
 use Rattle.dispatcher.specs.Checks.{named_job, named_printer}
 use Rattle.dispatcher.specs.PrintJob.{PrintsJob, asked_of}
 use Rattle.dispatcher.specs.ValidateJob.{ValidatesJob}

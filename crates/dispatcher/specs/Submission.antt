@@ -8,7 +8,7 @@ use Rattle.job_template.specs.Template.{template_of, medium_of}
 use Rattle.spool.specs.Document.{DocumentRecord}
 use Rattle.spool.specs.Submission.{Submission, spooled_of}
 use Rattle.spool.specs.Calls.{paused_at}
-use Rattle.dispatcher.specs.declared.event.AskedJob.{AskedJob}
+use Rattle.events.specs.declared.event.AskedJob.{AskedJob}
 use Rattle.dispatcher.specs.declared.checks.NamedPrinter.{NamedPrinter}
 use Rattle.dispatcher.specs.declared.checks.Refusal.{Refusal}
 use Rattle.dispatcher.specs.declared.submission.Accepted.{Accepted}

@@ -7,10 +7,10 @@ use Rattle.base_types.specs.declared.needs.Sides.TheVariants.{One}
 use Rattle.base_types.specs.Finishings.{no_finishings}
 use Rattle.spool.specs.Calls.{new_refusal}
 use Rattle.spool.specs.Submission.{Submission}
-use Rattle.dispatcher.specs.declared.event.SubmitFiles.{SubmitFiles}
-use Rattle.dispatcher.specs.declared.reply.LpdAnswer.TheVariants.{Taken}
-use Rattle.dispatcher.specs.declared.reply.Reply.{Reply}
-use Rattle.dispatcher.specs.Answers.{AnswersLpd}
+use Rattle.events.specs.declared.event.SubmitFiles.{SubmitFiles}
+use Rattle.events.specs.declared.reply.LpdAnswer.TheVariants.{Taken}
+use Rattle.events.specs.declared.reply.Reply.{Reply}
+use Rattle.events.specs.Reply.{AnswersLpd}
 use Rattle.queues.specs.Queue.{queue_of}
 use Rattle.print_room.specs.State.{State}
 use Rattle.print_room.specs.Jobs.{with_job_taken}

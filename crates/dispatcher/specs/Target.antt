@@ -1,22 +1,15 @@
 -- Which printer and which job a request names (RFC 8011, section 4.1.5).
-use Rattle.std.specs.Prelude.{ℕ, ◌==◌, Bool, true, false, if◌then◌else◌, List, find, Option, Some, None}
+use Rattle.std.specs.Prelude.{ℕ, ◌==◌, if◌then◌else◌, List, find, Option, Some, None}
 use Rattle.std.specs.List.{enumerate_from}
 use Rattle.std.specs.Option.{option_and_then}
-use Rattle.std.specs.Str.{bytes_eq}
 use Rattle.settings_file.specs.Settings.{PrinterEntry}
 use Rattle.job_objects.specs.Job.{JobRecord}
 use Rattle.spool.specs.Jobs.{job_at}
-use Rattle.dispatcher.specs.declared.event.Target.{Target}
-use Rattle.dispatcher.specs.declared.event.Target.TheVariants.{Named, First, Unknown}
-use Rattle.dispatcher.specs.declared.event.JobTarget.{JobTarget}
-use Rattle.dispatcher.specs.declared.event.JobTarget.TheVariants as Job
+use Rattle.events.specs.declared.event.Target.{Target}
+use Rattle.events.specs.Target.{names}
+use Rattle.events.specs.declared.event.JobTarget.{JobTarget}
+use Rattle.events.specs.declared.event.JobTarget.TheVariants as Job
 use Rattle.print_room.specs.State.{State}
-
--- by its name, or any where the first of all is named
-abbrev pub names : Target → PrinterEntry → Bool
-names (Named name) printer = bytes_eq name printer.name
-names First printer = true
-names Unknown printer = false
 
 -- the first that is named, with its place
 abbrev pub printer_of : Target → List PrinterEntry → Option (ℕ × PrinterEntry)

@@ -3,11 +3,12 @@
 use Rattle.std.specs.Prelude.{ℕ, ◌≡◌, List, [], Result, MatchResult}
 use Rattle.text.specs.Steps.{◌>>=◌}
 use Rattle.ipp_codec.specs.Message.{IppAttribute}
-use Rattle.dispatcher.specs.declared.event.ValidateJob.{ValidateJob}
-use Rattle.dispatcher.specs.declared.reply.Reply.{Reply}
+use Rattle.events.specs.declared.event.ValidateJob.{ValidateJob}
+use Rattle.events.specs.declared.reply.Reply.{Reply}
 use Rattle.dispatcher.specs.declared.checks.NamedPrinter.{NamedPrinter}
 use Rattle.dispatcher.specs.declared.checks.Refusal.{Refusal}
-use Rattle.dispatcher.specs.Answers.{Replies, Refuses, taken_with}
+use Rattle.events.specs.Reply.{Replies}
+use Rattle.dispatcher.specs.Answers.{Refuses, taken_with}
 use Rattle.dispatcher.specs.Checks.{named_printer, format_asked, unsupported_asked}
 use Rattle.print_room.specs.State.{State}
 

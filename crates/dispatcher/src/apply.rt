@@ -4,7 +4,6 @@ ghost use Rattle.dispatcher.specs.Step.{Step, Reported, Ticks, TakesNoMemory};
 
 use crate::cancel_job::cancel_job;
 use crate::create_job::create_job;
-use crate::event::Event;
 use crate::get_attributes::{get_job_attributes, get_printer_attributes};
 use crate::get_jobs::get_jobs;
 use crate::hold_job::{hold_job, release_job};
@@ -12,11 +11,11 @@ use crate::list_queue::list_queue;
 use crate::pause_printer::set_paused;
 use crate::print_job::print_job;
 use crate::remove_jobs::remove_jobs;
-use crate::reply::Reply;
 use crate::send_document::send_document;
 use crate::submit_files::submit_files;
 use crate::validate_job::validate_job;
 use base_types::{DeviceId, Moment, Report};
+use events::{Event, Reply};
 use print_room::PrintRoom;
 use std::alloc::{AllocError, Global};
 

@@ -3,10 +3,10 @@ ghost use Rattle.std.specs.Prelude.{◌≡◌, ◌≢◌, ◌≤◌, [], IfOk, I
 ghost use Rattle.print_room.specs.Jobs.{canceling_refusal};
 ghost use Rattle.dispatcher.specs.CancelJob.{CancelsIt, CancelsJob, canceled_of, cancels_of};
 
+use crate::answering::refuse;
 use crate::checks::{Refusal, named_job, refused_change};
-use crate::event::JobRequest;
-use crate::reply::{Cancel, Reply, refuse};
 use base_types::{JobId, Moment, Text};
+use events::{Cancel, JobRequest, Reply};
 use print_room::PrintRoom;
 use std::alloc::{AllocError, Global};
 

@@ -7,9 +7,8 @@ ghost use Rattle.spool.specs.Jobs.{job_at};
 ghost use Rattle.dispatcher.specs.Checks.{by_operator, format_asked, format_of, is_compressed, named_job, named_printer, printer_of_job, refused, room_for, status_of, unsupported_asked};
 ghost use Rattle.dispatcher.specs.Target.{if_sent_to, job_of, printer_of};
 
-use crate::event::{DocumentForm, JobTarget, Target};
-use crate::status::Status;
 use base_types::{JobId, Limits, Text};
+use events::{DocumentForm, JobTarget, Status, Target};
 use job_objects::Job;
 use job_template::RequestAttributes;
 use print_room::PrintRoom;

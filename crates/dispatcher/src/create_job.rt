@@ -4,11 +4,11 @@ ghost use Rattle.std.specs.Prelude.{◌≡◌, ◌≤◌, [], IfOk, IsOk, IsErr,
 ghost use Rattle.spool.specs.Calls.{new_refusal};
 ghost use Rattle.dispatcher.specs.CreateJob.{CreatesJob, CreatesIt, created_of};
 
+use crate::answering::{refuse, taken_with};
 use crate::checks::{Refusal, named_printer};
-use crate::event::AskedJob;
-use crate::reply::{Reply, refuse, taken_with};
 use crate::submission::{Accepted, groups_of, job_asked};
 use base_types::Moment;
+use events::{AskedJob, Reply};
 use print_room::PrintRoom;
 use std::alloc::{AllocError, Global};
 

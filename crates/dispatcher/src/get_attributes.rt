@@ -6,11 +6,10 @@ ghost use Rattle.dispatcher.specs.Checks.{named_job, named_printer};
 ghost use Rattle.dispatcher.specs.GetPrinterAttributes.{ShowsPrinter};
 ghost use Rattle.dispatcher.specs.GetJobAttributes.{ShowsJob};
 
-use crate::answer_groups::AnswerGroups;
+use crate::answering::{refuse, show};
 use crate::checks::{NamedPrinter, named_job, named_printer};
-use crate::event::{GetJobAttributes, GetPrinterAttributes};
-use crate::reply::{Reply, refuse, show};
 use base_types::{Moment, Text};
+use events::{AnswerGroups, GetJobAttributes, GetPrinterAttributes, Reply};
 use job_objects::Job;
 use listings::{job_group, printer_group};
 use print_room::PrintRoom;

@@ -4,12 +4,10 @@ ghost use Rattle.std.specs.Option.{option_copied};
 ghost use Rattle.listings.specs.Groups.{job_groups};
 ghost use Rattle.dispatcher.specs.GetJobs.{ListsJobs, finished_asked, owner_asked, wanted_of};
 
-use crate::answer_groups::AnswerGroups;
+use crate::answering::{refuse, show};
 use crate::checks::{Refusal, named_printer};
-use crate::event::{GetJobs, WhichJobs};
-use crate::reply::{Reply, refuse, show};
-use crate::status::Status;
 use base_types::{Moment, PrinterId, Text};
+use events::{AnswerGroups, GetJobs, Reply, Status, WhichJobs};
 use listings::{Wanted, job_groups};
 use print_room::PrintRoom;
 use std::alloc::{AllocError, Global};

@@ -3,11 +3,10 @@ ghost use Rattle.std.specs.Prelude.{◌≡◌, ◌≤◌, []};
 ghost use Rattle.job_objects.specs.declared.job_change.JobChange.TheVariants as Change;
 ghost use Rattle.dispatcher.specs.HoldJob.{ChangesJob, HoldsJob, ReleasesJob};
 
-use crate::answer_groups::AnswerGroups;
+use crate::answering::{refuse, taken_with};
 use crate::checks::{named_job, refused_change};
-use crate::event::{HoldJob, HoldUntil, JobRequest};
-use crate::reply::{Reply, refuse, taken_with};
 use base_types::Moment;
+use events::{AnswerGroups, HoldJob, HoldUntil, JobRequest, Reply};
 use job_template::RequestAttributes;
 use print_room::PrintRoom;
 use std::alloc::Global;

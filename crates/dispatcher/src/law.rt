@@ -6,8 +6,8 @@ ghost use Rattle.print_room.specs.State.{State};
 ghost use Rattle.print_room.specs.Dispatch.{Dispatches};
 ghost use Rattle.print_room.specs.DeviceJobs.{AllKeep, IsRoom};
 ghost use Rattle.spool.specs.Spool.{IsSpool};
-ghost use Rattle.dispatcher.specs.declared.event.Event.{Event};
-ghost use Rattle.dispatcher.specs.declared.reply.Reply.{Reply};
+ghost use Rattle.events.specs.declared.event.Event.{Event};
+ghost use Rattle.events.specs.declared.reply.Reply.{Reply};
 ghost use Rattle.dispatcher.specs.Step.{Step};
 ghost use Rattle.dispatcher.specs.Keeping.{StepKeeps};
 

@@ -14,13 +14,12 @@
 //! Its rows are traces of `play_examples`; `Core::run` is tested in `server_tests`.
 #![tactic(auto)]
 
-mod answer_groups;
+mod answering;
 mod apply;
 mod cancel_job;
 mod checks;
 mod create_job;
 mod dispatch;
-mod event;
 mod get_attributes;
 mod get_jobs;
 mod hold_job;
@@ -29,25 +28,14 @@ mod list_queue;
 mod pause_printer;
 mod print_job;
 mod remove_jobs;
-mod reply;
 mod run;
 mod send_document;
 mod server_core;
-mod status;
 mod submission;
 mod submit_files;
 mod validate_job;
 
-pub use answer_groups::AnswerGroups;
 pub use dispatch::Dispatched;
-pub use event::{
-    AskedJob, DocumentForm, Event, GetJobAttributes, GetJobs, GetPrinterAttributes, HoldJob,
-    HoldUntil, JobRequest, JobTarget, PrintJob, PrinterRequest, SendDocument, SubmitFiles, Target,
-    ValidateJob, WhichJobs,
-};
 pub use print_room::Started;
-pub use queues::{ListQueue, QueueEntry, QueueForm, QueueListing, RemoveJobs};
-pub use reply::{Answer, Cancel, IppAnswer, LpdAnswer, Reply};
 pub use run::{Listener, Outcome, Timed};
 pub use server_core::Core;
-pub use status::Status;

@@ -3,10 +3,10 @@ ghost use Rattle.std.specs.Prelude.{◌≡◌, ◌≤◌, IfOk, IsOk, OnErr, Non
 ghost use Rattle.queues.specs.Queue.{queue_of};
 ghost use Rattle.dispatcher.specs.ListQueue.{ListsQueue};
 
-use crate::reply::{LpdAnswer, Reply};
 use base_types::Moment;
+use events::{ListQueue, LpdAnswer, Reply};
 use print_room::PrintRoom;
-use queues::{ListQueue, queue_listing, queue_of};
+use queues::{queue_listing, queue_of};
 use std::alloc::{AllocError, Global};
 
 /// Answers what the queue shows, or that it isn't known, which takes no memory.

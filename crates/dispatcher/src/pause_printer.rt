@@ -2,10 +2,10 @@
 ghost use Rattle.std.specs.Prelude.{◌≡◌, ◌≤◌};
 ghost use Rattle.dispatcher.specs.PausePrinter.{SetsPaused, paused_of};
 
+use crate::answering::refuse;
 use crate::checks::{Refusal, by_operator, named_printer};
-use crate::event::PrinterRequest;
-use crate::reply::{Reply, refuse};
 use base_types::{Moment, PrinterId};
+use events::{PrinterRequest, Reply};
 use print_room::PrintRoom;
 use std::alloc::Global;
 

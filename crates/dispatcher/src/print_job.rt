@@ -4,11 +4,11 @@ ghost use Rattle.std.specs.Prelude.{◌≡◌, ◌≤◌, ◌∷◌, [], IfOk, I
 ghost use Rattle.spool.specs.Calls.{new_refusal};
 ghost use Rattle.dispatcher.specs.PrintJob.{PrintsJob, TakesJob, asked_of_format, asked_of_printer, asked_of};
 
+use crate::answering::{refuse, taken_with};
 use crate::checks::{NamedPrinter, Refusal, format_asked, named_printer};
-use crate::event::PrintJob;
-use crate::reply::{Reply, refuse, taken_with};
 use crate::submission::{Accepted, groups_of, job_asked};
 use base_types::{Moment, Text};
+use events::{PrintJob, Reply};
 use print_room::PrintRoom;
 use spool::{Document, Octets};
 use std::alloc::{AllocError, Global};

@@ -4,11 +4,11 @@ ghost use Rattle.queues.specs.Removal.{active_job, named_jobs};
 ghost use Rattle.dispatcher.specs.RemoveJobs.{RemovesJobs, cancels_if_named, cancels_of_each, told_of};
 
 use crate::cancel_job::cancels_of;
-use crate::reply::{Cancel, Reply};
 use base_types::{Moment, Text};
+use events::{Cancel, RemoveJobs, Reply};
 use job_objects::Job;
 use print_room::PrintRoom;
-use queues::{RemoveJobs, active_job, is_named, queue_of, remove};
+use queues::{active_job, is_named, queue_of, remove};
 use std::alloc::{AllocError, Global};
 
 /// Removes jobs. Only a cancel that a device is told takes memory.

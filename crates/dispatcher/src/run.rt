@@ -6,11 +6,10 @@ ghost use Rattle.dispatcher.specs.Dispatched.{plan_of, started_of};
 ghost use Rattle.dispatcher.specs.Run.{Comes, Run};
 
 use crate::dispatch::Dispatched;
-use crate::event::Event;
-use crate::reply::Reply;
 use crate::server_core::Core;
 use assignment::Planner;
 use base_types::Moment;
+use events::{Event, Reply};
 use std::alloc::{AllocError, Global};
 
 /// An event, and the moment at which it comes.

@@ -4,14 +4,12 @@ ghost use Rattle.std.specs.Prelude.{◌≡◌, ◌≤◌, ◌∷◌, [], IfOk, I
 ghost use Rattle.print_room.specs.Jobs.{sending_refusal};
 ghost use Rattle.dispatcher.specs.SendDocument.{SendsDocument, SendsIt, sent_group, sent_in_format, sent_to_printer, sent_to_job, sent_of};
 
-use crate::answer_groups::AnswerGroups;
+use crate::answering::refuse;
 use crate::checks::{
     NamedPrinter, Refusal, format_asked, named_job, printer_of_job, refused_change,
 };
-use crate::event::SendDocument;
-use crate::reply::{Reply, refuse};
-use crate::status::Status;
 use base_types::{JobId, Moment, Text};
+use events::{AnswerGroups, Reply, SendDocument, Status};
 use job_objects::{Job, JobState, waiting_reasons};
 use job_template::RequestAttributes;
 use print_room::PrintRoom;

@@ -3,10 +3,9 @@ ghost use Rattle.std.specs.Prelude.{◌≡◌, ◌≤◌, ◌∷◌, [], IfOk, I
 ghost use Rattle.spool.specs.Calls.{is_full, new_refusal};
 ghost use Rattle.dispatcher.specs.Submission.{job_asked, group_of};
 
-use crate::answer_groups::AnswerGroups;
 use crate::checks::{NamedPrinter, Refusal, room_for, unsupported_asked};
-use crate::event::AskedJob;
 use base_types::{Limits, Moment, PrinterId};
+use events::{AnswerGroups, AskedJob};
 use job_objects::{JobState, waiting_reasons};
 use job_template::{RequestAttributes, medium_of, template_of};
 use print_room::PrintRoom;

@@ -4,9 +4,8 @@ ghost use Rattle.std.specs.Option.{option_map_or};
 ghost use Rattle.spool.specs.Calls.{new_refusal};
 ghost use Rattle.dispatcher.specs.SubmitFiles.{FilesJob, SubmitsFiles, filed_of, job_of_files};
 
-use crate::event::SubmitFiles;
-use crate::reply::{LpdAnswer, Reply};
 use base_types::{Finishings, Moment, PrinterId, Priority, Sides, Text};
+use events::{LpdAnswer, Reply, SubmitFiles};
 use print_room::PrintRoom;
 use queues::queue_of;
 use settings_file::PrinterSettings;

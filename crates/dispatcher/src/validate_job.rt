@@ -3,11 +3,10 @@
 ghost use Rattle.std.specs.Prelude.{◌≡◌, ◌≤◌};
 ghost use Rattle.dispatcher.specs.ValidateJob.{Validates, ValidatesJob, validated_of, validated_of_printer};
 
-use crate::answer_groups::AnswerGroups;
+use crate::answering::{refuse, taken_with};
 use crate::checks::{NamedPrinter, Refusal, format_asked, named_printer, unsupported_asked};
-use crate::event::ValidateJob;
-use crate::reply::{Reply, refuse, taken_with};
 use base_types::Moment;
+use events::{AnswerGroups, Reply, ValidateJob};
 use job_template::RequestAttributes;
 use print_room::PrintRoom;
 use std::alloc::Global;

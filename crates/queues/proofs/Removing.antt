@@ -24,7 +24,7 @@ use Rattle.spool.specs.Spool.{IsSpool}
 use Rattle.spool.specs.Spooled.{SpooledRecord, changed, is_settled, settled}
 use Rattle.print_room.specs.Jobs.{cancel_by, canceling}
 use Rattle.print_room.specs.State.{State}
-use Rattle.queues.specs.declared.request.RemoveJobs.{RemoveJobs}
+use Rattle.events.specs.declared.queue.RemoveJobs.{RemoveJobs}
 use Rattle.queues.specs.Removal.{active_job, is_active, is_named, may_remove, named_jobs, names_for, remover}
 
 -- ---- numbers that rise

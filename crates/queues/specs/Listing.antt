@@ -6,9 +6,9 @@ use Rattle.spool.specs.Calls.{paused_at}
 use Rattle.print_room.specs.State.{State}
 use Rattle.listings.specs.Listing.{WantedJobs, listing}
 use Rattle.listings.specs.Groups.{state_of_printer}
-use Rattle.queues.specs.declared.entry.QueueEntry.{QueueEntry}
-use Rattle.queues.specs.declared.listing.QueueListing.{QueueListing}
-use Rattle.queues.specs.declared.request.ListQueue.{ListQueue}
+use Rattle.events.specs.declared.queue.QueueEntry.{QueueEntry}
+use Rattle.events.specs.declared.queue.QueueListing.{QueueListing}
+use Rattle.events.specs.declared.queue.ListQueue.{ListQueue}
 use Rattle.queues.specs.Operand.{is_shown}
 
 -- what is shown of a job

@@ -10,7 +10,7 @@ use Rattle.printer_objects.specs.PrinterState.{is_busy_with}
 use Rattle.spool.specs.Asker.{AskerRecord, may_ask}
 use Rattle.print_room.specs.State.{State}
 use Rattle.queues.specs.Queue.{queue_of}
-use Rattle.queues.specs.declared.request.RemoveJobs.{RemoveJobs}
+use Rattle.events.specs.declared.queue.RemoveJobs.{RemoveJobs}
 
 abbrev pub is_root : List ℕ → Bool
 is_root agent = bytes_eq agent (codes "root")

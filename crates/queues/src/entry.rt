@@ -2,25 +2,10 @@
 ghost use Rattle.std.specs.Prelude.{◌≡◌, IfOk};
 ghost use Rattle.queues.specs.Listing.{entry_of};
 
-use base_types::{JobId, Text};
-use job_objects::{Job, JobReasons, JobState, reasons};
+use events::QueueEntry;
+use job_objects::{Job, reasons};
 use print_room::PrintRoom;
 use std::alloc::{AllocError, Global};
-
-/// A job of a queue, as it is when the queue is listed.
-#[derive(Drop)]
-pub struct QueueEntry {
-    pub id: JobId,
-    pub state: JobState,
-    pub reasons: JobReasons,
-    pub owner: Text,
-    /// Of all its documents together.
-    pub octets: usize,
-    /// Of one copy, as given or else as estimated.
-    pub impressions: u32,
-    pub copies: u32,
-    pub name: Text,
-}
 
 /// What is shown of a job.
 pub(crate) fn entry_of(alloc: Global, room: &PrintRoom, job: &Job) -> Result<QueueEntry, AllocError>

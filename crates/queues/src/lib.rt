@@ -13,10 +13,7 @@ mod listing;
 mod operand;
 mod queue;
 mod removal;
-mod request;
 
-pub use entry::QueueEntry;
-pub use listing::{QueueListing, queue_listing};
+pub use listing::queue_listing;
 pub use queue::queue_of;
 pub use removal::{active_job, is_named, remove};
-pub use request::{ListQueue, QueueForm, RemoveJobs};

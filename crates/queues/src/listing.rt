@@ -2,26 +2,14 @@
 ghost use Rattle.std.specs.Prelude.{◌≡◌, ◌++◌, IfOk, OnOk};
 ghost use Rattle.queues.specs.Listing.{ShowsQueue, entries_of, shown_of};
 
-use crate::entry::{QueueEntry, entry_of};
+use crate::entry::entry_of;
 use crate::operand::is_shown;
-use crate::request::{ListQueue, QueueForm};
 use base_types::{Moment, PrinterId, Text};
+use events::{ListQueue, QueueEntry, QueueListing};
 use job_objects::Job;
 use listings::{Wanted, listed, state_of_printer};
 use print_room::PrintRoom;
-use printer_objects::PrinterState;
 use std::alloc::{AllocError, Global};
-
-/// What the text of a queue shows.
-#[derive(Drop)]
-pub struct QueueListing {
-    pub form: QueueForm,
-    /// The name of the printer.
-    pub name: Text,
-    pub state: PrinterState,
-    /// In the order in which they are listed.
-    pub jobs: Vec<QueueEntry>,
-}
 
 /// The queue of the printer at a place of the settings, as it is at a moment: of its jobs that aren't
 /// finished those that an operand names, or all where there are no operands, in the order of

@@ -9,8 +9,8 @@ ghost use Rattle.print_room.specs.Jobs.{canceling, canceling_each};
 ghost use Rattle.queues.specs.Removal.{active_job, is_active, is_named, is_root, may_remove, named_jobs, names_for, removed_from, removed_jobs, remover};
 
 use crate::queue::queue_of;
-use crate::request::RemoveJobs;
 use base_types::{JobId, Moment, PrinterId, Text};
+use events::RemoveJobs;
 use job_objects::Job;
 use print_room::PrintRoom;
 use printer_objects::keeps_busy;

@@ -8,7 +8,7 @@ use Rattle.std.proofs.Common.{arith, refl, sym, ap, ◌∙◌, subst}
 use Rattle.base_types.specs.declared.report.Report.{Report}
 use Rattle.base_types.specs.Report.{report_of}
 use Rattle.device_link.specs.Line.{reported_by}
-use Rattle.server.specs.declared.wire.Door.{Door}
+use Rattle.wires.specs.declared.wire.Door.{Door}
 use Rattle.std.specs.declared.alloc.Global.{Global}
 use Rattle.std.specs.Prelude.{Vec}
 use Rattle.replay.specs.declared.trace.Line.{Line}

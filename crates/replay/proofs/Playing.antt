@@ -6,14 +6,14 @@ use Rattle.std.specs.declared.alloc.AllocError.{AllocError}
 use Rattle.std.proofs.lemmas.List.{length-append, map-append}
 use Rattle.std.proofs.lemmas.List.Elements.{All-append, All-cons, All-nil}
 use Rattle.server.specs.Polls.{Happening, Leads, both, alone}
-use Rattle.server.specs.Peer.{PeerState}
+use Rattle.wires.specs.Peer.{PeerState}
 use Rattle.server.specs.State.{EngineState}
 use Rattle.server.specs.Stands.{StandsAt, ServesBody}
 use Rattle.server.specs.Stands as Engine
 use Rattle.server.specs.Turn.{Deed, Turned, Served_body, Trace, Outcome}
 use Rattle.replay.specs.declared.connections.Connection.{Connection}
 use Rattle.replay.specs.declared.play.Play.{Play}
-use Rattle.server.specs.declared.wire.Door.{Door}
+use Rattle.wires.specs.declared.wire.Door.{Door}
 use Rattle.replay.specs.declared.trace.Line.{Line}
 use Rattle.replay.specs.declared.trace.Line.TheVariants as Form
 use Rattle.replay.specs.TraceLine.{IsLine, Finds}

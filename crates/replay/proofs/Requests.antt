@@ -4,21 +4,22 @@ use Rattle.std.specs.Option.{option_map_or}
 use Rattle.ipp_codec.specs.Message.{IppAttribute, IppGroup, IppMessage}
 use Rattle.printer_objects.specs.declared.operation.Operation.{Operation}
 use Rattle.printer_objects.specs.declared.operation.Operation.TheVariants as operation
-use Rattle.dispatcher.specs.declared.event.Event.{Event}
-use Rattle.dispatcher.specs.declared.event.Event.TheVariants as Is
-use Rattle.dispatcher.specs.declared.reply.Answer.{Answer}
-use Rattle.dispatcher.specs.declared.reply.Answer.TheVariants as Says
-use Rattle.dispatcher.specs.declared.reply.Reply.{Reply}
-use Rattle.dispatcher.specs.declared.status.Status.{Status}
-use Rattle.dispatcher.specs.declared.status.Status.TheVariants as Went
+use Rattle.events.specs.declared.event.Event.{Event}
+use Rattle.events.specs.declared.event.Event.TheVariants as Is
+use Rattle.events.specs.declared.reply.Answer.{Answer}
+use Rattle.events.specs.declared.reply.Answer.TheVariants as Says
+use Rattle.events.specs.declared.reply.Reply.{Reply}
+use Rattle.events.specs.declared.status.Status.{Status}
+use Rattle.events.specs.declared.status.Status.TheVariants as Went
 use Rattle.job_objects.specs.declared.job_change.JobChange.{JobChange}
 use Rattle.job_objects.specs.declared.job_change.JobChange.TheVariants as Change
 use Rattle.listings.specs.Groups.{printer_group, job_group, job_groups}
-use Rattle.dispatcher.specs.declared.event.JobRequest.{JobRequest}
-use Rattle.dispatcher.specs.declared.event.PrinterRequest.{PrinterRequest}
-use Rattle.dispatcher.specs.declared.event.HoldUntil.{HoldUntil}
-use Rattle.dispatcher.specs.declared.event.HoldUntil.TheVariants.{NoHold, Indefinite, Unsupported}
-use Rattle.dispatcher.specs.Answers.{IsAnswer, Replies, Refuses, Shows}
+use Rattle.events.specs.declared.event.JobRequest.{JobRequest}
+use Rattle.events.specs.declared.event.PrinterRequest.{PrinterRequest}
+use Rattle.events.specs.declared.event.HoldUntil.{HoldUntil}
+use Rattle.events.specs.declared.event.HoldUntil.TheVariants.{NoHold, Indefinite, Unsupported}
+use Rattle.events.specs.Reply.{IsAnswer, Replies}
+use Rattle.dispatcher.specs.Answers.{Refuses, Shows}
 use Rattle.dispatcher.specs.Checks.{named_job, named_printer}
 use Rattle.dispatcher.specs.PrintJob.{TakesJob, asked_of}
 use Rattle.dispatcher.specs.ValidateJob.{Validates, validated_of}

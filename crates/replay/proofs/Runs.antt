@@ -9,10 +9,10 @@ use Rattle.base_types.specs.Report.{ReportRecord, report_of}
 use Rattle.settings_file.specs.Settings.{ServerSettings, device_names}
 use Rattle.print_room.specs.Opening.{opening}
 use Rattle.print_room.specs.State.{State}
-use Rattle.dispatcher.specs.declared.event.Event.{Event}
-use Rattle.dispatcher.specs.declared.event.Event.TheVariants as Is
-use Rattle.dispatcher.specs.declared.reply.Cancel.{Cancel}
-use Rattle.dispatcher.specs.declared.reply.Reply.{Reply}
+use Rattle.events.specs.declared.event.Event.{Event}
+use Rattle.events.specs.declared.event.Event.TheVariants as Is
+use Rattle.events.specs.declared.reply.Cancel.{Cancel}
+use Rattle.events.specs.declared.reply.Reply.{Reply}
 use Rattle.dispatcher.specs.declared.run.Timed.{Timed}
 use Rattle.dispatcher.specs.declared.run.Outcome.{Outcome}
 use Rattle.dispatcher.specs.declared.run.Outcome.TheVariants.{Dropped, Queried, Undispatched, Dispatched}

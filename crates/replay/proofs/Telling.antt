@@ -3,7 +3,7 @@ use Rattle.std.proofs.Common.{◌≡◌, ℕ, Bool, true, false, List, [], ◌�
 use Rattle.std.specs.Prelude.{◌||◌}
 use Rattle.std.specs.Option.{ForSome}
 use Rattle.std.proofs.lemmas.Option.{none-some}
-use Rattle.server.specs.Peer.{PeerState}
+use Rattle.wires.specs.Peer.{PeerState}
 use Rattle.server.specs.Polls.{Note, Happening, Polled, Told, Leads, both, alone}
 use Rattle.replay.specs.declared.wire.TraceWire.{TraceWire}
 use Rattle.replay.specs.Log.{LogRecord, Hears, note_text, happening_text, happenings_text}

@@ -4,8 +4,8 @@ use Rattle.std.specs.Option.{option_map_or}
 use Rattle.std.specs.List.{insert, position_or_len}
 use Rattle.std.specs.Fmt.{decimal}
 use Rattle.hex.specs.Hex.{encode_lower}
-use Rattle.server.specs.Peer.{PeerState}
-use Rattle.server.specs.declared.wire.Door.{Door}
+use Rattle.wires.specs.Peer.{PeerState}
+use Rattle.wires.specs.declared.wire.Door.{Door}
 use Rattle.replay.specs.declared.connections.Connection.{Connection}
 
 -- ---- connections by their numbers

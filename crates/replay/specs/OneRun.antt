@@ -7,12 +7,12 @@ use Rattle.prices.specs.Plan.{PlanRecord}
 use Rattle.print_room.specs.Opening.{opening}
 use Rattle.print_room.specs.State.{State}
 use Rattle.print_room.specs.declared.started.Started.{Started}
-use Rattle.dispatcher.specs.declared.event.Event.{Event}
-use Rattle.dispatcher.specs.declared.event.Event.TheVariants as Is
-use Rattle.dispatcher.specs.declared.reply.Answer.{Answer}
-use Rattle.dispatcher.specs.declared.reply.Answer.TheVariants as Says
-use Rattle.dispatcher.specs.declared.reply.Cancel.{Cancel}
-use Rattle.dispatcher.specs.declared.reply.Reply.{Reply}
+use Rattle.events.specs.declared.event.Event.{Event}
+use Rattle.events.specs.declared.event.Event.TheVariants as Is
+use Rattle.events.specs.declared.reply.Answer.{Answer}
+use Rattle.events.specs.declared.reply.Answer.TheVariants as Says
+use Rattle.events.specs.declared.reply.Cancel.{Cancel}
+use Rattle.events.specs.declared.reply.Reply.{Reply}
 use Rattle.dispatcher.specs.declared.run.Timed.{Timed}
 use Rattle.dispatcher.specs.declared.run.Outcome.{Outcome}
 use Rattle.dispatcher.specs.declared.run.Outcome.TheVariants.{Queried, Dispatched}

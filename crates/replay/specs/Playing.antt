@@ -3,10 +3,10 @@ use Rattle.std.specs.Prelude.{ℕ, suc, ◌≡◌, ◌⊎◌, ◌<◌, not, Bool
 use Rattle.std.specs.Option.{option_map_or}
 use Rattle.std.specs.Fmt.{decimal}
 use Rattle.base_types.specs.Report.{report_of}
-use Rattle.server.specs.Peer.{PeerState}
+use Rattle.wires.specs.Peer.{PeerState}
 use Rattle.server.specs.Polls.{Happening, Leads}
 use Rattle.server.specs.Turn.{Deed, Turned, Served_body, Reported, Ticked, Trace, Outcome, Replied, BadRequest, OutOfMemory, has_refusal}
-use Rattle.server.specs.declared.wire.Door.{Door}
+use Rattle.wires.specs.declared.wire.Door.{Door}
 use Rattle.streams.specs.declared.exit_status.ExitStatus.TheVariants as Ends
 use Rattle.streams.specs.Said.{Said, refused_as, said_after}
 use Rattle.replay.specs.declared.connections.Connection.{Connection}

@@ -9,8 +9,8 @@ use Rattle.text.specs.Digits.{number_up_to}
 use Rattle.text.specs.Parts.{IsCut}
 use Rattle.device_link.specs.Line.{reported_by}
 use Rattle.replay.specs.declared.trace.Line.{Line}
-use Rattle.server.specs.declared.wire.Door.{Door}
-use Rattle.server.specs.declared.wire.Door.TheVariants as door
+use Rattle.wires.specs.declared.wire.Door.{Door}
+use Rattle.wires.specs.declared.wire.Door.TheVariants as door
 use Rattle.replay.specs.declared.trace.Line.TheVariants.{At, Ipp, Device, Tick, Open, In, End}
 
 -- decimal digits of a moment up to the last

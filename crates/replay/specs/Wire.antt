@@ -1,11 +1,12 @@
 -- The wire of a trace: a wire in memory that moves whatever there is to move.
 use Rattle.std.specs.Prelude.{ℕ, ◌≡◌, ◌||◌, not, Bool, true, false, List, [], ◌∷◌, ◌++◌, slice_get}
 use Rattle.std.specs.Option.{option_map_or}
-use Rattle.server.specs.declared.wire.Answer.{Answer}
-use Rattle.server.specs.declared.wire.Answer.TheVariants.{Done, Waiting, End, Fault}
-use Rattle.server.specs.Peer.{PeerState}
-use Rattle.server.specs.Polls.{Poll, Accepts, Reads, Writes, Closes, Happening, Polled, Told}
-use Rattle.server.specs.Memory.{PeersMove}
+use Rattle.wires.specs.declared.wire.Answer.{Answer}
+use Rattle.wires.specs.declared.wire.Answer.TheVariants.{Done, Waiting, End, Fault}
+use Rattle.wires.specs.Peer.{PeerState}
+use Rattle.wires.specs.Poll.{Poll, Accepts, Reads, Writes, Closes}
+use Rattle.server.specs.Polls.{Happening, Polled, Told}
+use Rattle.wires.specs.Memory.{PeersMove}
 use Rattle.replay.specs.declared.wire.TraceWire.{TraceWire}
 
 -- whether a poll came to something

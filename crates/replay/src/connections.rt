@@ -4,8 +4,8 @@ ghost use Rattle.std.specs.Option.{option_copied, option_map_or};
 ghost use Rattle.std.specs.List.{position_or_len};
 ghost use Rattle.replay.specs.Connections.{numbered, with_connection, is_closed, seen, emptied, sending, ending, changed_at};
 
-use server::memory_wire::Peer;
 use std::alloc::AllocError;
+use wires::Peer;
 
 /// A connection of a trace.
 #[derive(Clone, Copy, Debug)]

@@ -6,11 +6,13 @@ ghost use Rattle.replay.specs.Log.{note_text};
 
 use crate::print::{put_cancel, put_dispatch};
 use base_types::Text;
-use dispatcher::{Cancel, Dispatched};
-use server::{Notes, Place, WireId};
+use dispatcher::Dispatched;
+use events::Cancel;
+use server::{Notes, Place};
 use std::alloc::{AllocError, Global};
 use std::marker::Model;
 use std::mem;
+use wires::WireId;
 
 /// A listener that keeps what is printed of each dispatch and of each cancel. In clauses it is a record
 /// of whether the texts of plans are asked for, the names of the devices, and what was heard, unless

@@ -18,10 +18,10 @@ use crate::trace::{Input, Line, Opening, read_line};
 use crate::wire::TraceWire;
 use assignment::Lazy;
 use base_types::{DeviceId, Moment, Report};
-use server::memory_wire::{Memory, Peer};
 use server::{Engine, Served};
 use settings_file::Settings;
 use std::alloc::{AllocError, Global};
+use wires::{Memory, Peer};
 
 /// After so many turns for one line no more are taken for it.
 const MOST_TURNS: usize = 16_777_216;

@@ -10,11 +10,12 @@ ghost use Rattle.replay.specs.Connections.{out_line, gone_line, peer_text, conne
 
 use crate::connections::Connection;
 use base_types::{Stranded, Text};
-use dispatcher::{Cancel, Started};
+use dispatcher::Started;
+use events::Cancel;
 use plan_text::{cause_word, name_of, write_named_plan};
 use prices::{Plan, PlannedClass};
-use server::memory_wire::Peer;
 use std::alloc::{AllocError, Global};
+use wires::Peer;
 
 /// Appends the line of a reply of these bytes.
 pub fn put_reply(alloc: Global, output: &mut Vec<u8>, bytes: &[u8]) -> Result<(), AllocError>

@@ -8,9 +8,9 @@ ghost use Rattle.replay.specs.TraceLine.{Finds, IsMomentIn, IsBodyIn, IsDeviceIn
 use base_types::{DeviceId, Limits, Moment, Report, Text};
 use device_link::read_report;
 use hex::FromHexError;
-use server::Door;
 use std::alloc::{AllocError, Global};
 use text::{cut_at, number_up_to};
+use wires::Door;
 
 /// A line of a trace, after the settings.
 #[derive(Drop)]

@@ -2,9 +2,8 @@
 ghost use Rattle.std.specs.Prelude.{◌≡◌, false, true};
 ghost use Rattle.replay.specs.Wire.{has_input};
 
-use server::memory_wire::Memory;
-use server::{Answer, Door, Wire, WireId};
 use std::io::IoSlice;
+use wires::{Answer, Door, Memory, Wire, WireId};
 
 /// A wire in memory, of which is noted what its polls came to.
 #[derive(Drop)]

@@ -12,8 +12,8 @@ use Rattle.ipp_codec.specs.FirstFault.{HeadFault}
 use Rattle.ipp_codec.specs.Decoder.{DecoderState, StandsAt, Stands, TakesIn}
 use Rattle.printer_objects.specs.declared.operation.Operation.{Operation}
 use Rattle.printer_objects.specs.declared.operation.Operation.TheVariants as operation
-use Rattle.dispatcher.specs.declared.event.Event.{Event}
-use Rattle.dispatcher.specs.declared.status.Status.{Status}
+use Rattle.events.specs.declared.event.Event.{Event}
+use Rattle.events.specs.declared.status.Status.{Status}
 use Rattle.replies.specs.declared.header.Header.{Header}
 use Rattle.replies.specs.declared.asked.Asked.{Asked}
 use Rattle.replies.specs.declared.asked.Asked.TheVariants.{TooShort, Refused}

@@ -11,8 +11,8 @@ use Rattle.ipp_codec.specs.Grammar.{IsMessage, Spells}
 use Rattle.ipp_codec.specs.FirstFault.{FirstFault, HeadFault}
 use Rattle.ipp_codec.specs.Decoding.{fault_within}
 use Rattle.printer_objects.specs.declared.operation.Operation.{Operation}
-use Rattle.dispatcher.specs.declared.event.Event.{Event}
-use Rattle.dispatcher.specs.declared.status.Status.{Status}
+use Rattle.events.specs.declared.event.Event.{Event}
+use Rattle.events.specs.declared.status.Status.{Status}
 use Rattle.replies.specs.declared.header.Header.{Header}
 use Rattle.replies.specs.declared.asked.Asked.{Asked}
 use Rattle.replies.specs.declared.asked.Asked.TheVariants.{TooShort, Refused}

@@ -10,9 +10,9 @@ use Rattle.ipp_codec.specs.Grammar.{Spells}
 use Rattle.ipp_codec.specs.FirstFault.{HeadFault}
 use Rattle.printer_objects.specs.declared.operation.Operation.{Operation}
 use Rattle.printer_objects.specs.Operation.{operation_code, operation_table}
-use Rattle.dispatcher.specs.declared.event.Event.{Event}
-use Rattle.dispatcher.specs.declared.status.Status.{Status}
-use Rattle.dispatcher.specs.declared.status.Status.TheVariants as status
+use Rattle.events.specs.declared.event.Event.{Event}
+use Rattle.events.specs.declared.status.Status.{Status}
+use Rattle.events.specs.declared.status.Status.TheVariants as status
 use Rattle.replies.specs.declared.header.Header.{Header}
 use Rattle.replies.specs.declared.asked.Asked.{Asked}
 use Rattle.replies.specs.declared.asked.Asked.TheVariants.{TooShort, Refused, Event as Comes}

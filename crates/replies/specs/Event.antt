@@ -5,10 +5,10 @@ use Rattle.std.specs.Option.{option_map_or}
 use Rattle.ipp_codec.specs.Message.{IppAttribute, IppGroup, IppMessage}
 use Rattle.printer_objects.specs.declared.operation.Operation.{Operation}
 use Rattle.printer_objects.specs.declared.operation.Operation.TheVariants as operation
-use Rattle.dispatcher.specs.declared.event.Event.{Event}
-use Rattle.dispatcher.specs.declared.event.Event.TheVariants as event
-use Rattle.dispatcher.specs.declared.status.Status.{Status}
-use Rattle.dispatcher.specs.declared.status.Status.TheVariants.{BadRequest, CharsetNotSupported}
+use Rattle.events.specs.declared.event.Event.{Event}
+use Rattle.events.specs.declared.event.Event.TheVariants as event
+use Rattle.events.specs.declared.status.Status.{Status}
+use Rattle.events.specs.declared.status.Status.TheVariants.{BadRequest, CharsetNotSupported}
 use Rattle.replies.specs.declared.operation_attribute.OperationAttribute.TheVariants.{PrinterUri, LastDocument}
 use Rattle.replies.specs.Attributes.{has, is_tagged}
 use Rattle.replies.specs.JobCreation.{asked_job_of, print_job_of, validate_job_of}

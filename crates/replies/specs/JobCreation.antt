@@ -1,10 +1,10 @@
 -- What is read of a request for a new job: Print-Job, Validate-Job and Create-Job (RFC 8011, sections 4.2.1, 4.2.3 and 4.2.4).
 use Rattle.std.specs.Prelude.{ℕ, List, codes}
 use Rattle.ipp_codec.specs.Message.{IppAttribute, IppGroup}
-use Rattle.dispatcher.specs.declared.event.AskedJob.{AskedJob}
-use Rattle.dispatcher.specs.declared.event.DocumentForm.{DocumentForm}
-use Rattle.dispatcher.specs.declared.event.PrintJob.{PrintJob}
-use Rattle.dispatcher.specs.declared.event.ValidateJob.{ValidateJob}
+use Rattle.events.specs.declared.event.AskedJob.{AskedJob}
+use Rattle.events.specs.declared.event.DocumentForm.{DocumentForm}
+use Rattle.events.specs.declared.event.PrintJob.{PrintJob}
+use Rattle.events.specs.declared.event.ValidateJob.{ValidateJob}
 use Rattle.replies.specs.declared.operation_attribute.OperationAttribute.TheVariants.{JobName, IppAttributeFidelity, JobImpressions, DocumentFormat, Compression}
 use Rattle.replies.specs.Attributes.{name_or, bytes_of, number_of, truth_of}
 use Rattle.replies.specs.Request.{user_of}

@@ -3,12 +3,12 @@ use Rattle.std.specs.Prelude.{ℕ, if◌then◌else◌, List, codes}
 use Rattle.std.specs.Option.{option_map_or}
 use Rattle.std.specs.Str.{bytes_eq}
 use Rattle.ipp_codec.specs.Message.{IppGroup}
-use Rattle.dispatcher.specs.declared.event.JobRequest.{JobRequest}
-use Rattle.dispatcher.specs.declared.event.SendDocument.{SendDocument}
-use Rattle.dispatcher.specs.declared.event.HoldUntil.{HoldUntil}
-use Rattle.dispatcher.specs.declared.event.HoldUntil.TheVariants.{NoHold, Indefinite, Unsupported}
-use Rattle.dispatcher.specs.declared.event.HoldJob.{HoldJob}
-use Rattle.dispatcher.specs.declared.event.GetJobAttributes.{GetJobAttributes}
+use Rattle.events.specs.declared.event.JobRequest.{JobRequest}
+use Rattle.events.specs.declared.event.SendDocument.{SendDocument}
+use Rattle.events.specs.declared.event.HoldUntil.{HoldUntil}
+use Rattle.events.specs.declared.event.HoldUntil.TheVariants.{NoHold, Indefinite, Unsupported}
+use Rattle.events.specs.declared.event.HoldJob.{HoldJob}
+use Rattle.events.specs.declared.event.GetJobAttributes.{GetJobAttributes}
 use Rattle.replies.specs.declared.operation_attribute.OperationAttribute.TheVariants.{LastDocument, JobHoldUntil}
 use Rattle.replies.specs.Attributes.{as_it_came, bytes_of, truth_of}
 use Rattle.replies.specs.JobCreation.{form_of}

@@ -3,11 +3,11 @@ use Rattle.std.specs.Prelude.{ℕ, nat_le, if◌then◌else◌, List, Option, So
 use Rattle.std.specs.Option.{option_map_or, option_and_then}
 use Rattle.std.specs.Str.{bytes_eq}
 use Rattle.ipp_codec.specs.Message.{IppGroup}
-use Rattle.dispatcher.specs.declared.event.PrinterRequest.{PrinterRequest}
-use Rattle.dispatcher.specs.declared.event.WhichJobs.{WhichJobs}
-use Rattle.dispatcher.specs.declared.event.WhichJobs.TheVariants.{Completed, NotCompleted, Unsupported}
-use Rattle.dispatcher.specs.declared.event.GetJobs.{GetJobs}
-use Rattle.dispatcher.specs.declared.event.GetPrinterAttributes.{GetPrinterAttributes}
+use Rattle.events.specs.declared.event.PrinterRequest.{PrinterRequest}
+use Rattle.events.specs.declared.event.WhichJobs.{WhichJobs}
+use Rattle.events.specs.declared.event.WhichJobs.TheVariants.{Completed, NotCompleted, Unsupported}
+use Rattle.events.specs.declared.event.GetJobs.{GetJobs}
+use Rattle.events.specs.declared.event.GetPrinterAttributes.{GetPrinterAttributes}
 use Rattle.replies.specs.declared.operation_attribute.OperationAttribute.TheVariants as attribute
 use Rattle.replies.specs.Attributes.{as_it_came, bytes_of, number_of, truth_of}
 use Rattle.replies.specs.Request.{user_of}

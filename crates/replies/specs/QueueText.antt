@@ -10,12 +10,12 @@ use Rattle.job_objects.specs.declared.reason.Reason.{Reason}
 use Rattle.job_objects.specs.Reasons.{keyword_of}
 use Rattle.printer_objects.specs.declared.state.PrinterState.{PrinterState}
 use Rattle.printer_objects.specs.declared.state.PrinterState.TheVariants as Printer
-use Rattle.queues.specs.declared.entry.QueueEntry.{QueueEntry}
-use Rattle.queues.specs.declared.listing.QueueListing.{QueueListing}
-use Rattle.queues.specs.declared.request.QueueForm.{QueueForm}
-use Rattle.queues.specs.declared.request.QueueForm.TheVariants.{Short, Long}
-use Rattle.dispatcher.specs.declared.reply.LpdAnswer.{LpdAnswer}
-use Rattle.dispatcher.specs.declared.reply.LpdAnswer.TheVariants.{Taken, Queue, NoQueue}
+use Rattle.events.specs.declared.queue.QueueEntry.{QueueEntry}
+use Rattle.events.specs.declared.queue.QueueListing.{QueueListing}
+use Rattle.events.specs.declared.queue.QueueForm.{QueueForm}
+use Rattle.events.specs.declared.queue.QueueForm.TheVariants.{Short, Long}
+use Rattle.events.specs.declared.reply.LpdAnswer.{LpdAnswer}
+use Rattle.events.specs.declared.reply.LpdAnswer.TheVariants.{Taken, Queue, NoQueue}
 
 -- ---- words
 

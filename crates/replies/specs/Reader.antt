@@ -6,8 +6,8 @@ use Rattle.ipp_codec.specs.declared.stage.Stage.TheVariants.{Whole}
 use Rattle.ipp_codec.specs.Decoder.{DecoderState, Stands}
 use Rattle.printer_objects.specs.declared.operation.Operation.{Operation}
 use Rattle.printer_objects.specs.declared.operation.Operation.TheVariants.{PrintJob, SendDocument}
-use Rattle.dispatcher.specs.declared.event.Event.{Event}
-use Rattle.dispatcher.specs.declared.status.Status.{Status}
+use Rattle.events.specs.declared.event.Event.{Event}
+use Rattle.events.specs.declared.status.Status.{Status}
 use Rattle.replies.specs.declared.header.Header.{Header}
 use Rattle.replies.specs.declared.asked.Asked.{Asked}
 use Rattle.replies.specs.Asked.{header_of, operation_of, Requests, AsksBy, AsksUnder, Asks}

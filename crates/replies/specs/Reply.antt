@@ -3,10 +3,10 @@ use Rattle.std.specs.Prelude.{ℕ, ◌≡◌, ◌++◌, Bool, true, false, if◌
 use Rattle.ipp_codec.specs.Message.{plain, IppAttribute, IppGroup, IppMessage}
 use Rattle.ipp_codec.specs.Spelling.{spelling}
 use Rattle.ipp_codec.specs.Tag as tags
-use Rattle.dispatcher.specs.declared.reply.IppAnswer.{IppAnswer}
-use Rattle.dispatcher.specs.declared.status.Status.{Status}
-use Rattle.dispatcher.specs.declared.status.Status.TheVariants.{OkIgnoredOrSubstituted, AttributesNotSupported}
-use Rattle.dispatcher.specs.Status.{code_of}
+use Rattle.events.specs.declared.reply.IppAnswer.{IppAnswer}
+use Rattle.events.specs.declared.status.Status.{Status}
+use Rattle.events.specs.declared.status.Status.TheVariants.{OkIgnoredOrSubstituted, AttributesNotSupported}
+use Rattle.events.specs.Status.{code_of}
 
 -- one value
 abbrev pub alone : List ℕ → ℕ → List ℕ → IppAttribute

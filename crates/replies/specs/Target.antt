@@ -5,10 +5,10 @@ use Rattle.std.specs.Str.{bytes_eq, str_eq_ignore_ascii_case}
 use Rattle.base_types.specs.declared.limits.TheConstants.Limits.{LAST_JOB_ID}
 use Rattle.text.specs.Digits.{is_number, number_up_to}
 use Rattle.ipp_codec.specs.Message.{bytes_in, IppGroup}
-use Rattle.dispatcher.specs.declared.event.Target.{Target}
-use Rattle.dispatcher.specs.declared.event.Target.TheVariants.{Named, First, Unknown}
-use Rattle.dispatcher.specs.declared.event.JobTarget.{JobTarget}
-use Rattle.dispatcher.specs.declared.event.JobTarget.TheVariants as job
+use Rattle.events.specs.declared.event.Target.{Target}
+use Rattle.events.specs.declared.event.Target.TheVariants.{Named, First, Unknown}
+use Rattle.events.specs.declared.event.JobTarget.{JobTarget}
+use Rattle.events.specs.declared.event.JobTarget.TheVariants as job
 use Rattle.replies.specs.declared.operation_attribute.OperationAttribute.TheVariants.{PrinterUri, JobUri, JobId}
 use Rattle.replies.specs.Attributes.{has, value_of, number_of}
 

@@ -6,7 +6,7 @@ ghost use Rattle.replies.specs.Reader.{WasFed, AsksOf, AsksUnderOf, AsksByOf, Re
 use crate::asked_reader::AskedReader;
 use crate::event::event_of;
 use crate::header::{Header, header_of, operation_of};
-use dispatcher::{Event, Status};
+use events::{Event, Status};
 use ipp_codec::{CodecFault, Decoder};
 use printer_objects::Operation;
 use spool::Pages;

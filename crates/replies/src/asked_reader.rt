@@ -5,7 +5,7 @@ ghost use Rattle.replies.specs.Reader.{Heard, has_document, sends_document, read
 
 use crate::asked::{Asked, asked_of};
 use crate::header::{header_of, operation_of, request_id};
-use dispatcher::Status;
+use events::Status;
 use ipp_codec::{DecodeError, Decoder, Fed};
 use printer_objects::Operation;
 use spool::Pages;

@@ -12,7 +12,7 @@ use crate::operation_attribute::{OperationAttribute, attributes_read};
 use crate::printer_requests::{get_jobs_of, get_printer_attributes_of, printer_request_of};
 use crate::request::{is_utf8, operation_group};
 use crate::target::names_job;
-use dispatcher::{Event, Status};
+use events::{Event, Status};
 use ipp_codec::{GroupView, MessageView};
 use printer_objects::Operation;
 use spool::Pages;

@@ -2,7 +2,7 @@
 ghost use Rattle.std.specs.Prelude.{◌≡◌};
 ghost use Rattle.replies.specs.Asked.{header_of, operation_in, operation_of, request_id_of};
 
-use dispatcher::Status;
+use events::Status;
 use printer_objects::Operation;
 
 /// The first eight bytes of a request (RFC 8010, section 3.1.1), without the version's minor number.

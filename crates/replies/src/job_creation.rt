@@ -9,7 +9,7 @@ use crate::attributes::{bytes_of, name_or, number_of, truth_of};
 use crate::operation_attribute::OperationAttribute;
 use crate::request::{job_attributes, user_of};
 use crate::target::printer_target;
-use dispatcher::{AskedJob, DocumentForm, PrintJob, ValidateJob};
+use events::{AskedJob, DocumentForm, PrintJob, ValidateJob};
 use ipp_codec::{GroupView, MessageView};
 use spool::{Octets, Pages};
 use std::alloc::{AllocError, Global};

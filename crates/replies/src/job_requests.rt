@@ -11,7 +11,7 @@ use crate::operation_attribute::OperationAttribute;
 use crate::request::user_of;
 use crate::requested::requested_of;
 use crate::target::job_target;
-use dispatcher::{GetJobAttributes, HoldJob, HoldUntil, JobRequest, SendDocument};
+use events::{GetJobAttributes, HoldJob, HoldUntil, JobRequest, SendDocument};
 use ipp_codec::GroupView;
 use spool::{Octets, Pages};
 use std::alloc::{AllocError, Global};

@@ -10,7 +10,7 @@ use crate::operation_attribute::OperationAttribute;
 use crate::request::user_of;
 use crate::requested::requested_of;
 use crate::target::printer_target;
-use dispatcher::{GetJobs, GetPrinterAttributes, PrinterRequest, WhichJobs};
+use events::{GetJobs, GetPrinterAttributes, PrinterRequest, WhichJobs};
 use ipp_codec::GroupView;
 use std::alloc::{AllocError, Global};
 

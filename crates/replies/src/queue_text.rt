@@ -4,7 +4,7 @@ ghost use Rattle.std.specs.Prelude.{◌≡◌, ◌++◌, IfOk, OnOk};
 ghost use Rattle.std.specs.List.{flat_map};
 ghost use Rattle.replies.specs.QueueText.{ack_of, line_of, lines_of, long_line, long_start, printer_word, queue_text, reasons_word, short_line, shown, sizes_of, shown_byte, state_word, text_of};
 
-use dispatcher::{LpdAnswer, QueueEntry, QueueForm, QueueListing};
+use events::{LpdAnswer, QueueEntry, QueueForm, QueueListing};
 use job_objects::{JobReasons, JobState};
 use printer_objects::PrinterState;
 use std::alloc::{AllocError, Global};

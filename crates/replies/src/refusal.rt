@@ -2,7 +2,7 @@
 ghost use Rattle.std.specs.Prelude.{◌≡◌};
 ghost use Rattle.replies.specs.Reply.{refusal_bytes};
 
-use dispatcher::Status;
+use events::Status;
 
 /// The bytes of a reply of a status alone, with its charset and natural language (RFC 8011, section
 /// 4.1.4.2); it takes no memory.

@@ -3,7 +3,7 @@ ghost use Rattle.std.specs.Prelude.{◌≡◌, ◌∷◌, IfOk};
 ghost use Rattle.ipp_codec.specs.Grammar.{IsMessage};
 ghost use Rattle.replies.specs.Reply.{opening_group, tells_unsupported, unsupported_of, message_of, IsReply};
 
-use dispatcher::{IppAnswer, Status};
+use events::{IppAnswer, Status};
 use ipp_codec::{
     Attribute, EncodeFault, Group, GroupTag, Message, Value, ValueTag, Version, encode,
 };

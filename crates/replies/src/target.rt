@@ -7,7 +7,7 @@ ghost use Rattle.replies.specs.Target.{after_scheme, after_known_scheme, path_of
 use crate::attributes::{has, number_of, value_of};
 use crate::operation_attribute::OperationAttribute;
 use base_types::{JobId, Limits, Text};
-use dispatcher::{JobTarget, Target};
+use events::{JobTarget, Target};
 use ipp_codec::GroupView;
 use std::alloc::{AllocError, Global};
 use text::{find_byte, is_number, number_up_to};

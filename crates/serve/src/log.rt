@@ -1,12 +1,13 @@
 //! The lines of a log.
 use crate::ends::Ended;
-use crate::visits::{Leave, Visit};
 use base_types::{DeviceId, JobId, Moment, Text};
 use job_objects::JobState;
 use plan_text::{cause_word, name_of};
-use server::{Door, Heard, Place, WireId};
+use server::{Heard, Place};
+use sockets::{Leave, Visit};
 use std::alloc::{AllocError, Global};
 use std::net::SocketAddr;
+use wires::{Door, WireId};
 
 /// The lines of a moment, each with the ms since the start in front.
 #[derive(Drop)]

@@ -4,18 +4,19 @@ ghost use Rattle.settings_file.specs.Settings.{MeetsLimits};
 use crate::clock::moment_since;
 use crate::ends::Begun;
 use crate::log::Lines;
-use crate::sockets::{Ports, Sockets};
-use crate::visits::{Visit, Visits};
 use assignment::Lazy;
 use base_types::{Moment, Text};
-use dispatcher::{Cancel, Dispatched};
-use server::{Engine, Heard, NoteLog, Notes, Place, WireId};
+use dispatcher::Dispatched;
+use events::Cancel;
+use server::{Engine, Heard, NoteLog, Notes, Place};
 use settings_file::Settings;
+use sockets::{Ports, Sockets, Visit, Visits};
 use std::alloc::{AllocError, Global};
 use std::io;
 use std::io::Write;
 use std::net::{IpAddr, Net};
 use std::time::{Clock, Duration, Instant};
+use wires::WireId;
 
 /// How long a server waits at most where nothing happens, in ms. A tick, which comes each second, is
 /// late by no more.

@@ -27,8 +27,3 @@ part_more octets part more start behind is next goes_on =
 -- the last part, and nothing behind it
 pub part_alone : (octets part : List ℕ) (start : ℕ) → IsFrontOf part (drop start octets) → IsFrontOf (part ++ []) (drop start octets)
 part_alone octets part start is = subst (λ (l : List ℕ). IsFrontOf l (drop start octets)) (sym (append-nil part)) is
-
--- bytes in parts begin with the first part
-pub first_part : (parts : List IoSlice) (d : IoSlice) → 1 ≤ length parts → (rest : List ℕ) × (io_slices_bytes parts ≡ io_slice_bytes (get_or parts 0 d) ++ rest)
-first_part [] d some = absurd (omega (arith, some))
-first_part (part ∷ parts) d some = (io_slices_bytes parts, refl)

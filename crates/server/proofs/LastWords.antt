@@ -7,7 +7,7 @@ use Rattle.std.proofs.lemmas.Fmt.{length-decimal-le}
 use Rattle.http_front.specs.Reply.{opening, ending, head, continue_head}
 use Rattle.http_front.specs.declared.refusal.Refusal.{Refusal}
 use Rattle.http_front.specs.declared.refusal.Refusal.TheVariants.{BadRequest, MethodNotAllowed, ContentTooLarge, UnsupportedMediaType, ExpectationFailed, HeadTooLarge, NotImplemented}
-use Rattle.dispatcher.specs.declared.status.Status.{Status}
+use Rattle.events.specs.declared.status.Status.{Status}
 use Rattle.replies.specs.Reply.{refusal_bytes}
 use Rattle.server.specs.Ledger.{Entry}
 use Rattle.server.specs.Rel.{Nothing, If}

@@ -12,21 +12,23 @@ use Rattle.http_front.specs.declared.item.HttpItem.{HttpItem}
 use Rattle.http_front.specs.declared.item.HttpItem.TheVariants as item
 use Rattle.lpd_reader.specs.Session.{CommandRecord, ItemRecord, Says, Aborts, Announces, HasFile}
 use Rattle.lpd_session.specs.Session.{SessionState, SentRecord}
-use Rattle.dispatcher.specs.declared.event.Event.{Event}
-use Rattle.dispatcher.specs.declared.event.Event.TheVariants as Is
-use Rattle.dispatcher.specs.declared.reply.Answer.{Answer}
-use Rattle.dispatcher.specs.declared.reply.Answer.TheVariants as answered
-use Rattle.dispatcher.specs.declared.reply.LpdAnswer.{LpdAnswer}
-use Rattle.dispatcher.specs.declared.reply.LpdAnswer.TheVariants as shown
-use Rattle.dispatcher.specs.declared.reply.Reply.{Reply}
+use Rattle.events.specs.declared.event.Event.{Event}
+use Rattle.events.specs.declared.event.Event.TheVariants as Is
+use Rattle.events.specs.declared.reply.Answer.{Answer}
+use Rattle.events.specs.declared.reply.Answer.TheVariants as answered
+use Rattle.events.specs.declared.reply.LpdAnswer.{LpdAnswer}
+use Rattle.events.specs.declared.reply.LpdAnswer.TheVariants as shown
+use Rattle.events.specs.declared.reply.Reply.{Reply}
 use Rattle.dispatcher.specs.declared.run.Outcome.{Outcome}
 use Rattle.dispatcher.specs.declared.run.Outcome.TheVariants.{Dropped, Queried, Undispatched, Dispatched}
-use Rattle.dispatcher.specs.declared.status.Status.TheVariants.{TemporaryError}
-use Rattle.dispatcher.specs.Run.{is_query, Comes}
+use Rattle.events.specs.declared.status.Status.TheVariants.{TemporaryError}
+use Rattle.events.specs.Event.{is_query}
+use Rattle.dispatcher.specs.Run.{Comes}
 use Rattle.replies.specs.declared.asked.Asked.{Asked}
 use Rattle.replies.specs.declared.asked.Asked.TheVariants as asks
 use Rattle.replies.specs.QueueText.{ack_of, text_of}
-use Rattle.server.specs.Polls.{Poll, Accepts, Reads, Writes, Closes, Refused, Happening, Polled, Told}
+use Rattle.wires.specs.Poll.{Poll, Accepts, Reads, Writes, Closes}
+use Rattle.server.specs.Polls.{Refused, Happening, Polled, Told}
 use Rattle.server.specs.Ledger.{Entry, Ledger, Fate, Drained, Broken, opening_entry, with_new, device_of, waiting}
 use Rattle.server.specs.Rel.{Rel, Nothing, Polls, Then, If, Or, Times, Many, Each}
 use Rattle.server.specs.Keeping.{Sets, broken, Breaks, Drops, Keeps}
@@ -41,10 +43,10 @@ use Rattle.server.specs.Polling.{Opens, AcceptsAs, AcceptsOne, AcceptsAt, ActsNe
 use Rattle.server.specs.Turn as Between
 use Rattle.server.specs.Turn.{Notes, Ticks, is_tick_due, TicksIfDue, Covers, Rounds, Round, Turn, has_refusal, Deed, Turned, Served_body, Reported, Ticked, DoesDeed}
 use Rattle.server.specs.Law.{Dispatch, plans_told, cancels_told, Collects, cancels_of, IsWhole, moment_of, happenings_of, IsAnswered}
-use Rattle.server.specs.declared.wire.Answer.TheVariants as wire
-use Rattle.server.specs.declared.wire.Answer.{Answer as WireAnswer}
-use Rattle.server.specs.declared.wire.Door.{Door}
-use Rattle.server.specs.declared.wire.Door.TheVariants.{Ipp, Lpd, Devices}
+use Rattle.wires.specs.declared.wire.Answer.TheVariants as wire
+use Rattle.wires.specs.declared.wire.Answer.{Answer as WireAnswer}
+use Rattle.wires.specs.declared.wire.Door.{Door}
+use Rattle.wires.specs.declared.wire.Door.TheVariants.{Ipp, Lpd, Devices}
 use Rattle.server.specs.declared.notes.Place.{Place}
 use Rattle.server.specs.declared.notes.Place.TheVariants as At
 use Rattle.server.proofs.Speaking.{plans_of, cancels_are, Calmly, calm_nothing, calm_then, calm_if, calm_or, calm_refusal, calm_sets, calm_drops, calm_drops_one, calm_breaks, calm_keeps, core_notes, IsUnpolled, never, no_refusal_told, Happened, happens, between_nothing}

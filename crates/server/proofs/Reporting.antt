@@ -12,7 +12,7 @@ use Rattle.base_types.specs.Report.{ReportRecord, SaysHello, SaysMedia, SaysRead
 use Rattle.device_link.specs.Line.{in_turn, said}
 use Rattle.device_link.specs.Stream.{LinkState, SaysFirst}
 use Rattle.device_link.specs.Stream as Link
-use Rattle.dispatcher.specs.declared.event.Event.TheVariants as Is
+use Rattle.events.specs.declared.event.Event.TheVariants as Is
 use Rattle.server.specs.Polls.{Note, Refused, Happening, Told, alone}
 use Rattle.server.specs.Ledger.{Entry, Ledger, with_entry}
 use Rattle.server.specs.Ledger as Ledger

@@ -7,11 +7,12 @@ use Rattle.print_room.specs.declared.started.Started.{Started}
 use Rattle.print_room.specs.State.{State}
 use Rattle.print_room.specs.Ready.{ready_of}
 use Rattle.print_room.specs.Dispatch.{Dispatches as Chooses}
-use Rattle.dispatcher.specs.declared.event.Event.{Event}
-use Rattle.dispatcher.specs.declared.reply.Reply.{Reply}
-use Rattle.dispatcher.specs.declared.reply.Cancel.{Cancel}
+use Rattle.events.specs.declared.event.Event.{Event}
+use Rattle.events.specs.declared.reply.Reply.{Reply}
+use Rattle.events.specs.declared.reply.Cancel.{Cancel}
 use Rattle.dispatcher.specs.declared.run.Outcome.TheVariants.{Undispatched}
-use Rattle.dispatcher.specs.Run.{is_query, Comes}
+use Rattle.events.specs.Event.{is_query}
+use Rattle.dispatcher.specs.Run.{Comes}
 use Rattle.dispatcher.specs.Step.{Step}
 use Rattle.server.specs.Polls.{Note, Planned, Canceled, Refused, Happening, Polled, Told}
 use Rattle.server.specs.Ledger.{Entry, Ledger, with_entry, job_bytes}

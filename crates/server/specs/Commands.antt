@@ -2,9 +2,9 @@
 use Rattle.std.specs.Prelude.{◌≡◌}
 use Rattle.lpd_reader.specs.Session.{CommandRecord, ListsShort, ListsLong, RemovesJobs}
 use Rattle.lpd_session.specs.Session.{SentRecord}
-use Rattle.queues.specs.declared.request.QueueForm.TheVariants.{Short, Long}
-use Rattle.dispatcher.specs.declared.event.Event.{Event}
-use Rattle.dispatcher.specs.declared.event.Event.TheVariants as Is
+use Rattle.events.specs.declared.queue.QueueForm.TheVariants.{Short, Long}
+use Rattle.events.specs.declared.event.Event.{Event}
+use Rattle.events.specs.declared.event.Event.TheVariants as Is
 
 -- the event of a job of files
 abbrev pub SubmitsJob : SentRecord → Event → Type 0

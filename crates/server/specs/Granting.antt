@@ -1,6 +1,6 @@
 -- What comes of what an LPD client asks, by the events that the engine has made of it.
 use Rattle.std.specs.Prelude.{ℕ, Some}
-use Rattle.dispatcher.specs.declared.event.Event.{Event}
+use Rattle.events.specs.declared.event.Event.{Event}
 use Rattle.server.specs.declared.lpd_talk.LpdAsks.{LpdAsks}
 use Rattle.server.specs.declared.lpd_talk.LpdAsks.TheVariants as asks
 use Rattle.server.specs.declared.notes.Place.TheVariants as At

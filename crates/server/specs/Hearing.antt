@@ -25,8 +25,8 @@ use Rattle.server.specs.declared.talk.Brought.{Brought}
 use Rattle.server.specs.declared.talk.Brought.TheVariants as brings
 use Rattle.server.specs.declared.talk.Talk.{Talk}
 use Rattle.server.specs.declared.talk.Talk.TheVariants as of
-use Rattle.server.specs.declared.wire.Door.{Door}
-use Rattle.server.specs.declared.wire.Door.TheVariants as door
+use Rattle.wires.specs.declared.wire.Door.{Door}
+use Rattle.wires.specs.declared.wire.Door.TheVariants as door
 
 -- nothing was read at this door yet
 abbrev pub IsNewHttp : HttpTalkState → Type 0

@@ -6,10 +6,10 @@ use Rattle.base_types.specs.declared.report.Report.{Report}
 use Rattle.base_types.specs.Report.{report_of}
 use Rattle.print_room.specs.declared.started.Started.{Started}
 use Rattle.print_room.specs.State.{State}
-use Rattle.dispatcher.specs.declared.event.Event.{Event}
-use Rattle.dispatcher.specs.declared.event.Event.TheVariants as Is
-use Rattle.dispatcher.specs.declared.reply.Reply.{Reply}
-use Rattle.dispatcher.specs.declared.reply.Cancel.{Cancel}
+use Rattle.events.specs.declared.event.Event.{Event}
+use Rattle.events.specs.declared.event.Event.TheVariants as Is
+use Rattle.events.specs.declared.reply.Reply.{Reply}
+use Rattle.events.specs.declared.reply.Cancel.{Cancel}
 use Rattle.dispatcher.specs.declared.run.Timed.{Timed}
 use Rattle.dispatcher.specs.declared.run.Outcome.{Outcome}
 use Rattle.dispatcher.specs.declared.run.Outcome.TheVariants.{Dropped, Queried, Undispatched, Dispatched}

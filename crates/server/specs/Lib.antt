@@ -22,5 +22,3 @@ pub mod Newcomers
 pub mod Stands
 pub mod CoreStep
 pub mod NoteLog
-pub mod Peer
-pub mod Memory

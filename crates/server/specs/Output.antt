@@ -1,10 +1,10 @@
 -- What waits on a connection, and what the wire takes of it.
 use Rattle.std.specs.Prelude.{ℕ, ◌≡◌, ◌<◌, ◌≤◌, ◌⊎◌, List, [], ◌++◌, length, drop}
 use Rattle.std.specs.List.{flat_map}
-use Rattle.server.specs.Polls.{Poll, Writes}
+use Rattle.wires.specs.Poll.{Poll, Writes}
 use Rattle.server.specs.declared.output.Offered.{Offered}
 use Rattle.server.specs.declared.output.Offered.TheVariants as offer
-use Rattle.server.specs.declared.wire.Answer.TheVariants.{Done, Waiting, End, Fault}
+use Rattle.wires.specs.declared.wire.Answer.TheVariants.{Done, Waiting, End, Fault}
 
 -- lists one after the other
 abbrev pub joined : List (List ℕ) → List ℕ

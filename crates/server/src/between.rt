@@ -10,7 +10,7 @@ use crate::notes::{Notes, Place};
 use crate::served::{Served, answered};
 use assignment::Planner;
 use base_types::{DeviceId, Moment, Report};
-use dispatcher::{Answer as Says, Event, Reply, Status};
+use events::{Answer as Says, Event, Reply, Status};
 use replies::{Asked, ipp_event, ipp_refusal, ipp_reply};
 use std::alloc::AllocError;
 

@@ -9,7 +9,7 @@ use crate::engine::Engine;
 use crate::notes::{Notes, Place};
 use crate::table::{Kept, keep, keep_refusal, keep_reply};
 use assignment::Planner;
-use dispatcher::Status;
+use events::Status;
 use http_front::Refusal;
 use replies::ipp_refusal;
 

@@ -10,7 +10,6 @@ ghost use Rattle.server.specs.Stands.{StandsAt, Turns};
 
 use crate::connection::Connection;
 use crate::notes::Notes;
-use crate::wire::Wire;
 use assignment::Planner;
 use base_types::{DeviceId, DeviceNow, JobId, Limits, Moment};
 use dispatcher::Core;
@@ -19,6 +18,7 @@ use settings_file::Settings;
 use slab::Slab;
 use std::alloc::{AllocError, Global};
 use std::marker::Model;
+use wires::Wire;
 
 /// The connections of a server, and its core.
 #[derive(Drop)]

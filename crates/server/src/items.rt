@@ -6,17 +6,17 @@ ghost use Rattle.server.specs.Exchange.{refusal_head, AsksFor, closes_with};
 ghost use Rattle.server.specs.State.{Slots, OnSlot, IsBrought, IsHeard, HearsNothing, IsWholeOf, changed_at, is_over, with_slots};
 ghost use Rattle.server.specs.Stands.{Aside, Heard};
 
+use crate::effects::Asker;
 use crate::engine::Engine;
-use crate::events::Asker;
 use crate::notes::{Notes, Place};
 use crate::table::{Whole, begin, break_off, finish, lose, next, take_body, take_part};
 use crate::talk::Brought;
-use crate::wire::WireId;
 use assignment::Planner;
 use base_types::Moment;
-use dispatcher::{Event, Status};
+use events::{Event, Status};
 use http_front::{HttpItem, Refusal, continue_head};
 use replies::Asked;
+use wires::WireId;
 
 /// What connections bring, acted on one at a time.
 impl<P: Planner + Drop> Engine<P> {

@@ -2,7 +2,7 @@
 ghost use Rattle.std.specs.Prelude.{ℕ, Bool, ◌∷◌, []};
 ghost use Rattle.http_front.specs.Reply.{continue_head};
 ghost use Rattle.http_front.specs.declared.refusal.Refusal.{Refusal};
-ghost use Rattle.dispatcher.specs.declared.status.Status.{Status};
+ghost use Rattle.events.specs.declared.status.Status.{Status};
 ghost use Rattle.print_room.specs.State.{State};
 ghost use Rattle.server.specs.Ledger.{Ledger, opening_ledger};
 ghost use Rattle.server.specs.Exchange.{http_status, refusal_head};

@@ -13,7 +13,7 @@ ghost use Rattle.server.specs.LpdAsks.{AsksAs, AsksForFile, AsksForItem, is_last
 
 use crate::talk::Brought;
 use base_types::Text;
-use dispatcher::{Event, ListQueue, QueueForm, RemoveJobs, SubmitFiles};
+use events::{Event, ListQueue, QueueForm, RemoveJobs, SubmitFiles};
 use lpd_reader::{FileHead, LpdCommand, LpdError, LpdItem, LpdReader};
 use lpd_session::{SentJob, Session};
 use settings_file::{PrinterSettings, Settings};

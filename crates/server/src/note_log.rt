@@ -5,13 +5,14 @@ ghost use Rattle.dispatcher.specs.Dispatched.{plan_of, started_of};
 ghost use Rattle.server.specs.NoteLog.{plan_words, class_word, dispatch_words};
 
 use crate::notes::{Notes, Place};
-use crate::wire::WireId;
 use base_types::{Priority, Stranded};
-use dispatcher::{Cancel, Dispatched, Started};
+use dispatcher::{Dispatched, Started};
+use events::Cancel;
 use prices::{Plan, PlannedClass};
 use std::alloc::{AllocError, Global};
 use std::marker::Model;
 use std::mem;
+use wires::WireId;
 
 /// What a listener hears, in order. A dispatch is several: its plan, if a job was ready, and then each
 /// job that begins.

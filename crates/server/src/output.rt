@@ -7,7 +7,6 @@ ghost use Rattle.spool.specs.Document.{IsFrontOf};
 ghost use Rattle.server.specs.Exchange.{http_reply, refusal_head};
 ghost use Rattle.server.specs.Output.{OffersFront, IsSome, joined};
 
-use crate::wire::{Answer, Wire, WireId};
 use base_types::{JobId, Needs};
 use device_link::{write_cancel, write_job};
 use http::StatusCode;
@@ -16,6 +15,7 @@ use spool::{Document, Octets, Pages};
 use std::alloc::{AllocError, Global};
 use std::io::IoSlice;
 use std::marker::Model;
+use wires::{Answer, Wire, WireId};
 
 /// How many bytes may wait on a connection without any memory but what it took when it was accepted.
 const RESERVED_BYTES: usize = 256;

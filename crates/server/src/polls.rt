@@ -9,9 +9,9 @@ use crate::notes::{Notes, Place};
 use crate::output::Offered;
 use crate::table::{Fed, end, feed, insert, offer, to_read};
 use crate::talk::Talk;
-use crate::wire::{Answer, Door, Wire, WireId};
 use assignment::Planner;
 use base_types::{Limits, Moment};
+use wires::{Answer, Door, Wire, WireId};
 
 /// The bytes of a read, at most.
 const PIECE: usize = 4096;

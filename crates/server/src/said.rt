@@ -14,12 +14,12 @@ use crate::lpd_talk::{LpdAsks, REFUSED};
 use crate::notes::{Notes, Place};
 use crate::table::{break_off, finish, hear_said};
 use crate::talk::Brought;
-use crate::wire::WireId;
 use assignment::Planner;
 use base_types::Moment;
-use dispatcher::{Answer as Says, Event, LpdAnswer, Reply};
+use events::{Answer as Says, Event, LpdAnswer, Reply};
 use lpd_reader::LpdItem;
 use replies::{lpd_ack, lpd_queue_text};
+use wires::WireId;
 
 /// What LPD clients say, acted on one thing at a time.
 impl<P: Planner + Drop> Engine<P> {

@@ -5,7 +5,6 @@ ghost use Rattle.server.specs.Hearing.{IsNewTalk, IsFedLink, IsFedTalk, NextRepo
 
 use crate::http_talk::HttpTalk;
 use crate::lpd_talk::{LpdAsks, LpdTalk};
-use crate::wire::Door;
 use base_types::{DeviceId, Report};
 use device_link::{LinkError, LinkReader};
 use http_front::HttpItem;
@@ -14,6 +13,7 @@ use replies::AskedReader;
 use settings_file::Settings;
 use std::alloc::{AllocError, Global};
 use std::marker::Model;
+use wires::Door;
 
 /// What a device's connection brings.
 #[derive(Drop)]

@@ -6,10 +6,10 @@ ghost use Rattle.server.specs.Stands.{Does, Openly};
 
 use crate::engine::Engine;
 use crate::notes::Notes;
-use crate::wire::Wire;
 use assignment::Planner;
 use base_types::Moment;
-use dispatcher::Event;
+use events::Event;
+use wires::Wire;
 
 /// Ms between ticks.
 const TICK_TIME: u64 = 1000;

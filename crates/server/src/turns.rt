@@ -9,9 +9,9 @@ ghost use Rattle.server.specs.Stands.{Does};
 
 use crate::engine::Engine;
 use crate::notes::Notes;
-use crate::wire::{Door, Wire};
 use assignment::Planner;
 use base_types::Moment;
+use wires::{Door, Wire};
 
 /// The parts of a turn.
 impl<P: Planner + Drop> Engine<P> {

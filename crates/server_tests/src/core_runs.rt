@@ -1,7 +1,8 @@
 //! Lists of events, and who hears of their plans.
 use assignment::Lazy;
 use base_types::{DeviceId, Moment, Report};
-use dispatcher::{Core, Dispatched, Event, Listener, Outcome, Timed};
+use dispatcher::{Core, Dispatched, Listener, Outcome, Timed};
+use events::Event;
 use replies::{Asked, ipp_event};
 use settings_file::read_settings;
 use std::alloc::Global;

@@ -1,10 +1,10 @@
 //! Devices over a wire in memory: what they write, and what they get.
 use crate::exchanges::{CANCEL, PLAIN};
 use crate::in_memory::{CUTS, TURNS, client, got, is_closed, serve};
-use server::memory_wire::Memory;
-use server::{Door, NoteLog};
+use server::NoteLog;
 use std::alloc::{AllocError, Global};
 use std::test::Fail;
+use wires::{Door, Memory};
 
 /// What a device writes to a server that has just started and to which a client prints, and what it
 /// gets.

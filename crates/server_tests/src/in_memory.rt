@@ -5,11 +5,11 @@ use crate::exchanges::{
 };
 use assignment::Lazy;
 use base_types::{DeviceId, Moment, Report};
-use server::memory_wire::{Memory, Peer};
-use server::{Door, Engine, Heard, NoteLog};
+use server::{Engine, Heard, NoteLog};
 use settings_file::read_settings;
 use std::alloc::{AllocError, Global};
 use std::test::Fail;
+use wires::{Door, Memory, Peer};
 
 const EXCHANGES: [Exchange; 7] = [
     PLAIN,

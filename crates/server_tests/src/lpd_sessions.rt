@@ -1,10 +1,10 @@
 //! LPD clients over a wire in memory: what they send, and what they are answered (RFC 1179, sections 5
 //! and 6).
 use crate::in_memory::{CUTS, TURNS, client, got, is_closed, serve};
-use server::memory_wire::Memory;
-use server::{Door, NoteLog};
+use server::NoteLog;
 use std::alloc::{AllocError, Global};
 use std::test::Fail;
+use wires::{Door, Memory};
 
 /// What a client sends to a server that has just started.
 #[derive(Clone, Copy)]

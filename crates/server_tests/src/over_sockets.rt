@@ -3,7 +3,8 @@
 use crate::exchanges::{BOTH_FRAMINGS, CHUNKED, Exchange, LAST, NOT_POST, PLAIN, SETTINGS, TWO};
 use crate::lpd_sessions::ONE_JOB;
 use base_types::Moment;
-use serve::{Ports, Server};
+use serve::Server;
+use sockets::Ports;
 use startup::read_or_refuse;
 use std::io;
 use std::io::{Read, Write};

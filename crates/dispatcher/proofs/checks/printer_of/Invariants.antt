@@ -1,6 +1,7 @@
 use Rattle.std.proofs.Common.{◌≡◌, drop, find}
 use Rattle.std.specs.List.{enumerate_from}
-use Rattle.dispatcher.specs.Target.{names, printer_of}
+use Rattle.events.specs.Target.{names}
+use Rattle.dispatcher.specs.Target.{printer_of}
 use Rattle.dispatcher.proofs.checks.printer_of.Given as goal
 
 abbrev pub invariant-loop-place : goal.invariant-loop-place

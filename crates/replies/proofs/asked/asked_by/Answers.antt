@@ -1,6 +1,6 @@
 use Rattle.std.proofs.Common.{Result, subst}
-use Rattle.dispatcher.specs.declared.event.Event.{Event}
-use Rattle.dispatcher.specs.declared.status.Status.{Status}
+use Rattle.events.specs.declared.event.Event.{Event}
+use Rattle.events.specs.declared.status.Status.{Status}
 use Rattle.replies.specs.Asked.{answered}
 use Rattle.replies.specs.Reader.{AsksByOf}
 use Rattle.replies.proofs.Hearing.{asks_event}

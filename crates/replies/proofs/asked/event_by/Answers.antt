@@ -1,7 +1,7 @@
 use Rattle.std.proofs.Common.{Err, subst, sym}
 use Rattle.std.proofs.lemmas.Result.{IfOk-weaker}
 use Rattle.ipp_codec.specs.Views.{message_shown}
-use Rattle.dispatcher.specs.declared.status.Status.{Status}
+use Rattle.events.specs.declared.status.Status.{Status}
 use Rattle.replies.specs.Asked.{Requests}
 use Rattle.replies.proofs.Hearing.{found_requests, fault_requests}
 use Rattle.replies.proofs.asked.event_by.Goals as goal

@@ -5,8 +5,8 @@ use Rattle.print_room.specs.declared.started.Started.{Started}
 use Rattle.print_room.specs.State.{State}
 use Rattle.print_room.specs.Dispatch.{Dispatches}
 use Rattle.print_room.specs.DeviceJobs.{AllKeep}
-use Rattle.dispatcher.specs.declared.event.Event.{Event}
-use Rattle.dispatcher.specs.declared.reply.Reply.{Reply}
+use Rattle.events.specs.declared.event.Event.{Event}
+use Rattle.events.specs.declared.reply.Reply.{Reply}
 use Rattle.dispatcher.specs.Step.{Step}
 use Rattle.dispatcher.specs.Keeping.{StepKeeps}
 use Rattle.dispatcher.proofs.Keeping.{RoomKeeps, step_keeps}

@@ -1,5 +1,5 @@
 use Rattle.std.proofs.Common.{List, subst}
-use Rattle.dispatcher.specs.declared.reply.Cancel.{Cancel}
+use Rattle.events.specs.declared.reply.Cancel.{Cancel}
 use Rattle.server.specs.Polls.{alone}
 use Rattle.server.specs.Happening.{Follows}
 use Rattle.server.specs.Stands.{Aside}

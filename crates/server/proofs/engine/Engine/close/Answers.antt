@@ -1,6 +1,6 @@
 use Rattle.std.proofs.Common.{Some, None, sym, subst}
 use Rattle.base_types.specs.declared.report.Report.TheVariants.{Gone}
-use Rattle.dispatcher.specs.declared.event.Event.TheVariants as Is
+use Rattle.events.specs.declared.event.Event.TheVariants as Is
 use Rattle.server.specs.Polls.{both, alone}
 use Rattle.server.specs.Happening.{Unanswered}
 use Rattle.server.specs.State.{EngineState, with_slots, LeavesAs}

@@ -1,5 +1,5 @@
 use Rattle.std.proofs.Common.{◌≡◌, ◌∙◌, sym, ap, subst}
-use Rattle.dispatcher.specs.declared.event.Event.TheVariants as Is
+use Rattle.events.specs.declared.event.Event.TheVariants as Is
 use Rattle.server.specs.Polls.{alone}
 use Rattle.server.specs.Happening.{Unanswered}
 use Rattle.server.specs.State.{EngineState, with_slots, changed_at, is_named, is_broken}

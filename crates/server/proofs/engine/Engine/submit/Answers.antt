@@ -1,6 +1,6 @@
 use Rattle.std.proofs.Common.{◌≡◌, ◌∙◌, Bool, refl, ap, subst, inl, inr}
 use Rattle.print_room.specs.State.{State}
-use Rattle.dispatcher.specs.Run.{is_query}
+use Rattle.events.specs.Event.{is_query}
 use Rattle.server.specs.Polls.{alone}
 use Rattle.server.specs.Rel.{Then}
 use Rattle.server.specs.Happening.{Follows}

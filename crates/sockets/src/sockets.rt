@@ -7,13 +7,13 @@ use crate::visits::{Leave, Visit, Visits};
 use base_types::{Limits, Moment};
 use mio::net::TcpStream;
 use mio::{Events, Interest, Poll, Token};
-use server::{Answer, Door, Wire, WireId};
 use slab::Slab;
 use std::alloc::Global;
 use std::io::{ErrorKind, IoSlice};
 use std::net::{IpAddr, Net, SocketAddr};
 use std::time::Duration;
 use std::{io, mem};
+use wires::{Answer, Door, Wire, WireId};
 
 /// How many sockets a wait tells of at most: all that there are.
 const EVENTS: usize = 128;
@@ -151,12 +151,12 @@ impl Sockets {
     }
 
     /// Has it keep who comes and goes, from now until that is taken.
-    pub(crate) fn keep_visits(&mut self, alloc: Global) {
+    pub fn keep_visits(&mut self, alloc: Global) {
         self.visits = Some(Visits::new(alloc));
     }
 
     /// Who came and went, if that is kept; it is kept no more.
-    pub(crate) fn take_visits(&mut self) -> Option<Visits> {
+    pub fn take_visits(&mut self) -> Option<Visits> {
         mem::replace(&mut self.visits, None)
     }
 
@@ -184,7 +184,7 @@ impl Sockets {
     }
 
     /// Whether the last wait was at this moment: what happened since is at most a ms old.
-    pub(crate) fn has_just_waited(&self) -> bool {
+    pub fn has_just_waited(&self) -> bool {
         self.waited == self.moment
     }
 

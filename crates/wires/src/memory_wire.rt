@@ -2,7 +2,7 @@
 //! stands in for sockets where a run is to be the same each time.
 ghost use Rattle.std.specs.Prelude.{◌≡◌, ◌<◌, ◌≤◌, ℕ, List, ◌++◌, length, take, IsTrue, IsFalse, IfSome, IfNone, IfOk, OnErr, Some, true, false, []};
 ghost use Rattle.std.specs.Io.Slices.{io_slices_bytes};
-ghost use Rattle.server.specs.Memory.{Sends, Gets, comes, next_at, is_open, ends_reading, ends_writing};
+ghost use Rattle.wires.specs.Memory.{Sends, Gets, comes, next_at, is_open, ends_reading, ends_writing};
 
 use crate::wire::{Answer, Door, Wire, WireId};
 use std::alloc::{AllocError, Global};
@@ -33,7 +33,7 @@ pub struct Peer {
 }
 
 impl Model for Peer {
-    ghost use Rattle.server.specs.Peer.{PeerState};
+    ghost use Rattle.wires.specs.Peer.{PeerState};
 
     ghost Value = { PeerState };
 
@@ -223,7 +223,7 @@ fn first_of<'a>(bytes: &[IoSlice<'a>]) -> &'a [u8]
 }
 
 impl Wire for Memory {
-    ghost use Rattle.server.specs.Memory.{MemoryPolls};
+    ghost use Rattle.wires.specs.Memory.{MemoryPolls};
 
     ghost polled = { MemoryPolls };
 

@@ -1,6 +1,6 @@
 use Rattle.std.proofs.Common.{◌++◌, ℕ, List, ap, sym, ◌∙◌}
-use Rattle.server.proofs.Fronts.{first_part}
-use Rattle.server.proofs.memory_wire.first_of.Goals as goal
+use Rattle.wires.proofs.Fronts.{first_part}
+use Rattle.wires.proofs.memory_wire.first_of.Goals as goal
 
 pub returns-in-len1-up : goal.returns-in-len1-up
 returns-in-len1-up c =

@@ -1,6 +1,6 @@
 //! The statuses that the core answers (RFC 8011, appendix B).
 ghost use Rattle.std.specs.Prelude.{◌≡◌};
-ghost use Rattle.dispatcher.specs.Status.{code_of};
+ghost use Rattle.events.specs.Status.{code_of};
 
 /// How a request went (RFC 8011, appendix B): the statuses that this server answers.
 #[derive(Clone, Copy, Debug, PartialEq, Eq)]

@@ -1,12 +1,12 @@
 -- What a call of a wire in memory does.
 use Rattle.std.specs.Prelude.{ℕ, ◌≡◌, ◌^◌, nat_le, ◌⊎◌, ◌&&◌, ◌||◌, not, Bool, true, false, List, ◌++◌, take, position, Option, Some, None, slice_get, slice_set}
 use Rattle.std.specs.Option.{option_map_or}
-use Rattle.server.specs.declared.wire.Door.{Door}
-use Rattle.server.specs.declared.wire.Door.TheVariants.{Ipp, Lpd, Devices}
-use Rattle.server.specs.declared.wire.Answer.TheVariants.{Done, Waiting, End, Fault}
-use Rattle.server.specs.declared.memory_wire.Memory.{Memory}
-use Rattle.server.specs.Polls.{Poll, Accepts, Reads, Writes, Closes}
-use Rattle.server.specs.Peer.{PeerState}
+use Rattle.wires.specs.declared.wire.Door.{Door}
+use Rattle.wires.specs.declared.wire.Door.TheVariants.{Ipp, Lpd, Devices}
+use Rattle.wires.specs.declared.wire.Answer.TheVariants.{Done, Waiting, End, Fault}
+use Rattle.wires.specs.declared.memory_wire.Memory.{Memory}
+use Rattle.wires.specs.Poll.{Poll, Accepts, Reads, Writes, Closes}
+use Rattle.wires.specs.Peer.{PeerState}
 
 abbrev pub is_same_door : Door → Door → Bool
 is_same_door Ipp Ipp = true

@@ -1,6 +1,6 @@
 -- What is kept of the connections that come and go.
 use Rattle.std.specs.Prelude.{◌≡◌, ◌⊎◌, List, [], ◌∷◌, ◌++◌, Option, None, option_map}
-use Rattle.serve.specs.declared.visits.Visit.{Visit}
+use Rattle.sockets.specs.declared.visits.Visit.{Visit}
 
 -- one more is kept, or memory for it was refused; after that none is
 abbrev pub Keeps : Option (List Visit) → Visit → Option (List Visit) → Type 0

@@ -1,5 +1,7 @@
-//! What an LPD client asks of a queue.
-use base_types::Text;
+//! What an LPD client asks of a queue, and what it is shown.
+use base_types::{JobId, Text};
+use job_objects::{JobReasons, JobState};
+use printer_objects::PrinterState;
 
 /// How much is said of each job of a queue.
 #[derive(Clone, Copy, Debug, PartialEq, Eq)]
@@ -29,4 +31,30 @@ pub struct RemoveJobs {
     pub agent: Text,
     /// Ids of jobs and names of owners; without any, the job that is printed is meant.
     pub operands: Vec<Text>,
+}
+
+/// A job of a queue, as it is when the queue is listed.
+#[derive(Drop)]
+pub struct QueueEntry {
+    pub id: JobId,
+    pub state: JobState,
+    pub reasons: JobReasons,
+    pub owner: Text,
+    /// Of all its documents together.
+    pub octets: usize,
+    /// Of one copy, as given or else as estimated.
+    pub impressions: u32,
+    pub copies: u32,
+    pub name: Text,
+}
+
+/// What the text of a queue shows.
+#[derive(Drop)]
+pub struct QueueListing {
+    pub form: QueueForm,
+    /// The name of the printer.
+    pub name: Text,
+    pub state: PrinterState,
+    /// In the order in which they are listed.
+    pub jobs: Vec<QueueEntry>,
 }

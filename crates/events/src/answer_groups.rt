@@ -42,7 +42,7 @@ impl AnswerGroups {
     }
 
     /// One group.
-    pub(crate) fn one(alloc: Global, group: Group) -> Result<AnswerGroups, AllocError>
+    pub fn one(alloc: Global, group: Group) -> Result<AnswerGroups, AllocError>
         requires { IsGroup group }
         ensures { IfOk result (λ groups. groups ≡ group ∷ []) }
     {
@@ -52,7 +52,7 @@ impl AnswerGroups {
     }
 
     /// These groups.
-    pub(crate) fn from_vec(groups: Vec<Group>) -> AnswerGroups
+    pub fn from_vec(groups: Vec<Group>) -> AnswerGroups
         requires { AllByRecursion IsGroup groups.items }
         ensures { result ≡ groups.items }
     {

@@ -1,7 +1,7 @@
 -- The numbers of statuses (RFC 8011, appendix B).
 use Rattle.std.specs.Prelude.{ℕ}
-use Rattle.dispatcher.specs.declared.status.Status.{Status}
-use Rattle.dispatcher.specs.declared.status.Status.TheVariants as Is
+use Rattle.events.specs.declared.status.Status.{Status}
+use Rattle.events.specs.declared.status.Status.TheVariants as Is
 
 abbrev pub code_of : Status → ℕ
 code_of Is.Ok = 0x0000

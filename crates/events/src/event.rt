@@ -1,12 +1,12 @@
 //! What the core acts on.
 ghost use Rattle.std.specs.Prelude.{◌≡◌};
-ghost use Rattle.dispatcher.specs.Run.{is_query};
-ghost use Rattle.dispatcher.specs.Target.{names};
+ghost use Rattle.events.specs.Event.{is_query};
+ghost use Rattle.events.specs.Target.{names};
 
+use crate::queue::{ListQueue, RemoveJobs};
 use base_types::{DeviceId, JobId, Report, Text};
 use job_template::RequestAttributes;
 use printer_objects::Requested;
-use queues::{ListQueue, RemoveJobs};
 use settings_file::PrinterSettings;
 use spool::{Document, Octets};
 
@@ -23,7 +23,7 @@ pub enum Target {
 
 impl Target {
     /// Whether it names this printer; the first one is any, so that the first of all is taken.
-    pub(crate) fn names(&self, printer: &PrinterSettings) -> bool
+    pub fn names(&self, printer: &PrinterSettings) -> bool
         ensures { result ≡ names self.now printer.now }
     {
         match self {

@@ -1,6 +1,6 @@
 -- What a peer of a wire in memory sends, and has got.
 use Rattle.std.specs.Prelude.{ℕ, Bool, List}
-use Rattle.server.specs.declared.wire.Door.{Door}
+use Rattle.wires.specs.declared.wire.Door.{Door}
 
 pub record PeerState : Type 0 where
   pub door : Door

@@ -12,11 +12,11 @@ use crate::engine::Engine;
 use crate::notes::{Notes, Place};
 use crate::starting::start_all;
 use crate::table::{break_off, keep_cancel, key_of};
-use crate::wire::WireId;
 use assignment::Planner;
 use base_types::Moment;
-use dispatcher::{Answer as Says, Cancel, Event, IppAnswer, Reply, Status};
+use events::{Answer as Says, Cancel, Event, IppAnswer, Reply, Status};
 use replies::ipp_reply;
+use wires::WireId;
 
 /// Who asks, and how the reply goes.
 #[derive(Clone, Copy, Debug)]

@@ -1,15 +1,15 @@
 //! Which connections come and go.
 ghost use Rattle.std.specs.Prelude.{◌≡◌, ◌++◌, [], ◌∷◌, None, Some, IfOk, OnErr, option_map};
-ghost use Rattle.serve.specs.Visits.{Keeps};
+ghost use Rattle.sockets.specs.Visits.{Keeps};
 
-use server::{Door, WireId};
 use std::alloc::{AllocError, Global};
 use std::marker::Model;
 use std::net::SocketAddr;
+use wires::{Door, WireId};
 
 /// Why a connection is closed.
 #[derive(Clone, Copy, Debug, PartialEq, Eq)]
-pub(crate) enum Leave {
+pub enum Leave {
     /// The server is done with it.
     Served,
     /// Its peer has ended it.
@@ -22,7 +22,7 @@ pub(crate) enum Leave {
 
 /// A connection comes or goes.
 #[derive(Clone, Copy)]
-pub(crate) enum Visit {
+pub enum Visit {
     /// One of this number comes in at a door.
     Came {
         id: WireId,
@@ -41,14 +41,14 @@ pub(crate) enum Visit {
 /// The connections that come and go, as long as there is memory for them. In clauses it is their list,
 /// or none from then on.
 #[derive(Drop)]
-pub(crate) struct Visits {
+pub struct Visits {
     kept: Vec<Visit>,
     lost: bool,
 }
 
 impl Model for Visits {
     ghost use Rattle.std.specs.Prelude.{List, Option, Some, None, if◌then◌else◌};
-    ghost use Rattle.serve.specs.declared.visits.Visit.{Visit};
+    ghost use Rattle.sockets.specs.declared.visits.Visit.{Visit};
 
     ghost Value = { Option (List Visit) };
 
@@ -57,7 +57,7 @@ impl Model for Visits {
 
 impl Visits {
     /// None came or went yet.
-    pub(crate) fn new(alloc: Global) -> Visits
+    pub fn new(alloc: Global) -> Visits
         ensures { result ≡ Some [] }
     {
         Visits {
@@ -67,7 +67,7 @@ impl Visits {
     }
 
     /// Keeps one more.
-    pub(crate) fn keep(&mut self, visit: Visit)
+    pub fn keep(&mut self, visit: Visit)
         ensures { Keeps self.old visit self.new }
     {
         if self.kept.push(visit).is_err() {
@@ -76,7 +76,7 @@ impl Visits {
     }
 
     /// All of them. The error is that there was no memory for one.
-    pub(crate) fn all(self) -> Result<Vec<Visit>, AllocError>
+    pub fn all(self) -> Result<Vec<Visit>, AllocError>
         ensures ok { IfOk result (λ visits. self ≡ Some visits.items) }
         ensures err { OnErr result (self ≡ None) }
     {

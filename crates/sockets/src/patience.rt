@@ -1,6 +1,6 @@
 //! How long a silent peer is waited for.
 ghost use Rattle.std.specs.Prelude.{◌≡◌, ◌-◌};
-ghost use Rattle.serve.specs.Patience.{after_coming};
+ghost use Rattle.sockets.specs.Patience.{after_coming};
 
 use base_types::Moment;
 use std::marker::Model;
@@ -20,7 +20,7 @@ pub(crate) struct Patience {
 }
 
 impl Model for Patience {
-    ghost use Rattle.serve.specs.Patience.{PatienceRecord};
+    ghost use Rattle.sockets.specs.Patience.{PatienceRecord};
 
     ghost Value = { PatienceRecord };
 

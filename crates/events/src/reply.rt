@@ -1,15 +1,13 @@
 //! What an event is answered.
-ghost use Rattle.std.specs.Prelude.{◌≡◌, ◌≤◌, []};
-ghost use Rattle.dispatcher.specs.declared.status.Status.TheVariants as Went;
-ghost use Rattle.dispatcher.specs.Answers.{IsAnswer, Refuses, Replies, Shows, taken_with};
+ghost use Rattle.std.specs.Prelude.{◌≡◌, []};
+ghost use Rattle.events.specs.declared.status.Status.TheVariants as Went;
+ghost use Rattle.events.specs.Reply.{IsAnswer, Replies};
 
 use crate::answer_groups::AnswerGroups;
-use crate::checks::Refusal;
+use crate::queue::QueueListing;
 use crate::status::Status;
-use base_types::{DeviceId, JobId, Moment};
+use base_types::{DeviceId, JobId};
 use job_template::RequestAttributes;
-use print_room::PrintRoom;
-use queues::QueueListing;
 use spool::Document;
 use std::alloc::Global;
 
@@ -62,7 +60,7 @@ pub struct Reply {
 
 impl Reply {
     /// A status, what isn't supported, and groups; nothing else.
-    pub(crate) fn answered(
+    pub fn answered(
         alloc: Global,
         status: Status,
         unsupported: RequestAttributes,
@@ -82,7 +80,7 @@ impl Reply {
     }
 
     /// That it is done; nothing else.
-    pub(crate) fn done(alloc: Global) -> Reply
+    pub fn done(alloc: Global) -> Reply
         ensures { Replies Went.Ok [] [] result }
     {
         Reply::answered(
@@ -94,7 +92,7 @@ impl Reply {
     }
 
     /// That it is done, and these cancels to send.
-    pub(crate) fn canceled(alloc: Global, cancels: Vec<Cancel>) -> Reply
+    pub fn canceled(alloc: Global, cancels: Vec<Cancel>) -> Reply
         ensures answer { IsAnswer Went.Ok [] [] result.answer }
         ensures cancels { result.cancels.items ≡ cancels.items }
         ensures documents { result.documents.items ≡ [] }
@@ -111,7 +109,7 @@ impl Reply {
     }
 
     /// This answer to an LPD client; nothing else.
-    pub(crate) fn to_lpd(alloc: Global, answer: LpdAnswer) -> Reply
+    pub fn to_lpd(alloc: Global, answer: LpdAnswer) -> Reply
         ensures answer { result.answer ≡ Answer.Lpd answer }
         ensures cancels { result.cancels.items ≡ [] }
         ensures documents { result.documents.items ≡ [] }
@@ -124,7 +122,7 @@ impl Reply {
     }
 
     /// No answer, and these cancels to send.
-    pub(crate) fn removed(alloc: Global, cancels: Vec<Cancel>) -> Reply
+    pub fn removed(alloc: Global, cancels: Vec<Cancel>) -> Reply
         ensures answer { result.answer ≡ Answer.Nothing }
         ensures cancels { result.cancels.items ≡ cancels.items }
         ensures documents { result.documents.items ≡ [] }
@@ -137,7 +135,7 @@ impl Reply {
     }
 
     /// No answer, and these documents.
-    pub(crate) fn unanswered(alloc: Global, documents: Vec<Document>) -> Reply
+    pub fn unanswered(alloc: Global, documents: Vec<Document>) -> Reply
         ensures answer { result.answer ≡ Answer.Nothing }
         ensures cancels { result.cancels.items ≡ [] }
         ensures documents { result.documents.items ≡ documents.items }
@@ -148,37 +146,4 @@ impl Reply {
             documents,
         }
     }
-}
-
-/// How a job is taken or found to be one that would be, by what isn't supported.
-pub(crate) fn taken_with(unsupported: &RequestAttributes) -> Status
-    ensures { result ≡ taken_with unsupported.now }
-{
-    if unsupported.is_empty() {
-        Status::Ok
-    } else {
-        Status::OkIgnoredOrSubstituted
-    }
-}
-
-/// Answers a status and what isn't supported.
-pub(crate) fn refuse(alloc: Global, room: &mut PrintRoom, refusal: Refusal, now: Moment) -> Reply
-    requires { room.old.last ≤ now }
-    ensures { Refuses now room.old refusal result room.new }
-{
-    let Refusal {
-        status,
-        unsupported,
-    } = refusal;
-    room.advance(now);
-    Reply::answered(alloc, status, unsupported, AnswerGroups::new(alloc))
-}
-
-/// Answers these groups.
-pub(crate) fn show(alloc: Global, room: &mut PrintRoom, groups: AnswerGroups, now: Moment) -> Reply
-    requires { room.old.last ≤ now }
-    ensures { Shows now room.old groups result room.new }
-{
-    room.advance(now);
-    Reply::answered(alloc, Status::Ok, RequestAttributes::new(alloc), groups)
 }

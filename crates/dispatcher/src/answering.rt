@@ -1,0 +1,43 @@
+//! How a request is refused, shown something, or taken.
+ghost use Rattle.std.specs.Prelude.{◌≡◌, ◌≤◌};
+ghost use Rattle.dispatcher.specs.Answers.{Refuses, Shows, taken_with};
+
+use crate::checks::Refusal;
+use base_types::Moment;
+use events::{AnswerGroups, Reply, Status};
+use job_template::RequestAttributes;
+use print_room::PrintRoom;
+use std::alloc::Global;
+
+/// How a job is taken or found to be one that would be, by what isn't supported.
+pub(crate) fn taken_with(unsupported: &RequestAttributes) -> Status
+    ensures { result ≡ taken_with unsupported.now }
+{
+    if unsupported.is_empty() {
+        Status::Ok
+    } else {
+        Status::OkIgnoredOrSubstituted
+    }
+}
+
+/// Answers a status and what isn't supported.
+pub(crate) fn refuse(alloc: Global, room: &mut PrintRoom, refusal: Refusal, now: Moment) -> Reply
+    requires { room.old.last ≤ now }
+    ensures { Refuses now room.old refusal result room.new }
+{
+    let Refusal {
+        status,
+        unsupported,
+    } = refusal;
+    room.advance(now);
+    Reply::answered(alloc, status, unsupported, AnswerGroups::new(alloc))
+}
+
+/// Answers these groups.
+pub(crate) fn show(alloc: Global, room: &mut PrintRoom, groups: AnswerGroups, now: Moment) -> Reply
+    requires { room.old.last ≤ now }
+    ensures { Shows now room.old groups result room.new }
+{
+    room.advance(now);
+    Reply::answered(alloc, Status::Ok, RequestAttributes::new(alloc), groups)
+}

@@ -1,0 +1,4 @@
+pub mod Status
+pub mod Target
+pub mod Event
+pub mod Reply

@@ -1,0 +1,3 @@
+pub mod Poll
+pub mod Peer
+pub mod Memory
