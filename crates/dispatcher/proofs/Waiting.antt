@@ -3,7 +3,6 @@ use Rattle.std.proofs.Common.{◌≡◌, ◌∙◌, ℕ, Bool, true, false, refl
 use Rattle.job_objects.specs.Job.{JobRecord}
 use Rattle.job_objects.specs.JobState.{waiting_state}
 use Rattle.job_objects.specs.Reasons.{one, pending_reason, held_reasons, reasons_in, reasons_of, waiting_reasons}
-use Rattle.job_objects.specs.declared.reason.JobReasons.{JobReasons}
 use Rattle.spool.specs.Submission.{Submission, spooled_of}
 
 held_back : (incoming held : Bool) (job : JobRecord) → job.incoming ≡ incoming → job.held ≡ held → held_reasons job.incoming job.held ≡ held_reasons incoming held

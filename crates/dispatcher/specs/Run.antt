@@ -1,5 +1,5 @@
 -- A run: events with their moments, each a step, and after each that is no query a dispatch.
-use Rattle.std.specs.Prelude.{◌≡◌, ◌≢◌, max, Bool, true, false, List, [], ◌∷◌, Option}
+use Rattle.std.specs.Prelude.{◌≡◌, ◌≢◌, max, true, false, List, [], ◌∷◌, Option}
 use Rattle.prices.specs.Plan.{PlanRecord}
 use Rattle.events.specs.Event.{is_query}
 use Rattle.dispatcher.specs.declared.run.Timed.{Timed}

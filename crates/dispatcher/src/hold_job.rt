@@ -1,5 +1,5 @@
 //! What a Hold-Job and a Release-Job do (RFC 8011, sections 4.3.5 and 4.3.6).
-ghost use Rattle.std.specs.Prelude.{◌≡◌, ◌≤◌, []};
+ghost use Rattle.std.specs.Prelude.{◌≤◌};
 ghost use Rattle.job_objects.specs.declared.job_change.JobChange.TheVariants as Change;
 ghost use Rattle.dispatcher.specs.HoldJob.{ChangesJob, HoldsJob, ReleasesJob};
 

@@ -1,7 +1,3 @@
-mod Texts
-mod Settings
-mod Forms
-mod Digits
 mod Places
 mod Telling
 mod Reach

@@ -1,30 +1,28 @@
 -- What the calls of a server that is told a trace come to.
-use Rattle.std.proofs.Common.{◌≡◌, ◌<◌, ◌≤◌, ◌+◌, ℕ, suc, Bool, true, false, All, List, [], ◌∷◌, ◌++◌, length, map, Option, Some, None, Result, Ok, IsOk, refl, sym, ap, ◌∙◌, inl, inr, subst, append_assoc, append-nil, codes, arith}
+use Rattle.std.proofs.Common.{◌≡◌, ◌<◌, ◌+◌, ℕ, Bool, true, false, All, List, [], ◌∷◌, ◌++◌, length, map, Option, Some, None, Result, IsOk, refl, sym, ap, ◌∙◌, inl, inr, subst, append_assoc, append-nil, arith}
 use Rattle.std.specs.Prelude.{◌||◌}
-use Rattle.std.specs.Option.{ForSome}
 use Rattle.std.specs.declared.alloc.AllocError.{AllocError}
 use Rattle.std.proofs.lemmas.List.{length-append, map-append}
 use Rattle.std.proofs.lemmas.List.Elements.{All-append, All-cons, All-nil}
 use Rattle.server.specs.Polls.{Happening, Leads, both, alone}
 use Rattle.wires.specs.Peer.{PeerState}
-use Rattle.server.specs.State.{EngineState}
-use Rattle.server.specs.Stands.{StandsAt, ServesBody}
+use Rattle.server.specs.Stands.{ServesBody}
 use Rattle.server.specs.Stands as Engine
-use Rattle.server.specs.Turn.{Deed, Turned, Served_body, Trace, Outcome}
-use Rattle.replay.specs.declared.connections.Connection.{Connection}
+use Rattle.server.specs.Turn.{Deed, Turned, Served_body, Outcome}
+use Rattle.replay.specs.declared.peers.Connection.{Connection}
 use Rattle.replay.specs.declared.play.Play.{Play}
 use Rattle.wires.specs.declared.wire.Door.{Door}
-use Rattle.replay.specs.declared.trace.Line.{Line}
-use Rattle.replay.specs.declared.trace.Line.TheVariants as Form
-use Rattle.replay.specs.TraceLine.{IsLine, Finds}
+use Rattle.traces.specs.declared.line.Line.{Line}
+use Rattle.traces.specs.declared.line.Line.TheVariants as Form
+use Rattle.traces.specs.TraceLine.{IsLine, Finds}
 use Rattle.replay.specs.declared.wire.TraceWire.{TraceWire}
 use Rattle.replay.specs.Acting.{standing, Moves, IsReady, Becomes, Does, TakesTurn, TakesTurns, TakesTillQuiet}
 use Rattle.replay.specs.Connections.{numbered, with_connection, new_peer, changed_at, connections_text, seen, emptied}
 use Rattle.replay.specs.Log.{LogRecord, Hears, happening_text, happenings_text}
-use Rattle.replay.specs.Playing.{Standing, Calls, Serves, Turns, Plays, AreTillQuiet, IsReplyLine, most_turns, opened, on_peer}
+use Rattle.replay.specs.Playing.{Standing, Calls, Serves, Turns, Plays, IsReplyLine, most_turns, opened, on_peer}
 use Rattle.replay.specs.Wire.{WirePolls, PeersSee, any_stirs, all_turns}
 use Rattle.replay.proofs.Reach.{moves_nothing, moves_then}
-use Rattle.replay.proofs.Telling.{HasHeard, HasMoved, heard_alone, heard_beside, moved_beside, all_heard, leads_append}
+use Rattle.replay.proofs.Telling.{heard_alone, heard_beside, moved_beside, all_heard, leads_append}
 
 -- ---- calls between turns
 

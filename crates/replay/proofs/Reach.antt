@@ -4,16 +4,15 @@ use Rattle.std.specs.Fmt.{decimal}
 use Rattle.server.specs.State.{EngineState}
 use Rattle.server.specs.Stands.{StandsAt}
 use Rattle.server.specs.Turn.{Trace}
-use Rattle.print_room.specs.State.{State}
 use Rattle.streams.specs.declared.exit_status.ExitStatus.{ExitStatus}
 use Rattle.streams.specs.declared.exit_status.ExitStatus.TheVariants as Ends
 use Rattle.streams.specs.Said.{Said, refused_as, said_after}
 use Rattle.replay.specs.declared.play.Play.{Play}
-use Rattle.replay.specs.declared.trace.Line.{Line}
-use Rattle.replay.specs.Acting.{standing, Moves, IsReady, Does, Acts, PlaysAll, PlaysFirst}
+use Rattle.traces.specs.declared.line.Line.{Line}
+use Rattle.replay.specs.Acting.{standing, Moves, IsReady, Acts, PlaysAll, PlaysFirst}
 use Rattle.replay.specs.Log.{LogRecord}
 use Rattle.replay.specs.Playing.{Standing, IsBad, may_come, Plays, LinesPlay}
-use Rattle.replay.specs.TraceLine.{IsLine}
+use Rattle.traces.specs.TraceLine.{IsLine}
 
 pub moves_nothing : (e : EngineState) → Moves e [] e
 moves_nothing e opening trace stands = subst (λ t. StandsAt opening t e) (sym (append-nil trace)) stands

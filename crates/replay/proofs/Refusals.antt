@@ -4,7 +4,7 @@ use Rattle.std.specs.Option.{ForSome}
 use Rattle.settings_file.specs.declared.fault.SettingsFault.TheVariants as code
 use Rattle.settings_file.specs.Fault.{Fault, not_toml, fault_of}
 use Rattle.settings_file.specs.Reading.{IsFaultOf}
-use Rattle.replay.specs.Lines.{HasNoStop, lines_of}
+use Rattle.traces.specs.Lines.{HasNoStop, lines_of}
 use Rattle.streams.specs.declared.exit_status.ExitStatus.{ExitStatus}
 use Rattle.streams.specs.declared.exit_status.ExitStatus.TheVariants as Ends
 use Rattle.streams.specs.Said.{Said, said_after}
@@ -13,12 +13,10 @@ use Rattle.std.specs.Str.{IsUtf8}
 use Rattle.settings_file.specs.Settings.{ServerSettings, device_names}
 use Rattle.settings_file.specs.Reading.{settings_of}
 use Rattle.print_room.specs.Opening.{opening}
-use Rattle.server.specs.State.{EngineState}
-use Rattle.server.specs.Turn.{Trace}
 use Rattle.replay.specs.declared.play.Play.{Play}
-use Rattle.replay.specs.Acting.{standing, Moves, IsStart, PlaysAll, PlaysFirst}
+use Rattle.replay.specs.Acting.{standing, IsStart, PlaysAll, PlaysFirst}
 use Rattle.replay.specs.Log.{LogRecord}
-use Rattle.replay.specs.Playing.{Standing, LinesPlay}
+use Rattle.replay.specs.Playing.{LinesPlay}
 use Rattle.replay.specs.Replay.{LinesGive, SettingsGive, SettingsLeave, TraceGives, start}
 
 abbrev refusal : List ℕ → Said

@@ -27,14 +27,14 @@ use Rattle.server.specs.Polls.{Happening, Told, Canceled}
 use Rattle.server.specs.Turn.{Outcome as Given, Replied, BadRequest, OutOfMemory, Deed, DoesDeed, Served_body, Reported, Ticked, Trace, Runs}
 use Rattle.server.proofs.Laws.{at_most_one}
 use Rattle.streams.specs.Said.{Said, said_after}
-use Rattle.replay.specs.declared.trace.Line.{Line}
-use Rattle.replay.specs.declared.trace.Line.TheVariants as Form
+use Rattle.traces.specs.declared.line.Line.{Line}
+use Rattle.traces.specs.declared.line.Line.TheVariants as Form
 use Rattle.replay.specs.Log.{happenings_text}
 use Rattle.replay.specs.OneRun.{IsOfNoConnection, SpeaksOfNoConnection, PrintsEach, Part, nothing, then_part, IsOne, cancel_lines, BodyMeans, Means, moment_after, IsNoLine, LinesMean, IsOneRun}
 use Rattle.replay.specs.Playing.{Standing, IsReplyLine, Plays, may_come, IsBad, LinesPlay}
 use Rattle.replay.specs.Printed.{dispatch_lines, reply_line, cancel_line}
 use Rattle.replay.specs.Replay.{LinesGive, start}
-use Rattle.replay.specs.TraceLine.{IsDeviceIn, IsLine}
+use Rattle.traces.specs.TraceLine.{IsDeviceIn, IsLine}
 use Rattle.replay.proofs.Requests.{body_replied}
 
 -- ---- a run hears the same after whatever was heard before

@@ -3,8 +3,7 @@ use Rattle.std.proofs.Common.{◌≡◌, ℕ, Bool, true, false, List, [], ◌�
 use Rattle.std.specs.Prelude.{◌||◌}
 use Rattle.std.specs.Option.{ForSome}
 use Rattle.std.proofs.lemmas.Option.{none-some}
-use Rattle.wires.specs.Peer.{PeerState}
-use Rattle.server.specs.Polls.{Note, Happening, Polled, Told, Leads, both, alone}
+use Rattle.server.specs.Polls.{Happening, Polled, Told, Leads, both, alone}
 use Rattle.replay.specs.declared.wire.TraceWire.{TraceWire}
 use Rattle.replay.specs.Log.{LogRecord, Hears, note_text, happening_text, happenings_text}
 use Rattle.replay.specs.Wire.{WirePolls, PeersSee, any_stirs, happening_stirs}

@@ -1,5 +1,5 @@
 -- How a program plays a trace, step by step.
-use Rattle.std.specs.Prelude.{ℕ, ◌≡◌, ◌+◌, ◌||◌, Bool, true, false, List, [], ◌∷◌, ◌++◌, map, Option, Some}
+use Rattle.std.specs.Prelude.{ℕ, ◌≡◌, ◌+◌, Bool, true, false, List, [], ◌∷◌, ◌++◌, map, Some}
 use Rattle.std.specs.Option.{ForSome}
 use Rattle.settings_file.specs.Settings.{ServerSettings, device_names}
 use Rattle.print_room.specs.Opening.{opening}
@@ -11,11 +11,11 @@ use Rattle.server.specs.Stands.{StandsAt}
 use Rattle.streams.specs.declared.exit_status.ExitStatus.TheVariants as Ends
 use Rattle.streams.specs.Said.{Said, said_after}
 use Rattle.replay.specs.declared.play.Play.{Play}
-use Rattle.replay.specs.declared.trace.Line.{Line}
-use Rattle.replay.specs.Log.{LogRecord, happenings_text}
+use Rattle.traces.specs.declared.line.Line.{Line}
+use Rattle.replay.specs.Log.{happenings_text}
 use Rattle.replay.specs.Playing.{Standing, IsBad, may_come, Plays, LinesPlay, AreTillQuiet}
 use Rattle.replay.specs.Replay.{start}
-use Rattle.replay.specs.TraceLine.{IsLine}
+use Rattle.traces.specs.TraceLine.{IsLine}
 use Rattle.replay.specs.Wire.{PeersSee, any_stirs, all_turns}
 
 -- how far it has come

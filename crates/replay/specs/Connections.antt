@@ -1,12 +1,12 @@
 -- The connections of a trace: what their peers send and get, and what is printed of them.
-use Rattle.std.specs.Prelude.{ℕ, ◌≡◌, ◌≢◌, ◌==◌, ◌<◌, ◌^◌, ◌-◌, ◌&&◌, ◌||◌, not, nat_lt, Bool, true, false, if◌then◌else◌, List, [], ◌∷◌, ◌++◌, length, find, Option, Some, None, codes, slice_get, slice_set}
+use Rattle.std.specs.Prelude.{ℕ, ◌==◌, ◌^◌, ◌-◌, ◌&&◌, ◌||◌, not, nat_lt, Bool, true, false, if◌then◌else◌, List, [], ◌∷◌, ◌++◌, find, Option, codes, slice_get, slice_set}
 use Rattle.std.specs.Option.{option_map_or}
 use Rattle.std.specs.List.{insert, position_or_len}
 use Rattle.std.specs.Fmt.{decimal}
 use Rattle.hex.specs.Hex.{encode_lower}
 use Rattle.wires.specs.Peer.{PeerState}
 use Rattle.wires.specs.declared.wire.Door.{Door}
-use Rattle.replay.specs.declared.connections.Connection.{Connection}
+use Rattle.replay.specs.declared.peers.Connection.{Connection}
 
 -- ---- connections by their numbers
 

@@ -1,5 +1,3 @@
-pub mod Lines
-pub mod TraceLine
 pub mod Printed
 pub mod Log
 pub mod Connections

@@ -23,9 +23,9 @@ use Rattle.replies.specs.Asked.{Asks}
 use Rattle.replies.specs.Reply.{IsReply, refusal_bytes}
 use Rattle.streams.specs.declared.exit_status.ExitStatus.TheVariants as Ends
 use Rattle.streams.specs.Said.{Said, refused_as, said_after}
-use Rattle.replay.specs.declared.trace.Line.{Line}
-use Rattle.replay.specs.declared.trace.Line.TheVariants as Form
-use Rattle.replay.specs.TraceLine.{IsLine}
+use Rattle.traces.specs.declared.line.Line.{Line}
+use Rattle.traces.specs.declared.line.Line.TheVariants as Form
+use Rattle.traces.specs.TraceLine.{IsLine}
 use Rattle.replay.specs.Printed.{dispatch_lines, reply_line, cancel_line}
 
 -- ---- lines without connections

@@ -14,7 +14,7 @@ use Rattle.streams.specs.declared.exit_status.ExitStatus.TheVariants as Ends
 use Rattle.streams.specs.Input.{IsWhole, GaveMore}
 use Rattle.streams.specs.Said.{Said, refused_as}
 use Rattle.startup.specs.Refusal.{settings_refused}
-use Rattle.replay.specs.Lines.{lines_of, IsSplit, HasNoStop}
+use Rattle.traces.specs.Lines.{lines_of, IsSplit, HasNoStop}
 use Rattle.replay.specs.Playing.{Standing, LinesPlay}
 
 -- ---- the lines

@@ -7,14 +7,12 @@
 //! Tests stand in `play_examples`.
 #![tactic(auto)]
 
-mod connections;
 mod law;
-mod lines;
 mod log;
+mod peers;
 mod play;
 mod print;
 mod run;
-mod trace;
 mod wire;
 
 pub use law::lines_are_one_run;

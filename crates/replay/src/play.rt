@@ -1,5 +1,5 @@
 //! A server that is told the lines of a trace.
-ghost use Rattle.std.specs.Prelude.{◌≡◌, ◌++◌, [], Ok, Some, IfOk, OnOk, OnErr};
+ghost use Rattle.std.specs.Prelude.{◌≡◌, Ok, Some, IfOk, OnOk, OnErr};
 ghost use Rattle.base_types.specs.Report.{report_of};
 ghost use Rattle.settings_file.specs.Settings.{MeetsLimits};
 ghost use Rattle.server.specs.Stands.{said_of};
@@ -9,18 +9,16 @@ ghost use Rattle.replay.specs.Connections.{sending, ending, may_send};
 ghost use Rattle.replay.specs.Acting.{standing, IsReady, IsStart, Becomes, Does, TakesTurn, TakesTillQuiet, Acts};
 ghost use Rattle.replay.specs.Printed.{reply_line};
 
-use crate::connections::{
-    Connection, empty_all, end_at, mark_closed, numbered, put_connection, send_at,
-};
 use crate::log::Log;
+use crate::peers::{Connection, empty_all, end_at, mark_closed, numbered, put_connection, send_at};
 use crate::print::{put_connections, put_reply};
-use crate::trace::{Input, Line, Opening, read_line};
 use crate::wire::TraceWire;
 use assignment::Lazy;
 use base_types::{DeviceId, Moment, Report};
 use server::{Engine, Served};
 use settings_file::Settings;
 use std::alloc::{AllocError, Global};
+use traces::{Input, Line, Opening, read_line};
 use wires::{Memory, Peer};
 
 /// After so many turns for one line no more are taken for it.

@@ -1,14 +1,13 @@
 //! What is printed of an event.
-ghost use Rattle.std.specs.Prelude.{◌≡◌, ◌++◌, [], IfOk, OnOk, Option, codes, slice_index_or};
+ghost use Rattle.std.specs.Prelude.{◌≡◌, ◌++◌, OnOk, Option, codes};
 ghost use Rattle.std.specs.Option.{option_copied};
 ghost use Rattle.std.specs.Fmt.{decimal};
 ghost use Rattle.hex.specs.Hex.{encode_lower};
-ghost use Rattle.plan_text.specs.NamedPlan.{name_at};
 ghost use Rattle.plan_text.specs.Writing.{cause_word};
 ghost use Rattle.replay.specs.Printed.{reply_line, cancel_line, class_word, class_words, stranded_word, stranded_words, plan_line, plan_lines, start_line, start_lines, dispatch_lines};
 ghost use Rattle.replay.specs.Connections.{out_line, gone_line, peer_text, connection_text, connections_text};
 
-use crate::connections::Connection;
+use crate::peers::Connection;
 use base_types::{Stranded, Text};
 use dispatcher::Started;
 use events::Cancel;

@@ -1,5 +1,5 @@
 //! A trace, run.
-ghost use Rattle.std.specs.Prelude.{◌≡◌, ◌≤◌, ◌+◌, ◌++◌, [], Ok, Some, IfOk, IfErr, IfSome, IsNone, OnOk, OnErr, suc, length, codes};
+ghost use Rattle.std.specs.Prelude.{◌≡◌, ◌≤◌, ◌+◌, ◌++◌, [], Ok, Some, IfOk, IfErr, IfSome, IsNone, OnErr, suc, length, codes};
 ghost use Rattle.std.specs.Option.{ForSome};
 ghost use Rattle.std.specs.Str.{IsUtf8};
 ghost use Rattle.std.specs.Fmt.{decimal};
@@ -10,11 +10,10 @@ ghost use Rattle.settings_file.specs.Reading.{settings_of, IsFaultOf};
 ghost use Rattle.streams.specs.declared.exit_status.ExitStatus.TheVariants as Ends;
 ghost use Rattle.streams.specs.Said.{refused_as};
 ghost use Rattle.startup.specs.Refusal.{settings_refused};
-ghost use Rattle.replay.specs.Lines.{lines_of};
+ghost use Rattle.traces.specs.Lines.{lines_of};
 ghost use Rattle.replay.specs.Acting.{IsReady, IsStart, PlaysAll, PlaysFirst};
 ghost use Rattle.replay.specs.Replay.{SettingsGive, SettingsLeave, TraceGives, TraceLeaves, InputGives, InputLeaves, Replays};
 
-use crate::lines::{next_line, split_settings};
 use crate::play::Play;
 use base_types::Limits;
 use settings_file::{SettingsFault, read_settings_bytes};
@@ -22,6 +21,7 @@ use startup::refusal_line;
 use std::alloc::{AllocError, Global};
 use std::io::{Read, Write};
 use streams::{ExitStatus, InputFault, read_whole, write_front};
+use traces::{next_line, split_settings};
 
 /// Reads a trace to its end, runs it, writes what the server does, and gives the exit status.
 ///

@@ -12,9 +12,10 @@ use Rattle.replies.specs.Reply.{refusal_bytes}
 use Rattle.server.specs.Ledger.{Entry}
 use Rattle.server.specs.Rel.{Nothing, If}
 use Rattle.server.specs.Keeping.{needs_memory, KeepsOpen, KeepsAt}
-use Rattle.server.specs.Exchange.{http_reply, http_status, refusal_head}
+use Rattle.connections.specs.Reply.{http_reply, refusal_head}
+use Rattle.server.specs.Exchange.{http_status}
 use Rattle.server.specs.Law.{AreKept}
-use Rattle.server.specs.declared.output.TheConstants.{RESERVED_BYTES}
+use Rattle.connections.specs.declared.output.TheConstants.{RESERVED_BYTES}
 
 -- ---- where it has room
 

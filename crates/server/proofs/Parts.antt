@@ -36,12 +36,13 @@ use Rattle.server.specs.Happening.{now_at, Steps, IsDropped, Follows, Unanswered
 use Rattle.server.specs.Closing as Closing
 use Rattle.server.specs.Closing.{Leaves, ClosesAs, ClosesFirst, Settles}
 use Rattle.server.specs.Exchange as Http
+use Rattle.connections.specs.Reply.{http_reply, refusal_head}
 use Rattle.server.specs.Devices as Links
 use Rattle.server.specs.Queues as Queues
-use Rattle.server.specs.Session.{Hearing, Goes, Stops, Submits, Commands, heard, nack, file_lost, is_queue}
+use Rattle.connections.specs.Session.{Hearing, Goes, Stops, Submits, Commands, heard, nack, file_lost, is_queue}
 use Rattle.server.specs.Polling.{Opens, AcceptsAs, AcceptsOne, AcceptsAt, ActsNext, Acts, Serves, Feeds, FeedsAt, FeedsOne, Fails, ReadsAs, ReadsOpen, ReadsAt, is_read, ReadsOne, WritesAs, WritesOpen, WritesAt, WritesOne, is_done, EndsAt, EndsOne}
 use Rattle.server.specs.Turn as Between
-use Rattle.server.specs.Turn.{Notes, Ticks, is_tick_due, TicksIfDue, Covers, Rounds, Round, Turn, has_refusal, Deed, Turned, Served_body, Reported, Ticked, DoesDeed}
+use Rattle.server.specs.Turn.{Notes, Ticks, is_tick_due, TicksIfDue, Covers, Round, Turn, has_refusal, Deed, Turned, Served_body, Reported, Ticked, DoesDeed}
 use Rattle.server.specs.Law.{Dispatch, plans_told, cancels_told, Collects, cancels_of, IsWhole, moment_of, happenings_of, IsAnswered}
 use Rattle.wires.specs.declared.wire.Answer.TheVariants as wire
 use Rattle.wires.specs.declared.wire.Answer.{Answer as WireAnswer}
@@ -126,7 +127,7 @@ calm_lost key id closes request query =
     (calm_if query (Keeps key (Http.http_status closes TemporaryError request)) (Breaks key) (calm_keeps key (Http.http_status closes TemporaryError request)) (calm_breaks key))
 
 calm_replies : (key id : ℕ) (closes : Bool) (request : ℕ) (query : Bool) (answer : Answer) → Calmly (Http.RepliesWith key id closes request query answer)
-calm_replies key id closes request query (answered.Ipp answer) l hs l' (inl (bytes, are, it)) = calm_keeps key (Http.http_reply closes bytes) l hs l' it
+calm_replies key id closes request query (answered.Ipp answer) l hs l' (inl (bytes, are, it)) = calm_keeps key (http_reply closes bytes) l hs l' it
 calm_replies key id closes request query (answered.Ipp answer) l hs l' (inr it) = calm_lost key id closes request query l hs l' it
 calm_replies key id closes request query (answered.Lpd answer) l hs l' it = calm_nothing l hs l' it
 calm_replies key id closes request query answered.Nothing l hs l' it = calm_nothing l hs l' it
@@ -236,7 +237,7 @@ module _ (moment : ℕ) (P : Rel) (k : Holds moment P) where
   http_happens_in key id closes request event l hs l' (inr it) = then_in (dropped_in event (Some id)) (keeps_in key (Http.http_status closes TemporaryError request)) l hs l' it
 
   asks_in : (key id : ℕ) (closes : Bool) (asked : Asked) → Within P (Http.AsksFor moment key id closes asked)
-  asks_in key id closes asks.TooShort = keeps_in key (Http.refusal_head BadRequest)
+  asks_in key id closes asks.TooShort = keeps_in key (refusal_head BadRequest)
   asks_in key id closes (asks.Refused status request) = keeps_in key (Http.http_status closes status request)
   asks_in key id closes (asks.Event request event) = http_happens_in key id closes request event
 
@@ -251,7 +252,7 @@ module _ (moment : ℕ) (P : Rel) (k : Holds moment P) where
   item_in key e said closes body item.BodyPart part =
       or_in (sets_in key (Http.heard e said closes (body ++ part) false)) (then_in (sets_in key (Http.heard e said closes body false)) (calmly_in (calm_drops_one At.Feed key)))
   item_in key e said closes body item.BodyEnd part = whole_in key e said closes body
-  item_in key e said closes body (item.Refuse refusal) part = then_in (sets_in key (Http.heard e said closes body true)) (keeps_in key (Http.refusal_head refusal))
+  item_in key e said closes body (item.Refuse refusal) part = then_in (sets_in key (Http.heard e said closes body true)) (keeps_in key (refusal_head refusal))
 
   -- ---- a device's connection
 

@@ -21,15 +21,16 @@ use Rattle.server.specs.Keeping.{Sets, broken, IsAbsent}
 use Rattle.server.specs.Happening.{Unanswered}
 use Rattle.server.specs.Devices.{device_named, linked, Tells as Reports, Greets, HearsReport}
 use Rattle.server.specs.Polling.{ActsNext}
-use Rattle.server.specs.Talks.{LinkTalkState}
-use Rattle.server.specs.Hearing.{Brings, NextItem, NextReport, work, device_of}
+use Rattle.connections.specs.Talks.{LinkTalkState}
+use Rattle.connections.specs.Hearing.{Brings, NextItem, NextReport, work, device_of}
 use Rattle.server.specs.Newcomers.{IsAlone, IsNewcomer, IsTurnedAway}
-use Rattle.server.specs.declared.talk.Brought.{Brought}
-use Rattle.server.specs.declared.talk.Brought.TheVariants as brings
-use Rattle.server.specs.declared.talk.Talk.{Talk}
-use Rattle.server.specs.declared.talk.Talk.TheVariants as of
+use Rattle.connections.specs.declared.talk.Brought.{Brought}
+use Rattle.connections.specs.declared.talk.Brought.TheVariants as brings
+use Rattle.connections.specs.declared.talk.Talk.{Talk}
+use Rattle.connections.specs.declared.talk.Talk.TheVariants as of
 use Rattle.server.specs.declared.notes.Place.TheVariants as At
-use Rattle.server.specs.State.{ConnectionState, EngineState, Slots, slot_at, with_slots, work_at, load, OnSlot, IsBrought, IsReported, IsFirstReport, changed_at, talking, is_named, is_broken, is_of, device_at}
+use Rattle.connections.specs.Slots.{ConnectionState, Slots, work_at, load, OnSlot, IsBrought, IsReported, IsFirstReport, changed_at, talking, is_named, is_broken, is_of, device_at}
+use Rattle.server.specs.State.{EngineState, slot_at, with_slots}
 use Rattle.server.specs.Stands.{FitsTalk, FitsLink, IsLinked, FitsConnection, Fits, Aside, Openly, Heard}
 use Rattle.server.proofs.Steps.{aside_nothing, quiet_then}
 use Rattle.server.proofs.Slots.{set_there, set_twice, changed_again, quiet_at, work_there}

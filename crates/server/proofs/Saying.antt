@@ -3,29 +3,30 @@ use Rattle.std.proofs.Common.{◌≡◌, ◌<◌, ◌+◌, arith, ℕ, Bool, tru
 use Rattle.std.specs.Prelude.{◌||◌, if◌then◌else◌, slice_set, slice_index_or}
 use Rattle.lpd_reader.specs.declared.item.LpdItem.{LpdItem}
 use Rattle.lpd_reader.specs.Session.{ItemRecord, Says, Aborts, Announces, HasFile, item_record}
-use Rattle.lpd_reader.specs.Stream.{LpdState, SaysFirst, LpdItems, Faulty}
+use Rattle.lpd_reader.specs.Stream.{LpdState, SaysFirst}
 use Rattle.lpd_reader.specs.Stream as Lpd
 use Rattle.lpd_session.specs.Session.{SessionState}
 use Rattle.server.specs.Polls.{Note, Refused, Happening, Told, alone}
-use Rattle.server.specs.Session.{Hearing, Goes, Stops, Submits, Commands, heard, nack, is_queue, file_lost}
-use Rattle.server.specs.LpdAsks.{AsksAs, AsksForItem, is_last}
+use Rattle.connections.specs.Session.{Hearing, Goes, Stops, Submits, Commands, heard, nack, is_queue, file_lost}
+use Rattle.connections.specs.LpdAsks.{AsksAs, AsksForItem, is_last}
 use Rattle.server.specs.Granting.{Grants}
 use Rattle.server.specs.Ledger.{Entry, Ledger, with_entry}
 use Rattle.server.specs.Rel.{Rel, Tells, Or}
 use Rattle.server.specs.Keeping.{broken}
 use Rattle.server.specs.Queues.{Answers, Declines, IsSubmitted, IsCommanded, Does, Loses, HearsNext, LosesLine, IsFaulty, talks}
 use Rattle.server.specs.Polling.{ActsNext}
-use Rattle.server.specs.Talks.{LpdTalkState}
-use Rattle.server.specs.Hearing.{Brings, NextSaid, HearsLpd, HearsTalk, work}
-use Rattle.server.specs.declared.lpd_talk.LpdAsks.{LpdAsks}
-use Rattle.server.specs.declared.lpd_talk.LpdAsks.TheVariants as asks
-use Rattle.server.specs.declared.table.Wish.{Wish}
-use Rattle.server.specs.declared.talk.Brought.{Brought}
-use Rattle.server.specs.declared.talk.Brought.TheVariants as brings
-use Rattle.server.specs.declared.talk.Talk.{Talk}
-use Rattle.server.specs.declared.talk.Talk.TheVariants as of
+use Rattle.connections.specs.Talks.{LpdTalkState}
+use Rattle.connections.specs.Hearing.{Brings, NextSaid, HearsLpd, HearsTalk, work}
+use Rattle.connections.specs.declared.lpd_talk.LpdAsks.{LpdAsks}
+use Rattle.connections.specs.declared.lpd_talk.LpdAsks.TheVariants as asks
+use Rattle.connections.specs.declared.table.Wish.{Wish}
+use Rattle.connections.specs.declared.talk.Brought.{Brought}
+use Rattle.connections.specs.declared.talk.Brought.TheVariants as brings
+use Rattle.connections.specs.declared.talk.Talk.{Talk}
+use Rattle.connections.specs.declared.talk.Talk.TheVariants as of
 use Rattle.server.specs.declared.notes.Place.TheVariants as At
-use Rattle.server.specs.State.{ConnectionState, EngineState, Slots, slot_at, with_slots, work_at, load, OnSlot, IsBrought, IsSaid, IsWished, changed_at, talking, is_over, is_broken}
+use Rattle.connections.specs.Slots.{ConnectionState, Slots, work_at, load, OnSlot, IsBrought, IsSaid, IsWished, changed_at, talking, is_over, is_broken}
+use Rattle.server.specs.State.{EngineState, slot_at, with_slots}
 use Rattle.server.specs.Stands.{FitsTalk, FitsLpd, FitsConnection, Fits, Aside, Heard}
 use Rattle.server.proofs.Steps.{quiet_then}
 use Rattle.server.proofs.Slots.{set_there, set_twice, changed_again, quiet_at, work_there}

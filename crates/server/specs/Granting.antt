@@ -1,8 +1,8 @@
 -- What comes of what an LPD client asks, by the events that the engine has made of it.
 use Rattle.std.specs.Prelude.{ℕ, Some}
 use Rattle.events.specs.declared.event.Event.{Event}
-use Rattle.server.specs.declared.lpd_talk.LpdAsks.{LpdAsks}
-use Rattle.server.specs.declared.lpd_talk.LpdAsks.TheVariants as asks
+use Rattle.connections.specs.declared.lpd_talk.LpdAsks.{LpdAsks}
+use Rattle.connections.specs.declared.lpd_talk.LpdAsks.TheVariants as asks
 use Rattle.server.specs.declared.notes.Place.TheVariants as At
 use Rattle.server.specs.Rel.{Rel, Then, Or}
 use Rattle.server.specs.Keeping.{Breaks}

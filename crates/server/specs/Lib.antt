@@ -1,10 +1,4 @@
 pub mod Polls
-pub mod Session
-pub mod Commands
-pub mod LpdAsks
-pub mod Talks
-pub mod Hearing
-pub mod Output
 pub mod Ledger
 pub mod Rel
 pub mod Keeping

@@ -3,7 +3,8 @@ use Rattle.std.specs.Prelude.{ℕ, ◌≡◌, ◌⊎◌, true, false, Some, None
 use Rattle.base_types.specs.declared.report.Report.{Report}
 use Rattle.base_types.specs.declared.report.Report.TheVariants.{Hello}
 use Rattle.server.specs.Devices.{device_named}
-use Rattle.server.specs.State.{EngineState, is_of}
+use Rattle.connections.specs.Slots.{is_of}
+use Rattle.server.specs.State.{EngineState}
 
 -- no connection is this device's
 abbrev pub IsAlone : EngineState → ℕ → Type 0

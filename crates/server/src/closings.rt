@@ -6,14 +6,15 @@ ghost use Rattle.server.specs.Rel.{Then};
 ghost use Rattle.server.specs.Keeping.{Breaks};
 ghost use Rattle.server.specs.Closing.{Settles};
 ghost use Rattle.server.specs.Polling.{EndsOne};
-ghost use Rattle.server.specs.State.{ConnectionState, IsFirstBroken, broken_at, slot_at};
+ghost use Rattle.connections.specs.Slots.{ConnectionState, IsFirstBroken, broken_at};
+ghost use Rattle.server.specs.State.{slot_at};
 ghost use Rattle.server.specs.Stands.{Does, Aside, Closed};
 
 use crate::engine::Engine;
 use crate::notes::Notes;
-use crate::table::{break_off, close, is_broken, is_done};
 use assignment::Planner;
 use base_types::{Moment, Report};
+use connections::table::{break_off, close, is_broken, is_done};
 use wires::Wire;
 
 /// Closings: of connections that broke, and of those that are done.

@@ -2,15 +2,16 @@
 ghost use Rattle.std.specs.Prelude.{◌≡◌, IfSome, IfNone};
 ghost use Rattle.server.specs.Polls.{alone};
 ghost use Rattle.server.specs.Devices.{place_of};
-ghost use Rattle.server.specs.State.{Slots, OnSlot, IsReported, IsFirstReport, with_slots};
+ghost use Rattle.connections.specs.Slots.{Slots, OnSlot, IsReported, IsFirstReport};
+ghost use Rattle.server.specs.State.{with_slots};
 ghost use Rattle.server.specs.Newcomers.{IsNewcomer, IsTurnedAway};
 ghost use Rattle.server.specs.Stands.{Heard};
 
 use crate::engine::Engine;
 use crate::notes::Notes;
-use crate::table::{break_off, device_at, key_of, name};
 use assignment::Planner;
 use base_types::{DeviceId, Moment, Report, Text};
+use connections::table::{break_off, device_at, key_of, name};
 use settings_file::Settings;
 
 /// Reports of devices, acted on one at a time.

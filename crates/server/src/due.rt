@@ -2,13 +2,14 @@
 ghost use Rattle.std.specs.Prelude.{◌≡◌};
 ghost use Rattle.server.specs.Polls.{alone};
 ghost use Rattle.server.specs.Keeping.{Keeps};
-ghost use Rattle.server.specs.Exchange.{http_status, http_reply, refusal_head};
+ghost use Rattle.connections.specs.Reply.{http_reply, refusal_head};
+ghost use Rattle.server.specs.Exchange.{http_status};
 ghost use Rattle.server.specs.Stands.{Aside, ToldOf, is_refused};
 
 use crate::engine::Engine;
 use crate::notes::{Notes, Place};
-use crate::table::{Kept, keep, keep_refusal, keep_reply};
 use assignment::Planner;
+use connections::table::{Kept, keep, keep_refusal, keep_reply};
 use events::Status;
 use http_front::Refusal;
 use replies::ipp_refusal;

@@ -8,10 +8,10 @@ ghost use Rattle.server.specs.Polls.{both};
 ghost use Rattle.server.specs.State.{EngineState};
 ghost use Rattle.server.specs.Stands.{StandsAt, Turns};
 
-use crate::connection::Connection;
 use crate::notes::Notes;
 use assignment::Planner;
 use base_types::{DeviceId, DeviceNow, JobId, Limits, Moment};
+use connections::Connection;
 use dispatcher::Core;
 use job_objects::Job;
 use settings_file::Settings;

@@ -2,17 +2,19 @@
 ghost use Rattle.std.specs.Prelude.{◌≡◌, true, Some, IsTrue, IsFalse};
 ghost use Rattle.server.specs.Polls.{alone};
 ghost use Rattle.server.specs.Keeping.{Keeps};
-ghost use Rattle.server.specs.Exchange.{refusal_head, AsksFor, closes_with};
-ghost use Rattle.server.specs.State.{Slots, OnSlot, IsBrought, IsHeard, HearsNothing, IsWholeOf, changed_at, is_over, with_slots};
+ghost use Rattle.connections.specs.Reply.{refusal_head};
+ghost use Rattle.server.specs.Exchange.{AsksFor, closes_with};
+ghost use Rattle.connections.specs.Slots.{Slots, OnSlot, IsBrought, IsHeard, IsWholeOf, changed_at, is_over};
+ghost use Rattle.server.specs.State.{HearsNothing, with_slots};
 ghost use Rattle.server.specs.Stands.{Aside, Heard};
 
 use crate::effects::Asker;
 use crate::engine::Engine;
 use crate::notes::{Notes, Place};
-use crate::table::{Whole, begin, break_off, finish, lose, next, take_body, take_part};
-use crate::talk::Brought;
 use assignment::Planner;
 use base_types::Moment;
+use connections::Brought;
+use connections::table::{Whole, begin, break_off, finish, lose, next, take_body, take_part};
 use events::{Event, Status};
 use http_front::{HttpItem, Refusal, continue_head};
 use replies::Asked;

@@ -9,25 +9,19 @@
 
 mod between;
 mod closings;
-mod connection;
 mod core_step;
 mod devices;
 mod due;
 mod effects;
 mod engine;
-mod http_talk;
 mod items;
 mod law;
-mod lpd_talk;
 mod note_log;
 mod notes;
-mod output;
 mod polls;
 mod said;
 mod served;
 mod starting;
-mod table;
-mod talk;
 mod ticks;
 mod turns;
 

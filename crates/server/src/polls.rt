@@ -1,16 +1,15 @@
 //! The polls of one connection, and of a door.
 ghost use Rattle.server.specs.Polls.{both};
-ghost use Rattle.server.specs.Hearing.{IsNewTalk};
+ghost use Rattle.connections.specs.Hearing.{IsNewTalk};
 ghost use Rattle.server.specs.Polling.{AcceptsAt, AcceptsOne, Opens, Serves, FeedsOne, ReadsOne, WritesOne};
 ghost use Rattle.server.specs.Stands.{Does};
 
 use crate::engine::Engine;
 use crate::notes::{Notes, Place};
-use crate::output::Offered;
-use crate::table::{Fed, end, feed, insert, offer, to_read};
-use crate::talk::Talk;
 use assignment::Planner;
 use base_types::{Limits, Moment};
+use connections::table::{Fed, end, feed, insert, offer, to_read};
+use connections::{Offered, Talk};
 use wires::{Answer, Door, Wire, WireId};
 
 /// The bytes of a read, at most.

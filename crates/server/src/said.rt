@@ -1,21 +1,21 @@
 //! What comes of what LPD clients say.
-ghost use Rattle.std.specs.Prelude.{◌≡◌, Some};
-ghost use Rattle.server.specs.Polls.{alone, Refused};
+ghost use Rattle.std.specs.Prelude.{Some};
+ghost use Rattle.server.specs.Polls.{alone};
 ghost use Rattle.server.specs.Rel.{Then};
 ghost use Rattle.server.specs.Happening.{Follows};
 ghost use Rattle.replies.specs.QueueText.{text_of};
 ghost use Rattle.server.specs.Queues.{Answers, Declines, IsAnswered, IsTold, Shows};
 ghost use Rattle.server.specs.Granting.{Grants, Submitted, Commanded};
-ghost use Rattle.server.specs.State.{Slots, OnSlot, IsBrought, IsSaid, with_slots};
+ghost use Rattle.connections.specs.Slots.{Slots, OnSlot, IsBrought, IsSaid};
+ghost use Rattle.server.specs.State.{with_slots};
 ghost use Rattle.server.specs.Stands.{Aside, Heard};
 
 use crate::engine::Engine;
-use crate::lpd_talk::{LpdAsks, REFUSED};
 use crate::notes::{Notes, Place};
-use crate::table::{break_off, finish, hear_said};
-use crate::talk::Brought;
 use assignment::Planner;
 use base_types::Moment;
+use connections::table::{break_off, finish, hear_said};
+use connections::{Brought, LpdAsks, REFUSED};
 use events::{Answer as Says, Event, LpdAnswer, Reply};
 use lpd_reader::LpdItem;
 use replies::{lpd_ack, lpd_queue_text};

@@ -4,15 +4,16 @@ ghost use Rattle.server.specs.Polls.{alone};
 ghost use Rattle.server.specs.Ledger.{job_bytes};
 ghost use Rattle.server.specs.Rel.{EachOf};
 ghost use Rattle.server.specs.Happening.{Starts};
-ghost use Rattle.server.specs.State.{EngineState, KeepsAs, with_slots};
+ghost use Rattle.connections.specs.Slots.{KeepsAs};
+ghost use Rattle.server.specs.State.{EngineState, with_slots};
 ghost use Rattle.server.specs.Stands.{Openly};
 
-use crate::connection::Connection;
 use crate::due::tell;
 use crate::notes::Notes;
-use crate::table::{Kept, keep, keep_job, key_of};
 use assignment::Planner;
 use base_types::JobId;
+use connections::Connection;
+use connections::table::{Kept, keep, keep_job, key_of};
 use dispatcher::{Core, Started};
 use slab::Slab;
 

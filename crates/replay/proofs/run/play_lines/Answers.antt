@@ -1,4 +1,4 @@
-use Rattle.std.proofs.Common.{arith, suc, ◌++◌, ◌+◌, [], refl, sym, ap, ◌∙◌, append-nil}
+use Rattle.std.proofs.Common.{arith, suc, ◌+◌, [], refl, sym, ◌∙◌, append-nil}
 use Rattle.std.proofs.lemmas.Result.{IfOk-weaker, on_err_weaker}
 use Rattle.replay.proofs.Reach.{reached_start, left_off, all_done, at_bad, went_on, stood_still, joined, on_err}
 use Rattle.replay.proofs.run.play_lines.Goals as goal

@@ -1,6 +1,6 @@
 use Rattle.std.proofs.Common.{◌≡◌, ◌≤◌, ◌+◌, ◌++◌, ℕ, suc, List, length}
 use Rattle.replay.specs.Acting.{standing, IsReady}
-use Rattle.replay.specs.Lines.{lines_of}
+use Rattle.traces.specs.Lines.{lines_of}
 use Rattle.replay.proofs.Reach.{Reached}
 use Rattle.replay.proofs.run.play_lines.Given as goal
 

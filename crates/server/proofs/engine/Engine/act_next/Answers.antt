@@ -1,9 +1,10 @@
 use Rattle.std.proofs.Common.{◌∙◌, Some, None, sym, ap, subst}
 use Rattle.std.specs.Prelude.{slice_index_or}
 use Rattle.server.specs.Polls.{alone}
-use Rattle.server.specs.State.{EngineState, Slots, OnSlot, IsBrought, LosesAs, with_slots, changed_at, is_broken}
+use Rattle.connections.specs.Slots.{Slots, OnSlot, IsBrought, LosesAs, changed_at, is_broken}
+use Rattle.server.specs.State.{EngineState, with_slots}
 use Rattle.server.specs.Stands.{Heard}
-use Rattle.server.specs.declared.talk.Brought.{Brought}
+use Rattle.connections.specs.declared.talk.Brought.{Brought}
 use Rattle.server.proofs.Slots.{set_there}
 use Rattle.server.proofs.Closing.{never_none}
 use Rattle.server.proofs.Hearing.{item_of}

@@ -3,7 +3,8 @@ use Rattle.base_types.specs.declared.report.Report.TheVariants.{Gone}
 use Rattle.events.specs.declared.event.Event.TheVariants as Is
 use Rattle.server.specs.Polls.{both, alone}
 use Rattle.server.specs.Happening.{Unanswered}
-use Rattle.server.specs.State.{EngineState, with_slots, LeavesAs}
+use Rattle.connections.specs.Slots.{LeavesAs}
+use Rattle.server.specs.State.{EngineState, with_slots}
 use Rattle.server.specs.Stands.{Openly, Closed}
 use Rattle.server.proofs.Closing.{closed_alone, closed_device}
 use Rattle.server.proofs.engine.Engine.close.Goals as goal

@@ -2,7 +2,8 @@ use Rattle.std.proofs.Common.{◌≡◌, ◌∙◌, sym, ap, subst}
 use Rattle.events.specs.declared.event.Event.TheVariants as Is
 use Rattle.server.specs.Polls.{alone}
 use Rattle.server.specs.Happening.{Unanswered}
-use Rattle.server.specs.State.{EngineState, with_slots, changed_at, is_named, is_broken}
+use Rattle.connections.specs.Slots.{changed_at, is_named, is_broken}
+use Rattle.server.specs.State.{EngineState, with_slots}
 use Rattle.server.specs.Stands.{Openly, Heard}
 use Rattle.server.proofs.Reporting.{hears_name, hears_stranger}
 use Rattle.server.proofs.engine.Engine.greet.Goals as goal

@@ -1,5 +1,6 @@
 use Rattle.std.proofs.Common.{◌∙◌, sym, ap}
-use Rattle.server.specs.State.{EngineState, with_slots, device_at}
+use Rattle.connections.specs.Slots.{device_at}
+use Rattle.server.specs.State.{EngineState, with_slots}
 use Rattle.server.proofs.Reporting.{hears_report, first_report}
 use Rattle.server.proofs.engine.Engine.hear_report.Goals as goal
 

@@ -1,8 +1,9 @@
 use Rattle.std.proofs.Common.{refl, ap, subst, Some}
 use Rattle.settings_file.specs.Settings.{ServerSettings}
 use Rattle.server.specs.Polls.{alone}
-use Rattle.server.specs.Session.{is_queue}
-use Rattle.server.specs.State.{EngineState, WishesAs, with_slots}
+use Rattle.connections.specs.Session.{is_queue}
+use Rattle.connections.specs.Slots.{WishesAs}
+use Rattle.server.specs.State.{EngineState, with_slots}
 use Rattle.server.proofs.Steps.{aside_from}
 use Rattle.server.proofs.Saying.{hears_said}
 use Rattle.server.proofs.engine.Engine.hear_said.Goals as goal

@@ -1,6 +1,7 @@
 use Rattle.std.proofs.Common.{◌∙◌, refl, ap, true}
 use Rattle.server.specs.Polls.{alone}
-use Rattle.server.specs.State.{EngineState, changed_at, is_over, with_slots}
+use Rattle.connections.specs.Slots.{changed_at, is_over}
+use Rattle.server.specs.State.{EngineState, with_slots}
 use Rattle.server.proofs.Steps.{aside_from}
 use Rattle.server.proofs.Saying.{hears_faulty}
 use Rattle.server.proofs.engine.Engine.refuse_client.Goals as goal

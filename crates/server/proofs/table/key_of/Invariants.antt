@@ -1,6 +1,0 @@
-use Rattle.std.proofs.Common.{◌≡◌, ◌<◌, ℕ, false}
-use Rattle.server.specs.State.{is_of}
-use Rattle.server.proofs.table.key_of.Given as goal
-
-abbrev pub invariant-loop-key : goal.invariant-loop-key
-invariant-loop-key l = (other : ℕ) → other < l.key → is_of l.connections.slots l.device other ≡ false

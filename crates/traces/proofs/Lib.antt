@@ -1,0 +1,4 @@
+mod Texts
+mod Settings
+mod Forms
+mod Digits

@@ -1,0 +1,12 @@
+use Rattle.std.proofs.Common.{refl, rules}
+use Rattle.traces.proofs.Forms.{uncut_opening, unnumbered_opening, unnamed_opening}
+use Rattle.traces.proofs.line.read_opening.Goals as goal
+
+pub returns-in_default : goal.returns-in_default
+returns-in_default c = uncut_opening c.args.said.now (c.in_default.ensures.none refl)
+
+pub returns-in_default-read_number : goal.returns-in_default-read_number
+returns-in_default-read_number c = unnumbered_opening c.args.said.now c.in-Some.cut.0.now c.in-Some.cut.1.now c.in-Some.ensures.some c.in_default-read_number.ensures
+
+pub returns-in_default-read_door : goal.returns-in_default-read_door
+returns-in_default-read_door c = unnamed_opening c.args.said.now c.in-Some.cut.0.now c.in-Some.cut.1.now c.in-Some.ensures.some c.in_default-read_door.ensures

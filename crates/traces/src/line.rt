@@ -1,0 +1,192 @@
+//! What a line of a trace says.
+ghost use Rattle.std.specs.Prelude.{◌≡◌, ◌++◌, ◌-◌, IfOk, codes, position};
+ghost use Rattle.std.specs.Char.{is_ascii_uppercase};
+ghost use Rattle.std.specs.List.{list_any};
+ghost use Rattle.std.specs.Str.{bytes_eq};
+ghost use Rattle.traces.specs.TraceLine.{Finds, IsMomentIn, IsBodyIn, IsNumberIn, IsDoorIn, IsOpeningIn, IsInputIn, IsLine};
+
+use base_types::{DeviceId, Limits, Moment, Report, Text};
+use device_link::read_report;
+use hex::FromHexError;
+use std::alloc::{AllocError, Global};
+use text::{cut_at, number_up_to};
+use wires::Door;
+
+/// A line of a trace, after the settings.
+#[derive(Drop)]
+pub enum Line {
+    /// From now on it is this moment.
+    At(Moment),
+    /// An IPP body comes.
+    Ipp(Vec<u8>),
+    /// A device reports.
+    Device(DeviceId, Report),
+    /// Time goes on.
+    Tick,
+    /// A connection comes in.
+    Open(Opening),
+    /// Bytes come on a connection.
+    In(Input),
+    /// Nothing more comes on the connection of a number.
+    End(u64),
+}
+
+/// A connection that comes in.
+#[derive(Clone, Copy, Debug)]
+pub struct Opening {
+    /// Its number from now on.
+    pub number: u64,
+    pub door: Door,
+}
+
+/// Bytes that come on a connection.
+#[derive(Drop)]
+pub struct Input {
+    /// The connection's number.
+    pub number: u64,
+    pub bytes: Vec<u8>,
+}
+
+/// The greatest number of a connection.
+const LAST_NUMBER: u64 = 2_147_483_647;
+
+/// What a line of a trace says, where the devices have these names; nothing where it is no such
+/// line.
+///
+/// The error is out of memory.
+pub fn read_line(alloc: Global, text: &[u8], devices: &[Text]) -> Result<Option<Line>, AllocError>
+    ensures { IfOk result (λ line. Finds (IsLine devices.now text.now) line) }
+{
+    if text == b"tick".as_slice() {
+        return Ok(Some(Line::Tick));
+    }
+    if let Some(digits) = text.strip_prefix(b"at ") {
+        return Ok(read_moment(digits).map(|moment| Line::At(moment)));
+    }
+    if let Some(digits) = text.strip_prefix(b"ipp ") {
+        return Ok(read_body(alloc, digits)?.map(|body| Line::Ipp(body)));
+    }
+    if let Some(said) = text.strip_prefix(b"dev ") {
+        return read_device_line(alloc, said, devices);
+    }
+    if let Some(said) = text.strip_prefix(b"open ") {
+        return Ok(read_opening(said).map(|opening| Line::Open(opening)));
+    }
+    if let Some(said) = text.strip_prefix(b"in ") {
+        return Ok(read_input(alloc, said)?.map(|input| Line::In(input)));
+    }
+    match text.strip_prefix(b"end ") {
+        Some(digits) => Ok(read_number(digits).map(|number| Line::End(number))),
+        None => Ok(None),
+    }
+}
+
+/// The number of a connection, in decimal digits.
+fn read_number(digits: &[u8]) -> Option<u64>
+    ensures { Finds (IsNumberIn digits.now) result }
+{
+    number_up_to(digits, LAST_NUMBER)
+}
+
+/// The door of a word.
+fn read_door(word: &[u8]) -> Option<Door>
+    ensures { Finds (IsDoorIn word.now) result }
+{
+    if word == b"ipp".as_slice() {
+        return Some(Door::Ipp);
+    }
+    if word == b"lpd".as_slice() {
+        return Some(Door::Lpd);
+    }
+    if word == b"device".as_slice() {
+        return Some(Door::Devices);
+    }
+    None
+}
+
+/// A number, a space and the word for a door.
+fn read_opening(said: &[u8]) -> Option<Opening>
+    ensures { Finds (λ opening. IsOpeningIn said.now opening.number opening.door) result }
+{
+    let Some(cut) = cut_at(said, b' ') else {
+        return None;
+    };
+    let Some(number) = read_number(cut.0) else {
+        return None;
+    };
+    let Some(door) = read_door(cut.1) else {
+        return None;
+    };
+    Some(Opening { number, door })
+}
+
+/// A number, a space and bytes in hexadecimal digits.
+fn read_input(alloc: Global, said: &[u8]) -> Result<Option<Input>, AllocError>
+    ensures { IfOk result (Finds (λ input. IsInputIn said.now input.number input.bytes.items)) }
+{
+    let Some(cut) = cut_at(said, b' ') else {
+        return Ok(None);
+    };
+    let Some(number) = read_number(cut.0) else {
+        return Ok(None);
+    };
+    let bytes = read_body(alloc, cut.1)?;
+    Ok(bytes.map(|bytes| Input { number, bytes }))
+}
+
+/// A moment in decimal digits.
+fn read_moment(digits: &[u8]) -> Option<Moment>
+    ensures { Finds (IsMomentIn digits.now) result }
+{
+    let number = number_up_to(digits, Limits::LAST_MOMENT)?;
+    Moment::new(number)
+}
+
+/// Bytes in lower-case hexadecimal digits, at least one byte.
+fn read_body(alloc: Global, digits: &[u8]) -> Result<Option<Vec<u8>>, AllocError>
+    ensures { IfOk result (λ body. Finds (λ body. IsBodyIn digits.now body.items) body) }
+{
+    if digits.is_empty() || has_capital(digits) {
+        return Ok(None);
+    }
+    match hex::decode(alloc, digits) {
+        Ok(bytes) => Ok(Some(bytes)),
+        Err(error) => match error {
+            FromHexError::OutOfMemory => Err(AllocError),
+            _ => Ok(None),
+        },
+    }
+}
+
+/// Whether an upper-case letter is among the digits.
+fn has_capital(digits: &[u8]) -> bool
+    ensures { result ≡ list_any is_ascii_uppercase digits.now }
+{
+    digits.iter().any(|byte| byte.is_ascii_uppercase())
+}
+
+/// A device's name, a space and a line that it writes.
+fn read_device_line(
+    alloc: Global,
+    said: &[u8],
+    devices: &[Text],
+) -> Result<Option<Line>, AllocError>
+    ensures { IfOk result (λ line. Finds (IsLine devices.now (codes "dev " ++ said.now)) line) }
+{
+    let Some(cut) = cut_at(said, b' ') else {
+        return Ok(None);
+    };
+    let Some(place) = place_of(devices, cut.0) else {
+        return Ok(None);
+    };
+    let device = DeviceId::new(place);
+    let report = read_report(alloc, cut.1)?;
+    Ok(report.map(|report| Line::Device(device, report)))
+}
+
+/// The place of the first device of this name.
+fn place_of(devices: &[Text], name: &[u8]) -> Option<usize>
+    ensures { result ≡ position (λ device. bytes_eq device name.now) devices.now }
+{
+    devices.iter().position(|device| device.as_bytes() == name)
+}
