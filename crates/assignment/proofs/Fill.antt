@@ -11,7 +11,8 @@ use Rattle.prices.proofs.Bounds.{wait_small}
 use Rattle.assignment.specs.declared.costs.TheConstants.{UNABLE}
 use Rattle.assignment.specs.declared.times.Entries.{Entries}
 use Rattle.assignment.specs.Costs.{cost_of, row_of}
-use Rattle.assignment.specs.Entries.{EachAble, IsRead}
+use Rattle.planners.specs.Able.{EachAble}
+use Rattle.assignment.specs.Entries.{IsRead}
 use Rattle.assignment.specs.AllPlaces.{CanFill, place_on}
 use Rattle.assignment.proofs.Charges.{cost_with}
 use Rattle.assignment.proofs.Filled.{some_time, timed_cost}

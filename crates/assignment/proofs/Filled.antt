@@ -23,7 +23,8 @@ use Rattle.assignment.specs.declared.times.Entries.{Entries}
 use Rattle.assignment.specs.Costs.{cost_at, cost_of, nowhere, row_of}
 use Rattle.assignment.specs.Seating.{IsTight}
 use Rattle.assignment.specs.Layout.{IsFilled, taken}
-use Rattle.assignment.specs.Entries.{EachAble, IsRead}
+use Rattle.planners.specs.Able.{EachAble}
+use Rattle.assignment.specs.Entries.{IsRead}
 use Rattle.assignment.specs.Answer.{cost_of_seats}
 use Rattle.assignment.proofs.Apart.{jobs-below}
 use Rattle.assignment.proofs.Charges.{cost_with, unable}

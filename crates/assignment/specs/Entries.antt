@@ -1,13 +1,9 @@
 -- The entries of a class problem, as they are read.
-use Rattle.std.specs.Prelude.{◌≡◌, ℕ, ◌<◌, List, IsSome, All, length, slice_index, slice_index_or, unwrap_or, vec_len}
+use Rattle.std.specs.Prelude.{◌≡◌, ℕ, ◌<◌, List, length, slice_index, slice_index_or, unwrap_or, vec_len}
 use Rattle.cost_table.specs.Class.{Class, time_in}
 use Rattle.assignment.specs.declared.costs.TheConstants.{UNABLE}
 use Rattle.assignment.specs.declared.times.Entries.{Entries}
 use Rattle.assignment.specs.Costs.{row_of}
-
--- each job of the class has a device that is able
-abbrev pub EachAble : Class → Type 0
-EachAble c = All (λ job. (device : ℕ) × IsSome (time_in c job device)) c.ids
 
 -- the times of a job on so many devices, UNABLE where one is not able
 pub record IsReadRow (c : Class) (job devices : ℕ) (row : List ℕ) : Type 0 where

@@ -7,7 +7,6 @@
 //! Tests stand in `planner_tests`.
 #![tactic(auto)]
 
-mod able;
 mod all_places;
 mod answer;
 mod costs;
@@ -19,6 +18,5 @@ mod seating;
 mod solver;
 mod times;
 
-pub use able::each_able;
-pub use planner::{Dense, Lazy, Planner};
+pub use planner::{Dense, Lazy};
 pub use times::{Counted, Times};

@@ -1,26 +1,17 @@
-//! What each planner promises.
+//! The planners.
 ghost use Rattle.std.specs.Prelude.{◌≡◌, ◌+◌, ◌*◌, ◌^◌, ◌<◌, ◌≤◌, IfOk, length};
 ghost use Rattle.cost_table.specs.Class.{IsClass};
 ghost use Rattle.prices.specs.Total.{IsBest};
 ghost use Rattle.prices.specs.Prices.{IsProved};
-ghost use Rattle.assignment.specs.Entries.{EachAble};
+ghost use Rattle.planners.specs.Able.{EachAble};
 
 use crate::all_places::{Shown, seat_all};
 use crate::answer::{prices, total, way};
 use crate::times::{Counted, Times, read};
 use cost_table::ClassProblem;
+use planners::Planner;
 use prices::{PricedWay, fair_is_best};
 use std::alloc::{AllocError, Global};
-
-/// What finds a best way to print the jobs of a class.
-pub trait Planner {
-    /// A best way, with fair prices that prove it best, and its total. Each job of the class has a
-    /// device that is able. The only error is out of memory.
-    fn plan_class(&self, class: &ClassProblem) -> Result<PricedWay, AllocError>
-        requires { EachAble class.now }
-        ensures proved { IfOk result (λ p. IsProved class.now p.way p.prices p.total) }
-        ensures best { IfOk result (λ p. IsBest class.now p.way) };
-}
 
 /// Shows for each device the used places and the next free one.
 #[derive(Clone, Copy, Debug)]

@@ -6,8 +6,8 @@ ghost use Rattle.print_room.specs.Ready.{ready_of};
 ghost use Rattle.dispatcher.specs.Dispatched.{plan_of, started_of};
 
 use crate::server_core::Core;
-use assignment::Planner;
 use base_types::Moment;
+use planners::Planner;
 use prices::Plan;
 use print_room::{PrintRoom, Started};
 use std::alloc::AllocError;

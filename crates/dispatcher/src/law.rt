@@ -12,7 +12,7 @@ ghost use Rattle.dispatcher.specs.Step.{Step};
 ghost use Rattle.dispatcher.specs.Keeping.{StepKeeps};
 
 use crate::server_core::Core;
-use assignment::Planner;
+use planners::Planner;
 
 impl<P: Planner + Drop> Core<P> {
     /// What holds of every state: what a print room keeps, and what a spool keeps.

@@ -7,9 +7,9 @@ ghost use Rattle.dispatcher.specs.Run.{Comes, Run};
 
 use crate::dispatch::Dispatched;
 use crate::server_core::Core;
-use assignment::Planner;
 use base_types::Moment;
 use events::{Event, Reply};
+use planners::Planner;
 use std::alloc::{AllocError, Global};
 
 /// An event, and the moment at which it comes.

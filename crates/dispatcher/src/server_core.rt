@@ -7,10 +7,10 @@ ghost use Rattle.print_room.specs.Opening.{opening};
 ghost use Rattle.dispatcher.specs.Step.{Step, TakesNoMemory};
 
 use crate::apply::apply;
-use assignment::Planner;
 use base_types::{DeviceId, DeviceNow, JobId, Moment};
 use events::{Event, Reply};
 use job_objects::Job;
+use planners::Planner;
 use print_room::{PrintRoom, Started};
 use settings_file::Settings;
 use spool::Document;

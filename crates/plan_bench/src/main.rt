@@ -14,9 +14,10 @@ mod random;
 use crate::made_class::{Kind, made_class};
 use crate::random::Random;
 use anyhow::{Context, Error, bail};
-use assignment::{Dense, Lazy, Planner, each_able};
+use assignment::{Dense, Lazy};
 use cost_table::ClassProblem;
 use exhaustive_search::least_total;
+use planners::{Planner, each_able};
 use std::alloc::Global;
 use std::env;
 

@@ -1,7 +1,8 @@
 //! The totals that the planners find.
-use assignment::{Counted, Dense, Lazy, Planner, Times, each_able};
+use assignment::{Counted, Dense, Lazy, Times};
 use base_types::JobId;
 use cost_table::{ClassProblem, Row, is_class};
+use planners::{Planner, each_able};
 use std::alloc::Global;
 use std::test::Fail;
 

@@ -18,7 +18,7 @@ use Rattle.cost_table.specs.ClassJob.{JobOfClass, CanBuild, IsClassOf, printer_o
 use Rattle.prices.specs.Way.{IsWay}
 use Rattle.prices.specs.Total.{total_of}
 use Rattle.prices.proofs.Bounds.{total_within}
-use Rattle.assignment.specs.Entries.{EachAble}
+use Rattle.planners.specs.Able.{EachAble}
 use Rattle.spool.specs.Spool.{IsSpool}
 use Rattle.print_room.specs.State.{State, sets_of}
 use Rattle.print_room.specs.Ready.{ready_of, belongs, class_of, cause_in}

@@ -8,8 +8,8 @@ ghost use Rattle.print_room.specs.DeviceJobs.{AllKeep};
 use crate::room::PrintRoom;
 use crate::started::Started;
 use crate::starting::starts_of;
-use assignment::Planner;
 use base_types::Moment;
+use planners::Planner;
 use prices::Plan;
 use std::alloc::AllocError;
 

@@ -10,10 +10,10 @@ ghost use Rattle.print_room.specs.Gathered.{gathered_of};
 use crate::activity::wait_of;
 use crate::ready::{ReadyJob, class_jobs, highest_within, stranded};
 use crate::room::PrintRoom;
-use assignment::Planner;
 use base_types::{Limits, Moment, Priority};
 use cost_table::{ClassJob, build};
 use plan_checker::proved_plan_is_yes;
+use planners::Planner;
 use prices::{Plan, PlannedClass, best_at_most_timetables, waits_after};
 use std::alloc::AllocError;
 

@@ -3,10 +3,10 @@ ghost use Rattle.std.specs.Prelude.{◌≡◌, ◌++◌, [], IfOk, OnOk, OnErr, 
 ghost use Rattle.std.specs.Option.{option_copied};
 ghost use Rattle.serve.specs.Ends.{begun_by, ended_in, has_job, is_at, is_on};
 
-use assignment::Planner;
 use base_types::{Activity, DeviceNow, JobId};
 use dispatcher::Started;
 use job_objects::{Job, JobState};
+use planners::Planner;
 use server::{Engine, Heard};
 use std::alloc::{AllocError, Global};
 use std::marker::Model;

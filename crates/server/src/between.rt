@@ -8,9 +8,9 @@ ghost use Rattle.server.specs.Stands.{Openly, Calls, Answered, ServesBody, Bytes
 use crate::engine::Engine;
 use crate::notes::{Notes, Place};
 use crate::served::{Served, answered};
-use assignment::Planner;
 use base_types::{DeviceId, Moment, Report};
 use events::{Answer as Says, Event, Reply, Status};
+use planners::Planner;
 use replies::{Asked, ipp_event, ipp_refusal, ipp_reply};
 use std::alloc::AllocError;
 

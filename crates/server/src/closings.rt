@@ -12,9 +12,9 @@ ghost use Rattle.server.specs.Stands.{Does, Aside, Closed};
 
 use crate::engine::Engine;
 use crate::notes::Notes;
-use assignment::Planner;
 use base_types::{Moment, Report};
 use connections::table::{break_off, close, is_broken, is_done};
+use planners::Planner;
 use wires::Wire;
 
 /// Closings: of connections that broke, and of those that are done.

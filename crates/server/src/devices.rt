@@ -9,9 +9,9 @@ ghost use Rattle.server.specs.Stands.{Heard};
 
 use crate::engine::Engine;
 use crate::notes::Notes;
-use assignment::Planner;
 use base_types::{DeviceId, Moment, Report, Text};
 use connections::table::{break_off, device_at, key_of, name};
+use planners::Planner;
 use settings_file::Settings;
 
 /// Reports of devices, acted on one at a time.

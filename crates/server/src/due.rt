@@ -8,10 +8,10 @@ ghost use Rattle.server.specs.Stands.{Aside, ToldOf, is_refused};
 
 use crate::engine::Engine;
 use crate::notes::{Notes, Place};
-use assignment::Planner;
 use connections::table::{Kept, keep, keep_refusal, keep_reply};
 use events::Status;
 use http_front::Refusal;
+use planners::Planner;
 use replies::ipp_refusal;
 
 /// Bytes become due, or memory for them is refused: then the listener is told, and the connection

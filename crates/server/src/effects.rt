@@ -11,10 +11,10 @@ use crate::due::tell;
 use crate::engine::Engine;
 use crate::notes::{Notes, Place};
 use crate::starting::start_all;
-use assignment::Planner;
 use base_types::Moment;
 use connections::table::{break_off, keep_cancel, key_of};
 use events::{Answer as Says, Cancel, Event, IppAnswer, Reply, Status};
+use planners::Planner;
 use replies::ipp_reply;
 use wires::WireId;
 

@@ -9,11 +9,11 @@ ghost use Rattle.server.specs.State.{EngineState};
 ghost use Rattle.server.specs.Stands.{StandsAt, Turns};
 
 use crate::notes::Notes;
-use assignment::Planner;
 use base_types::{DeviceId, DeviceNow, JobId, Limits, Moment};
 use connections::Connection;
 use dispatcher::Core;
 use job_objects::Job;
+use planners::Planner;
 use settings_file::Settings;
 use slab::Slab;
 use std::alloc::{AllocError, Global};

@@ -11,12 +11,12 @@ ghost use Rattle.server.specs.Stands.{Aside, Heard};
 use crate::effects::Asker;
 use crate::engine::Engine;
 use crate::notes::{Notes, Place};
-use assignment::Planner;
 use base_types::Moment;
 use connections::Brought;
 use connections::table::{Whole, begin, break_off, finish, lose, next, take_body, take_part};
 use events::{Event, Status};
 use http_front::{HttpItem, Refusal, continue_head};
+use planners::Planner;
 use replies::Asked;
 use wires::WireId;
 

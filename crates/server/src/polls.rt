@@ -6,10 +6,10 @@ ghost use Rattle.server.specs.Stands.{Does};
 
 use crate::engine::Engine;
 use crate::notes::{Notes, Place};
-use assignment::Planner;
 use base_types::{Limits, Moment};
 use connections::table::{Fed, end, feed, insert, offer, to_read};
 use connections::{Offered, Talk};
+use planners::Planner;
 use wires::{Answer, Door, Wire, WireId};
 
 /// The bytes of a read, at most.

@@ -12,12 +12,12 @@ ghost use Rattle.server.specs.Stands.{Aside, Heard};
 
 use crate::engine::Engine;
 use crate::notes::{Notes, Place};
-use assignment::Planner;
 use base_types::Moment;
 use connections::table::{break_off, finish, hear_said};
 use connections::{Brought, LpdAsks, REFUSED};
 use events::{Answer as Says, Event, LpdAnswer, Reply};
 use lpd_reader::LpdItem;
+use planners::Planner;
 use replies::{lpd_ack, lpd_queue_text};
 use wires::WireId;
 

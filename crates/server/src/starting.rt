@@ -10,11 +10,11 @@ ghost use Rattle.server.specs.Stands.{Openly};
 
 use crate::due::tell;
 use crate::notes::Notes;
-use assignment::Planner;
 use base_types::JobId;
 use connections::Connection;
 use connections::table::{Kept, keep, keep_job, key_of};
 use dispatcher::{Core, Started};
+use planners::Planner;
 use slab::Slab;
 
 /// The bytes of what began with the last plan become due, by device. Whether a growth was refused.

@@ -6,9 +6,9 @@ ghost use Rattle.server.specs.Stands.{Does, Openly};
 
 use crate::engine::Engine;
 use crate::notes::Notes;
-use assignment::Planner;
 use base_types::Moment;
 use events::Event;
+use planners::Planner;
 use wires::Wire;
 
 /// Ms between ticks.

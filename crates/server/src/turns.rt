@@ -9,8 +9,8 @@ ghost use Rattle.server.specs.Stands.{Does};
 
 use crate::engine::Engine;
 use crate::notes::Notes;
-use assignment::Planner;
 use base_types::Moment;
+use planners::Planner;
 use wires::{Door, Wire};
 
 /// The parts of a turn.

@@ -4,8 +4,8 @@ ghost use Rattle.prices.specs.Plan.{PlanRecord};
 ghost use Rattle.print_room.specs.GoodPlan.{IsGoodPlan};
 ghost use Rattle.written_plans.specs.Passes.{PassesAsText};
 
-use assignment::Planner;
 use dispatcher::Core;
+use planners::Planner;
 
 /// Each good plan of a core, at any moment, may be written as a text, with the names that the devices
 /// have in the settings: the text is read back as the plan, and the checker says yes to it.

@@ -4,8 +4,8 @@ use Rattle.std.proofs.lemmas.Bool.{cases_eq}
 use Rattle.std.proofs.lemmas.List.{get_or_default, get_or_read}
 use Rattle.cost_table.specs.Class.{Class, IsClass, time_in}
 use Rattle.cost_table.proofs.Places.{place_at}
-use Rattle.assignment.specs.Entries.{EachAble}
-use Rattle.assignment.proofs.able.each_able.Goals as goal
+use Rattle.planners.specs.Able.{EachAble}
+use Rattle.planners.proofs.able.each_able.Goals as goal
 
 -- a time stands in the job's row
 row_of_id : (c : Class) → IsClass c → (k d : ℕ) → k < length c.ids → time_in c (get_or c.ids k 0) d ≡ get_or (get_or c.rows k []) d None

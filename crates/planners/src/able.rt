@@ -1,6 +1,6 @@
 //! Whether each job of a class has a device that is able.
 ghost use Rattle.std.specs.Prelude.{ℕ, ◌↔◌, IsSome, IsTrue, None, slice_index_or};
-ghost use Rattle.assignment.specs.Entries.{EachAble};
+ghost use Rattle.planners.specs.Able.{EachAble};
 
 use cost_table::ClassProblem;
 
