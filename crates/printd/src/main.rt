@@ -8,9 +8,9 @@ ghost use Rattle.settings_file.specs.Settings.{MeetsLimits};
 use command_line::{Asked, Serving, read_words};
 use plan_audit::run_check;
 use replay::run_replay;
-use serve::{Server, serve, serve_logged};
+use serve::serve;
 use settings_file::Settings;
-use sockets::Ports;
+use sockets::{Ports, Sockets};
 use startup::read_or_refuse;
 use std::alloc::AllocError;
 use std::io::ErrorKind;
@@ -56,21 +56,7 @@ fn announce(rt: &HostRuntime, ports: Ports) -> io::Result<()> {
     println!(rt; "devices {devices}")
 }
 
-/// Says where a server listens, and has it take its turns.
-fn announce_and_serve(
-    rt: &HostRuntime,
-    server: &mut Server,
-    serving: Serving<'_>,
-) -> io::Result<()> {
-    announce(rt, server.ports()?)?;
-    if serving.log {
-        serve_logged(rt, server, serving.turns, &mut rt.stderr())
-    } else {
-        serve(rt, server, serving.turns)
-    }
-}
-
-/// Serves with these settings.
+/// Serves with these settings, and says where.
 fn serve_settings(
     rt: &HostRuntime,
     settings: Settings,
@@ -84,11 +70,12 @@ fn serve_settings(
         lpd: serving.lpd,
         devices: serving.devices,
     };
-    let mut server = Server::open(rt.alloc(), rt, settings, address, ports)?;
-    match announce_and_serve(rt, &mut server, serving) {
-        Ok(()) => Ok(ExitStatus::Done),
-        Err(error) => Err(error),
-    }
+    let sockets = Sockets::bind(rt.alloc(), rt, address, ports)?;
+    announce(rt, sockets.ports()?)?;
+    let mut errors = rt.stderr();
+    let log = if serving.log { Some(&mut errors) } else { None };
+    serve(rt.alloc(), rt, sockets, settings, serving.turns, log)?;
+    Ok(ExitStatus::Done)
 }
 
 /// Serves. The error is the system's: of the file, the sockets, the clock or the output.

@@ -1,7 +1,7 @@
 //! A server over the system's sockets.
 //!
-//! [`Server`] listens at the three doors and takes turns; [`serve`] runs it for so many turns by the
-//! clock, and waits where nothing happens. [`serve_logged`] does the same, and writes what it hears.
+//! A [`Server`] takes turns over sockets that listen at the three doors; [`serve`] has one take so many
+//! by the clock, waits where nothing happens, and writes what it hears where there is a log.
 //!
 //! What is proved of the sockets stands in `sockets`, and what an engine does over any wire in `server`.
 //!
@@ -13,4 +13,4 @@ mod ends;
 mod log;
 mod run;
 
-pub use run::{Server, serve, serve_logged};
+pub use run::{Server, serve};

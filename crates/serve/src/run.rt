@@ -14,7 +14,6 @@ use sockets::{Ports, Sockets, Visit, Visits};
 use std::alloc::{AllocError, Global};
 use std::io;
 use std::io::Write;
-use std::net::{IpAddr, Net};
 use std::time::{Clock, Duration, Instant};
 use wires::WireId;
 
@@ -42,17 +41,10 @@ fn all_of(alloc: Global, visits: Option<Visits>) -> Result<Vec<Visit>, AllocErro
 }
 
 impl Server {
-    /// A server that listens. The error is the system's, or out of memory.
-    pub fn open(
-        alloc: Global,
-        net: &impl Net,
-        settings: Settings,
-        address: IpAddr,
-        ports: Ports,
-    ) -> io::Result<Server>
+    /// A server over sockets that listen. The only error is out of memory.
+    pub fn new(alloc: Global, sockets: Sockets, settings: Settings) -> Result<Server, AllocError>
         requires { MeetsLimits settings }
     {
-        let sockets = Sockets::bind(alloc, net, address, ports)?;
         let names = settings.device_names(alloc)?;
         let engine = Engine::new(alloc, settings, Lazy::new(alloc))?;
         Ok(Server {
@@ -120,8 +112,28 @@ impl Server {
     }
 }
 
-/// Takes so many turns, each at the ms since the first. The error is the clock's or the system's.
-pub fn serve(clock: &impl Clock, server: &mut Server, turns: u64) -> io::Result<()> {
+/// Serves with these settings over sockets that listen: so many turns, each at the ms since the first,
+/// with a log of what happens where one is given. A log that can't be written stops nothing. The error
+/// is the clock's or the system's, or out of memory.
+pub fn serve<W: Write>(
+    alloc: Global,
+    clock: &impl Clock,
+    sockets: Sockets,
+    settings: Settings,
+    turns: u64,
+    log: Option<&mut W>,
+) -> io::Result<()>
+    requires { MeetsLimits settings }
+{
+    let mut server = Server::new(alloc, sockets, settings)?;
+    match log {
+        Some(log) => take_logged_turns(clock, &mut server, turns, log),
+        None => take_turns(clock, &mut server, turns),
+    }
+}
+
+/// Takes so many turns.
+fn take_turns(clock: &impl Clock, server: &mut Server, turns: u64) -> io::Result<()> {
     let start = Instant::now(clock)?;
     for _ in 0..turns {
         server.turn(moment_since(clock, &start)?);
@@ -130,8 +142,8 @@ pub fn serve(clock: &impl Clock, server: &mut Server, turns: u64) -> io::Result<
     Ok(())
 }
 
-/// The same, with a log of what happens. A log that can't be written stops nothing.
-pub fn serve_logged<W: Write>(
+/// The same, with a log of what happens.
+fn take_logged_turns<W: Write>(
     clock: &impl Clock,
     server: &mut Server,
     turns: u64,

@@ -4,7 +4,7 @@ use crate::exchanges::{BOTH_FRAMINGS, CHUNKED, Exchange, LAST, NOT_POST, PLAIN, 
 use crate::lpd_sessions::ONE_JOB;
 use base_types::Moment;
 use serve::Server;
-use sockets::Ports;
+use sockets::{Ports, Sockets};
 use startup::read_or_refuse;
 use std::io;
 use std::io::{Read, Write};
@@ -28,11 +28,12 @@ const TURNS: usize = 30;
 
 /// A server that has just started.
 fn start(rt: &HostRuntime) -> io::Result<Server> {
+    let sockets = Sockets::bind(rt.alloc(), rt, local(), ANY)?;
     let settings = match read_or_refuse(rt.alloc(), SETTINGS.as_bytes(), &mut rt.stderr()) {
         Ok(settings) => settings,
         Err(_) => return Err(io::Error::from(io::ErrorKind::InvalidData)),
     };
-    Server::open(rt.alloc(), rt, settings, local(), ANY)
+    Ok(Server::new(rt.alloc(), sockets, settings)?)
 }
 
 /// A peer that comes in at a port and sends this.
