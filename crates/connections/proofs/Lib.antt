@@ -1,2 +1,1 @@
 pub mod Talks
-pub mod Fronts

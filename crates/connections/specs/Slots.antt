@@ -16,10 +16,10 @@ use Rattle.wires.specs.Poll.{Poll, Closes}
 use Rattle.connections.specs.LpdAsks.{is_last}
 use Rattle.connections.specs.Talks.{HttpTalkState, LpdTalkState, LinkTalkState}
 use Rattle.connections.specs.Hearing.{IsNewTalk, IsFedTalk, Brings, Begins, HasPart, LosesBody, work, closes_of, HearsTalk, device_of, named}
-use Rattle.connections.specs.Output.{OffersFront}
-use Rattle.connections.specs.declared.output.TheConstants.{RESERVED_BYTES}
-use Rattle.connections.specs.declared.output.Offered.{Offered}
-use Rattle.connections.specs.declared.output.Offered.TheVariants as offer
+use Rattle.outputs.specs.Output.{OffersFront}
+use Rattle.outputs.specs.declared.output.TheConstants.{RESERVED_BYTES}
+use Rattle.outputs.specs.declared.output.Offered.{Offered}
+use Rattle.outputs.specs.declared.output.Offered.TheVariants as offer
 use Rattle.connections.specs.declared.talk.Brought.{Brought}
 use Rattle.connections.specs.declared.talk.Talk.{Talk}
 use Rattle.connections.specs.declared.talk.Talk.TheVariants as of

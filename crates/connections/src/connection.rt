@@ -2,20 +2,20 @@
 ghost use Rattle.std.specs.Prelude.{◌≡◌, ◌<◌, ◌++◌, [], false, true, IfOk, OnOk, OnErr, length};
 ghost use Rattle.std.specs.List.{flat_map};
 ghost use Rattle.device_link.specs.Orders.{cancel_line, job_line};
-ghost use Rattle.connections.specs.Reply.{http_reply, refusal_head};
+ghost use Rattle.outputs.specs.Reply.{http_reply, refusal_head};
 ghost use Rattle.connections.specs.Hearing.{Brings, HearsTalk, closes_of, device_of};
 ghost use Rattle.connections.specs.LpdAsks.{is_last};
-ghost use Rattle.connections.specs.declared.output.TheConstants.{RESERVED_BYTES};
-ghost use Rattle.connections.specs.Output.{OffersFront};
+ghost use Rattle.outputs.specs.declared.output.TheConstants.{RESERVED_BYTES};
+ghost use Rattle.outputs.specs.Output.{OffersFront};
 ghost use Rattle.connections.specs.Session.{is_queue};
 ghost use Rattle.connections.specs.Slots.{IsFed, IsBegun, IsGiven, IsUnread, talking, is_named, is_kept, is_read, is_done};
 
 use crate::lpd_talk::LpdAsks;
-use crate::output::{Offered, Output};
 use crate::talk::{Brought, Talk};
 use base_types::{DeviceId, JobId, Limits, Needs};
 use http_front::Refusal;
 use lpd_reader::LpdItem;
+use outputs::{Offered, Output};
 use replies::AskedReader;
 use settings_file::Settings;
 use spool::Document;

@@ -2,7 +2,7 @@
 //!
 //! A [`Connection`] is of an IPP client, an LPD client or a device. It is fed what comes of its peer, and
 //! says what that brings ([`Connection::next`]): requests in HTTP, what an LPD client says, a device's
-//! reports. What is due on it waits in the order in which it was kept, until a wire takes it.
+//! reports. What is due on it waits in an [`outputs::Output`] until a wire takes it.
 //!
 //! The functions of [`table`] say the same of a connection among many, by its key: each answers what
 //! became of it, and nothing else changes. Which of it becomes an event of the core, and what is due then,
@@ -12,12 +12,10 @@
 mod connection;
 mod http_talk;
 mod lpd_talk;
-mod output;
 pub mod table;
 mod talk;
 
 pub use connection::Connection;
 pub use http_talk::HttpTalk;
 pub use lpd_talk::{LpdAsks, LpdTalk, REFUSED};
-pub use output::{Offered, Output, RESERVED_BYTES};
 pub use talk::{Brought, LinkTalk, Talk};

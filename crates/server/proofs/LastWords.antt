@@ -12,10 +12,10 @@ use Rattle.replies.specs.Reply.{refusal_bytes}
 use Rattle.server.specs.Ledger.{Entry}
 use Rattle.server.specs.Rel.{Nothing, If}
 use Rattle.server.specs.Keeping.{needs_memory, KeepsOpen, KeepsAt}
-use Rattle.connections.specs.Reply.{http_reply, refusal_head}
+use Rattle.outputs.specs.Reply.{http_reply, refusal_head}
 use Rattle.server.specs.Exchange.{http_status}
 use Rattle.server.specs.Law.{AreKept}
-use Rattle.connections.specs.declared.output.TheConstants.{RESERVED_BYTES}
+use Rattle.outputs.specs.declared.output.TheConstants.{RESERVED_BYTES}
 
 -- ---- where it has room
 

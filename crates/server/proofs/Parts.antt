@@ -36,7 +36,7 @@ use Rattle.server.specs.Happening.{now_at, Steps, IsDropped, Follows, Unanswered
 use Rattle.server.specs.Closing as Closing
 use Rattle.server.specs.Closing.{Leaves, ClosesAs, ClosesFirst, Settles}
 use Rattle.server.specs.Exchange as Http
-use Rattle.connections.specs.Reply.{http_reply, refusal_head}
+use Rattle.outputs.specs.Reply.{http_reply, refusal_head}
 use Rattle.server.specs.Devices as Links
 use Rattle.server.specs.Queues as Queues
 use Rattle.connections.specs.Session.{Hearing, Goes, Stops, Submits, Commands, heard, nack, file_lost, is_queue}

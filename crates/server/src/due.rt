@@ -2,7 +2,7 @@
 ghost use Rattle.std.specs.Prelude.{◌≡◌};
 ghost use Rattle.server.specs.Polls.{alone};
 ghost use Rattle.server.specs.Keeping.{Keeps};
-ghost use Rattle.connections.specs.Reply.{http_reply, refusal_head};
+ghost use Rattle.outputs.specs.Reply.{http_reply, refusal_head};
 ghost use Rattle.server.specs.Exchange.{http_status};
 ghost use Rattle.server.specs.Stands.{Aside, ToldOf, is_refused};
 

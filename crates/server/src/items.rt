@@ -2,7 +2,7 @@
 ghost use Rattle.std.specs.Prelude.{◌≡◌, true, Some, IsTrue, IsFalse};
 ghost use Rattle.server.specs.Polls.{alone};
 ghost use Rattle.server.specs.Keeping.{Keeps};
-ghost use Rattle.connections.specs.Reply.{refusal_head};
+ghost use Rattle.outputs.specs.Reply.{refusal_head};
 ghost use Rattle.server.specs.Exchange.{AsksFor, closes_with};
 ghost use Rattle.connections.specs.Slots.{Slots, OnSlot, IsBrought, IsHeard, IsWholeOf, changed_at, is_over};
 ghost use Rattle.server.specs.State.{HearsNothing, with_slots};

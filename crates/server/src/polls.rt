@@ -7,8 +7,9 @@ ghost use Rattle.server.specs.Stands.{Does};
 use crate::engine::Engine;
 use crate::notes::{Notes, Place};
 use base_types::{Limits, Moment};
+use connections::Talk;
 use connections::table::{Fed, end, feed, insert, offer, to_read};
-use connections::{Offered, Talk};
+use outputs::Offered;
 use planners::Planner;
 use wires::{Answer, Door, Wire, WireId};
 

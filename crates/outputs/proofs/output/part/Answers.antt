@@ -1,6 +1,6 @@
 use Rattle.std.proofs.Common.{ap, length, arith}
-use Rattle.connections.proofs.Fronts.{front_within}
-use Rattle.connections.proofs.output.part.Goals as goal
+use Rattle.outputs.proofs.Fronts.{front_within}
+use Rattle.outputs.proofs.output.part.Goals as goal
 
 pub overflow_sub-left-2 : goal.overflow_sub-left-2
 overflow_sub-left-2 c =

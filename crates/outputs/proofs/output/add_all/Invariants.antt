@@ -1,7 +1,7 @@
 use Rattle.std.proofs.Common.{◌≡◌, ◌++◌, take}
 use Rattle.std.specs.List.{flat_map, All}
-use Rattle.connections.specs.Output.{joined, IsSome}
-use Rattle.connections.proofs.output.add_all.Given as goal
+use Rattle.outputs.specs.Output.{joined, IsSome}
+use Rattle.outputs.proofs.output.add_all.Given as goal
 
 abbrev pub invariant-loop-document : goal.invariant-loop-document
 invariant-loop-document l =

@@ -2,8 +2,8 @@
 use Rattle.std.specs.Prelude.{ℕ, ◌≡◌, ◌<◌, ◌≤◌, ◌⊎◌, List, [], ◌++◌, length, drop}
 use Rattle.std.specs.List.{flat_map}
 use Rattle.wires.specs.Poll.{Poll, Writes}
-use Rattle.connections.specs.declared.output.Offered.{Offered}
-use Rattle.connections.specs.declared.output.Offered.TheVariants as offer
+use Rattle.outputs.specs.declared.output.Offered.{Offered}
+use Rattle.outputs.specs.declared.output.Offered.TheVariants as offer
 use Rattle.wires.specs.declared.wire.Answer.TheVariants.{Done, Waiting, End, Fault}
 
 -- lists one after the other

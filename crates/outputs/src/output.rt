@@ -4,8 +4,8 @@ ghost use Rattle.std.specs.List.{flat_map, All};
 ghost use Rattle.device_link.specs.Orders.{cancel_line, job_line};
 ghost use Rattle.std.specs.Io.Slices.{io_slice_bytes, io_slices_bytes};
 ghost use Rattle.spool.specs.Document.{IsFrontOf};
-ghost use Rattle.connections.specs.Reply.{http_reply, refusal_head};
-ghost use Rattle.connections.specs.Output.{OffersFront, IsSome, joined};
+ghost use Rattle.outputs.specs.Reply.{http_reply, refusal_head};
+ghost use Rattle.outputs.specs.Output.{OffersFront, IsSome, joined};
 
 use base_types::{JobId, Needs};
 use device_link::{write_cancel, write_job};
@@ -116,8 +116,8 @@ pub struct Output {
 impl Model for Output {
     ghost use Rattle.std.specs.Prelude.{ℕ, ◌≤◌, List, ◌++◌, vec_capacity};
     ghost use Rattle.std.specs.List.{All};
-    ghost use Rattle.connections.specs.declared.output.TheConstants.{RESERVED_BYTES};
-    ghost use Rattle.connections.specs.Output.{joined, IsSome};
+    ghost use Rattle.outputs.specs.declared.output.TheConstants.{RESERVED_BYTES};
+    ghost use Rattle.outputs.specs.Output.{joined, IsSome};
 
     ghost Value = { List ℕ };
 

@@ -1,8 +1,8 @@
 use Rattle.std.proofs.Common.{◌++◌, [], List, ℕ, subst}
 use Rattle.std.specs.Io.Slices.{io_slice_bytes}
 use Rattle.spool.specs.Document.{IsFrontOf}
-use Rattle.connections.proofs.Fronts.{part_alone, part_more}
-use Rattle.connections.proofs.output.Rest.front.Goals as goal
+use Rattle.outputs.proofs.Fronts.{part_alone, part_more}
+use Rattle.outputs.proofs.output.Rest.front.Goals as goal
 
 pub returns-clause-front : goal.returns-clause-front
 returns-clause-front c =
