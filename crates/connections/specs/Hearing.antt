@@ -16,8 +16,8 @@ use Rattle.lpd_reader.specs.Stream.{LpdState}
 use Rattle.lpd_reader.specs.Stream as Lpd
 use Rattle.http_front.specs.Stream.{HttpState, Said}
 use Rattle.http_front.specs.Stream as Http
-use Rattle.replies.specs.Reader.{ReaderState}
-use Rattle.replies.specs.Reader as Body
+use Rattle.requests.specs.Reader.{ReaderState}
+use Rattle.requests.specs.Reader as Body
 use Rattle.connections.specs.LpdAsks.{AsksForItem}
 use Rattle.connections.specs.Talks.{HttpTalkState, LpdTalkState, LinkTalkState}
 use Rattle.connections.specs.declared.lpd_talk.LpdAsks.{LpdAsks}

@@ -26,8 +26,8 @@ use Rattle.connections.specs.declared.talk.Talk.TheVariants as of
 use Rattle.wires.specs.declared.wire.Door.{Door}
 use Rattle.connections.specs.declared.table.Fed.{Fed}
 use Rattle.connections.specs.declared.table.Fed.TheVariants as fed
-use Rattle.replies.specs.Reader.{ReaderState}
-use Rattle.replies.specs.Reader as Body
+use Rattle.requests.specs.Reader.{ReaderState}
+use Rattle.requests.specs.Reader as Body
 use Rattle.connections.specs.declared.table.Kept.{Kept}
 use Rattle.connections.specs.declared.table.Kept.TheVariants as how
 use Rattle.connections.specs.declared.table.Whole.{Whole}

@@ -4,7 +4,7 @@ use Rattle.http_front.specs.Stream.{HttpState}
 use Rattle.lpd_reader.specs.Stream.{LpdState}
 use Rattle.lpd_session.specs.Session.{SessionState}
 use Rattle.device_link.specs.Stream.{LinkState}
-use Rattle.replies.specs.Reader.{ReaderState}
+use Rattle.requests.specs.Reader.{ReaderState}
 
 pub record HttpTalkState : Type 0 where
   pub reader : HttpState

@@ -16,7 +16,7 @@ use base_types::{DeviceId, JobId, Limits, Needs};
 use http_front::Refusal;
 use lpd_reader::LpdItem;
 use outputs::{Offered, Output};
-use replies::AskedReader;
+use requests::AskedReader;
 use settings_file::Settings;
 use spool::Document;
 use std::alloc::{AllocError, Global};

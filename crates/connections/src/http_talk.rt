@@ -4,7 +4,7 @@ ghost use Rattle.connections.specs.Hearing.{IsNewHttp, IsFedHttp, NextItem, Begi
 
 use crate::talk::Brought;
 use http_front::HttpReader;
-use replies::AskedReader;
+use requests::AskedReader;
 use std::alloc::{AllocError, Global};
 use std::marker::Model;
 use std::mem;

@@ -18,7 +18,7 @@ use http_front::Refusal;
 use job_objects::Job;
 use lpd_reader::LpdItem;
 use outputs::Offered;
-use replies::AskedReader;
+use requests::AskedReader;
 use settings_file::Settings;
 use slab::Slab;
 use spool::Document;

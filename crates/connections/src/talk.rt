@@ -9,7 +9,7 @@ use base_types::{DeviceId, Report};
 use device_link::{LinkError, LinkReader};
 use http_front::HttpItem;
 use lpd_reader::LpdItem;
-use replies::AskedReader;
+use requests::AskedReader;
 use settings_file::Settings;
 use std::alloc::{AllocError, Global};
 use std::marker::Model;

@@ -31,10 +31,10 @@ use Rattle.dispatcher.specs.PausePrinter.{PausesIt, SetsPaused, paused_of}
 use Rattle.dispatcher.specs.GetJobs.{wanted_of}
 use Rattle.print_room.specs.State.{State}
 use Rattle.dispatcher.specs.Step.{StepAt}
-use Rattle.replies.specs.declared.asked.Asked.TheVariants as Body
-use Rattle.replies.specs.Asked.{Asks, AsksUnder, Requests, answered, header_of, operation_of}
-use Rattle.replies.specs.Event.{event_of, asked_in, event_in, are_tagged, is_complete}
-use Rattle.replies.specs.Request.{operation_group, job_attributes, is_utf8}
+use Rattle.requests.specs.declared.asked.Asked.TheVariants as Body
+use Rattle.requests.specs.Asked.{Asks, AsksUnder, Requests, answered, header_of, operation_of}
+use Rattle.requests.specs.Event.{event_of, asked_in, event_in, are_tagged, is_complete}
+use Rattle.requests.specs.Request.{operation_group, job_attributes, is_utf8}
 use Rattle.server.specs.Law.{Dispatch, IsAnswered}
 use Rattle.server.specs.Turn.{IsBytes}
 use Rattle.replay.specs.OneRun.{IsReplyOf}

@@ -17,9 +17,9 @@ use Rattle.dispatcher.specs.declared.run.Timed.{Timed}
 use Rattle.dispatcher.specs.declared.run.Outcome.{Outcome}
 use Rattle.dispatcher.specs.declared.run.Outcome.TheVariants.{Dropped, Queried, Undispatched, Dispatched}
 use Rattle.dispatcher.specs.Run.{Comes, Run}
-use Rattle.replies.specs.declared.asked.Asked.{Asked}
-use Rattle.replies.specs.declared.asked.Asked.TheVariants as Body
-use Rattle.replies.specs.Asked.{Asks}
+use Rattle.requests.specs.declared.asked.Asked.{Asked}
+use Rattle.requests.specs.declared.asked.Asked.TheVariants as Body
+use Rattle.requests.specs.Asked.{Asks}
 use Rattle.replies.specs.Reply.{refusal_bytes}
 use Rattle.server.specs.Ledger.{Ledger, opening_ledger}
 use Rattle.server.specs.Law.{Dispatch, IsAnswered, planned, IsOneEvent, IsNoEvent, IsServed, IsAtMostOne}

@@ -17,9 +17,9 @@ use Rattle.dispatcher.specs.declared.run.Timed.{Timed}
 use Rattle.dispatcher.specs.declared.run.Outcome.{Outcome}
 use Rattle.dispatcher.specs.declared.run.Outcome.TheVariants.{Queried, Dispatched}
 use Rattle.dispatcher.specs.Run.{Run}
-use Rattle.replies.specs.declared.asked.Asked.{Asked}
-use Rattle.replies.specs.declared.asked.Asked.TheVariants as Body
-use Rattle.replies.specs.Asked.{Asks}
+use Rattle.requests.specs.declared.asked.Asked.{Asked}
+use Rattle.requests.specs.declared.asked.Asked.TheVariants as Body
+use Rattle.requests.specs.Asked.{Asks}
 use Rattle.replies.specs.Reply.{IsReply, refusal_bytes}
 use Rattle.streams.specs.declared.exit_status.ExitStatus.TheVariants as Ends
 use Rattle.streams.specs.Said.{Said, refused_as, said_after}

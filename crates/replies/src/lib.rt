@@ -1,39 +1,15 @@
-//! What IPP bodies ask of the core, and what its answers are in bytes (RFC 8011), those to LPD clients
-//! too (RFC 1179).
+//! The core's answers in bytes: those to IPP clients (RFC 8011), and to LPD clients (RFC 1179).
 //!
-//! [`ipp_event`] says exactly which bodies are events, and with which status each other body is
-//! answered; a body asks one thing ([`one_asked`]). [`ipp_reply`] and [`ipp_refusal`] say each byte
-//! of a reply; [`lpd_ack`] and [`lpd_queue_text`] say those that an LPD client is sent. Which
-//! attributes an operation reads, with which tags, is one table (`operation_attribute`). Nothing here
-//! knows what the core does with an event, nor over which wire a body comes. `docs/IPP.md` has the rules
-//! for someone who writes a client.
+//! [`ipp_reply`] and [`ipp_refusal`] say each byte of a reply; [`lpd_ack`] and [`lpd_queue_text`] say
+//! those that an LPD client is sent.
 //!
 //! Its rows are traces of `play_examples`.
 #![tactic(auto)]
 
-mod asked;
-mod asked_reader;
-mod attributes;
-mod copied;
-mod event;
-mod header;
-mod job_creation;
-mod job_requests;
-mod law;
-mod operation_attribute;
-mod printer_requests;
 mod queue_text;
 mod refusal;
 mod reply;
-mod request;
-mod requested;
-mod syntax;
-mod target;
 
-pub use asked::{Asked, ipp_event};
-pub use asked_reader::AskedReader;
-pub use header::request_id;
-pub use law::one_asked;
 pub use queue_text::{lpd_ack, lpd_queue_text};
 pub use refusal::ipp_refusal;
 pub use reply::ipp_reply;

@@ -15,9 +15,9 @@ use Rattle.dispatcher.specs.declared.run.Timed.{Timed}
 use Rattle.dispatcher.specs.declared.run.Outcome.{Outcome}
 use Rattle.dispatcher.specs.declared.run.Outcome.TheVariants.{Dropped, Queried, Undispatched, Dispatched}
 use Rattle.dispatcher.specs.Run.{Comes, Run}
-use Rattle.replies.specs.declared.asked.Asked.{Asked}
-use Rattle.replies.specs.declared.asked.Asked.TheVariants as asks
-use Rattle.replies.specs.Asked.{Asks}
+use Rattle.requests.specs.declared.asked.Asked.{Asked}
+use Rattle.requests.specs.declared.asked.Asked.TheVariants as asks
+use Rattle.requests.specs.Asked.{Asks}
 use Rattle.server.specs.Polls.{Note, Happening, Polled, Told, Planned, Canceled, Refused}
 use Rattle.server.specs.Ledger.{Entry, Ledger, Fate, opening_ledger}
 use Rattle.server.specs.Rel.{Rel, Nothing, Or}

@@ -24,8 +24,8 @@ use Rattle.dispatcher.specs.declared.run.Outcome.TheVariants.{Dropped, Queried, 
 use Rattle.events.specs.declared.status.Status.TheVariants.{TemporaryError}
 use Rattle.events.specs.Event.{is_query}
 use Rattle.dispatcher.specs.Run.{Comes}
-use Rattle.replies.specs.declared.asked.Asked.{Asked}
-use Rattle.replies.specs.declared.asked.Asked.TheVariants as asks
+use Rattle.requests.specs.declared.asked.Asked.{Asked}
+use Rattle.requests.specs.declared.asked.Asked.TheVariants as asks
 use Rattle.replies.specs.QueueText.{ack_of, text_of}
 use Rattle.wires.specs.Poll.{Poll, Accepts, Reads, Writes, Closes}
 use Rattle.server.specs.Polls.{Refused, Happening, Polled, Told}

@@ -14,9 +14,9 @@ use Rattle.dispatcher.specs.declared.run.Timed.{Timed}
 use Rattle.dispatcher.specs.declared.run.Outcome.{Outcome}
 use Rattle.dispatcher.specs.declared.run.Outcome.TheVariants.{Dropped, Queried, Undispatched, Dispatched}
 use Rattle.dispatcher.specs.Run.{Comes, Run}
-use Rattle.replies.specs.declared.asked.Asked.{Asked}
-use Rattle.replies.specs.declared.asked.Asked.TheVariants as asks
-use Rattle.replies.specs.Asked.{Asks}
+use Rattle.requests.specs.declared.asked.Asked.{Asked}
+use Rattle.requests.specs.declared.asked.Asked.TheVariants as asks
+use Rattle.requests.specs.Asked.{Asks}
 use Rattle.replies.specs.Reply.{refusal_bytes}
 use Rattle.server.specs.Polls.{Note, Planned, Canceled, Refused, Happening, Polled, Told}
 use Rattle.server.specs.Ledger.{Entry, Ledger, Fate, waiting}

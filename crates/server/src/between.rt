@@ -11,7 +11,8 @@ use crate::served::{Served, answered};
 use base_types::{DeviceId, Moment, Report};
 use events::{Answer as Says, Event, Reply, Status};
 use planners::Planner;
-use replies::{Asked, ipp_event, ipp_refusal, ipp_reply};
+use replies::{ipp_refusal, ipp_reply};
+use requests::{Asked, ipp_event};
 use std::alloc::AllocError;
 
 /// What a caller without connections gives the server.

@@ -17,7 +17,7 @@ use connections::table::{Whole, begin, break_off, finish, lose, next, take_body,
 use events::{Event, Status};
 use http_front::{HttpItem, Refusal, continue_head};
 use planners::Planner;
-use replies::Asked;
+use requests::Asked;
 use wires::WireId;
 
 /// What connections bring, acted on one at a time.

@@ -3,7 +3,7 @@ use assignment::Lazy;
 use base_types::{DeviceId, Moment, Report};
 use dispatcher::{Core, Dispatched, Listener, Outcome, Timed};
 use events::Event;
-use replies::{Asked, ipp_event};
+use requests::{Asked, ipp_event};
 use settings_file::read_settings;
 use std::alloc::Global;
 use std::test::Fail;
