@@ -1,4 +1,3 @@
-mod Places
 mod Telling
 mod Reach
 mod Playing

@@ -32,7 +32,7 @@ use Rattle.traces.specs.declared.line.Line.TheVariants as Form
 use Rattle.replay.specs.Log.{happenings_text}
 use Rattle.replay.specs.OneRun.{IsOfNoConnection, SpeaksOfNoConnection, PrintsEach, Part, nothing, then_part, IsOne, cancel_lines, BodyMeans, Means, moment_after, IsNoLine, LinesMean, IsOneRun}
 use Rattle.replay.specs.Playing.{Standing, IsReplyLine, Plays, may_come, IsBad, LinesPlay}
-use Rattle.replay.specs.Printed.{dispatch_lines, reply_line, cancel_line}
+use Rattle.transcripts.specs.Printed.{dispatch_lines, reply_line, cancel_line}
 use Rattle.replay.specs.Replay.{LinesGive, start}
 use Rattle.traces.specs.TraceLine.{IsDeviceIn, IsLine}
 use Rattle.replay.proofs.Requests.{body_replied}

@@ -1,6 +1,4 @@
-pub mod Printed
 pub mod Log
-pub mod Connections
 pub mod Wire
 pub mod Playing
 pub mod Replay

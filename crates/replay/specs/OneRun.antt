@@ -26,7 +26,7 @@ use Rattle.streams.specs.Said.{Said, refused_as, said_after}
 use Rattle.traces.specs.declared.line.Line.{Line}
 use Rattle.traces.specs.declared.line.Line.TheVariants as Form
 use Rattle.traces.specs.TraceLine.{IsLine}
-use Rattle.replay.specs.Printed.{dispatch_lines, reply_line, cancel_line}
+use Rattle.transcripts.specs.Printed.{dispatch_lines, reply_line, cancel_line}
 
 -- ---- lines without connections
 

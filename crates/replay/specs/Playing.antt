@@ -9,12 +9,12 @@ use Rattle.server.specs.Turn.{Deed, Turned, Served_body, Reported, Ticked, Trace
 use Rattle.wires.specs.declared.wire.Door.{Door}
 use Rattle.streams.specs.declared.exit_status.ExitStatus.TheVariants as Ends
 use Rattle.streams.specs.Said.{Said, refused_as, said_after}
-use Rattle.replay.specs.declared.peers.Connection.{Connection}
+use Rattle.transcripts.specs.declared.peers.Connection.{Connection}
 use Rattle.traces.specs.declared.line.Line.{Line}
 use Rattle.traces.specs.declared.line.Line.TheVariants as Form
-use Rattle.replay.specs.Connections.{numbered, with_connection, new_peer, changed_at, sending, ending, may_send, connections_text, seen, emptied}
+use Rattle.transcripts.specs.Connections.{numbered, with_connection, new_peer, changed_at, sending, ending, may_send, connections_text, seen, emptied}
 use Rattle.replay.specs.Log.{happenings_text}
-use Rattle.replay.specs.Printed.{reply_line}
+use Rattle.transcripts.specs.Printed.{reply_line}
 use Rattle.traces.specs.TraceLine.{IsLine}
 use Rattle.replay.specs.Wire.{PeersSee, any_stirs, all_turns}
 

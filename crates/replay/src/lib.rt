@@ -9,9 +9,7 @@
 
 mod law;
 mod log;
-mod peers;
 mod play;
-mod print;
 mod run;
 mod wire;
 

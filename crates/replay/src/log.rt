@@ -4,7 +4,6 @@ ghost use Rattle.dispatcher.specs.Dispatched.{plan_of, started_of};
 ghost use Rattle.server.specs.Polls.{Planned, Canceled};
 ghost use Rattle.replay.specs.Log.{note_text};
 
-use crate::print::{put_cancel, put_dispatch};
 use base_types::Text;
 use dispatcher::Dispatched;
 use events::Cancel;
@@ -12,6 +11,7 @@ use server::{Notes, Place};
 use std::alloc::{AllocError, Global};
 use std::marker::Model;
 use std::mem;
+use transcripts::{put_cancel, put_dispatch};
 use wires::WireId;
 
 /// A listener that keeps what is printed of each dispatch and of each cancel. In clauses it is a record

@@ -5,13 +5,11 @@ ghost use Rattle.settings_file.specs.Settings.{MeetsLimits};
 ghost use Rattle.server.specs.Stands.{said_of};
 ghost use Rattle.server.specs.Turn.{Reported, Ticked};
 ghost use Rattle.replay.specs.Playing.{Calls, Serves, Turns, Plays, IsReplyLine, opened, on_peer, is_open, may_come};
-ghost use Rattle.replay.specs.Connections.{sending, ending, may_send};
+ghost use Rattle.transcripts.specs.Connections.{sending, ending, may_send};
 ghost use Rattle.replay.specs.Acting.{standing, IsReady, IsStart, Becomes, Does, TakesTurn, TakesTillQuiet, Acts};
-ghost use Rattle.replay.specs.Printed.{reply_line};
+ghost use Rattle.transcripts.specs.Printed.{reply_line};
 
 use crate::log::Log;
-use crate::peers::{Connection, empty_all, end_at, mark_closed, numbered, put_connection, send_at};
-use crate::print::{put_connections, put_reply};
 use crate::wire::TraceWire;
 use assignment::Lazy;
 use base_types::{DeviceId, Moment, Report};
@@ -19,6 +17,10 @@ use server::{Engine, Served};
 use settings_file::Settings;
 use std::alloc::{AllocError, Global};
 use traces::{Input, Line, Opening, read_line};
+use transcripts::{
+    Connection, empty_all, end_at, mark_closed, numbered, put_connection, put_connections,
+    put_reply, send_at,
+};
 use wires::{Memory, Peer};
 
 /// After so many turns for one line no more are taken for it.

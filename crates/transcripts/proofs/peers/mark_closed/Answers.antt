@@ -1,8 +1,8 @@
 use Rattle.std.proofs.Common.{arith}
 use Rattle.std.proofs.lemmas.List.{get_or_default}
 use Rattle.std.proofs.lemmas.List.Edits.{map_over_more}
-use Rattle.replay.specs.Connections.{seen}
-use Rattle.replay.proofs.peers.mark_closed.Goals as goal
+use Rattle.transcripts.specs.Connections.{seen}
+use Rattle.transcripts.proofs.peers.mark_closed.Goals as goal
 
 pub loop-connection-preserved : goal.loop-connection-preserved
 loop-connection-preserved c =

@@ -1,18 +1,18 @@
-//! What is printed of an event.
+//! What is printed of an event and of connections.
 ghost use Rattle.std.specs.Prelude.{◌≡◌, ◌++◌, OnOk, Option, codes};
 ghost use Rattle.std.specs.Option.{option_copied};
 ghost use Rattle.std.specs.Fmt.{decimal};
 ghost use Rattle.hex.specs.Hex.{encode_lower};
 ghost use Rattle.plan_text.specs.Writing.{cause_word};
-ghost use Rattle.replay.specs.Printed.{reply_line, cancel_line, class_word, class_words, stranded_word, stranded_words, plan_line, plan_lines, start_line, start_lines, dispatch_lines};
-ghost use Rattle.replay.specs.Connections.{out_line, gone_line, peer_text, connection_text, connections_text};
+ghost use Rattle.transcripts.specs.Printed.{reply_line, cancel_line, class_word, class_words, stranded_word, stranded_words, plan_line, plan_lines, start_line, start_lines, dispatch_lines};
+ghost use Rattle.transcripts.specs.Connections.{out_line, gone_line, peer_text, connection_text, connections_text};
 
 use crate::peers::Connection;
 use base_types::{Stranded, Text};
-use dispatcher::Started;
 use events::Cancel;
 use plan_text::{cause_word, name_of, write_named_plan};
 use prices::{Plan, PlannedClass};
+use print_room::Started;
 use std::alloc::{AllocError, Global};
 use wires::Peer;
 

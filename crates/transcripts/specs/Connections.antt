@@ -6,7 +6,7 @@ use Rattle.std.specs.Fmt.{decimal}
 use Rattle.hex.specs.Hex.{encode_lower}
 use Rattle.wires.specs.Peer.{PeerState}
 use Rattle.wires.specs.declared.wire.Door.{Door}
-use Rattle.replay.specs.declared.peers.Connection.{Connection}
+use Rattle.transcripts.specs.declared.peers.Connection.{Connection}
 
 -- ---- connections by their numbers
 

@@ -1,7 +1,7 @@
 use Rattle.std.proofs.Common.{◌∙◌, Option, ℕ, ap, length, nat_lt, unwrap_or}
-use Rattle.replay.specs.declared.peers.Connection.{Connection}
-use Rattle.replay.proofs.Places.{place_or_end}
-use Rattle.replay.proofs.peers.place_of.Goals as goal
+use Rattle.transcripts.specs.declared.peers.Connection.{Connection}
+use Rattle.transcripts.proofs.Places.{place_or_end}
+use Rattle.transcripts.proofs.peers.place_of.Goals as goal
 
 pub returns-clause-place : goal.returns-clause-place
 returns-clause-place c =

@@ -2,7 +2,7 @@
 ghost use Rattle.std.specs.Prelude.{◌≡◌, ◌≤◌, ◌==◌, nat_lt, ◌||◌, length, position, map, false, OnOk};
 ghost use Rattle.std.specs.Option.{option_copied};
 ghost use Rattle.std.specs.List.{position_or_len};
-ghost use Rattle.replay.specs.Connections.{numbered, with_connection, is_closed, seen, emptied, sending, ending, changed_at};
+ghost use Rattle.transcripts.specs.Connections.{numbered, with_connection, is_closed, seen, emptied, sending, ending, changed_at};
 
 use std::alloc::AllocError;
 use wires::Peer;
@@ -19,7 +19,7 @@ pub struct Connection {
 }
 
 /// The connection of a number.
-pub(crate) fn numbered(connections: &[Connection], number: u64) -> Option<&Connection>
+pub fn numbered(connections: &[Connection], number: u64) -> Option<&Connection>
     ensures { option_copied result ≡ numbered number connections.now }
 {
     connections
@@ -27,8 +27,8 @@ pub(crate) fn numbered(connections: &[Connection], number: u64) -> Option<&Conne
         .find(|connection| connection.number == number)
 }
 
-/// Puts a connection in front of the first of a greater number.
-pub(crate) fn put_connection(
+/// Puts a connection in front of the first of a greater number. The error is out of memory.
+pub fn put_connection(
     connections: &mut Vec<Connection>,
     added: Connection,
 ) -> Result<(), AllocError>
@@ -57,7 +57,7 @@ fn first_above(connections: &[Connection], number: u64) -> Option<usize>
 }
 
 /// Notes which of them were closed.
-pub(crate) fn mark_closed(connections: &mut [Connection], peers: &[Peer])
+pub fn mark_closed(connections: &mut [Connection], peers: &[Peer])
     ensures { connections.new ≡ map (seen peers.now) connections.old }
 {
     for connection in connections.iter_mut() {
@@ -73,7 +73,7 @@ fn mark(connection: &mut Connection, peers: &[Peer])
 }
 
 /// Whether the peer of a place was given up.
-pub(crate) fn is_closed(peers: &[Peer], place: usize) -> bool
+fn is_closed(peers: &[Peer], place: usize) -> bool
     ensures { result ≡ is_closed peers.now place }
 {
     match peers.get(place) {
@@ -83,7 +83,7 @@ pub(crate) fn is_closed(peers: &[Peer], place: usize) -> bool
 }
 
 /// Forgets what the peers got.
-pub(crate) fn empty_all(peers: &mut [Peer])
+pub fn empty_all(peers: &mut [Peer])
     ensures { peers.new ≡ map emptied peers.old }
 {
     for peer in peers.iter_mut() {
@@ -99,7 +99,7 @@ fn empty(peer: &mut Peer)
 }
 
 /// The peer of a place sends these bytes too. The error is out of memory.
-pub(crate) fn send_at(peers: &mut [Peer], place: usize, bytes: &[u8]) -> Result<(), AllocError>
+pub fn send_at(peers: &mut [Peer], place: usize, bytes: &[u8]) -> Result<(), AllocError>
     ensures { OnOk result (peers.new ≡ changed_at place (sending bytes.now) peers.old) }
 {
     if place < peers.len() {
@@ -115,7 +115,7 @@ fn send(peer: &mut Peer, bytes: &[u8]) -> Result<(), AllocError>
 }
 
 /// The peer of a place sends nothing more.
-pub(crate) fn end_at(peers: &mut [Peer], place: usize)
+pub fn end_at(peers: &mut [Peer], place: usize)
     ensures { peers.new ≡ changed_at place ending peers.old }
 {
     if place < peers.len() {

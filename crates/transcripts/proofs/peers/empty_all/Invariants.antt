@@ -1,6 +1,6 @@
 use Rattle.std.proofs.Common.{◌≡◌, ◌++◌, map, take, drop}
-use Rattle.replay.specs.Connections.{emptied}
-use Rattle.replay.proofs.peers.empty_all.Given as goal
+use Rattle.transcripts.specs.Connections.{emptied}
+use Rattle.transcripts.proofs.peers.empty_all.Given as goal
 
 abbrev pub invariant-loop-peer : goal.invariant-loop-peer
 invariant-loop-peer l = l.peers ≡ map emptied (take l.peer-index l.initial.peers) ++ drop l.peer-index l.initial.peers

@@ -1,6 +1,6 @@
 use Rattle.std.proofs.lemmas.List.Edits.{map_over_more}
-use Rattle.replay.specs.Connections.{emptied}
-use Rattle.replay.proofs.peers.empty_all.Goals as goal
+use Rattle.transcripts.specs.Connections.{emptied}
+use Rattle.transcripts.proofs.peers.empty_all.Goals as goal
 
 pub loop-peer-preserved : goal.loop-peer-preserved
 loop-peer-preserved c =
