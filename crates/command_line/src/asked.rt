@@ -1,12 +1,13 @@
 //! What the program may be asked to do.
+use std::net::SocketAddr;
 
 /// What the program is asked to do.
-#[derive(Clone, Copy, Debug, PartialEq, Eq)]
+#[derive(Debug, Drop)]
 pub enum Asked<'a> {
     /// Serve over sockets.
     Serve(Serving<'a>),
-    /// Judge the settings of this file.
-    Settings { file: &'a str },
+    /// Something about settings.
+    Settings(AboutSettings<'a>),
     /// Replay a trace from standard input, and where the plans are asked for write the text of each.
     Replay { plans: bool },
     /// Judge the text of a plan from standard input, and where the starts are asked for tell when
@@ -15,17 +16,32 @@ pub enum Asked<'a> {
 }
 
 /// How to serve.
-#[derive(Clone, Copy, Debug, PartialEq, Eq)]
+#[derive(Debug, Drop)]
 pub struct Serving<'a> {
-    /// The file of the settings.
-    pub settings: &'a str,
-    /// The ports at which clients of IPP and of LPD and devices come in; 0 is any free one.
-    pub ipp: u16,
-    pub lpd: u16,
-    pub devices: u16,
-    /// The address to listen at, as it was written.
-    pub address: &'a str,
+    /// The file of the settings; those that are built in, where there is none.
+    pub settings: Option<&'a str>,
+    /// Where clients of IPP and of LPD and devices come in: one address of each at least, in the order
+    /// in which they were written. The port 0 is any that is free.
+    pub ipp: Vec<SocketAddr>,
+    pub lpd: Vec<SocketAddr>,
+    pub devices: Vec<SocketAddr>,
     pub turns: u64,
     /// Whether what happens is written to standard error.
     pub log: bool,
+}
+
+/// What is asked about settings.
+#[derive(Clone, Copy, Debug, PartialEq, Eq)]
+pub enum AboutSettings<'a> {
+    /// Show those that are built in.
+    BuiltIn,
+    /// Judge those of this file.
+    Judge {
+        file: &'a str,
+    },
+    /// Show the Avahi service of a printer of this file: of the named one, or of its only one.
+    Avahi {
+        file: &'a str,
+        printer: Option<&'a str>,
+    },
 }

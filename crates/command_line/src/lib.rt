@@ -7,7 +7,8 @@
 #![tactic(auto)]
 
 mod asked;
+mod doors;
 mod read;
 
-pub use asked::{Asked, Serving};
+pub use asked::{AboutSettings, Asked, Serving};
 pub use read::read_words;

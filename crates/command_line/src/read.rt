@@ -1,32 +1,35 @@
 //! The commands of `printd`, as `clap` reads them.
 
-use crate::asked::{Asked, Serving};
+use crate::asked::{AboutSettings, Asked, Serving};
+use crate::doors::{WordsError, addresses, default_address};
 use clap::error::ErrorKind;
 use clap::{Arg, ArgAction, ArgMatches, Command, Error};
 use std::alloc::{AllocError, Global};
 use std::io::Write;
 use streams::ExitStatus;
 
+/// The version of the program, which is that of the file VERSION.
+const VERSION: &str = "0.9.0";
+
 /// Turns without an end: at ten a second, three thousand years.
 const MOST_TURNS: u64 = 1_000_000_000_000;
 
-fn port<'a>(alloc: Global, name: &'a str, help: &'a str) -> Arg<'a> {
+/// Where clients of a door come in; it may be given several times.
+fn door<'a>(alloc: Global, name: &'a str, port: &'a str, help: &'a str) -> Arg<'a> {
     Arg::new(alloc, name)
         .long(name)
         .help(help)
-        .required(true)
-        .action(ArgAction::Set)
-        .value_name("PORT")
-        .value_parser(clap::value_parser!(u16))
+        .action(ArgAction::Append)
+        .value_name("[ADDRESS:]PORT")
+        .default_value(port)
 }
 
 fn settings<'a>(alloc: Global) -> Arg<'a> {
     Arg::new(alloc, "settings")
         .long("settings")
-        .required(true)
         .action(ArgAction::Set)
         .value_name("FILE")
-        .help("The settings: devices, printers, operators")
+        .help("The settings: devices, printers, operators; without it, those of `printd settings`")
 }
 
 fn address<'a>(alloc: Global) -> Arg<'a> {
@@ -35,7 +38,7 @@ fn address<'a>(alloc: Global) -> Arg<'a> {
         .action(ArgAction::Set)
         .value_name("ADDRESS")
         .default_value("127.0.0.1")
-        .help("The address to listen at")
+        .help("The address of each door that names none")
 }
 
 fn turns<'a>(alloc: Global) -> Arg<'a> {
@@ -58,21 +61,14 @@ fn serve_command<'a>(alloc: Global) -> Result<Command<'a>, AllocError> {
     Command::new(alloc, "serve")
         .about("Serve print clients and devices over the network")
         .arg(settings(alloc))?
-        .arg(port(
+        .arg(door(
             alloc,
             "ipp",
-            "Where IPP clients come in; 0 for any free port",
+            "8631",
+            "Where IPP clients come in; port 0 is any that is free",
         ))?
-        .arg(port(
-            alloc,
-            "lpd",
-            "Where LPD clients come in; 0 for any free port",
-        ))?
-        .arg(port(
-            alloc,
-            "devices",
-            "Where devices come in; 0 for any free port",
-        ))?
+        .arg(door(alloc, "lpd", "8515", "Where LPD clients come in"))?
+        .arg(door(alloc, "devices", "8632", "Where devices come in"))?
         .arg(address(alloc))?
         .arg(turns(alloc))?
         .arg(flag(
@@ -84,13 +80,28 @@ fn serve_command<'a>(alloc: Global) -> Result<Command<'a>, AllocError> {
 
 fn settings_command<'a>(alloc: Global) -> Result<Command<'a>, AllocError> {
     Command::new(alloc, "settings")
-        .about("Judge the settings of a file, as `serve` does: ok, or their first fault")
+        .about(
+            "Print the built-in settings; or judge those of a file, as `serve` does: ok, or their first fault",
+        )
         .arg(
             Arg::new(alloc, "file")
-                .required(true)
                 .action(ArgAction::Set)
                 .value_name("FILE")
                 .help("The settings: devices, printers, operators"),
+        )?
+        .arg(flag(
+            alloc,
+            "avahi",
+            "Print the service file with which Avahi announces a printer of the file",
+        )
+        .requires_arg("file")?)?
+        .arg(
+            Arg::new(alloc, "printer")
+                .long("printer")
+                .action(ArgAction::Set)
+                .value_name("NAME")
+                .help("Which printer, where the file has several")
+                .requires_arg("avahi")?,
         )
 }
 
@@ -117,6 +128,8 @@ fn check_command<'a>(alloc: Global) -> Result<Command<'a>, AllocError> {
 fn command<'a>(alloc: Global) -> Result<Command<'a>, AllocError> {
     Command::new(alloc, "printd")
         .about("A print server that proves its plans are the best")
+        .version(VERSION)
+        .arg_required_else_help(true)
         .subcommand_required(true)
         .subcommand(serve_command(alloc)?)?
         .subcommand(settings_command(alloc)?)?
@@ -128,25 +141,37 @@ fn parse<'a>(alloc: Global, words: &'a [&'a str]) -> Result<ArgMatches<'a>, Erro
     command(alloc)?.try_get_matches_from(words)
 }
 
-fn serve_words<'a>(found: &ArgMatches<'a>) -> Option<Serving<'a>> {
-    Some(Serving {
-        settings: found.get_str("settings")?,
-        ipp: found.get_one::<u16>("ipp")?,
-        lpd: found.get_one::<u16>("lpd")?,
-        devices: found.get_one::<u16>("devices")?,
-        address: found.get_str("address")?,
+/// How to serve. The error is the text about the words that make no sense, or out of memory.
+fn serve_words<'a>(alloc: Global, found: &ArgMatches<'a>) -> Result<Serving<'a>, WordsError> {
+    let address = default_address(alloc, found)?;
+    Ok(Serving {
+        settings: found.get_str("settings"),
+        ipp: addresses(alloc, found, "ipp", address)?,
+        lpd: addresses(alloc, found, "lpd", address)?,
+        devices: addresses(alloc, found, "devices", address)?,
         turns: found.get_one::<u64>("turns").unwrap_or(MOST_TURNS),
         log: found.get_flag("log"),
     })
 }
 
-fn meaning<'a>(found: &ArgMatches<'a>) -> Option<Asked<'a>> {
-    let (name, inner) = found.subcommand()?;
-    match name {
-        "serve" => Some(Asked::Serve(serve_words(inner)?)),
-        "settings" => Some(Asked::Settings {
-            file: inner.get_str("file")?,
-        }),
+fn settings_words<'a>(found: &ArgMatches<'a>) -> AboutSettings<'a> {
+    match found.get_str("file") {
+        None => AboutSettings::BuiltIn,
+        Some(file) if found.get_flag("avahi") => AboutSettings::Avahi {
+            file,
+            printer: found.get_str("printer"),
+        },
+        Some(file) => AboutSettings::Judge { file },
+    }
+}
+
+fn meaning<'a>(alloc: Global, found: &ArgMatches<'a>) -> Result<Option<Asked<'a>>, WordsError> {
+    let Some((name, inner)) = found.subcommand() else {
+        return Ok(None);
+    };
+    Ok(match name {
+        "serve" => Some(Asked::Serve(serve_words(alloc, inner)?)),
+        "settings" => Some(Asked::Settings(settings_words(inner))),
         "replay" => Some(Asked::Replay {
             plans: inner.get_flag("plans"),
         }),
@@ -154,29 +179,46 @@ fn meaning<'a>(found: &ArgMatches<'a>) -> Option<Asked<'a>> {
             starts: inner.get_flag("starts"),
         }),
         _ => None,
+    })
+}
+
+/// Writes a text and gives the status, unless the writer fails.
+fn ends<W: Write>(text: &str, writer: &mut W, status: ExitStatus) -> ExitStatus {
+    match writer.write_all(text.as_bytes()) {
+        Ok(()) => status,
+        Err(_) => ExitStatus::Failed,
     }
 }
 
-/// Writes what is wrong with the words.
-fn told<W: Write>(error: &Error, err: &mut W) -> ExitStatus {
-    if write!(err, "{error}").is_ok() {
-        ExitStatus::Refused
-    } else {
-        ExitStatus::Failed
+/// Writes what `clap` says of the words: help and the version to `out`, else what is wrong to `err`.
+fn told<O: Write, E: Write>(alloc: Global, error: &Error, out: &mut O, err: &mut E) -> ExitStatus {
+    if error.kind() == ErrorKind::OutOfMemory {
+        return ExitStatus::Failed;
+    }
+    match format!(in alloc; "{error}") {
+        Err(_) => ExitStatus::Failed,
+        Ok(text) if error.use_stderr() => ends(&text, err, ExitStatus::Refused),
+        Ok(text) => ends(&text, out, ExitStatus::Done),
     }
 }
 
-/// What the words ask for, or how to end once the text about them is written: refused, or failed for
-/// lack of memory or a writer that fails.
-pub fn read_words<'a, W: Write>(
+/// What the words ask for, or how to end once the text about them is written: done, where they ask for
+/// help or the version, which go to `out`; refused, with what is wrong in `err`; or failed, for lack of
+/// memory or a writer that fails.
+pub fn read_words<'a, O: Write, E: Write>(
     alloc: Global,
     words: &'a [&'a str],
-    err: &mut W,
+    out: &mut O,
+    err: &mut E,
 ) -> Result<Asked<'a>, ExitStatus> {
     let matches = match parse(alloc, words) {
         Ok(matches) => matches,
-        Err(error) if error.kind() == ErrorKind::OutOfMemory => return Err(ExitStatus::Failed),
-        Err(error) => return Err(told(&error, err)),
+        Err(error) => return Err(told(alloc, &error, out, err)),
     };
-    meaning(&matches).ok_or(ExitStatus::Refused)
+    match meaning(alloc, &matches) {
+        Ok(Some(asked)) => Ok(asked),
+        Ok(None) => Err(ExitStatus::Refused),
+        Err(WordsError::Told(text)) => Err(ends(&text, err, ExitStatus::Refused)),
+        Err(WordsError::OutOfMemory) => Err(ExitStatus::Failed),
+    }
 }

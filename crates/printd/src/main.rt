@@ -1,28 +1,28 @@
-//! The program: `printd serve` is the server over sockets, `printd settings` judges a file of its
-//! settings, `printd replay` reads a trace from standard input and writes what the server does, and
-//! `printd check` reads the text of a plan and writes the verdict on it.
+//! The program: `printd serve` is the server over sockets, `printd settings` shows or judges settings,
+//! `printd replay` reads a trace from standard input and writes what the server does, and `printd check`
+//! reads the text of a plan and writes the verdict on it.
 #![tactic(auto)]
 
-ghost use Rattle.settings_file.specs.Settings.{MeetsLimits};
+mod failure;
+mod serving;
+mod settings;
 
-use command_line::{Asked, Serving, read_words};
+use crate::failure::cannot;
+use crate::serving::run_serve;
+use crate::settings::run_settings;
+use command_line::{Asked, read_words};
 use plan_audit::run_check;
 use replay::run_replay;
-use serve::serve;
-use settings_file::Settings;
-use sockets::{Ports, Sockets};
-use startup::read_or_refuse;
 use std::alloc::AllocError;
 use std::io::ErrorKind;
-use std::net::IpAddr;
 use std::process::ExitCode;
-use std::{env, fs, io};
+use std::{env, io};
 use streams::ExitStatus;
 
 /// Why the words can't be read: one isn't UTF-8, which is said, or the system fails.
-fn unread(rt: &HostRuntime, error: &io::Error) -> ExitStatus {
+fn unread(rt: &HostRuntime, error: io::Error) -> ExitStatus {
     if error.kind() != ErrorKind::InvalidData {
-        return ExitStatus::Failed;
+        return cannot(rt, "read the command line", error);
     }
     match eprintln!(rt; "error: invalid UTF-8 was detected in one or more arguments") {
         Ok(()) => ExitStatus::Refused,
@@ -48,87 +48,37 @@ fn lent<'a>(rt: &HostRuntime, words: &'a [String]) -> Result<Vec<&'a str>, Alloc
     Ok(texts)
 }
 
-/// Writes where a server listens, a line for each door.
-fn announce(rt: &HostRuntime, ports: Ports) -> io::Result<()> {
-    let (ipp, lpd, devices) = (ports.ipp, ports.lpd, ports.devices);
-    println!(rt; "ipp {ipp}")?;
-    println!(rt; "lpd {lpd}")?;
-    println!(rt; "devices {devices}")
+/// Plays a trace from standard input.
+fn replay(rt: &HostRuntime, plans: bool) -> ExitStatus {
+    run_replay(rt.alloc(), &mut rt.reader(), &mut io::writer(rt), plans)
 }
 
-/// Serves with these settings, and says where.
-fn serve_settings(
-    rt: &HostRuntime,
-    settings: Settings,
-    address: IpAddr,
-    serving: Serving<'_>,
-) -> io::Result<ExitStatus>
-    requires { MeetsLimits settings }
-{
-    let ports = Ports {
-        ipp: serving.ipp,
-        lpd: serving.lpd,
-        devices: serving.devices,
-    };
-    let sockets = Sockets::bind(rt.alloc(), rt, address, ports)?;
-    announce(rt, sockets.ports()?)?;
-    let mut errors = rt.stderr();
-    let log = if serving.log { Some(&mut errors) } else { None };
-    serve(rt.alloc(), rt, sockets, settings, serving.turns, log)?;
-    Ok(ExitStatus::Done)
+/// Judges the text of a plan from standard input.
+fn check(rt: &HostRuntime, starts: bool) -> ExitStatus {
+    run_check(rt.alloc(), &mut rt.reader(), &mut io::writer(rt), starts)
 }
 
-/// Serves. The error is the system's: of the file, the sockets, the clock or the output.
-fn run_serve(rt: &HostRuntime, serving: Serving<'_>) -> io::Result<ExitStatus> {
-    let address = serving
-        .address
-        .parse::<IpAddr>()
-        .map_err(|_| io::Error::from(ErrorKind::InvalidInput))?;
-    let bytes = fs::read(rt, serving.settings)?;
-    match read_or_refuse(rt.alloc(), &bytes, &mut rt.stderr()) {
-        Ok(settings) => serve_settings(rt, settings, address, serving),
-        Err(status) => Ok(status),
-    }
-}
-
-/// Judges the settings of a file. The error is the system's: of the file or the output.
-fn run_settings(rt: &HostRuntime, file: &str) -> io::Result<ExitStatus> {
-    let bytes = fs::read(rt, file)?;
-    match read_or_refuse(rt.alloc(), &bytes, &mut rt.stderr()) {
-        Ok(_settings) => {
-            println!(rt; "ok")?;
-            Ok(ExitStatus::Done)
-        }
-        Err(status) => Ok(status),
-    }
-}
-
-/// Does what the words ask for, and gives the status.
-fn run(rt: &HostRuntime, asked: Asked<'_>) -> ExitStatus {
+/// Does what the words ask for, and gives the status; the error is one of what was said already.
+fn run(rt: &HostRuntime, asked: Asked<'_>) -> Result<ExitStatus, ExitStatus> {
     match asked {
-        Asked::Serve(serving) => run_serve(rt, serving).unwrap_or(ExitStatus::Failed),
-        Asked::Settings { file } => run_settings(rt, file).unwrap_or(ExitStatus::Failed),
-        Asked::Replay { plans } => run_replay(
-            rt.alloc(),
-            &mut rt.reader(),
-            &mut io::writer(rt),
-            plans,
-        ),
-        Asked::Check { starts } => run_check(
-            rt.alloc(),
-            &mut rt.reader(),
-            &mut io::writer(rt),
-            starts,
-        ),
+        Asked::Serve(serving) => run_serve(rt, serving),
+        Asked::Settings(about) => run_settings(rt, about),
+        Asked::Replay { plans } => Ok(replay(rt, plans)),
+        Asked::Check { starts } => Ok(check(rt, starts)),
     }
 }
 
-/// What the program does, and its status; the error is the status where it isn't known what to do.
+/// What the program does, and its status; the error is the status where it isn't known what to do, or
+/// where it can't be done, which is said.
 fn run_words(rt: &HostRuntime) -> Result<ExitStatus, ExitStatus> {
-    let words = words_of(rt).map_err(|error| unread(rt, &error))?;
-    let texts = lent(rt, &words).map_err(|_| ExitStatus::Failed)?;
-    let asked = read_words(rt.alloc(), &texts, &mut rt.stderr())?;
-    Ok(run(rt, asked))
+    let words = words_of(rt).map_err(|error| unread(rt, error))?;
+    let texts = lent(rt, &words).map_err(|error| cannot(
+        rt,
+        "read the command line",
+        io::Error::from(error),
+    ))?;
+    let asked = read_words(rt.alloc(), &texts, &mut io::writer(rt), &mut rt.stderr())?;
+    run(rt, asked)
 }
 
 fn main(rt: HostRuntime) -> ExitCode {

@@ -1,64 +1,99 @@
 //! The words of the program's command line.
-use command_line::{Asked, Serving, read_words};
+use command_line::read_words;
 use std::alloc::{AllocError, Global};
 use std::test::Fail;
 use streams::ExitStatus;
 
 /// Lines of words that are read, and what they ask for.
-const READ: [(&str, Asked<'static>); 6] = [
-    ("printd replay", Asked::Replay { plans: false }),
-    ("printd replay --plans", Asked::Replay { plans: true }),
-    ("printd check", Asked::Check { starts: false }),
-    ("printd check --starts", Asked::Check { starts: true }),
+const READ: [(&str, &str); 13] = [
+    ("printd replay", "Replay { plans: false }"),
+    ("printd replay --plans", "Replay { plans: true }"),
+    ("printd check", "Check { starts: false }"),
+    ("printd check --starts", "Check { starts: true }"),
+    ("printd settings", "Settings(BuiltIn)"),
     (
         "printd settings lab.toml",
-        Asked::Settings { file: "lab.toml" },
+        "Settings(Judge { file: \"lab.toml\" })",
     ),
     (
-        "printd serve --settings lab.toml --ipp 631 --lpd 515 --devices 0",
-        Asked::Serve(Serving {
-            settings: "lab.toml",
-            ipp: 631,
-            lpd: 515,
-            devices: 0,
-            address: "127.0.0.1",
-            turns: 1_000_000_000_000,
-            log: false,
-        }),
+        "printd settings --avahi lab.toml",
+        "Settings(Avahi { file: \"lab.toml\", printer: None })",
+    ),
+    (
+        "printd settings lab.toml --avahi --printer lab",
+        "Settings(Avahi { file: \"lab.toml\", printer: Some(\"lab\") })",
+    ),
+    (
+        "printd serve",
+        "Serve(Serving { settings: None, ipp: [127.0.0.1:8631], lpd: [127.0.0.1:8515], devices: [127.0.0.1:8632], turns: 1000000000000, log: false })",
+    ),
+    (
+        "printd serve --settings lab.toml --ipp 631 --lpd 515 --devices 0 --log --turns 7",
+        "Serve(Serving { settings: Some(\"lab.toml\"), ipp: [127.0.0.1:631], lpd: [127.0.0.1:515], devices: [127.0.0.1:0], turns: 7, log: true })",
+    ),
+    (
+        "printd serve --address 0.0.0.0 --ipp 631 --devices 127.0.0.1:8632",
+        "Serve(Serving { settings: None, ipp: [0.0.0.0:631], lpd: [0.0.0.0:8515], devices: [127.0.0.1:8632], turns: 1000000000000, log: false })",
+    ),
+    (
+        "printd serve --ipp 10.0.0.1:631 --ipp [::1]:632 --lpd 515 --lpd 516",
+        "Serve(Serving { settings: None, ipp: [10.0.0.1:631, [::1]:632], lpd: [127.0.0.1:515, 127.0.0.1:516], devices: [127.0.0.1:8632], turns: 1000000000000, log: false })",
+    ),
+    (
+        "printd serve --address ::",
+        "Serve(Serving { settings: None, ipp: [[::]:8631], lpd: [[::]:8515], devices: [[::]:8632], turns: 1000000000000, log: false })",
     ),
 ];
 
-/// Lines of words that are refused: one that isn't known, one too few, a port that is none, turns out
-/// of range, and those that ask for help.
-const REFUSED: [&str; 7] = [
+/// Lines of words that are refused: one that isn't known, a word without the one that it needs, a port
+/// and an address that are none, and turns out of range.
+const REFUSED: [&str; 9] = [
+    "printd",
     "printd reply",
-    "printd settings",
-    "printd serve --settings lab.toml --ipp 0 --lpd 0",
-    "printd serve --settings lab.toml --ipp 0 --devices 65536 --lpd 0",
-    "printd serve --settings lab.toml --ipp 0 --lpd 0 --devices 0 --turns 0",
-    "printd serve --settings lab.toml --ipp 0 --lpd 0 --devices 0 --turns 1000000000001",
-    "printd serve --help",
+    "printd settings --avahi",
+    "printd settings lab.toml --printer lab",
+    "printd serve --devices 65536",
+    "printd serve --ipp localhost:631",
+    "printd serve --address office",
+    "printd serve --turns 0",
+    "printd serve --turns 1000000000001",
 ];
 
-/// Whether a line of words is read as this, and nothing is written.
-fn is_read(alloc: Global, line: &str, asked: Asked<'_>) -> Result<bool, AllocError> {
+/// Lines of words that ask for a text.
+const TOLD: [&str; 3] = ["printd --version", "printd --help", "printd serve --help"];
+
+/// What became of a line of words: what it asks for, as it is shown, or how the program ends.
+fn outcome(alloc: Global, line: &str) -> Result<Result<String, ExitStatus>, AllocError> {
     let words: Vec<&str> = line.split(' ').collect(alloc)?;
-    let mut text = Vec::new(alloc);
-    Ok(read_words(alloc, &words, &mut text) == Ok(asked) && text.is_empty())
+    let (mut out, mut err) = (Vec::new(alloc), Vec::new(alloc));
+    match read_words(alloc, &words, &mut out, &mut err) {
+        Ok(asked) => Ok(Ok(format!(in alloc; "{asked:?}")?)),
+        Err(status) if out.is_empty() == (status == ExitStatus::Refused) => Ok(Err(status)),
+        Err(_) => Ok(Err(ExitStatus::Failed)),
+    }
 }
 
-/// Whether a line of words is refused, and something is written about it.
-fn is_refused(alloc: Global, line: &str) -> Result<bool, AllocError> {
-    let words: Vec<&str> = line.split(' ').collect(alloc)?;
-    let mut text = Vec::new(alloc);
-    Ok(read_words(alloc, &words, &mut text) == Err(ExitStatus::Refused) && !text.is_empty())
+/// Whether a line of words asks for this.
+fn is_read(alloc: Global, line: &str, wanted: &str) -> Result<bool, AllocError> {
+    Ok(match outcome(alloc, line)? {
+        Ok(asked) => asked.as_str() == wanted,
+        Err(_) => false,
+    })
+}
+
+/// Whether a line of words ends so; a refusal leaves the standard output as it is.
+fn ends(alloc: Global, line: &str, wanted: ExitStatus) -> Result<bool, AllocError> {
+    Ok(match outcome(alloc, line)? {
+        Ok(_) => false,
+        Err(status) => status == wanted,
+    })
 }
 
 #[test]
 fn words_that_are_read(rt: HostRuntime) -> Result<(), Fail> {
     for (line, asked) in READ {
         let read = is_read(rt.alloc(), line, asked)?;
-        assert!(rt; read);
+        assert!(rt; read, "{line}");
     }
     Ok(())
 }
@@ -66,8 +101,17 @@ fn words_that_are_read(rt: HostRuntime) -> Result<(), Fail> {
 #[test]
 fn words_that_are_refused(rt: HostRuntime) -> Result<(), Fail> {
     for line in REFUSED {
-        let refused = is_refused(rt.alloc(), line)?;
-        assert!(rt; refused);
+        let refused = ends(rt.alloc(), line, ExitStatus::Refused)?;
+        assert!(rt; refused, "{line}");
+    }
+    Ok(())
+}
+
+#[test]
+fn words_that_ask_for_a_text(rt: HostRuntime) -> Result<(), Fail> {
+    for line in TOLD {
+        let told = ends(rt.alloc(), line, ExitStatus::Done)?;
+        assert!(rt; told, "{line}");
     }
     Ok(())
 }

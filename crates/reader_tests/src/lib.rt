@@ -6,4 +6,6 @@ mod command_words;
 #[cfg(test)]
 mod ipp_messages;
 #[cfg(test)]
+mod settings_sentences;
+#[cfg(test)]
 mod text_bytes;

@@ -10,7 +10,7 @@ use dispatcher::Dispatched;
 use events::Cancel;
 use server::{Engine, Heard, NoteLog, Notes, Place};
 use settings_file::Settings;
-use sockets::{Ports, Sockets, Visit, Visits};
+use sockets::{Listening, Sockets, Visit, Visits};
 use std::alloc::{AllocError, Global};
 use std::io;
 use std::io::Write;
@@ -56,9 +56,9 @@ impl Server {
         })
     }
 
-    /// The ports that it listens at.
-    pub fn ports(&self) -> io::Result<Ports> {
-        self.sockets.ports()
+    /// Where it listens.
+    pub fn listening(&self) -> io::Result<Vec<Listening>> {
+        self.sockets.listening()
     }
 
     /// One turn of its engine.

@@ -4,31 +4,32 @@ use crate::exchanges::{BOTH_FRAMINGS, CHUNKED, Exchange, LAST, NOT_POST, PLAIN, 
 use crate::lpd_sessions::ONE_JOB;
 use base_types::Moment;
 use serve::Server;
-use sockets::{Ports, Sockets};
+use sockets::{Listening, Sockets};
 use startup::read_or_refuse;
 use std::io;
 use std::io::{Read, Write};
 use std::net::{IpAddr, Ipv4Addr, Shutdown, SocketAddr, TcpStream};
 use std::test::Fail;
+use wires::Door;
 
 /// This machine.
 fn local() -> IpAddr {
     IpAddr::V4(Ipv4Addr::new(127, 0, 0, 1))
 }
 
-/// Any ports that are free.
-const ANY: Ports = Ports {
-    ipp: 0,
-    lpd: 0,
-    devices: 0,
-};
+/// The doors of a server, each of which listens at any port that is free.
+const DOORS: [Door; 3] = [Door::Ipp, Door::Lpd, Door::Devices];
 
 /// Turns that serve any of the exchanges.
 const TURNS: usize = 30;
 
 /// A server that has just started.
 fn start(rt: &HostRuntime) -> io::Result<Server> {
-    let sockets = Sockets::bind(rt.alloc(), rt, local(), ANY)?;
+    let mut sockets = Sockets::new(rt.alloc(), rt)?;
+    let address = SocketAddr::new(local(), 0);
+    for door in DOORS {
+        sockets.listen(rt, Listening { door, address })?;
+    }
     let settings = match read_or_refuse(rt.alloc(), SETTINGS.as_bytes(), &mut rt.stderr()) {
         Ok(settings) => settings,
         Err(_) => return Err(io::Error::from(io::ErrorKind::InvalidData)),
@@ -36,16 +37,25 @@ fn start(rt: &HostRuntime) -> io::Result<Server> {
     Ok(Server::new(rt.alloc(), sockets, settings)?)
 }
 
-/// A peer that comes in at a port and sends this.
-fn peer(rt: &HostRuntime, port: u16, sent: &[u8]) -> io::Result<TcpStream> {
-    let mut stream = TcpStream::connect(rt, SocketAddr::new(local(), port))?;
+/// Where a server's door listens.
+fn address_of(server: &Server, door: Door) -> io::Result<SocketAddr> {
+    let listening = server.listening()?;
+    match listening.iter().find(|one| one.door == door) {
+        Some(one) => Ok(one.address),
+        None => Err(io::Error::from(io::ErrorKind::NotFound)),
+    }
+}
+
+/// A peer that comes in at a server's door and sends this.
+fn peer(rt: &HostRuntime, server: &Server, door: Door, sent: &[u8]) -> io::Result<TcpStream> {
+    let mut stream = TcpStream::connect(rt, address_of(server, door)?)?;
     stream.write_all(sent)?;
     Ok(stream)
 }
 
 /// A client of a server's.
 fn connect(rt: &HostRuntime, server: &Server) -> io::Result<TcpStream> {
-    peer(rt, server.ports()?.ipp, b"")
+    peer(rt, server, Door::Ipp, b"")
 }
 
 fn turns(server: &mut Server, count: usize) -> io::Result<()> {
@@ -173,9 +183,8 @@ fn gets(
 /// acknowledgements, the device the job, and the next client an empty queue once the device has ended
 /// it.
 fn lpd_job(rt: &HostRuntime, server: &mut Server) -> io::Result<bool> {
-    let ports = server.ports()?;
-    let mut device = peer(rt, ports.devices, b"HELLO A\nREADY\n")?;
-    let mut client = peer(rt, ports.lpd, ONE_JOB.sent)?;
+    let mut device = peer(rt, server, Door::Devices, b"HELLO A\nREADY\n")?;
+    let mut client = peer(rt, server, Door::Lpd, ONE_JOB.sent)?;
     let acknowledged = gets(rt, server, &mut client, ONE_JOB.answered)?;
     let printed = gets(
         rt,
@@ -184,7 +193,7 @@ fn lpd_job(rt: &HostRuntime, server: &mut Server) -> io::Result<bool> {
         b"JOB 1 5 1 1 iso_a4_210x297mm\nhello",
     )?;
     device.write_all(b"DONE 1\n")?;
-    let mut next = peer(rt, ports.lpd, b"\x03lab\n")?;
+    let mut next = peer(rt, server, Door::Lpd, b"\x03lab\n")?;
     let listed = gets(rt, server, &mut next, b"lab idle\nno entries\n")?;
     Ok(acknowledged && printed && listed)
 }
@@ -202,10 +211,9 @@ fn log_turns(server: &mut Server, log: &mut Vec<u8>) -> io::Result<()> {
 /// The log of a device that comes and runs, a client that sends it a job, the end of the job, and the
 /// client's going once it has its five acknowledgements; and the ports from which the two came.
 fn log_of_job(rt: &HostRuntime, server: &mut Server, log: &mut Vec<u8>) -> io::Result<(u16, u16)> {
-    let ports = server.ports()?;
-    let mut device = peer(rt, ports.devices, b"HELLO A\nREADY\n")?;
+    let mut device = peer(rt, server, Door::Devices, b"HELLO A\nREADY\n")?;
     log_turns(server, log)?;
-    let mut client = peer(rt, ports.lpd, ONE_JOB.sent)?;
+    let mut client = peer(rt, server, Door::Lpd, ONE_JOB.sent)?;
     log_turns(server, log)?;
     client.read_exact(&mut [0; 5])?;
     device.write_all(b"DONE 1\n")?;

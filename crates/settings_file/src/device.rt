@@ -8,6 +8,7 @@ ghost use Rattle.settings_file.specs.Device.{device_keys, finishings_named, fini
 use crate::entry::{is_among, know_keys, list, number, optional_list, optional_number, text};
 use crate::fault::SettingsFault;
 use crate::key::Key;
+use crate::last_table::LastTable;
 use crate::settings::DeviceSettings;
 use base_types::{Finishings, Limits, Text};
 use std::alloc::Global;
@@ -122,16 +123,18 @@ fn read_device(
     })
 }
 
-/// The devices of these tables, in settings of a version.
+/// The devices of these tables, in settings of a version; `last` is told of each table that is read.
 pub(crate) fn read_devices(
     alloc: Global,
     version: u32,
     tables: &[&Table],
+    last: &mut LastTable,
 ) -> Result<Vec<DeviceSettings>, SettingsFault>
     ensures { Gives (λ v. v.items) result (devices_of version [] (map (λ t. table_view t.now) tables.now)) }
 {
     let mut devices = Vec::new(alloc);
     for table in tables {
+        last.next_device();
         let device = read_device(alloc, version, &devices, table)?;
         devices.push(device)?;
     }

@@ -15,11 +15,13 @@ mod device;
 mod entry;
 mod fault;
 mod key;
+mod last_table;
 mod printer;
 mod read;
 mod settings;
 
 pub use fault::{SettingsFault, write_fault};
 pub use key::Key;
-pub use read::{read_settings, read_settings_bytes};
+pub use last_table::LastTable;
+pub use read::{read_settings, read_settings_bytes, read_settings_telling};
 pub use settings::{DeviceSettings, PrinterSettings, Settings};

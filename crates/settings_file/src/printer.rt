@@ -9,6 +9,7 @@ use crate::device::place_of;
 use crate::entry::{know_keys, list, text};
 use crate::fault::SettingsFault;
 use crate::key::Key;
+use crate::last_table::LastTable;
 use crate::settings::{DeviceSettings, PrinterSettings};
 use base_types::{DeviceId, PrinterSet, Text};
 use std::alloc::Global;
@@ -80,16 +81,18 @@ fn read_printer(
     })
 }
 
-/// The printers of these tables, which name these devices.
+/// The printers of these tables, which name these devices; `last` is told of each table that is read.
 pub(crate) fn read_printers(
     alloc: Global,
     devices: &[DeviceSettings],
     tables: &[&Table],
+    last: &mut LastTable,
 ) -> Result<Vec<PrinterSettings>, SettingsFault>
     ensures { Gives (λ v. v.items) result (printers_of devices.now [] (map (λ t. table_view t.now) tables.now)) }
 {
     let mut printers = Vec::new(alloc);
     for table in tables {
+        last.next_printer();
         let printer = read_printer(alloc, devices, &printers, table)?;
         printers.push(printer)?;
     }

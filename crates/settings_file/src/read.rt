@@ -12,6 +12,7 @@ use crate::device::read_devices;
 use crate::entry::{know_keys, number, optional_list, tables, text};
 use crate::fault::SettingsFault;
 use crate::key::Key;
+use crate::last_table::LastTable;
 use crate::printer::read_printers;
 use crate::settings::Settings;
 use base_types::Limits;
@@ -38,7 +39,27 @@ pub fn read_settings(alloc: Global, text: &str) -> Result<Settings, SettingsFaul
     ensures refused { IfErr result (λ e. ForSome (fault_of e) (λ fault. settings_of text.now ≡ Err fault)) }
     ensures no_toml { IsErrOf result SettingsFault.NotToml → parse_document text.now ≡ None }
 {
-    read_text(alloc, text)
+    read_settings_telling(alloc, text, &mut LastTable::Root)
+}
+
+/// The same; `last` is the table that was read last, and so, where the text is refused, the one in which
+/// its first fault stands. A text that is no TOML has no table.
+///
+/// # Errors
+///
+/// As those of [`read_settings`].
+pub fn read_settings_telling(
+    alloc: Global,
+    text: &str,
+    last: &mut LastTable,
+) -> Result<Settings, SettingsFault>
+    ensures ok { IfOk result (λ settings. settings_of text.now ≡ Ok settings) }
+    ensures within_limits { IfOk result MeetsLimits }
+    ensures refused { IfErr result (λ e. ForSome (fault_of e) (λ fault. settings_of text.now ≡ Err fault)) }
+    ensures no_toml { IsErrOf result SettingsFault.NotToml → parse_document text.now ≡ None }
+{
+    *last = LastTable::Root;
+    read_text(alloc, text, last)
 }
 
 /// The settings of a file's bytes: bytes that aren't UTF-8 are no TOML.
@@ -59,18 +80,18 @@ pub fn read_settings_bytes(alloc: Global, bytes: &[u8]) -> Result<Settings, Sett
 
 // The settings of a text.
 #[tactic(auto, unfolding(crate::specs::Reading::settings_of))]
-fn read_text(alloc: Global, text: &str) -> Result<Settings, SettingsFault>
+fn read_text(alloc: Global, text: &str, last: &mut LastTable) -> Result<Settings, SettingsFault>
     ensures { Gives (λ s. s) result (settings_of text.now) }
 {
     match toml::table_from_str(alloc, text) {
-        Ok(root) => read_root(alloc, &root),
+        Ok(root) => read_root(alloc, &root, last),
         Err(error) if error.is_memory() => Err(SettingsFault::OutOfMemory),
         Err(_) => Err(SettingsFault::NotToml),
     }
 }
 
 // The settings of the root table.
-fn read_root(alloc: Global, root: &Table) -> Result<Settings, SettingsFault>
+fn read_root(alloc: Global, root: &Table, last: &mut LastTable) -> Result<Settings, SettingsFault>
     ensures { Gives (λ s. s) result (settings_in (table_view root.now)) }
 {
     let version = number(root, Key::Version, 1, 2)?;
@@ -79,8 +100,8 @@ fn read_root(alloc: Global, root: &Table) -> Result<Settings, SettingsFault>
     let device_tables = tables(alloc, root, Key::Device, Limits::DEVICES)?;
     let printer_tables = tables(alloc, root, Key::Printer, Limits::PRINTERS)?;
     know_keys(alloc, root, &ROOT_KEYS)?;
-    let devices = read_devices(alloc, version, &device_tables)?;
-    let printers = read_printers(alloc, &devices, &printer_tables)?;
+    let devices = read_devices(alloc, version, &device_tables, last)?;
+    let printers = read_printers(alloc, &devices, &printer_tables, last)?;
     Ok(Settings {
         uri_base,
         operators: operators.unwrap_or(Vec::new(alloc)),

@@ -15,5 +15,6 @@ mod patience;
 mod sockets;
 mod visits;
 
-pub use sockets::{Ports, Sockets};
+pub use entrance::Listening;
+pub use sockets::Sockets;
 pub use visits::{Leave, Visit, Visits};

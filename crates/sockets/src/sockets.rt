@@ -1,7 +1,7 @@
 //! The system's sockets.
 ghost use Rattle.std.specs.Prelude.{◌≡◌, ◌+◌, false, if◌then◌else◌};
 
-use crate::entrance::Entrance;
+use crate::entrance::{Entrance, Entrances, Listening};
 use crate::link::Link;
 use crate::visits::{Leave, Visit, Visits};
 use base_types::{Limits, Moment};
@@ -10,7 +10,7 @@ use mio::{Events, Interest, Poll, Token};
 use slab::Slab;
 use std::alloc::Global;
 use std::io::{ErrorKind, IoSlice};
-use std::net::{IpAddr, Net, SocketAddr};
+use std::net::{Net, SocketAddr};
 use std::time::Duration;
 use std::{io, mem};
 use wires::{Answer, Door, Wire, WireId};
@@ -18,37 +18,18 @@ use wires::{Answer, Door, Wire, WireId};
 /// How many sockets a wait tells of at most: all that there are.
 const EVENTS: usize = 128;
 
-/// What waits tell of the doors under; of a connection they tell under its number.
-const IPP: Token = Token(usize::MAX);
+/// Waits tell of the first listener under this number, of the next under the one before it, and so on;
+/// of a connection under its own number.
+const FIRST_LISTENER: usize = usize::MAX;
 
-const LPD: Token = Token(usize::MAX - 1);
-
-const DEVICES: Token = Token(usize::MAX - 2);
-
-/// A port for each door; 0 for any that is free.
-#[derive(Clone, Copy, Debug, PartialEq, Eq)]
-pub struct Ports {
-    pub ipp: u16,
-    pub lpd: u16,
-    pub devices: u16,
-}
-
-/// The sockets of the three doors.
-#[derive(Drop)]
-struct Doors {
-    ipp: Entrance,
-    lpd: Entrance,
-    devices: Entrance,
-}
-
-/// Three listeners, and the connections that they accepted.
+/// Listeners at the three doors, and the connections that they accepted.
 ///
 /// A client that is silent for a minute, or takes longer than that for 4,096 bytes to which nothing is
 /// answered, is taken as one that has ended. A device never is.
 #[derive(Drop)]
 pub struct Sockets {
     alloc: Global,
-    doors: Doors,
+    entrances: Entrances,
     links: Slab<Link>,
     poll: Poll,
     events: Events,
@@ -63,37 +44,13 @@ pub struct Sockets {
     visits: Option<Visits>,
 }
 
-impl Doors {
-    fn accept(&mut self, door: Door) -> io::Result<(TcpStream, SocketAddr)> {
-        match door {
-            Door::Ipp => self.ipp.accept(),
-            Door::Lpd => self.lpd.accept(),
-            Door::Devices => self.devices.accept(),
-        }
-    }
-
-    /// An accept failed: whether it is the first at its door since one that didn't.
-    fn failed(&mut self, door: Door) -> bool {
-        match door {
-            Door::Ipp => self.ipp.failed(),
-            Door::Lpd => self.lpd.failed(),
-            Door::Devices => self.devices.failed(),
-        }
-    }
-}
-
 /// Hands each socket what a wait told of it.
-fn tell(events: &Events, doors: &mut Doors, links: &mut Slab<Link>) {
+fn tell(events: &Events, entrances: &mut Entrances, links: &mut Slab<Link>) {
     for event in events.iter() {
-        match event.token() {
-            IPP => doors.ipp.told(),
-            LPD => doors.lpd.told(),
-            DEVICES => doors.devices.told(),
-            Token(key) => {
-                if let Some(link) = links.get_mut(key) {
-                    link.told(event);
-                }
-            }
+        let Token(key) = event.token();
+        match links.get_mut(key) {
+            Some(link) => link.told(event),
+            None => entrances.told(FIRST_LISTENER - key),
         }
     }
 }
@@ -108,26 +65,14 @@ fn rest(links: &mut Slab<Link>) {
 }
 
 impl Sockets {
-    /// Listens at the three doors. The error is the system's: a port in use, an address that isn't the
-    /// machine's, or out of memory.
-    pub fn bind(
-        alloc: Global,
-        net: &impl Net,
-        address: IpAddr,
-        ports: Ports,
-    ) -> io::Result<Sockets> {
-        let poll = Poll::new(net)?;
-        let doors = Doors {
-            ipp: Entrance::open(net, &poll, SocketAddr::new(address, ports.ipp), IPP)?,
-            lpd: Entrance::open(net, &poll, SocketAddr::new(address, ports.lpd), LPD)?,
-            devices: Entrance::open(net, &poll, SocketAddr::new(address, ports.devices), DEVICES)?,
-        };
+    /// No door is open yet. The error is the system's, or out of memory.
+    pub fn new(alloc: Global, net: &impl Net) -> io::Result<Sockets> {
         Ok(Sockets {
             alloc,
-            doors,
+            entrances: Entrances::new(alloc),
             links: Slab::with_capacity(alloc, Limits::CONNECTIONS)?,
             events: Events::with_capacity(alloc, EVENTS)?,
-            poll,
+            poll: Poll::new(net)?,
             failures: 0,
             worked: false,
             moment: Moment::start(),
@@ -136,13 +81,17 @@ impl Sockets {
         })
     }
 
-    /// The ports that are listened at.
-    pub fn ports(&self) -> io::Result<Ports> {
-        Ok(Ports {
-            ipp: self.doors.ipp.port()?,
-            lpd: self.doors.lpd.port()?,
-            devices: self.doors.devices.port()?,
-        })
+    /// Listens at one address more. The error is the system's: a port in use, an address that isn't the
+    /// machine's, a port that needs a right; or out of memory.
+    pub fn listen(&mut self, net: &impl Net, listening: Listening) -> io::Result<()> {
+        let token = Token(FIRST_LISTENER - self.entrances.count());
+        let entrance = Entrance::open(net, &self.poll, listening, token)?;
+        self.entrances.push(entrance)
+    }
+
+    /// Where it listens, in the order in which it began to.
+    pub fn listening(&self) -> io::Result<Vec<Listening>> {
+        self.entrances.listening(self.alloc)
     }
 
     /// Has it this moment from now on.
@@ -179,7 +128,7 @@ impl Sockets {
         if self.events.is_empty() && !most.is_zero() {
             rest(&mut self.links);
         }
-        tell(&self.events, &mut self.doors, &mut self.links);
+        tell(&self.events, &mut self.entrances, &mut self.links);
         Ok(())
     }
 
@@ -214,7 +163,7 @@ impl Sockets {
     fn accept(&mut self, door: Door) -> io::Result<(Link, SocketAddr)>
         ensures { self.new.failures ≡ self.old.failures }
     {
-        let (mut stream, peer) = self.doors.accept(door)?;
+        let (mut stream, peer) = self.entrances.accept(door)?;
         stream.set_nodelay(true)?;
         self.poll.registry().register(
             &mut stream,
@@ -229,7 +178,7 @@ impl Sockets {
     fn miss(&mut self, door: Door)
         ensures { self.new.failures ≡ self.old.failures }
     {
-        if self.doors.failed(door) {
+        if self.entrances.failed(door) {
             self.note(Visit::Missed(door));
         }
     }

@@ -1,0 +1,82 @@
+//! The addresses at which doors listen.
+
+use clap::ArgMatches;
+use std::alloc::{AllocError, AllocFailed, Global};
+use std::net::{IpAddr, SocketAddr};
+
+/// Why words that `clap` takes make no sense.
+#[derive(Debug, Drop)]
+pub(crate) enum WordsError {
+    /// The text about them, for whoever wrote them.
+    Told(String),
+    OutOfMemory,
+}
+
+impl From<AllocError> for WordsError {
+    fn from(_error: AllocError) -> WordsError {
+        WordsError::OutOfMemory
+    }
+}
+
+impl<T: Drop> From<AllocFailed<T>> for WordsError {
+    fn from(_error: AllocFailed<T>) -> WordsError {
+        WordsError::OutOfMemory
+    }
+}
+
+/// The value of an option makes no sense, and what would.
+fn invalid(alloc: Global, value: &str, option: &str, wanted: &str) -> WordsError {
+    let text = format!(in alloc;
+        "error: invalid value '{value}' for '--{option}': {wanted}\n\nFor more information, try '--help'.\n"
+    );
+    match text {
+        Ok(text) => WordsError::Told(text),
+        Err(_) => WordsError::OutOfMemory,
+    }
+}
+
+/// The address of the doors that name none.
+pub(crate) fn default_address(alloc: Global, found: &ArgMatches<'_>) -> Result<IpAddr, WordsError> {
+    let text = found.get_str("address").unwrap_or("127.0.0.1");
+    match text.parse::<IpAddr>() {
+        Ok(address) => Ok(address),
+        Err(_) => Err(invalid(
+            alloc,
+            text,
+            "address <ADDRESS>",
+            "an address is written in numbers, as 127.0.0.1, 0.0.0.0 or ::1",
+        )),
+    }
+}
+
+/// An address with its port; or a port alone, at this address.
+fn address_of(text: &str, address: IpAddr) -> Option<SocketAddr> {
+    match text.parse::<u16>() {
+        Ok(port) => Some(SocketAddr::new(address, port)),
+        Err(_) => text.parse::<SocketAddr>().ok(),
+    }
+}
+
+/// The addresses of a door.
+pub(crate) fn addresses(
+    alloc: Global,
+    found: &ArgMatches<'_>,
+    door: &str,
+    address: IpAddr,
+) -> Result<Vec<SocketAddr>, WordsError> {
+    let mut all = Vec::new(alloc);
+    for text in found.get_strs(door).unwrap_or(&[]) {
+        match address_of(text, address) {
+            Some(found) => all.push(found)?,
+            None => {
+                return Err(invalid(
+                    alloc,
+                    text,
+                    door,
+                    "a door is a port, or an address and a port, as 631, 127.0.0.1:631 or [::1]:631",
+                ));
+            }
+        }
+    }
+    Ok(all)
+}

@@ -1,0 +1,48 @@
+//! What is said where the program fails.
+use std::io;
+use std::io::ErrorKind;
+use streams::ExitStatus;
+
+/// The system's reason, in words.
+fn reason(error: &io::Error) -> &'static str {
+    match error.kind() {
+        ErrorKind::NotFound => "no such file",
+        ErrorKind::PermissionDenied => "permission denied",
+        ErrorKind::AddrInUse => "the address is in use",
+        ErrorKind::AddrNotAvailable => "this machine hasn't that address",
+        ErrorKind::IsADirectory => "it is a folder",
+        ErrorKind::NotADirectory => "a part of its path is no folder",
+        ErrorKind::StorageFull => "no space is left",
+        ErrorKind::OutOfMemory => "out of memory",
+        ErrorKind::Unsupported => "the system doesn't know such addresses",
+        _ => "the system refuses it",
+    }
+}
+
+/// Says in a line of standard error what couldn't be done, and why, and gives the status. Where nobody
+/// reads the output any more, it ends quietly.
+pub(crate) fn cannot(rt: &HostRuntime, what: &str, error: io::Error) -> ExitStatus {
+    if error.kind() != ErrorKind::BrokenPipe {
+        let reason = reason(&error);
+        let _said = match error.raw_os_error() {
+            Some(code) => {
+                eprintln!(rt; "printd: cannot {what}: {reason} (the system's error {code})")
+            }
+            None => eprintln!(rt; "printd: cannot {what}: {reason}"),
+        };
+    }
+    ExitStatus::Failed
+}
+
+/// The same of something that has a name.
+pub(crate) fn cannot_with(
+    rt: &HostRuntime,
+    what: &str,
+    name: &str,
+    error: io::Error,
+) -> ExitStatus {
+    match format!(in rt.alloc(); "{what} {name}") {
+        Ok(text) => cannot(rt, &text, error),
+        Err(_) => cannot(rt, what, error),
+    }
+}

@@ -1,0 +1,114 @@
+//! The server over the system's sockets.
+ghost use Rattle.settings_file.specs.Settings.{MeetsLimits};
+
+use crate::failure::cannot;
+use crate::settings::{built_in, settings_of};
+use command_line::Serving;
+use serve::serve;
+use settings_file::Settings;
+use sockets::{Listening, Sockets};
+use std::io;
+use std::net::SocketAddr;
+use streams::ExitStatus;
+use wires::Door;
+
+/// A door, by the option that says where it is.
+fn name_of(door: Door) -> &'static str {
+    match door {
+        Door::Ipp => "ipp",
+        Door::Lpd => "lpd",
+        Door::Devices => "devices",
+    }
+}
+
+/// It can't be listened for a door at an address, which is said.
+fn cannot_listen(rt: &HostRuntime, listening: Listening, error: io::Error) -> ExitStatus {
+    let (door, address) = (name_of(listening.door), listening.address);
+    match format!(in rt.alloc(); "listen for {door} at {address}") {
+        Ok(what) => cannot(rt, &what, error),
+        Err(_) => cannot(rt, "listen", error),
+    }
+}
+
+/// Listens for a door at each of these addresses.
+fn listen_at(
+    rt: &HostRuntime,
+    sockets: &mut Sockets,
+    door: Door,
+    addresses: &[SocketAddr],
+) -> Result<(), ExitStatus> {
+    for address in addresses {
+        let listening = Listening {
+            door,
+            address: *address,
+        };
+        sockets
+            .listen(rt, listening)
+            .map_err(|error| cannot_listen(rt, listening, error))?;
+    }
+    Ok(())
+}
+
+/// Writes where a door listens: its port, or a line for each of its addresses where it has several.
+fn announce(rt: &HostRuntime, listening: &[Listening], door: Door) -> io::Result<()> {
+    let name = name_of(door);
+    let count = listening.iter().filter(|one| one.door == door).count();
+    for one in listening {
+        let address = one.address;
+        if one.door == door && count > 1 {
+            println!(rt; "{name} {address}")?;
+        } else if one.door == door {
+            let port = address.port();
+            println!(rt; "{name} {port}")?;
+        }
+    }
+    Ok(())
+}
+
+/// The same of all doors.
+fn announce_all(rt: &HostRuntime, sockets: &Sockets) -> io::Result<()> {
+    let listening = sockets.listening()?;
+    announce(rt, &listening, Door::Ipp)?;
+    announce(rt, &listening, Door::Lpd)?;
+    announce(rt, &listening, Door::Devices)
+}
+
+/// Sockets that listen where they are asked to.
+fn open(rt: &HostRuntime, serving: &Serving<'_>) -> Result<Sockets, ExitStatus> {
+    let mut sockets = Sockets::new(rt.alloc(), rt).map_err(|error| cannot(
+        rt,
+        "ask the system what happens at sockets",
+        error,
+    ))?;
+    listen_at(rt, &mut sockets, Door::Ipp, &serving.ipp)?;
+    listen_at(rt, &mut sockets, Door::Lpd, &serving.lpd)?;
+    listen_at(rt, &mut sockets, Door::Devices, &serving.devices)?;
+    announce_all(rt, &sockets).map_err(|error| cannot(rt, "write to standard output", error))?;
+    Ok(sockets)
+}
+
+/// Serves with these settings.
+fn serve_settings(
+    rt: &HostRuntime,
+    settings: Settings,
+    serving: &Serving<'_>,
+) -> Result<ExitStatus, ExitStatus>
+    requires { MeetsLimits settings }
+{
+    let sockets = open(rt, serving)?;
+    let mut errors = rt.stderr();
+    let log = if serving.log { Some(&mut errors) } else { None };
+    match serve(rt.alloc(), rt, sockets, settings, serving.turns, log) {
+        Ok(()) => Ok(ExitStatus::Done),
+        Err(error) => Err(cannot(rt, "go on serving", error)),
+    }
+}
+
+/// Serves, and says where; the error is the status of what was said already.
+pub(crate) fn run_serve(rt: &HostRuntime, serving: Serving<'_>) -> Result<ExitStatus, ExitStatus> {
+    let settings = match serving.settings {
+        Some(file) => settings_of(rt, file)?,
+        None => built_in(rt)?,
+    };
+    serve_settings(rt, settings, &serving)
+}

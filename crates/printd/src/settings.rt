@@ -1,0 +1,71 @@
+//! The settings of a file, or those that are built in.
+ghost use Rattle.std.specs.Prelude.{IfOk};
+ghost use Rattle.settings_file.specs.Settings.{MeetsLimits};
+
+use crate::failure::{cannot, cannot_with};
+use command_line::AboutSettings;
+use settings_faults::explain;
+use settings_file::Settings;
+use startup::{BUILT_IN_SETTINGS, read_or_refuse};
+use std::{fs, io};
+use streams::ExitStatus;
+
+/// Says what is wrong with the settings of a file, if anything is.
+fn say_fault(rt: &HostRuntime, file: &str, bytes: &[u8]) -> Result<(), ExitStatus> {
+    let told = explain(rt.alloc(), file, bytes).map_err(|error| cannot_with(
+        rt,
+        "read",
+        file,
+        io::Error::from(error),
+    ))?;
+    if let Some(sentence) = told {
+        eprintln!(rt; "{sentence}").map_err(|error| cannot(rt, "write to standard error", error))?;
+    }
+    Ok(())
+}
+
+/// The settings of a file; where it is refused, its first fault is said in a sentence, and then in a line
+/// for programs.
+pub(crate) fn settings_of(rt: &HostRuntime, file: &str) -> Result<Settings, ExitStatus>
+    ensures { IfOk result MeetsLimits }
+{
+    let bytes = fs::read(rt, file).map_err(|error| cannot_with(rt, "read", file, error))?;
+    say_fault(rt, file, &bytes)?;
+    read_or_refuse(rt.alloc(), &bytes, &mut rt.stderr())
+}
+
+/// The settings that are built in.
+pub(crate) fn built_in(rt: &HostRuntime) -> Result<Settings, ExitStatus>
+    ensures { IfOk result MeetsLimits }
+{
+    read_or_refuse(rt.alloc(), BUILT_IN_SETTINGS.as_bytes(), &mut rt.stderr())
+}
+
+/// Shows the settings that are built in.
+fn show_built_in(rt: &HostRuntime) -> Result<ExitStatus, ExitStatus> {
+    match print!(rt; "{BUILT_IN_SETTINGS}") {
+        Ok(()) => Ok(ExitStatus::Done),
+        Err(error) => Err(cannot(rt, "write to standard output", error)),
+    }
+}
+
+/// Judges the settings of a file.
+fn judge(rt: &HostRuntime, file: &str) -> Result<ExitStatus, ExitStatus> {
+    let _settings = settings_of(rt, file)?;
+    match println!(rt; "ok") {
+        Ok(()) => Ok(ExitStatus::Done),
+        Err(error) => Err(cannot(rt, "write to standard output", error)),
+    }
+}
+
+/// Answers what is asked about settings; the error is the status of what was said already.
+pub(crate) fn run_settings(
+    rt: &HostRuntime,
+    asked: AboutSettings<'_>,
+) -> Result<ExitStatus, ExitStatus> {
+    match asked {
+        AboutSettings::BuiltIn => show_built_in(rt),
+        AboutSettings::Judge { file } => judge(rt, file),
+        AboutSettings::Avahi { file, printer: _ } => judge(rt, file),
+    }
+}
