@@ -39,7 +39,7 @@ wait_for test -S /run/dbus/system_bus_socket
 avahi-daemon --no-rlimits > "$room/avahi.log" 2>&1 &
 wait_for grep -q 'successfully established' "$room/avahi.log"
 
-"$printd" serve --settings "$top/examples/printd.toml" --ipp 631 --lpd 515 --devices 8632 --address 0.0.0.0 > "$room/ports" &
+"$printd" serve --settings "$top/examples/printd.toml" --ipp "[::]:631" --lpd "[::]:515" --devices 127.0.0.1:8632 > "$room/ports" &
 wait_for grep -q devices "$room/ports"
 python3 "$top/tools/clients/device.py" 8632 window "$room/printed" &
 
