@@ -1,0 +1,71 @@
+//! The port that a base of URIs names.
+ghost use Rattle.std.specs.Prelude.{◌≡◌, ◌==◌};
+ghost use Rattle.std.specs.Option.{option_copied};
+ghost use Rattle.std.specs.List.{before_first};
+ghost use Rattle.announcements.specs.Port.{behind_scheme, authority_of, behind_colon, port_named, ipp_port};
+
+use text::{find_byte, number_up_to};
+
+/// The port at which IPP is served where a URI names none (RFC 3510, section 3.2).
+const IPP_PORT: u16 = 631;
+
+/// The port of a base of URIs: the one that it names behind its host, else 631.
+pub fn ipp_port(uri_base: &[u8]) -> u16
+    ensures { result ≡ ipp_port uri_base.now }
+{
+    match port_named(authority_of(uri_base)) {
+        Some(port) => port,
+        None => IPP_PORT,
+    }
+}
+
+/// What follows the scheme and `://`.
+fn behind_scheme(uri: &[u8]) -> Option<&[u8]>
+    ensures { option_copied result ≡ behind_scheme uri.now }
+{
+    match find_byte(uri, b':') {
+        Some(colon) => uri[colon..].strip_prefix(b"://"),
+        None => None,
+    }
+}
+
+/// The host with its port, which end before the first `/`; nothing where there is no scheme.
+fn authority_of(uri: &[u8]) -> &[u8]
+    ensures { result.now ≡ authority_of uri.now }
+{
+    match behind_scheme(uri) {
+        Some(rest) => up_to_slash(rest),
+        None => &[],
+    }
+}
+
+fn up_to_slash(rest: &[u8]) -> &[u8]
+    ensures { result.now ≡ before_first (λ byte. byte == 47) rest.now }
+{
+    match find_byte(rest, b'/') {
+        Some(end) => &rest[..end],
+        None => rest,
+    }
+}
+
+/// What follows the last colon, if there is one.
+fn behind_colon(authority: &[u8]) -> Option<&[u8]>
+    ensures { option_copied result ≡ behind_colon authority.now }
+{
+    let [first, rest @ ..] = authority else {
+        return None;
+    };
+    match behind_colon(rest) {
+        Some(port) => Some(port),
+        None if *first == b':' => Some(rest),
+        None => None,
+    }
+}
+
+/// The port that a host is followed by.
+fn port_named(authority: &[u8]) -> Option<u16>
+    ensures { result ≡ port_named authority.now }
+{
+    let number = number_up_to(behind_colon(authority)?, u64::from(u16::MAX))?;
+    Some(number as u16)
+}
