@@ -43,5 +43,7 @@ pub enum AboutSettings<'a> {
     Avahi {
         file: &'a str,
         printer: Option<&'a str>,
+        /// The port at which LPD clients come in; that of IPP clients stands in the settings.
+        lpd: u16,
     },
 }

@@ -11,6 +11,9 @@ use streams::ExitStatus;
 /// The version of the program, which is that of the file VERSION.
 const VERSION: &str = "0.9.0";
 
+/// The port of LPD (RFC 1179, section 3.1).
+const LPD_PORT: u16 = 515;
+
 /// Turns without an end: at ten a second, three thousand years.
 const MOST_TURNS: u64 = 1_000_000_000_000;
 
@@ -102,6 +105,15 @@ fn settings_command<'a>(alloc: Global) -> Result<Command<'a>, AllocError> {
                 .value_name("NAME")
                 .help("Which printer, where the file has several")
                 .requires_arg("avahi")?,
+        )?
+        .arg(
+            Arg::new(alloc, "lpd")
+                .long("lpd")
+                .action(ArgAction::Set)
+                .value_name("PORT")
+                .value_parser(clap::value_parser!(u16))
+                .help("Where LPD clients come in, where it isn't 515")
+                .requires_arg("avahi")?,
         )
 }
 
@@ -160,6 +172,7 @@ fn settings_words<'a>(found: &ArgMatches<'a>) -> AboutSettings<'a> {
         Some(file) if found.get_flag("avahi") => AboutSettings::Avahi {
             file,
             printer: found.get_str("printer"),
+            lpd: found.get_one::<u16>("lpd").unwrap_or(LPD_PORT),
         },
         Some(file) => AboutSettings::Judge { file },
     }

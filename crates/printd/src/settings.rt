@@ -3,10 +3,12 @@ ghost use Rattle.std.specs.Prelude.{IfOk};
 ghost use Rattle.settings_file.specs.Settings.{MeetsLimits};
 
 use crate::failure::{cannot, cannot_with};
+use announcements::{Ports, ipp_port, only_printer, printer_named, write_service};
 use command_line::AboutSettings;
 use settings_faults::explain;
-use settings_file::Settings;
+use settings_file::{PrinterSettings, Settings};
 use startup::{BUILT_IN_SETTINGS, read_or_refuse};
+use std::io::Write;
 use std::{fs, io};
 use streams::ExitStatus;
 
@@ -58,6 +60,54 @@ fn judge(rt: &HostRuntime, file: &str) -> Result<ExitStatus, ExitStatus> {
     }
 }
 
+/// Says that no printer is announced, and why, in a line of standard error.
+fn refuse_printer(rt: &HostRuntime, file: &str, printer: Option<&str>) -> ExitStatus {
+    let said = match printer {
+        Some(name) => eprintln!(rt; "printd: {file} has no printer \"{name}\""),
+        None => eprintln!(rt; "printd: {file} has several printers: --printer NAME says which"),
+    };
+    match said {
+        Ok(()) => ExitStatus::Refused,
+        Err(error) => cannot(rt, "write to standard error", error),
+    }
+}
+
+/// The printer of these settings that is asked for: the named one, or the only one.
+fn printer_of<'a>(settings: &'a Settings, printer: Option<&str>) -> Option<&'a PrinterSettings> {
+    match printer {
+        Some(name) => printer_named(settings, name.as_bytes()),
+        None => only_printer(settings),
+    }
+}
+
+/// Shows the Avahi service of a printer of a file.
+fn announce(
+    rt: &HostRuntime,
+    file: &str,
+    printer: Option<&str>,
+    lpd: u16,
+) -> Result<ExitStatus, ExitStatus> {
+    let settings = settings_of(rt, file)?;
+    let Some(found) = printer_of(&settings, printer) else {
+        return Err(refuse_printer(rt, file, printer));
+    };
+    let ports = Ports {
+        ipp: ipp_port(settings.uri_base.as_bytes()),
+        lpd,
+    };
+    let mut text = Vec::new(rt.alloc());
+    write_service(rt.alloc(), &settings, found, ports, &mut text).map_err(|error| cannot_with(
+        rt,
+        "announce",
+        file,
+        io::Error::from(error),
+    ))?;
+    match io::writer(rt).write_all(&text) {
+        Ok(()) => Ok(ExitStatus::Done),
+        Err(error) => Err(cannot(rt, "write to standard output", error)),
+    }
+}
+
 /// Answers what is asked about settings; the error is the status of what was said already.
 pub(crate) fn run_settings(
     rt: &HostRuntime,
@@ -66,6 +116,6 @@ pub(crate) fn run_settings(
     match asked {
         AboutSettings::BuiltIn => show_built_in(rt),
         AboutSettings::Judge { file } => judge(rt, file),
-        AboutSettings::Avahi { file, printer: _ } => judge(rt, file),
+        AboutSettings::Avahi { file, printer, lpd } => announce(rt, file, printer, lpd),
     }
 }

@@ -17,11 +17,11 @@ const READ: [(&str, &str); 13] = [
     ),
     (
         "printd settings --avahi lab.toml",
-        "Settings(Avahi { file: \"lab.toml\", printer: None })",
+        "Settings(Avahi { file: \"lab.toml\", printer: None, lpd: 515 })",
     ),
     (
-        "printd settings lab.toml --avahi --printer lab",
-        "Settings(Avahi { file: \"lab.toml\", printer: Some(\"lab\") })",
+        "printd settings lab.toml --avahi --printer lab --lpd 8515",
+        "Settings(Avahi { file: \"lab.toml\", printer: Some(\"lab\"), lpd: 8515 })",
     ),
     (
         "printd serve",
