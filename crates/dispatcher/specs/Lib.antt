@@ -18,5 +18,6 @@ pub mod SubmitFiles
 pub mod ListQueue
 pub mod RemoveJobs
 pub mod Step
+pub mod OneStep
 pub mod Keeping
 pub mod Run
