@@ -1,5 +1,4 @@
 pub mod Dispatched
-pub mod Lending
 pub mod Target
 pub mod Answers
 pub mod Checks
