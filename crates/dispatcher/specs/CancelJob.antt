@@ -32,7 +32,7 @@ pub record CancelsIt (now : ℕ) (old : State) (name : List ℕ) (id : ℕ) (rep
   pub documents : reply.documents.items ≡ []
   pub state : new ≡ canceling now id name old
 
--- one reply and one state after it
+-- at most one reply and one state after it
 abbrev pub CancelsJob : ℕ → JobRequest → State → Reply → State → Type 0
 CancelsJob now request old reply new =
     MatchResult (canceled_of request old) (λ id. CancelsIt now old request.user id reply new) (λ refusal. Refuses now old refusal reply new)

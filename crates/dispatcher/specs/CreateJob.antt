@@ -22,7 +22,7 @@ pub record CreatesIt (now : ℕ) (old : State) (accepted : Accepted) (reply : Re
   pub replies : Replies (taken_with accepted.unsupported) accepted.unsupported (group_of old accepted.job true ∷ []) reply
   pub state : new ≡ with_job_taken now accepted.job true old
 
--- one reply and one state after it
+-- at most one reply and one state after it
 abbrev pub CreatesJob : ℕ → AskedJob → State → Reply → State → Type 0
 CreatesJob now asked old reply new =
     MatchResult (created_of asked now old) (λ accepted. CreatesIt now old accepted reply new) (λ refusal. Refuses now old refusal reply new)

@@ -1,13 +1,22 @@
--- What a dispatch lends.
-use Rattle.std.specs.Prelude.{List, [], Option, None, if◌then◌else◌}
+-- What a dispatch did, by whether it made a plan.
+use Rattle.std.specs.Prelude.{Bool, List, [], Option, None, if◌then◌else◌}
 use Rattle.prices.specs.Plan.{PlanRecord}
 use Rattle.dispatcher.specs.declared.dispatch.Dispatched.{Dispatched}
 use Rattle.print_room.specs.declared.started.Started.{Started}
+use Rattle.print_room.specs.State.{State}
 
--- the plan, if one was made
+-- the plan that the state after it has, if one was made
+abbrev pub plan_if : Bool → State → Option PlanRecord
+plan_if planned new = if planned then new.plan else None
+
+-- the jobs that began, which the state after it has
+abbrev pub begun_if : Bool → State → List Started
+begun_if planned new = if planned then new.begun else []
+
+-- the same of what shows it
+
 abbrev pub plan_of : Dispatched → Option PlanRecord
-plan_of made = if made.planned then made.room.now.plan else None
+plan_of made = plan_if made.planned made.room.now
 
--- the jobs that began
 abbrev pub started_of : Dispatched → List Started
-started_of made = if made.planned then made.room.now.begun else []
+started_of made = begun_if made.planned made.room.now

@@ -7,7 +7,7 @@ use Rattle.dispatcher.specs.Answers.{Refuses, Shows}
 use Rattle.dispatcher.specs.Checks.{named_job}
 use Rattle.print_room.specs.State.{State}
 
--- one reply and one state after it
+-- at most one reply and one state after it
 abbrev pub ShowsJob : ℕ → GetJobAttributes → State → Reply → State → Type 0
 ShowsJob now request old reply new =
     MatchResult (named_job request.target old)

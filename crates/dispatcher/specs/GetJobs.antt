@@ -30,7 +30,7 @@ wanted_of request old =
     finished_asked request.which >>= (λ finished.
     Ok (record { printer = printer.place; finished = finished; owner = owner_asked request.mine request.printer.user; limit = request.limit })))
 
--- one reply and one state after it
+-- at most one reply and one state after it
 abbrev pub ListsJobs : ℕ → GetJobs → State → Reply → State → Type 0
 ListsJobs now request old reply new =
     MatchResult (wanted_of request old)

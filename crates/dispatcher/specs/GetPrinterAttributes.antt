@@ -7,7 +7,7 @@ use Rattle.dispatcher.specs.Answers.{Refuses, Shows}
 use Rattle.dispatcher.specs.Checks.{named_printer}
 use Rattle.print_room.specs.State.{State}
 
--- one reply and one state after it
+-- at most one reply and one state after it
 abbrev pub ShowsPrinter : ℕ → GetPrinterAttributes → State → Reply → State → Type 0
 ShowsPrinter now request old reply new =
     MatchResult (named_printer request.target old)

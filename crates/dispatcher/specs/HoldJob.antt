@@ -38,7 +38,7 @@ HoldsUntil now request NoHold old reply new = ChangesJob now request Release [] 
 HoldsUntil now request Indefinite old reply new = ChangesJob now request Hold [] old reply new
 HoldsUntil now request (Unsupported attribute) old reply new = ChangesJob now request Hold attribute old reply new
 
--- one reply and one state after it
+-- at most one reply and one state after it
 abbrev pub HoldsJob : ℕ → HoldJob → State → Reply → State → Type 0
 HoldsJob now request old reply new = HoldsUntil now request.job request.until old reply new
 

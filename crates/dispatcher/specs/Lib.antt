@@ -1,5 +1,4 @@
 pub mod Dispatched
-pub mod Lending
 pub mod Target
 pub mod Answers
 pub mod Checks
@@ -18,5 +17,6 @@ pub mod SubmitFiles
 pub mod ListQueue
 pub mod RemoveJobs
 pub mod Step
+pub mod OneStep
 pub mod Keeping
 pub mod Run

@@ -35,7 +35,7 @@ pub record ListsNothing (now : ℕ) (old : State) (reply : Reply) (new : State) 
   pub answers : AnswersLpd NoQueue reply
   pub state : new ≡ record old { last = now }
 
--- one reply and one state after it
+-- at most one reply and one state after it
 abbrev pub ListsQueue : ℕ → ListQueue → State → Reply → State → Type 0
 ListsQueue now request old reply new =
     MatchOption (queue_of request.queue old) (ListsNothing now old reply new) (λ place. ListsIt now old request place reply new)

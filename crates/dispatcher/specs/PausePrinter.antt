@@ -24,7 +24,7 @@ pub record PausesIt (now : ℕ) (old : State) (paused : Bool) (place : ℕ) (rep
   pub replies : Replies Went.Ok [] [] reply
   pub state : new ≡ pausing now place paused old
 
--- one reply and one state after it
+-- at most one reply and one state after it
 abbrev pub SetsPaused : ℕ → PrinterRequest → Bool → State → Reply → State → Type 0
 SetsPaused now request paused old reply new =
     MatchResult (paused_of request old) (λ place. PausesIt now old paused place reply new) (λ refusal. Refuses now old refusal reply new)

@@ -38,7 +38,7 @@ pub record TakesJob (now : ℕ) (old : State) (accepted : Accepted) (reply : Rep
   pub replies : Replies (taken_with accepted.unsupported) accepted.unsupported (group_of old accepted.job false ∷ []) reply
   pub state : new ≡ with_job_taken now accepted.job false old
 
--- one reply and one state after it
+-- at most one reply and one state after it
 abbrev pub PrintsJob : ℕ → PrintJob → State → Reply → State → Type 0
 PrintsJob now request old reply new =
     MatchResult (asked_of request now old) (λ accepted. TakesJob now old accepted reply new) (λ refusal. Refuses now old refusal reply new)

@@ -48,7 +48,7 @@ pub record SendsIt (now : ℕ) (old : State) (request : SendDocument) (sent : Se
   pub replies : Replies Went.Ok [] sent.groups reply
   pub state : new ≡ sending now sent.job (record { format = sent.format; contents = request.octets }) request.last old
 
--- one reply and one state after it
+-- at most one reply and one state after it
 abbrev pub SendsDocument : ℕ → SendDocument → State → Reply → State → Type 0
 SendsDocument now request old reply new =
     MatchResult (sent_of request old) (λ sent. SendsIt now old request sent reply new) (λ refusal. Refuses now old refusal reply new)

@@ -52,7 +52,7 @@ pub record FilesNothing (now : ℕ) (old : State) (reply : Reply) (new : State) 
   pub answers : AnswersLpd (Taken false) reply
   pub state : new ≡ record old { last = now }
 
--- one reply and one state after it
+-- at most one reply and one state after it
 abbrev pub SubmitsFiles : ℕ → SubmitFiles → State → Reply → State → Type 0
 SubmitsFiles now request old reply new =
     MatchOption (filed_of request now old) (FilesNothing now old reply new) (λ job. FilesJob now old job reply new)

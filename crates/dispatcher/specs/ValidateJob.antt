@@ -27,7 +27,7 @@ pub record Validates (now : ℕ) (old : State) (unsupported : List IppAttribute)
   pub replies : Replies (taken_with unsupported) unsupported [] reply
   pub state : new ≡ record old { last = now }
 
--- one reply and one state after it
+-- at most one reply and one state after it
 abbrev pub ValidatesJob : ℕ → ValidateJob → State → Reply → State → Type 0
 ValidatesJob now request old reply new =
     MatchResult (validated_of request old) (λ unsupported. Validates now old unsupported reply new) (λ refusal. Refuses now old refusal reply new)

@@ -1,9 +1,10 @@
 //! The dispatch: a plan, and the jobs that it starts.
-ghost use Rattle.std.specs.Prelude.{◌≡◌, max, IfOk, IfSome, false, IsOk, is_some};
+ghost use Rattle.std.specs.Prelude.{◌≡◌, max, IfOk, IfSome, OnErr, false, IsOk, is_some};
 ghost use Rattle.std.specs.Option.{option_copied};
 ghost use Rattle.print_room.specs.GoodPlan.{IsGoodPlan, is_some_job};
 ghost use Rattle.print_room.specs.Ready.{ready_of};
-ghost use Rattle.dispatcher.specs.Dispatched.{plan_of, started_of};
+ghost use Rattle.print_room.specs.Dispatch.{Dispatches};
+ghost use Rattle.dispatcher.specs.Dispatched.{plan_of, started_of, plan_if, begun_if};
 
 use crate::server_core::Core;
 use base_types::Moment;
@@ -36,31 +37,36 @@ impl Dispatched<'_> {
 }
 
 impl<P: Planner + Drop> Core<P> {
-    ghost use Rattle.std.specs.Borrow.{sem};
-    ghost use Rattle.dispatcher.specs.Lending.{EndsDispatched};
-
     /// Plans the ready jobs and starts what can start, at a moment or, where that is earlier, at the
-    /// last one.
+    /// last one: whether a plan was made, which [`Core::dispatched`] shows.
     ///
     /// Where no job is ready, no plan is made, nothing changes and no memory is taken. Else each
     /// priority class, from the highest down and given when the classes above leave each device free,
     /// has the least total of estimated completion times among all ways to assign its ready jobs to
     /// capable devices and order them; its prices prove this to the checker alone, and every ready job
-    /// without a capable device is named with its cause. The plan is kept, and each idle running device
-    /// starts the first job of its list.
+    /// without a capable device is named with its cause. The plan is kept, and each running device that
+    /// is idle and may begin a job starts the first of its list.
     ///
-    /// The only error is out of memory; the state is then as it was.
-    pub fn dispatch(&mut self, moment: Moment) -> Result<Dispatched<'_>, AllocError>
+    /// The only error is out of memory; nothing has changed then.
+    pub fn dispatch(&mut self, moment: Moment) -> Result<bool, AllocError>
         ensures idle { is_some_job (ready_of self.old) ≡ false → IsOk result }
-        ensures planned { IfOk result (λ made. is_some (plan_of made) ≡ is_some_job (ready_of self.old)) }
-        ensures good { IfOk result (λ made. IfSome (plan_of made) (λ plan. IsGoodPlan (max moment self.old.last) self.old plan)) }
-        ensures* ends { sem 𝓛 (EndsDispatched P.row (max moment self.entry.now.last) self.entry result) }
+        ensures planned { IfOk result (λ planned. planned ≡ is_some_job (ready_of self.old)) }
+        ensures good { IfOk result (λ planned. IfSome (plan_if planned self.new) (λ plan. IsGoodPlan (max moment self.old.last) self.old plan)) }
+        ensures ends { IfOk result (λ planned. Dispatches (max moment self.old.last) self.old (plan_if planned self.new) (begun_if planned self.new) self.new) }
+        ensures err { OnErr result (self.new ≡ self.old) }
     {
         let now = moment.later(self.room.last());
-        let planned = self.room.dispatch(&self.planner, now)?;
-        Ok(Dispatched {
+        self.room.dispatch(&self.planner, now)
+    }
+
+    /// What the last dispatch did, by whether it made a plan.
+    pub fn dispatched(&self, planned: bool) -> Dispatched<'_>
+        ensures plan { plan_of result ≡ plan_if planned self.now }
+        ensures started { started_of result ≡ begun_if planned self.now }
+    {
+        Dispatched {
             room: &self.room,
             planned,
-        })
+        }
     }
 }

@@ -1,4 +1,5 @@
-//! What holds of every state, and what every state after this one keeps, however it comes about.
+//! What holds of every state, and what every state after this one keeps, however it comes about; that an
+//! event leads to one state. The functions do nothing: their contracts are what they are for.
 ghost use Rattle.std.specs.Prelude.{ℕ, List, Option};
 ghost use Rattle.prices.specs.Plan.{PlanRecord};
 ghost use Rattle.print_room.specs.declared.started.Started.{Started};
@@ -10,6 +11,7 @@ ghost use Rattle.events.specs.declared.event.Event.{Event};
 ghost use Rattle.events.specs.declared.reply.Reply.{Reply};
 ghost use Rattle.dispatcher.specs.Step.{Step};
 ghost use Rattle.dispatcher.specs.Keeping.{StepKeeps};
+ghost use Rattle.dispatcher.specs.OneStep.{SameEnd};
 
 use crate::server_core::Core;
 use planners::Planner;
@@ -34,3 +36,8 @@ impl<P: Planner + Drop> Core<P> {
         self.room.documents_stay();
     }
 }
+
+/// An event that comes at a state and a moment leads to at most one state and one reply.
+pub fn one_step()
+    ensures { (old : State) (event : Event) (moment : ℕ) (reply : Reply) (new : State) (said : Reply) (other : State) → Step old event moment reply new → Step old event moment said other → SameEnd reply new said other }
+{}

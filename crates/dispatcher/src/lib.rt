@@ -36,6 +36,7 @@ mod submit_files;
 mod validate_job;
 
 pub use dispatch::Dispatched;
+pub use law::one_step;
 pub use print_room::Started;
 pub use run::{Listener, Outcome, Timed};
 pub use server_core::Core;

@@ -56,8 +56,8 @@ impl<P: Planner + Drop> Core<P> {
             return Outcome::Queried(reply);
         }
         match self.dispatch(moment) {
-            Ok(made) => {
-                listener.dispatched(&made);
+            Ok(planned) => {
+                listener.dispatched(&self.dispatched(planned));
                 Outcome::Dispatched(reply)
             }
             Err(_) => Outcome::Undispatched(reply),

@@ -4,7 +4,7 @@ ghost use Rattle.ipp_codec.specs.Message.{IppMessage};
 ghost use Rattle.ipp_codec.specs.Grammar.{Spells};
 ghost use Rattle.ipp_codec.specs.Reading.{WalksFrom};
 ghost use Rattle.ipp_codec.specs.Decoding.{Decodes};
-ghost use Rattle.ipp_codec.specs.Decoder.{Stands, TakesIn, Feeds, CanReach, MayCome, reached_of, returned, answer_at, with_header, settled, stage_at, kept_of};
+ghost use Rattle.ipp_codec.specs.Decoder.{DecoderState, Stands, TakesIn, Feeds, CanReach, MayCome, reached_of, returned, answer_at, with_header, settled, stage_at, kept_of};
 ghost use Rattle.ipp_codec.specs.Views.{message_shown};
 
 use crate::fault::{CodecFault, DecodeError};
@@ -90,11 +90,13 @@ impl Decoder {
         }
     }
 
-    /// Goes back to where it was, and forgets what it was fed since.
+    /// Goes back to where it was, and forgets what it was fed since: it stands again as it stood when
+    /// it was so far.
     pub fn back_to(&mut self, reached: Reached)
         requires sound { CanReach reached }
         requires grown { reached.length ≤ length self.old.head }
-        ensures { self.new ≡ returned self.old reached }
+        ensures back { self.new ≡ returned self.old reached }
+        ensures stands { (fed : List ℕ) (before : DecoderState) → Stands fed before → reached ≡ reached_of before → take (length before.head) self.old.head ≡ before.head → Stands fed self.new }
     {
         self.head.truncate(reached.length);
         self.walked = reached.walked;

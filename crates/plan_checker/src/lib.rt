@@ -3,9 +3,10 @@
 //! It stands alone: its yes rests on the definitions of a class, a way and fair prices, and on no
 //! solver, so anyone's plan may be put before it. A yes means that no way, and no timetable with
 //! gaps, does better; any other verdict names the first fault. The times, the first waits and the
-//! lists of jobs are taken as given. It finds no plan, and knows no text of one.
+//! lists of jobs are taken as given; the order of the classes, and a job that is named twice among
+//! the stranded, aren't looked at. It finds no plan, and knows no text of one.
 //!
-//! Tests stand in `planner_tests`.
+//! Its rows are plans of `play_examples`.
 #![tactic(auto)]
 
 mod beside;

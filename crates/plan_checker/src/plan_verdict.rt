@@ -15,6 +15,9 @@ use prices::{Plan, PlannedClass};
 /// leaves, and no job stands in two classes, or in a class and among the stranded. Each class is
 /// then best under its waits, and no timetable does better. The first waits are taken as given.
 ///
+/// It doesn't look at the priorities of the classes or their order, nor at a job that is named twice
+/// among the stranded: these have no part in what is best. A plan's text can have neither.
+///
 /// The names of the devices don't matter, so a plan that has none yet can be judged too.
 pub fn check_plan(plan: &Plan) -> PlanVerdict
     requires { All HasOneListEach plan.now.classes }

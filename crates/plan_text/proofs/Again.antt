@@ -62,7 +62,7 @@ lacks-map byte P f (x ∷ xs) each h = and_from (lacks byte (f x)) (list_all (la
 
 -- ---- numbers
 
-own : IsNumeralModel (λ ds. all_ascii_digits ds ≡ true) (digits_value 10)
+pub own : IsNumeralModel (λ ds. all_ascii_digits ds ≡ true) (digits_value 10)
 own = numerals_by_fold _ tells_all_ascii_digits (digits_value_after 10) (search rules)
 
 pub decimal_is_number : (n : ℕ) → n < 2 ^ 64 → is_number (decimal n) ≡ true

@@ -16,7 +16,8 @@ use Rattle.plan_text.specs.declared.stage.Stage.TheVariants as stages
 use Rattle.plan_text.specs.NamedPlan.{NamedPlan}
 use Rattle.text.specs.Steps.{◌>>=◌}
 use Rattle.plan_text.specs.Line.{Said, SaysPlan, SaysDevice, SaysClass, SaysJob, SaysWait, SaysWay, SaysTotal, SaysJobPrices, SaysPlacePrices, SaysStranded, SaysEnd}
-use Rattle.plan_text.specs.Whole.{Heard, Opened, is_at, plan_next, device_next, opened_at, closed, class_opened, class_next, job_next, wait_next, way_next, total_next, job_prices_next, place_prices_next, classes_over, stranded_added, stranded_next, end_next, next, nothing_heard, ended, plan_at}
+use Rattle.plan_text.specs.Steps.{Heard, Opened, is_at, plan_next, device_next, opened_at, closed, class_opened, class_next, job_next, wait_next, way_next, total_next, job_prices_next, place_prices_next, classes_over, stranded_added, stranded_next, end_next, next}
+use Rattle.plan_text.specs.Whole.{nothing_heard, ended, plan_at}
 use Rattle.plan_text.specs.Writing.{job_lines, way_lines, place_price_lines, class_job_lines, class_way_lines, class_price_lines, class_lines, device_lines, stranded_lines, classes_lines, plan_lines, plan_text}
 use Rattle.plan_text.specs.Ranges.{IsPrice, IsClassInRange, PrioritiesFall, StrandedRise, jobs_in, IsPlanInRange}
 use Rattle.plan_text.proofs.Problems.{problem_is}
@@ -85,7 +86,7 @@ plan_in_range named r = (
 stepped : (heard new : Heard) (said : Said) (rest : List Said) → is_at heard stages.Ended ≡ false → next heard said ≡ ok new → says_next heard (said ∷ rest) ≡ says_next new rest
 stepped heard new said rest live step = rw (live, step) refl
 
-abbrev with_devices : List (List ℕ) → Heard
+abbrev pub with_devices : List (List ℕ) → Heard
 with_devices devices = record { stage = stages.Devices; devices = devices; classes = []; stranded = []; jobs = 0; below = HIGHEST_PRIORITY + 1; last = 0; opened = opened_at DEFAULT_PRIORITY }
 
 device_step : (devices : List (List ℕ)) (name : List ℕ) → length devices < DEVICES → device_next (with_devices devices) name ≡ ok (with_devices (devices ++ name ∷ []))

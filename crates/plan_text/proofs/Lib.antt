@@ -6,3 +6,5 @@ pub mod Sound
 pub mod Again
 pub mod Said
 pub mod Back
+pub mod Spelt
+pub mod Told

@@ -8,7 +8,7 @@ use Rattle.std.proofs.lemmas.Bool.Decides.{nat_tests}
 use Rattle.base_types.specs.declared.limits.TheConstants.Limits.{UNFINISHED_JOBS, DEVICES, JOB_TIME, WAIT}
 use Rattle.cost_table.specs.Class.{Class, IsClass}
 use Rattle.cost_table.specs.Time.{IsTime}
-use Rattle.plan_text.specs.Whole.{is_problem, is_row, is_time, is_wait, rises}
+use Rattle.plan_text.specs.Steps.{is_problem, is_row, is_time, is_wait, rises}
 
 le_yes : (m n : ℕ) → m ≤ n → nat_le m n ≡ true
 le_yes m n h = grind (arith, nat_tests)
@@ -97,7 +97,7 @@ problem_is c h =
     (list_all-from_AllPass (is_row (length c.waits)) c.rows (λ k d l. row_yes (length c.waits) (slice_index_or c.rows k d) (h.one_time_each k d l) (h.times k d l)))
     (list_all-from_AllPass is_wait c.waits (λ k d l. wait_yes (slice_index_or c.waits k d) (h.short_waits k d l)))
 
-problem_from : (c : Class) → is_problem c ≡ true → IsClass c
+pub problem_from : (c : Class) → is_problem c ≡ true → IsClass c
 unfolding is_problem
 problem_from c h =
     let p = six (nat_le (length c.ids) UNFINISHED_JOBS) (nat_le (length c.waits) DEVICES) (length c.rows == length c.ids) (rises c.ids) (list_all (is_row (length c.waits)) c.rows) (list_all is_wait c.waits) h in

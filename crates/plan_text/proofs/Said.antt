@@ -16,7 +16,8 @@ use Rattle.plan_text.specs.declared.stage.Stage.TheVariants as stages
 use Rattle.text.specs.Steps.{◌>>=◌}
 use Rattle.plan_text.specs.Word.{cause_at}
 use Rattle.plan_text.specs.Line.{Said, SaysPlan, SaysDevice, SaysClass, SaysJob, SaysWait, SaysWay, SaysTotal, SaysJobPrices, SaysPlacePrices, SaysStranded, SaysEnd, device_at, class_at, job_at, wait_at, way_at, total_at, job_prices_at, place_prices_at, stranded_at, line_of, line_at}
-use Rattle.plan_text.specs.Whole.{Heard, is_at, next, line_next, lines_next, nothing_heard, ended, plan_from, plan_in, plan_at}
+use Rattle.plan_text.specs.Steps.{Heard, is_at, next}
+use Rattle.plan_text.specs.Whole.{line_next, lines_next, nothing_heard, ended, plan_from, plan_in, plan_at}
 use Rattle.text.specs.Parts.{words_of, texts_of}
 use Rattle.plan_text.specs.Writing.{cause_word, entry_word, entries_text, numbers_text, prices_text, line_text, lines_text}
 use Rattle.plan_text.specs.Ranges.{IsPrice}
@@ -80,7 +81,7 @@ prices_spaced : (prices : List ℤ) → prices_text prices ≡ spaced (map signe
 prices_spaced [] = refl
 prices_spaced (price ∷ prices) = ap (λ rest. 32 ∷ (signed_decimal price ++ rest)) (prices_spaced prices)
 
-abbrev feed : List ℕ
+abbrev pub feed : List ℕ
 feed = 10 ∷ []
 
 -- a word, and then words after spaces
@@ -90,7 +91,7 @@ word_and word text words e = ap (λ t. word ++ (t ++ feed)) e ∙ sym (append_as
 only_and : (word : List ℕ) → word ++ feed ≡ (word ++ []) ++ feed
 only_and word = ap (λ w. w ++ feed) (sym (append-nil word))
 
-line_is : (said : Said) → line_text said ≡ body_of said ++ feed
+pub line_is : (said : Said) → line_text said ≡ body_of said ++ feed
 unfolding line_text
 line_is SaysPlan = refl
 line_is (SaysDevice name) = ap (λ rest. codes "device " ++ rest) (only_and name)

@@ -15,7 +15,8 @@ use Rattle.plan_text.specs.Reading.{Gives}
 use Rattle.plan_text.specs.NamedPlan.{NamedPlan, HasOneEach}
 use Rattle.prices.specs.Plan.{HasOneListEach}
 use Rattle.plan_text.specs.Line.{Said, SaysPlan, SaysDevice, SaysClass, SaysJob, SaysWait, SaysWay, SaysTotal, SaysJobPrices, SaysPlacePrices, SaysStranded, SaysEnd, line_at}
-use Rattle.plan_text.specs.Whole.{Heard, stage_number, is_at, one_each, is_named, may_have, plan_next, device_next, is_problem, problem_of, planned, opened_at, opened_kept, closed, class_opened, class_next, job_next, wait_next, way_next, total_next, job_prices_next, place_prices_next, classes_over, stranded_added, stranded_next, end_next, next, line_next, lines_next, nothing_heard, plan_of, ended, plan_from, plan_in, plan_at}
+use Rattle.plan_text.specs.Steps.{Heard, stage_number, is_at, one_each, is_named, may_have, plan_next, device_next, is_problem, problem_of, planned, opened_at, opened_kept, closed, class_opened, class_next, job_next, wait_next, way_next, total_next, job_prices_next, place_prices_next, classes_over, stranded_added, stranded_next, end_next, next}
+use Rattle.plan_text.specs.Whole.{line_next, lines_next, nothing_heard, plan_of, ended, plan_from, plan_in, plan_at}
 use Rattle.text.specs.Parts.{words_of, texts_of}
 
 -- steps that end well

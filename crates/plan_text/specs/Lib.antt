@@ -1,7 +1,11 @@
+-- what public clauses say
 pub mod NamedPlan
-pub mod Reading
-pub mod Word
-pub mod Line
-pub mod Whole
 pub mod Writing
 pub mod Ranges
+pub mod TextOf
+pub mod Reading
+pub mod Whole
+-- what private functions say of lines and of a reader's steps
+pub mod Word
+pub mod Line
+pub mod Steps

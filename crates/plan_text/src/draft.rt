@@ -3,7 +3,8 @@ ghost use Rattle.std.specs.Prelude.{◌≡◌, ◌==◌, ◌&&◌, ◌≤◌, le
 ghost use Rattle.std.specs.Str.{bytes_eq};
 ghost use Rattle.cost_table.specs.Class.{IsClass};
 ghost use Rattle.plan_text.specs.Line.{said_by};
-ghost use Rattle.plan_text.specs.Whole.{Leaves, heard_by, opened_of, opened_at, problem_of, is_problem, is_named, may_have, nothing_heard, next, plan_next, device_next, closed, opened_kept, class_opened, class_next, job_next, wait_next, way_next, total_next, job_prices_next, place_prices_next, classes_over, stranded_added, stranded_next, end_next};
+ghost use Rattle.plan_text.specs.Steps.{Leaves, heard_by, opened_of, opened_at, problem_of, is_problem, is_named, may_have, next, plan_next, device_next, closed, opened_kept, class_opened, class_next, job_next, wait_next, way_next, total_next, job_prices_next, place_prices_next, classes_over, stranded_added, stranded_next, end_next};
+ghost use Rattle.plan_text.specs.Whole.{nothing_heard};
 
 use crate::fault::{ReadError, TextFault};
 use crate::line::Line;
@@ -51,7 +52,7 @@ impl Draft {
         }
     }
 
-    #[tactic(auto, unfolding(crate::specs::Whole::plan_next))]
+    #[tactic(auto, unfolding(crate::specs::Steps::plan_next))]
     fn take_plan(&mut self) -> Result<(), ReadError>
         ensures { Leaves result (heard_by self.new) (plan_next (heard_by self.old)) }
     {
@@ -62,7 +63,7 @@ impl Draft {
         Ok(())
     }
 
-    #[tactic(auto, unfolding(crate::specs::Whole::device_next))]
+    #[tactic(auto, unfolding(crate::specs::Steps::device_next))]
     fn take_device(&mut self, name: Text) -> Result<(), ReadError>
         ensures { Leaves result (heard_by self.new) (device_next (heard_by self.old) name) }
     {
@@ -77,7 +78,7 @@ impl Draft {
     }
 
     /// Puts the class whose lines are all there with those before.
-    #[tactic(auto, unfolding(crate::specs::Whole::closed), using(crate::proofs::Problems::problem_is, crate::proofs::Problems::problem_isnt))]
+    #[tactic(auto, unfolding(crate::specs::Steps::closed), using(crate::proofs::Problems::problem_is, crate::proofs::Problems::problem_isnt))]
     fn close(&mut self, alloc: Global) -> Result<(), ReadError>
         ensures { Leaves result (heard_by self.new) (closed (heard_by self.old)) }
     {
@@ -107,7 +108,7 @@ impl Draft {
         Ok(())
     }
 
-    #[tactic(auto, unfolding(crate::specs::Whole::class_opened))]
+    #[tactic(auto, unfolding(crate::specs::Steps::class_opened))]
     fn open_class(&mut self, alloc: Global, priority: Priority) -> Result<(), ReadError>
         ensures { Leaves result (heard_by self.new) (class_opened (heard_by self.old) priority) }
     {
@@ -122,7 +123,7 @@ impl Draft {
         Ok(())
     }
 
-    #[tactic(auto, unfolding(crate::specs::Whole::class_next))]
+    #[tactic(auto, unfolding(crate::specs::Steps::class_next))]
     fn take_class(&mut self, alloc: Global, priority: Priority) -> Result<(), ReadError>
         ensures { Leaves result (heard_by self.new) (class_next (heard_by self.old) priority) }
     {
@@ -137,7 +138,7 @@ impl Draft {
         self.jobs < Limits::UNFINISHED_JOBS && self.last < id.number()
     }
 
-    #[tactic(auto, unfolding(crate::specs::Whole::job_next))]
+    #[tactic(auto, unfolding(crate::specs::Steps::job_next))]
     fn take_job(&mut self, id: JobId, times: Vec<Option<u64>>) -> Result<(), ReadError>
         ensures { Leaves result (heard_by self.new) (job_next (heard_by self.old) id times.items) }
     {
@@ -154,7 +155,7 @@ impl Draft {
         Ok(())
     }
 
-    #[tactic(auto, unfolding(crate::specs::Whole::wait_next))]
+    #[tactic(auto, unfolding(crate::specs::Steps::wait_next))]
     fn take_wait(&mut self, waits: Vec<u64>) -> Result<(), ReadError>
         ensures { Leaves result (heard_by self.new) (wait_next (heard_by self.old) waits.items) }
     {
@@ -173,7 +174,7 @@ impl Draft {
         place < self.devices.len() && self.devices[place].as_bytes() == name.as_bytes()
     }
 
-    #[tactic(auto, unfolding(crate::specs::Whole::way_next))]
+    #[tactic(auto, unfolding(crate::specs::Steps::way_next))]
     fn take_way(&mut self, device: &Text, jobs: Vec<JobId>) -> Result<(), ReadError>
         ensures { Leaves result (heard_by self.new) (way_next (heard_by self.old) device.now jobs.items) }
     {
@@ -184,7 +185,7 @@ impl Draft {
         Ok(())
     }
 
-    #[tactic(auto, unfolding(crate::specs::Whole::total_next))]
+    #[tactic(auto, unfolding(crate::specs::Steps::total_next))]
     fn take_total(&mut self, total: u64) -> Result<(), ReadError>
         ensures { Leaves result (heard_by self.new) (total_next (heard_by self.old) total) }
     {
@@ -196,7 +197,7 @@ impl Draft {
         Ok(())
     }
 
-    #[tactic(auto, unfolding(crate::specs::Whole::job_prices_next))]
+    #[tactic(auto, unfolding(crate::specs::Steps::job_prices_next))]
     fn take_job_prices(&mut self, prices: Vec<i64>) -> Result<(), ReadError>
         ensures { Leaves result (heard_by self.new) (job_prices_next (heard_by self.old) prices.items) }
     {
@@ -208,7 +209,7 @@ impl Draft {
         Ok(())
     }
 
-    #[tactic(auto, unfolding(crate::specs::Whole::place_prices_next))]
+    #[tactic(auto, unfolding(crate::specs::Steps::place_prices_next))]
     fn take_place_prices(&mut self, device: &Text, prices: Vec<i64>) -> Result<(), ReadError>
         ensures { Leaves result (heard_by self.new) (place_prices_next (heard_by self.old) device.now prices.items) }
     {
@@ -221,7 +222,7 @@ impl Draft {
     }
 
     /// No class may follow.
-    #[tactic(auto, unfolding(crate::specs::Whole::classes_over))]
+    #[tactic(auto, unfolding(crate::specs::Steps::classes_over))]
     fn end_classes(&mut self, alloc: Global) -> Result<(), ReadError>
         ensures { Leaves result (heard_by self.new) (classes_over (heard_by self.old)) }
     {
@@ -231,7 +232,7 @@ impl Draft {
         self.close(alloc)
     }
 
-    #[tactic(auto, unfolding(crate::specs::Whole::stranded_added))]
+    #[tactic(auto, unfolding(crate::specs::Steps::stranded_added))]
     fn add_stranded(&mut self, stranded: Stranded) -> Result<(), ReadError>
         ensures { Leaves result (heard_by self.new) (stranded_added (heard_by self.old) stranded) }
     {
@@ -245,7 +246,7 @@ impl Draft {
         Ok(())
     }
 
-    #[tactic(auto, unfolding(crate::specs::Whole::stranded_next))]
+    #[tactic(auto, unfolding(crate::specs::Steps::stranded_next))]
     fn take_stranded(&mut self, alloc: Global, stranded: Stranded) -> Result<(), ReadError>
         ensures { Leaves result (heard_by self.new) (stranded_next (heard_by self.old) stranded) }
     {
@@ -253,7 +254,7 @@ impl Draft {
         self.add_stranded(stranded)
     }
 
-    #[tactic(auto, unfolding(crate::specs::Whole::end_next))]
+    #[tactic(auto, unfolding(crate::specs::Steps::end_next))]
     fn take_end(&mut self, alloc: Global) -> Result<(), ReadError>
         ensures { Leaves result (heard_by self.new) (end_next (heard_by self.old)) }
     {

@@ -27,6 +27,6 @@ pub use fault::{ReadError, TextFault};
 pub use named_plan::PlanText;
 pub use names::{has_one_each, name_of};
 pub use read_plan::read_plan_text;
-pub use round_trip::text_read_back;
+pub use round_trip::{one_text, text_read_back};
 pub use write_plan::{write_named_plan, write_plan_text};
 pub use write_word::cause_word;

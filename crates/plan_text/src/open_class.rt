@@ -1,6 +1,6 @@
 //! A class of which not all is read.
 ghost use Rattle.std.specs.Prelude.{◌≡◌};
-ghost use Rattle.plan_text.specs.Whole.{opened_of, opened_at, planned, problem_of};
+ghost use Rattle.plan_text.specs.Steps.{opened_of, opened_at, planned, problem_of};
 ghost use Rattle.cost_table.specs.Class.{IsClass};
 
 use base_types::{JobId, Priority};

@@ -3,7 +3,9 @@ ghost use Rattle.std.specs.Prelude.{◌≡◌, All, IfOk, map};
 ghost use Rattle.prices.specs.Plan.{HasOneListEach};
 ghost use Rattle.plan_text.specs.NamedPlan.{HasOneEach};
 ghost use Rattle.plan_text.specs.Reading.{Gives};
-ghost use Rattle.plan_text.specs.Whole.{Leaves, heard_by, nothing_heard, line_next, lines_next, ended, plan_from, plan_in, plan_at};
+ghost use Rattle.plan_text.specs.TextOf.{IsTextOf};
+ghost use Rattle.plan_text.specs.Steps.{Leaves, heard_by};
+ghost use Rattle.plan_text.specs.Whole.{nothing_heard, line_next, lines_next, ended, plan_from, plan_in, plan_at};
 
 use crate::draft::Draft;
 use crate::fault::{ReadError, TextFault};
@@ -16,17 +18,19 @@ use prices::Plan;
 use std::alloc::Global;
 use text::{parts, words};
 
-/// The plan that a text is. Each of its classes has a wait, a queue and a list of place prices for
-/// each device, so it may be judged and written.
+/// The plan that a text is: the text is just that of this plan, whose numbers, names and orders are
+/// those of a text. Each of its classes has a wait, a queue and a list of place prices for each device,
+/// so it may be judged and written.
 ///
 /// # Errors
 ///
 /// The fault of the first faulty line: a line is judged by itself, first for its form and then for
 /// its ranges, and then by those before it. A text that ends before the line `end` has no end.
 /// Otherwise out of memory.
-#[tactic(auto, using(crate::proofs::Sound::judged_since, crate::proofs::Sound::written_since))]
+#[tactic(auto, using(crate::proofs::Sound::judged_since, crate::proofs::Sound::written_since, crate::proofs::Told::told_since))]
 pub fn read_plan_text(alloc: Global, text: &[u8]) -> Result<PlanText, ReadError>
     ensures plan { Gives (λ plan. plan) result (plan_at text.now) }
+    ensures text { IfOk result (λ named. IsTextOf text.now named) }
     ensures judged { IfOk result (λ named. All HasOneListEach named.plan.classes) }
     ensures written { IfOk result (λ named. All (HasOneEach named.devices) named.plan.classes) }
 {

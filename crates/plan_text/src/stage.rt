@@ -1,6 +1,6 @@
 //! Which lines may come next.
 ghost use Rattle.std.specs.Prelude.{◌≡◌, ◌==◌};
-ghost use Rattle.plan_text.specs.Whole.{stage_number};
+ghost use Rattle.plan_text.specs.Steps.{stage_number};
 
 /// Which lines of a plan's text may come next.
 #[derive(Clone, Copy, Debug, PartialEq, Eq)]

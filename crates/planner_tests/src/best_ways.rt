@@ -16,6 +16,10 @@ const THREE: &[&[Option<u64>]] = &[
 /// The times of the first two of them.
 const TWO: &[&[Option<u64>]] = &[&[Some(10), Some(20)], &[Some(10), Some(12)]];
 
+/// The times of the longest job there is: 10,000 impressions and 999 copies at a minute each, and an
+/// hour before.
+const LONGEST: &[Option<u64>] = &[Some(599_403_600_000)];
+
 /// The times of three jobs on one device.
 const ALONE: &[&[Option<u64>]] = &[&[Some(5)], &[Some(3)], &[Some(4)]];
 
@@ -53,15 +57,17 @@ fn best_of_three(rt: HostRuntime) -> Result<(), Fail> {
     let mut counted = Counted::new(&class);
     let priced = Lazy::new(alloc).plan_counted(&mut counted)?;
     assert_eq!(rt; priced.total, 45);
-    assert!(rt; counted.looks() <= 45);
+    assert!(rt; counted.looks() <= 6);
     Ok(())
 }
 
-/// A device that is free late prints nothing, the shortest job goes first, and waits count.
+/// Each job goes where it is short, a device that is free late prints nothing, the shortest job goes
+/// first, and waits count.
 #[test]
 fn known_totals(rt: HostRuntime) -> Result<(), Fail> {
     let alloc = rt.alloc();
-    let rows: [(&[&[Option<u64>]], &[u64], u64); 3] = [
+    let rows: [(&[&[Option<u64>]], &[u64], u64); 4] = [
+        (THREE, &[0, 0], 45),
         (TWO, &[100, 0], 44),
         (ALONE, &[0], 22),
         (TWO, &[0, 15], 30),
@@ -70,5 +76,16 @@ fn known_totals(rt: HostRuntime) -> Result<(), Fail> {
         let class = class_of(alloc, times, waits)?;
         assert_eq!(rt; planned(&Dense::new(alloc), &class)?, total);
     }
+    Ok(())
+}
+
+/// Both planners find the total of 127 of the longest jobs behind another: 2 + 3 + .. + 128 times as
+/// long.
+#[test]
+fn largest_totals(rt: HostRuntime) -> Result<(), Fail> {
+    let alloc = rt.alloc();
+    let class = class_of(alloc, &[LONGEST; 127], &[599_403_600_000])?;
+    assert_eq!(rt; planned(&Lazy::new(alloc), &class)?, 4_948_076_718_000_000);
+    assert_eq!(rt; planned(&Dense::new(alloc), &class)?, 4_948_076_718_000_000);
     Ok(())
 }

@@ -177,3 +177,33 @@ fn values_that_are_made(rt: HostRuntime) -> Result<(), Fail> {
     assert!(rt; out.as_slice() == MADE);
     Ok(())
 }
+
+/// What a message of one attribute appends to `before`, and why it has no spelling.
+fn refused(rt: &HostRuntime, attribute: Attribute) -> Result<(Option<EncodeFault>, Vec<u8>), Fail> {
+    let mut group = Group::new(rt.alloc(), GroupTag::OPERATION);
+    group.push(attribute)?;
+    let mut message = Message::new(rt.alloc(), Version { major: 1, minor: 1 }, 2, 1);
+    message.push(group)?;
+    let mut out = joined(rt, &[b"before"])?;
+    let fault = encode(&message, &mut out).err();
+    Ok((fault, out))
+}
+
+/// A name of 32,768 bytes and a boolean that is neither 0 nor 1 have no spelling; nothing is appended.
+#[test]
+fn unspellable_messages(rt: HostRuntime) -> Result<(), Fail> {
+    let mut name = Vec::new(rt.alloc());
+    for _ in 0..32_768 {
+        name.push(b'a')?;
+    }
+    let attributes = [
+        attribute(&rt, &name, ValueTag::KEYWORD, b"a4")?,
+        attribute(&rt, b"ipp-attribute-fidelity", ValueTag::BOOLEAN, b"\x02")?,
+    ];
+    for attribute in attributes {
+        let (fault, out) = refused(&rt, attribute)?;
+        assert!(rt; matches!(fault, Some(EncodeFault::Unspellable)));
+        assert!(rt; out.as_slice() == b"before".as_slice());
+    }
+    Ok(())
+}

@@ -1,6 +1,7 @@
 use Rattle.std.proofs.Common.{◌≡◌, map, drop}
 use Rattle.base_types.specs.declared.limits.TheConstants.Limits.{DEFAULT_PRIORITY}
-use Rattle.plan_text.specs.Whole.{heard_by, nothing_heard, lines_next}
+use Rattle.plan_text.specs.Steps.{heard_by}
+use Rattle.plan_text.specs.Whole.{nothing_heard, lines_next}
 use Rattle.plan_text.proofs.read_plan.read_lines.Given as goal
 
 abbrev pub invariant-loop-line : goal.invariant-loop-line

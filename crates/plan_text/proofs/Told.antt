@@ -1,0 +1,665 @@
+-- What has been heard of a text is what its lines so far say, and it is in range.
+use Rattle.std.proofs.Common.{◌≡◌, ◌==◌, ◌&&◌, ℕ, ℤ, zero, suc, ◌+◌, ◌-◌, ◌<◌, ◌≤◌, Bool, true, not, List, [], ◌∷◌, ◌++◌, length, take, All, IsTrue, IfOk, ◌↔◌, Option, Result, Ok, Err, if◌then◌else◌, nat_lt, slice_index_or, refl, sym, ap, ◌∙◌, subst, inl, inr, arith, append_assoc, append-nil, length-append}
+use Rattle.std.specs.Str.{bytes_eq}
+use Rattle.std.specs.List.{join_with_byte}
+use Rattle.std.proofs.lemmas.Bool.{and_parts, eqb-true, not-false}
+use Rattle.std.proofs.lemmas.Bool.Decides.{nat_tests}
+use Rattle.std.proofs.lemmas.List.Elements.{All-append, All-cons, All-nil}
+use Rattle.std.proofs.lemmas.List.Splits.{join_with_byte-slice_split}
+use Rattle.base_types.specs.declared.limits.TheConstants.Limits.{HIGHEST_PRIORITY, DEFAULT_PRIORITY, UNFINISHED_JOBS, DEVICES, AMOUNT}
+use Rattle.base_types.specs.declared.needs.Stranded.{Stranded}
+use Rattle.base_types.specs.Forms.{is_name}
+use Rattle.base_types.specs.Ranges.{IsJobId, IsPriority}
+use Rattle.prices.specs.declared.plan.PlannedClass.{PlannedClass}
+use Rattle.text.specs.Steps.{◌>>=◌}
+use Rattle.text.specs.Parts.{words_of, texts_of}
+use Rattle.text.proofs.Chains.{went_on}
+use Rattle.plan_text.specs.declared.fault.TextFault.{TextFault}
+use Rattle.plan_text.specs.declared.fault.TextFault.TheVariants.{BadLine, OutOfRange, NoEnd}
+use Rattle.plan_text.specs.declared.stage.Stage.{Stage}
+use Rattle.plan_text.specs.declared.stage.Stage.TheVariants as stages
+use Rattle.plan_text.specs.declared.fault.ReadError.{ReadError}
+use Rattle.plan_text.specs.Reading.{Gives}
+use Rattle.plan_text.specs.TextOf.{IsTextOf}
+use Rattle.plan_text.specs.NamedPlan.{NamedPlan}
+use Rattle.plan_text.specs.Line.{Said, SaysPlan, SaysDevice, SaysClass, SaysJob, SaysWait, SaysWay, SaysTotal, SaysJobPrices, SaysPlacePrices, SaysStranded, SaysEnd, line_at}
+use Rattle.plan_text.specs.Steps.{Heard, Opened, stage_number, is_at, one_each, is_named, may_have, plan_next, device_next, is_problem, problem_of, planned, opened_at, opened_kept, closed, class_opened, class_next, job_next, wait_next, way_next, total_next, job_prices_next, place_prices_next, classes_over, stranded_added, stranded_next, end_next, next}
+use Rattle.plan_text.specs.Whole.{line_next, lines_next, nothing_heard, plan_of, ended, plan_from, plan_in, plan_at}
+use Rattle.plan_text.specs.Writing.{line_text, lines_text, job_lines, way_lines, place_price_lines, class_lines, device_lines, stranded_lines, classes_lines, plan_lines, plan_text}
+use Rattle.plan_text.specs.Ranges.{IsPrice, IsClassInRange, PrioritiesFall, StrandedRise, jobs_in, IsPlanInRange}
+use Rattle.plan_text.proofs.Problems.{problem_from}
+use Rattle.plan_text.proofs.Lines.{lines_append}
+use Rattle.plan_text.proofs.Sound.{ok, ok_is, taken, passed, either}
+use Rattle.plan_text.proofs.Said.{SaidInRange, feed}
+use Rattle.plan_text.proofs.Back.{with_devices, plan_back}
+use Rattle.plan_text.proofs.Spelt.{same_bytes, line_spelt}
+
+-- ---- the stages
+
+stage_of : ℕ → Stage
+stage_of n =
+    if n == 0 then stages.Start
+    else if n == 1 then stages.Devices
+    else if n == 2 then stages.Jobs
+    else if n == 3 then stages.Ways
+    else if n == 4 then stages.JobPrices
+    else if n == 5 then stages.PlacePrices
+    else if n == 6 then stages.Stranded
+    else stages.Ended
+
+stage_back : (stage : Stage) → stage_of (stage_number stage) ≡ stage
+unfolding stage_of
+stage_back stages.Start = refl
+stage_back stages.Devices = refl
+stage_back stages.Jobs = refl
+stage_back stages.Ways = refl
+stage_back stages.JobPrices = refl
+stage_back stages.PlacePrices = refl
+stage_back stages.Stranded = refl
+stage_back stages.Ended = refl
+
+stage_is : (heard : Heard) (stage : Stage) → is_at heard stage ≡ true → heard.stage ≡ stage
+stage_is heard stage h = sym (stage_back heard.stage) ∙ ap stage_of (eqb-true (stage_number heard.stage) (stage_number stage) h) ∙ stage_back stage
+
+lower : (m n : ℕ) → nat_lt m n ≡ true → m < n
+lower m n h = grind (arith, nat_tests)
+
+-- ---- the lines that say what has been heard
+
+-- the devices and the classes
+abbrev front : Heard → List Said
+front heard = SaysPlan ∷ (device_lines heard.devices ++ classes_lines heard.devices heard.classes)
+
+-- the parts of the class that is being read
+abbrev job_part : Opened → List Said
+job_part o = SaysClass o.priority ∷ job_lines o.ids o.rows
+
+abbrev way_part : List (List ℕ) → Opened → List Said
+way_part devices o = SaysWait o.waits ∷ way_lines devices o.queues
+
+abbrev told_at : Stage → Heard → List Said
+told_at stages.Start h = []
+told_at stages.Devices h = front h
+told_at stages.Jobs h = front h ++ job_part h.opened
+told_at stages.Ways h = front h ++ (job_part h.opened ++ way_part h.devices h.opened)
+told_at stages.JobPrices h = front h ++ (job_part h.opened ++ (way_part h.devices h.opened ++ (SaysTotal h.opened.total ∷ [])))
+told_at stages.PlacePrices h = front h ++ (job_part h.opened ++ (way_part h.devices h.opened ++ (SaysTotal h.opened.total ∷ SaysJobPrices h.opened.job_prices ∷ place_price_lines h.devices h.opened.place_prices)))
+told_at stages.Stranded h = front h ++ stranded_lines h.stranded
+told_at stages.Ended h = front h ++ (stranded_lines h.stranded ++ (SaysEnd ∷ []))
+
+-- ---- it is in range
+
+-- the priorities fall, the first below a number, and another is below them all
+abbrev FallsBefore : ℕ → List PlannedClass → ℕ → Type 0
+FallsBefore top [] p = p < top
+FallsBefore top (c ∷ classes) p = (c.priority < top) × FallsBefore c.priority classes p
+
+-- the ids rise, the first above a number, and another is above them all
+abbrev RisesBefore : ℕ → List Stranded → ℕ → Type 0
+RisesBefore above [] id = above < id
+RisesBefore above (s ∷ stranded) id = (above < s.job) × RisesBefore s.job stranded id
+
+record IsFront (h : Heard) : Type 0 where
+  pub few_devices : length h.devices ≤ DEVICES
+  pub names : All (λ name. IsTrue (is_name name)) h.devices
+  pub classes : All (IsClassInRange (length h.devices)) h.classes
+  pub fall : PrioritiesFall (HIGHEST_PRIORITY + 1) h.classes
+
+record IsWithin (h : Heard) : Type 0 where
+  pub front : IsFront h
+  pub priority : IsPriority h.opened.priority
+  pub before : FallsBefore (HIGHEST_PRIORITY + 1) h.classes h.opened.priority
+  pub below : h.below ≡ h.opened.priority
+  pub ids : All IsJobId h.opened.ids
+  pub rows : length h.opened.rows ≡ length h.opened.ids
+  pub queues : All (All IsJobId) h.opened.queues
+  pub total : h.opened.total ≤ AMOUNT
+  pub job_prices : All IsPrice h.opened.job_prices
+  pub place_prices : All (All IsPrice) h.opened.place_prices
+  pub no_stranded : h.stranded ≡ []
+  pub count : h.jobs ≡ jobs_in h.classes + length h.opened.ids
+  pub few : h.jobs ≤ UNFINISHED_JOBS
+
+record IsOver (h : Heard) : Type 0 where
+  pub front : IsFront h
+  pub stranded : All (λ s. IsJobId s.job) h.stranded
+  pub rise : StrandedRise 0 h.stranded
+  pub above : (id : ℕ) → h.last < id → RisesBefore 0 h.stranded id
+  pub count : h.jobs ≡ jobs_in h.classes + length h.stranded
+  pub few : h.jobs ≤ UNFINISHED_JOBS
+
+abbrev Facts : Stage → Heard → Type 0
+Facts stages.Start h = h ≡ nothing_heard DEFAULT_PRIORITY
+Facts stages.Devices h = (h ≡ with_devices h.devices) × (length h.devices ≤ DEVICES) × All (λ name. IsTrue (is_name name)) h.devices
+Facts stages.Jobs h = IsWithin h × (h.opened.queues ≡ []) × (h.opened.place_prices ≡ [])
+Facts stages.Ways h = IsWithin h × (length h.opened.waits ≡ length h.devices) × (h.opened.place_prices ≡ [])
+Facts stages.JobPrices h = IsWithin h × (length h.opened.waits ≡ length h.devices) × (length h.opened.queues ≡ length h.devices) × (h.opened.place_prices ≡ [])
+Facts stages.PlacePrices h = IsWithin h × (length h.opened.waits ≡ length h.devices) × (length h.opened.queues ≡ length h.devices)
+Facts stages.Stranded h = IsOver h
+Facts stages.Ended h = IsOver h
+
+abbrev TellsAt : Stage → List Said → Heard → Type 0
+TellsAt stage lines h = (lines ≡ told_at stage h) × Facts stage h
+
+-- these lines, and no others, have been heard
+abbrev Tells : List Said → Heard → Type 0
+Tells lines h = TellsAt h.stage lines h
+
+tells_at : (stage : Stage) (lines : List Said) (h : Heard) → is_at h stage ≡ true → Tells lines h → TellsAt stage lines h
+tells_at stage lines h is t = subst (λ s. TellsAt s lines h) (stage_is h stage is) t
+
+abbrev WouldTell : List Said → Said → Heard → Type 0
+WouldTell lines said new = Tells (lines ++ said ∷ []) new
+
+-- a line behind so many parts
+
+behind1 : (a b : List Said) (said : Said) → (a ++ b) ++ said ∷ [] ≡ a ++ (b ++ said ∷ [])
+behind1 a b said = append_assoc a b (said ∷ [])
+
+behind2 : (a b c : List Said) (said : Said) → (a ++ (b ++ c)) ++ said ∷ [] ≡ a ++ (b ++ (c ++ said ∷ []))
+behind2 a b c said = behind1 a (b ++ c) said ∙ ap (λ l. a ++ l) (behind1 b c said)
+
+behind3 : (a b c d : List Said) (said : Said) → (a ++ (b ++ (c ++ d))) ++ said ∷ [] ≡ a ++ (b ++ (c ++ (d ++ said ∷ [])))
+behind3 a b c d said = behind2 a b (c ++ d) said ∙ ap (λ l. a ++ (b ++ l)) (behind1 c d said)
+
+-- ---- one more of each
+
+devices_more : (names : List (List ℕ)) (name : List ℕ) → device_lines (names ++ name ∷ []) ≡ device_lines names ++ SaysDevice name ∷ []
+devices_more [] name = refl
+devices_more (first ∷ names) name = ap (λ l. SaysDevice first ∷ l) (devices_more names name)
+
+classes_more : (devices : List (List ℕ)) (classes : List PlannedClass) (c : PlannedClass) → classes_lines devices (classes ++ c ∷ []) ≡ classes_lines devices classes ++ class_lines devices c
+classes_more devices [] c = append-nil (class_lines devices c)
+classes_more devices (first ∷ classes) c = ap (λ l. class_lines devices first ++ l) (classes_more devices classes c) ∙ sym (append_assoc (class_lines devices first) (classes_lines devices classes) (class_lines devices c))
+
+jobs_more : (ids : List ℕ) (rows : List (List (Option ℕ))) (id : ℕ) (row : List (Option ℕ)) → length rows ≡ length ids → job_lines (ids ++ id ∷ []) (rows ++ row ∷ []) ≡ job_lines ids rows ++ SaysJob id row ∷ []
+jobs_more [] [] id row e = refl
+jobs_more [] (first ∷ rows) id row e = absurd (omega (arith, e))
+jobs_more (first ∷ ids) [] id row e = absurd (omega (arith, e))
+jobs_more (first ∷ ids) (second ∷ rows) id row e = ap (λ l. SaysJob first second ∷ l) (jobs_more ids rows id row (omega (arith, e)))
+
+ways_none : (devices : List (List ℕ)) → way_lines devices [] ≡ []
+ways_none [] = refl
+ways_none (device ∷ devices) = refl
+
+ways_more : (devices queues : List (List ℕ)) (jobs : List ℕ) → length queues < length devices → way_lines devices (queues ++ jobs ∷ []) ≡ way_lines devices queues ++ SaysWay (slice_index_or devices (length queues) []) jobs ∷ []
+ways_more [] queues jobs l = absurd (omega (arith, l))
+ways_more (device ∷ devices) [] jobs l = ap (λ l. SaysWay device jobs ∷ l) (ways_none devices)
+ways_more (device ∷ devices) (queue ∷ queues) jobs l = ap (λ l. SaysWay device queue ∷ l) (ways_more devices queues jobs (omega (arith, l)))
+
+places_none : (devices : List (List ℕ)) → place_price_lines devices [] ≡ []
+places_none [] = refl
+places_none (device ∷ devices) = refl
+
+places_more : (devices : List (List ℕ)) (lists : List (List ℤ)) (prices : List ℤ) → length lists < length devices → place_price_lines devices (lists ++ prices ∷ []) ≡ place_price_lines devices lists ++ SaysPlacePrices (slice_index_or devices (length lists) []) prices ∷ []
+places_more [] lists prices l = absurd (omega (arith, l))
+places_more (device ∷ devices) [] prices l = ap (λ l. SaysPlacePrices device prices ∷ l) (places_none devices)
+places_more (device ∷ devices) (list ∷ lists) prices l = ap (λ l. SaysPlacePrices device list ∷ l) (places_more devices lists prices (omega (arith, l)))
+
+stranded_more : (stranded : List Stranded) (s : Stranded) → stranded_lines (stranded ++ s ∷ []) ≡ stranded_lines stranded ++ SaysStranded s ∷ []
+stranded_more [] s = refl
+stranded_more (first ∷ stranded) s = ap (λ l. SaysStranded first ∷ l) (stranded_more stranded s)
+
+falls_more : (top : ℕ) (classes : List PlannedClass) (c : PlannedClass) (p : ℕ) → FallsBefore top classes c.priority → p < c.priority → FallsBefore top (classes ++ c ∷ []) p
+falls_more top [] c p f l = (f, l)
+falls_more top (first ∷ classes) c p f l = (f.0, falls_more first.priority classes c p f.1 l)
+
+fall_all : (top : ℕ) (classes : List PlannedClass) (c : PlannedClass) → FallsBefore top classes c.priority → PrioritiesFall top (classes ++ c ∷ [])
+fall_all top [] c f = (f, tt)
+fall_all top (first ∷ classes) c f = (f.0, fall_all first.priority classes c f.1)
+
+rises_more : (above : ℕ) (stranded : List Stranded) (s : Stranded) (id : ℕ) → RisesBefore above stranded s.job → s.job < id → RisesBefore above (stranded ++ s ∷ []) id
+rises_more above [] s id r l = (r, l)
+rises_more above (first ∷ stranded) s id r l = (r.0, rises_more first.job stranded s id r.1 l)
+
+rise_all : (above : ℕ) (stranded : List Stranded) (s : Stranded) → RisesBefore above stranded s.job → StrandedRise above (stranded ++ s ∷ [])
+rise_all above [] s r = (r, tt)
+rise_all above (first ∷ stranded) s r = (r.0, rise_all first.job stranded s r.1)
+
+jobs_in_more : (classes : List PlannedClass) (c : PlannedClass) → jobs_in (classes ++ c ∷ []) ≡ jobs_in classes + length c.problem.ids
+jobs_in_more [] c = omega arith
+jobs_in_more (first ∷ classes) c = omega (arith, jobs_in_more classes c)
+
+all_more : {X : Type 0} (P : X → Type 0) (xs : List X) (x : X) → All P xs → P x → All P (xs ++ x ∷ [])
+all_more P xs x all last = All-append P xs (x ∷ []) all (All-cons P x [] last (All-nil P))
+
+-- ---- each line
+
+plan_told : (heard new : Heard) (lines : List Said) → plan_next heard ≡ ok new → Tells lines heard → WouldTell lines SaysPlan new
+unfolding plan_next
+plan_told heard new lines h tells =
+    let t = taken (is_at heard stages.Start) (ok (record heard { stage = stages.Devices })) BadLine new h in
+    let here = tells_at stages.Start lines heard t.0 tells in
+    let P : Heard → Type 0 = λ (x : Heard). WouldTell lines SaysPlan (record x { stage = stages.Devices }) in
+    let first : P (nothing_heard DEFAULT_PRIORITY) = (ap (λ l. l ++ SaysPlan ∷ []) here.0, (refl, omega arith, All-nil (λ name. IsTrue (is_name name)))) in
+    subst (WouldTell lines SaysPlan) (ok_is (record heard { stage = stages.Devices }) new t.1) (subst P (sym here.1) first)
+
+device_told : (heard new : Heard) (lines : List Said) (name : List ℕ) → device_next heard name ≡ ok new → is_name name ≡ true → Tells lines heard → WouldTell lines (SaysDevice name) new
+unfolding device_next
+device_told heard new lines name h named tells =
+    let after : Heard = record heard { devices = heard.devices ++ name ∷ [] } in
+    let p = passed (not (is_at heard stages.Devices)) (if nat_lt (length heard.devices) DEVICES then ok after else Err OutOfRange) BadLine new h in
+    let t = taken (nat_lt (length heard.devices) DEVICES) (ok after) OutOfRange new p.1 in
+    let at : is_at heard stages.Devices ≡ true = not-false (is_at heard stages.Devices) p.0 in
+    let here = tells_at stages.Devices lines heard at tells in
+    let ds : List (List ℕ) = heard.devices in
+    let more : List (List ℕ) = ds ++ name ∷ [] in
+    let stage : heard.stage ≡ stages.Devices = stage_is heard stages.Devices at in
+    let none : heard.classes ≡ [] = ap (λ (x : Heard). x.classes) here.1.0 in
+    let is : after ≡ with_devices more = ap (λ (x : Heard). let y : Heard = record x { devices = more } in y) here.1.0 in
+    let less : length ds < DEVICES = lower (length ds) DEVICES t.0 in
+    let text : lines ++ SaysDevice name ∷ [] ≡ front after =
+    ap (λ l. l ++ SaysDevice name ∷ []) here.0
+    ∙ ap (λ cs. SaysPlan ∷ ((device_lines ds ++ classes_lines ds cs) ++ SaysDevice name ∷ [])) none
+    ∙ ap (λ l. SaysPlan ∷ (l ++ SaysDevice name ∷ [])) (append-nil (device_lines ds))
+    ∙ ap (λ l. SaysPlan ∷ l) (sym (devices_more ds name) ∙ sym (append-nil (device_lines more)))
+    ∙ ap (λ cs. SaysPlan ∷ (device_lines more ++ classes_lines more cs)) (sym none) in
+    let facts : TellsAt stages.Devices (lines ++ SaysDevice name ∷ []) after = (text, (is, omega (arith, less, length-append ds (name ∷ [])), all_more (λ n. IsTrue (is_name n)) ds name here.1.2 named)) in
+    subst (WouldTell lines (SaysDevice name)) (ok_is after new t.1) (subst (λ s. TellsAt s (lines ++ SaysDevice name ∷ []) after) (sym stage) facts)
+
+-- all classes have been heard, and nothing behind them
+record IsClosed (lines : List Said) (h : Heard) : Type 0 where
+  pub text : lines ≡ front h
+  pub front : IsFront h
+  pub under : (p : ℕ) → p < h.below → FallsBefore (HIGHEST_PRIORITY + 1) h.classes p
+  pub last : h.last ≡ 0
+  pub no_stranded : h.stranded ≡ []
+  pub count : h.jobs ≡ jobs_in h.classes
+  pub few : h.jobs ≤ UNFINISHED_JOBS
+
+devices_closed : (lines : List Said) (heard : Heard) → TellsAt stages.Devices lines heard → IsClosed lines heard
+devices_closed lines heard here =
+    let is = here.1.0 in
+    let none : heard.classes ≡ [] = ap (λ (x : Heard). x.classes) is in
+    let below : heard.below ≡ HIGHEST_PRIORITY + 1 = ap (λ (x : Heard). x.below) is in
+    let jobs : heard.jobs ≡ 0 = ap (λ (x : Heard). x.jobs) is in
+    let n : ℕ = length heard.devices in
+    record {
+      text = here.0;
+      front = record {
+        few_devices = here.1.1;
+        names = here.1.2;
+        classes = subst (All (IsClassInRange n)) (sym none) (All-nil (IsClassInRange n));
+        fall = subst (PrioritiesFall (HIGHEST_PRIORITY + 1)) (sym none) tt;
+      };
+      under = λ p l. subst (λ cs. FallsBefore (HIGHEST_PRIORITY + 1) cs p) (sym none) (subst (λ b. p < b) below l);
+      last = ap (λ (x : Heard). x.last) is;
+      no_stranded = ap (λ (x : Heard). x.stranded) is;
+      count = jobs ∙ sym (ap jobs_in none);
+      few = omega (arith, jobs);
+    }
+
+class_closed : (lines : List Said) (heard : Heard) → TellsAt stages.PlacePrices lines heard → length heard.opened.place_prices ≡ length heard.devices → is_problem (problem_of heard.opened) ≡ true → IsClosed lines (opened_kept heard)
+unfolding class_lines
+class_closed lines heard here places problem =
+    let w : IsWithin heard = here.1.0 in
+    let c : PlannedClass = planned heard.opened in
+    let ds : List (List ℕ) = heard.devices in
+    let n : ℕ = length ds in
+    let in_range : IsClassInRange n c = record {
+      priority = w.priority;
+      problem = problem_from (problem_of heard.opened) problem;
+      ids = w.ids;
+      waits = here.1.1;
+      ways = here.1.2;
+      jobs = w.queues;
+      total = w.total;
+      job_prices = w.job_prices;
+      places = places;
+      place_prices = w.place_prices;
+    } in
+    record {
+      text = here.0 ∙ append_assoc (SaysPlan ∷ device_lines ds) (classes_lines ds heard.classes) (class_lines ds c) ∙ ap (λ l. SaysPlan ∷ (device_lines ds ++ l)) (sym (classes_more ds heard.classes c));
+      front = record {
+        few_devices = w.front.few_devices;
+        names = w.front.names;
+        classes = all_more (IsClassInRange n) heard.classes c w.front.classes in_range;
+        fall = fall_all (HIGHEST_PRIORITY + 1) heard.classes c w.before;
+      };
+      under = λ p l. falls_more (HIGHEST_PRIORITY + 1) heard.classes c p w.before (omega (arith, l, w.below));
+      last = refl;
+      no_stranded = w.no_stranded;
+      count = w.count ∙ sym (jobs_in_more heard.classes c);
+      few = w.few;
+    }
+
+closed_told : (heard whole : Heard) (lines : List Said) → closed heard ≡ ok whole → Tells lines heard → IsClosed lines whole
+unfolding closed
+closed_told heard whole lines h tells =
+    let good : Result Heard TextFault = if is_problem (problem_of heard.opened) then ok (opened_kept heard) else Err OutOfRange in
+    let last : Bool = is_at heard stages.PlacePrices && one_each heard heard.opened.place_prices in
+    elim (either (is_at heard stages.Devices) (ok heard) (if last then good else Err BadLine) whole h) [
+      | inl early ↦ subst (IsClosed lines) (ok_is heard whole early.1) (devices_closed lines heard (tells_at stages.Devices lines heard early.0 tells))
+      | inr late ↦
+          let t = taken last good BadLine whole late.1 in
+          let b : (is_at heard stages.PlacePrices ≡ true) × (one_each heard heard.opened.place_prices ≡ true) = and_parts (is_at heard stages.PlacePrices) (one_each heard heard.opened.place_prices) t.0 in
+          let p = taken (is_problem (problem_of heard.opened)) (ok (opened_kept heard)) OutOfRange whole t.1 in
+          subst (IsClosed lines) (ok_is (opened_kept heard) whole p.1)
+          (class_closed lines heard (tells_at stages.PlacePrices lines heard b.0 tells) (eqb-true (length heard.opened.place_prices) (length heard.devices) b.1) p.0)
+    ]
+
+class_told : (heard new : Heard) (lines : List Said) (priority : ℕ) → class_next heard priority ≡ ok new → IsPriority priority → Tells lines heard → WouldTell lines (SaysClass priority) new
+unfolding class_next class_opened
+class_told heard new lines priority h ranged tells =
+    let w = went_on (closed heard) (λ whole. class_opened whole priority) new h in
+    let whole : Heard = w.0 in
+    let after : Heard = record whole { stage = stages.Jobs; below = priority; last = 0; opened = opened_at priority } in
+    let t = taken (nat_lt priority whole.below) (ok after) OutOfRange new w.2 in
+    let c : IsClosed lines whole = closed_told heard whole lines w.1 tells in
+    let within : IsWithin after = record {
+      front = record { few_devices = c.front.few_devices; names = c.front.names; classes = c.front.classes; fall = c.front.fall };
+      priority = ranged;
+      before = c.under priority (lower priority whole.below t.0);
+      below = refl;
+      ids = All-nil IsJobId;
+      rows = refl;
+      queues = All-nil (All IsJobId);
+      total = omega arith;
+      job_prices = All-nil IsPrice;
+      place_prices = All-nil (All IsPrice);
+      no_stranded = c.no_stranded;
+      count = omega (arith, c.count);
+      few = c.few;
+    } in
+    let facts : WouldTell lines (SaysClass priority) after = (ap (λ l. l ++ SaysClass priority ∷ []) c.text, (within, refl, refl)) in
+    subst (WouldTell lines (SaysClass priority)) (ok_is after new t.1) facts
+
+job_told : (heard new : Heard) (lines : List Said) (id : ℕ) (times : List (Option ℕ)) → job_next heard id times ≡ ok new → IsJobId id → Tells lines heard → WouldTell lines (SaysJob id times) new
+unfolding job_next
+job_told heard new lines id times h ranged tells =
+    let o : Opened = heard.opened in
+    let after : Heard = record heard { jobs = heard.jobs + 1; last = id; opened = record heard.opened { ids = heard.opened.ids ++ id ∷ []; rows = heard.opened.rows ++ times ∷ [] } } in
+    let p = passed (not (is_at heard stages.Jobs && one_each heard times)) (if may_have heard id then ok after else Err OutOfRange) BadLine new h in
+    let t = taken (may_have heard id) (ok after) OutOfRange new p.1 in
+    let b : (is_at heard stages.Jobs ≡ true) × (one_each heard times ≡ true) = and_parts (is_at heard stages.Jobs) (one_each heard times) (not-false (is_at heard stages.Jobs && one_each heard times) p.0) in
+    let m : (nat_lt heard.jobs UNFINISHED_JOBS ≡ true) × (nat_lt heard.last id ≡ true) = and_parts (nat_lt heard.jobs UNFINISHED_JOBS) (nat_lt heard.last id) t.0 in
+    let stage : heard.stage ≡ stages.Jobs = stage_is heard stages.Jobs b.0 in
+    let here = tells_at stages.Jobs lines heard b.0 tells in
+    let w : IsWithin heard = here.1.0 in
+    let within : IsWithin after = record {
+      front = record { few_devices = w.front.few_devices; names = w.front.names; classes = w.front.classes; fall = w.front.fall };
+      priority = w.priority;
+      before = w.before;
+      below = w.below;
+      ids = all_more IsJobId o.ids id w.ids ranged;
+      rows = omega (arith, w.rows, length-append o.ids (id ∷ []), length-append o.rows (times ∷ []));
+      queues = w.queues;
+      total = w.total;
+      job_prices = w.job_prices;
+      place_prices = w.place_prices;
+      no_stranded = w.no_stranded;
+      count = omega (arith, w.count, length-append o.ids (id ∷ []));
+      few = omega (arith, lower heard.jobs UNFINISHED_JOBS m.0);
+    } in
+    let text : lines ++ SaysJob id times ∷ [] ≡ told_at stages.Jobs after =
+    ap (λ l. l ++ SaysJob id times ∷ []) here.0
+    ∙ behind1 (front heard) (job_part o) (SaysJob id times)
+    ∙ ap (λ l. front heard ++ (SaysClass o.priority ∷ l)) (sym (jobs_more o.ids o.rows id times w.rows)) in
+    let facts : TellsAt stages.Jobs (lines ++ SaysJob id times ∷ []) after = (text, (within, here.1.1, here.1.2)) in
+    subst (WouldTell lines (SaysJob id times)) (ok_is after new t.1) (subst (λ s. TellsAt s (lines ++ SaysJob id times ∷ []) after) (sym stage) facts)
+
+wait_told : (heard new : Heard) (lines : List Said) (waits : List ℕ) → wait_next heard waits ≡ ok new → Tells lines heard → WouldTell lines (SaysWait waits) new
+unfolding wait_next
+wait_told heard new lines waits h tells =
+    let after : Heard = record heard { stage = stages.Ways; opened = record heard.opened { waits = waits } } in
+    let t = taken (is_at heard stages.Jobs && one_each heard waits) (ok after) BadLine new h in
+    let b : (is_at heard stages.Jobs ≡ true) × (one_each heard waits ≡ true) = and_parts (is_at heard stages.Jobs) (one_each heard waits) t.0 in
+    let here = tells_at stages.Jobs lines heard b.0 tells in
+    let w : IsWithin heard = here.1.0 in
+    let within : IsWithin after = record { front = record { few_devices = w.front.few_devices; names = w.front.names; classes = w.front.classes; fall = w.front.fall }; priority = w.priority; before = w.before; below = w.below; ids = w.ids; rows = w.rows; queues = w.queues; total = w.total; job_prices = w.job_prices; place_prices = w.place_prices; no_stranded = w.no_stranded; count = w.count; few = w.few } in
+    let no_ways : way_lines heard.devices heard.opened.queues ≡ [] = ap (way_lines heard.devices) here.1.1 ∙ ways_none heard.devices in
+    let text : lines ++ SaysWait waits ∷ [] ≡ told_at stages.Ways after =
+    ap (λ l. l ++ SaysWait waits ∷ []) here.0
+    ∙ behind1 (front heard) (job_part heard.opened) (SaysWait waits)
+    ∙ ap (λ l. front heard ++ (job_part heard.opened ++ (SaysWait waits ∷ l))) (sym no_ways) in
+    let facts : WouldTell lines (SaysWait waits) after = (text, (within, eqb-true (length waits) (length heard.devices) b.1, here.1.2)) in
+    subst (WouldTell lines (SaysWait waits)) (ok_is after new t.1) facts
+
+-- the device at the place has this name
+named_at : (devices : List (List ℕ)) (place : ℕ) (name : List ℕ) → (nat_lt place (length devices) && bytes_eq (slice_index_or devices place []) name) ≡ true → (place < length devices) × (slice_index_or devices place [] ≡ name)
+named_at devices place name h =
+    let p : (nat_lt place (length devices) ≡ true) × (bytes_eq (slice_index_or devices place []) name ≡ true) = and_parts (nat_lt place (length devices)) (bytes_eq (slice_index_or devices place []) name) h in
+    (lower place (length devices) p.0, same_bytes (slice_index_or devices place []) name p.1)
+
+way_told : (heard new : Heard) (lines : List Said) (name jobs : List ℕ) → way_next heard name jobs ≡ ok new → All IsJobId jobs → Tells lines heard → WouldTell lines (SaysWay name jobs) new
+unfolding way_next
+way_told heard new lines name jobs h ranged tells =
+    let o : Opened = heard.opened in
+    let after : Heard = record heard { opened = record heard.opened { queues = heard.opened.queues ++ jobs ∷ [] } } in
+    let t = taken (is_at heard stages.Ways && is_named heard (length heard.opened.queues) name) (ok after) BadLine new h in
+    let b : (is_at heard stages.Ways ≡ true) × (is_named heard (length heard.opened.queues) name ≡ true) = and_parts (is_at heard stages.Ways) (is_named heard (length heard.opened.queues) name) t.0 in
+    let stage : heard.stage ≡ stages.Ways = stage_is heard stages.Ways b.0 in
+    let here = tells_at stages.Ways lines heard b.0 tells in
+    let w : IsWithin heard = here.1.0 in
+    let device = named_at heard.devices (length o.queues) name b.1 in
+    let within : IsWithin after = record { front = record { few_devices = w.front.few_devices; names = w.front.names; classes = w.front.classes; fall = w.front.fall }; priority = w.priority; before = w.before; below = w.below; ids = w.ids; rows = w.rows; queues = all_more (All IsJobId) o.queues jobs w.queues ranged; total = w.total; job_prices = w.job_prices; place_prices = w.place_prices; no_stranded = w.no_stranded; count = w.count; few = w.few } in
+    let text : lines ++ SaysWay name jobs ∷ [] ≡ told_at stages.Ways after =
+    ap (λ l. l ++ SaysWay name jobs ∷ []) here.0
+    ∙ behind2 (front heard) (job_part o) (way_part heard.devices o) (SaysWay name jobs)
+    ∙ ap (λ n. front heard ++ (job_part o ++ (SaysWait o.waits ∷ (way_lines heard.devices o.queues ++ SaysWay n jobs ∷ [])))) (sym device.1)
+    ∙ ap (λ l. front heard ++ (job_part o ++ (SaysWait o.waits ∷ l))) (sym (ways_more heard.devices o.queues jobs device.0)) in
+    let facts : TellsAt stages.Ways (lines ++ SaysWay name jobs ∷ []) after = (text, (within, here.1.1, here.1.2)) in
+    subst (WouldTell lines (SaysWay name jobs)) (ok_is after new t.1) (subst (λ s. TellsAt s (lines ++ SaysWay name jobs ∷ []) after) (sym stage) facts)
+
+total_told : (heard new : Heard) (lines : List Said) (total : ℕ) → total_next heard total ≡ ok new → total ≤ AMOUNT → Tells lines heard → WouldTell lines (SaysTotal total) new
+unfolding total_next
+total_told heard new lines total h ranged tells =
+    let o : Opened = heard.opened in
+    let after : Heard = record heard { stage = stages.JobPrices; opened = record heard.opened { total = total } } in
+    let t = taken (is_at heard stages.Ways && one_each heard heard.opened.queues) (ok after) BadLine new h in
+    let b : (is_at heard stages.Ways ≡ true) × (one_each heard heard.opened.queues ≡ true) = and_parts (is_at heard stages.Ways) (one_each heard heard.opened.queues) t.0 in
+    let here = tells_at stages.Ways lines heard b.0 tells in
+    let w : IsWithin heard = here.1.0 in
+    let within : IsWithin after = record { front = record { few_devices = w.front.few_devices; names = w.front.names; classes = w.front.classes; fall = w.front.fall }; priority = w.priority; before = w.before; below = w.below; ids = w.ids; rows = w.rows; queues = w.queues; total = ranged; job_prices = w.job_prices; place_prices = w.place_prices; no_stranded = w.no_stranded; count = w.count; few = w.few } in
+    let text : lines ++ SaysTotal total ∷ [] ≡ told_at stages.JobPrices after = ap (λ l. l ++ SaysTotal total ∷ []) here.0 ∙ behind2 (front heard) (job_part o) (way_part heard.devices o) (SaysTotal total) in
+    let facts : WouldTell lines (SaysTotal total) after = (text, (within, here.1.1, eqb-true (length o.queues) (length heard.devices) b.1, here.1.2)) in
+    subst (WouldTell lines (SaysTotal total)) (ok_is after new t.1) facts
+
+job_prices_told : (heard new : Heard) (lines : List Said) (prices : List ℤ) → job_prices_next heard prices ≡ ok new → All IsPrice prices → Tells lines heard → WouldTell lines (SaysJobPrices prices) new
+unfolding job_prices_next
+job_prices_told heard new lines prices h ranged tells =
+    let o : Opened = heard.opened in
+    let after : Heard = record heard { stage = stages.PlacePrices; opened = record heard.opened { job_prices = prices } } in
+    let t = taken (is_at heard stages.JobPrices) (ok after) BadLine new h in
+    let here = tells_at stages.JobPrices lines heard t.0 tells in
+    let w : IsWithin heard = here.1.0 in
+    let within : IsWithin after = record { front = record { few_devices = w.front.few_devices; names = w.front.names; classes = w.front.classes; fall = w.front.fall }; priority = w.priority; before = w.before; below = w.below; ids = w.ids; rows = w.rows; queues = w.queues; total = w.total; job_prices = ranged; place_prices = w.place_prices; no_stranded = w.no_stranded; count = w.count; few = w.few } in
+    let no_places : place_price_lines heard.devices o.place_prices ≡ [] = ap (place_price_lines heard.devices) here.1.3 ∙ places_none heard.devices in
+    let text : lines ++ SaysJobPrices prices ∷ [] ≡ told_at stages.PlacePrices after =
+    ap (λ l. l ++ SaysJobPrices prices ∷ []) here.0
+    ∙ behind3 (front heard) (job_part o) (way_part heard.devices o) (SaysTotal o.total ∷ []) (SaysJobPrices prices)
+    ∙ ap (λ l. front heard ++ (job_part o ++ (way_part heard.devices o ++ (SaysTotal o.total ∷ SaysJobPrices prices ∷ l)))) (sym no_places) in
+    let facts : WouldTell lines (SaysJobPrices prices) after = (text, (within, here.1.1, here.1.2)) in
+    subst (WouldTell lines (SaysJobPrices prices)) (ok_is after new t.1) facts
+
+place_prices_told : (heard new : Heard) (lines : List Said) (name : List ℕ) (prices : List ℤ) → place_prices_next heard name prices ≡ ok new → All IsPrice prices → Tells lines heard → WouldTell lines (SaysPlacePrices name prices) new
+unfolding place_prices_next
+place_prices_told heard new lines name prices h ranged tells =
+    let o : Opened = heard.opened in
+    let after : Heard = record heard { opened = record heard.opened { place_prices = heard.opened.place_prices ++ prices ∷ [] } } in
+    let t = taken (is_at heard stages.PlacePrices && is_named heard (length heard.opened.place_prices) name) (ok after) BadLine new h in
+    let b : (is_at heard stages.PlacePrices ≡ true) × (is_named heard (length heard.opened.place_prices) name ≡ true) = and_parts (is_at heard stages.PlacePrices) (is_named heard (length heard.opened.place_prices) name) t.0 in
+    let stage : heard.stage ≡ stages.PlacePrices = stage_is heard stages.PlacePrices b.0 in
+    let here = tells_at stages.PlacePrices lines heard b.0 tells in
+    let w : IsWithin heard = here.1.0 in
+    let device = named_at heard.devices (length o.place_prices) name b.1 in
+    let within : IsWithin after = record { front = record { few_devices = w.front.few_devices; names = w.front.names; classes = w.front.classes; fall = w.front.fall }; priority = w.priority; before = w.before; below = w.below; ids = w.ids; rows = w.rows; queues = w.queues; total = w.total; job_prices = w.job_prices; place_prices = all_more (All IsPrice) o.place_prices prices w.place_prices ranged; no_stranded = w.no_stranded; count = w.count; few = w.few } in
+    let totals : List (Said) → List Said = λ l. front heard ++ (job_part o ++ (way_part heard.devices o ++ (SaysTotal o.total ∷ SaysJobPrices o.job_prices ∷ l))) in
+    let text : lines ++ SaysPlacePrices name prices ∷ [] ≡ told_at stages.PlacePrices after =
+    ap (λ l. l ++ SaysPlacePrices name prices ∷ []) here.0
+    ∙ behind3 (front heard) (job_part o) (way_part heard.devices o) (SaysTotal o.total ∷ SaysJobPrices o.job_prices ∷ place_price_lines heard.devices o.place_prices) (SaysPlacePrices name prices)
+    ∙ ap (λ n. totals (place_price_lines heard.devices o.place_prices ++ SaysPlacePrices n prices ∷ [])) (sym device.1)
+    ∙ ap totals (sym (places_more heard.devices o.place_prices prices device.0)) in
+    let facts : TellsAt stages.PlacePrices (lines ++ SaysPlacePrices name prices ∷ []) after = (text, (within, here.1.1, here.1.2)) in
+    subst (WouldTell lines (SaysPlacePrices name prices)) (ok_is after new t.1) (subst (λ s. TellsAt s (lines ++ SaysPlacePrices name prices ∷ []) after) (sym stage) facts)
+
+-- ---- the stranded jobs and the end
+
+abbrev OverTold : List Said → Heard → Type 0
+OverTold lines h = (lines ≡ front h ++ stranded_lines h.stranded) × IsOver h
+
+closed_over : (lines : List Said) (h : Heard) → IsClosed lines h → OverTold lines h
+closed_over lines h c = (
+  c.text ∙ sym (append-nil (front h)) ∙ ap (λ ss. front h ++ stranded_lines ss) (sym c.no_stranded),
+  record {
+    front = c.front;
+    stranded = subst (All (λ s. IsJobId s.job)) (sym c.no_stranded) (All-nil (λ (s : Stranded). IsJobId s.job));
+    rise = subst (StrandedRise 0) (sym c.no_stranded) tt;
+    above = λ id l. subst (λ ss. RisesBefore 0 ss id) (sym c.no_stranded) (subst (λ n. n < id) c.last l);
+    count = let none : length h.stranded ≡ 0 = ap (λ (ss : List Stranded). length ss) c.no_stranded in omega (arith, c.count, none);
+    few = c.few;
+  },
+)
+
+over_told : (heard whole : Heard) (lines : List Said) → classes_over heard ≡ ok whole → Tells lines heard → OverTold lines whole
+unfolding classes_over
+over_told heard whole lines h tells = elim (either (is_at heard stages.Stranded) (ok heard) (closed heard) whole h) [
+  | inl stays ↦ subst (OverTold lines) (ok_is heard whole stays.1) (tells_at stages.Stranded lines heard stays.0 tells)
+  | inr closes ↦ closed_over lines whole (closed_told heard whole lines closes.1 tells)
+]
+
+stranded_told : (heard new : Heard) (lines : List Said) (s : Stranded) → stranded_next heard s ≡ ok new → IsJobId s.job → Tells lines heard → WouldTell lines (SaysStranded s) new
+unfolding stranded_next stranded_added
+stranded_told heard new lines s h ranged tells =
+    let w = went_on (classes_over heard) (λ whole. stranded_added whole s) new h in
+    let whole : Heard = w.0 in
+    let after : Heard = record whole { stage = stages.Stranded; stranded = whole.stranded ++ s ∷ []; jobs = whole.jobs + 1; last = s.job } in
+    let t = taken (may_have whole s.job) (ok after) OutOfRange new w.2 in
+    let m : (nat_lt whole.jobs UNFINISHED_JOBS ≡ true) × (nat_lt whole.last s.job ≡ true) = and_parts (nat_lt whole.jobs UNFINISHED_JOBS) (nat_lt whole.last s.job) t.0 in
+    let over : OverTold lines whole = over_told heard whole lines w.1 tells in
+    let o : IsOver whole = over.1 in
+    let before : RisesBefore 0 whole.stranded s.job = o.above s.job (lower whole.last s.job m.1) in
+    let later : IsOver after = record {
+      front = record { few_devices = o.front.few_devices; names = o.front.names; classes = o.front.classes; fall = o.front.fall };
+      stranded = all_more (λ (x : Stranded). IsJobId x.job) whole.stranded s o.stranded ranged;
+      rise = rise_all 0 whole.stranded s before;
+      above = λ id l. rises_more 0 whole.stranded s id before l;
+      count = omega (arith, o.count, length-append whole.stranded (s ∷ []));
+      few = omega (arith, lower whole.jobs UNFINISHED_JOBS m.0);
+    } in
+    let text : lines ++ SaysStranded s ∷ [] ≡ told_at stages.Stranded after =
+    ap (λ l. l ++ SaysStranded s ∷ []) over.0 ∙ behind1 (front whole) (stranded_lines whole.stranded) (SaysStranded s) ∙ ap (λ l. front whole ++ l) (sym (stranded_more whole.stranded s)) in
+    let facts : WouldTell lines (SaysStranded s) after = (text, later) in
+    subst (WouldTell lines (SaysStranded s)) (ok_is after new t.1) facts
+
+end_told : (heard new : Heard) (lines : List Said) → end_next heard ≡ ok new → Tells lines heard → WouldTell lines SaysEnd new
+unfolding end_next
+end_told heard new lines h tells =
+    let w = went_on (classes_over heard) (λ (whole : Heard). ok (record whole { stage = stages.Ended })) new h in
+    let whole : Heard = w.0 in
+    let after : Heard = record whole { stage = stages.Ended } in
+    let over : OverTold lines whole = over_told heard whole lines w.1 tells in
+    let o : IsOver whole = over.1 in
+    let later : IsOver after = record { front = record { few_devices = o.front.few_devices; names = o.front.names; classes = o.front.classes; fall = o.front.fall }; stranded = o.stranded; rise = o.rise; above = o.above; count = o.count; few = o.few } in
+    let text : lines ++ SaysEnd ∷ [] ≡ told_at stages.Ended after = ap (λ l. l ++ SaysEnd ∷ []) over.0 ∙ behind1 (front whole) (stranded_lines whole.stranded) SaysEnd in
+    let facts : WouldTell lines SaysEnd after = (text, later) in
+    subst (WouldTell lines SaysEnd) (ok_is after new w.2) facts
+
+next_told : (heard new : Heard) (lines : List Said) (said : Said) → next heard said ≡ ok new → SaidInRange said → Tells lines heard → WouldTell lines said new
+next_told heard new lines SaysPlan h r t = plan_told heard new lines h t
+next_told heard new lines (SaysDevice name) h r t = device_told heard new lines name h r t
+next_told heard new lines (SaysClass priority) h r t = class_told heard new lines priority h r t
+next_told heard new lines (SaysJob id times) h r t = job_told heard new lines id times h r.0 t
+next_told heard new lines (SaysWait waits) h r t = wait_told heard new lines waits h t
+next_told heard new lines (SaysWay device jobs) h r t = way_told heard new lines device jobs h r.1 t
+next_told heard new lines (SaysTotal total) h r t = total_told heard new lines total h r t
+next_told heard new lines (SaysJobPrices prices) h r t = job_prices_told heard new lines prices h r t
+next_told heard new lines (SaysPlacePrices device prices) h r t = place_prices_told heard new lines device prices h r.1 t
+next_told heard new lines (SaysStranded stranded) h r t = stranded_told heard new lines stranded h r t
+next_told heard new lines SaysEnd h r t = end_told heard new lines h t
+
+-- ---- the whole text
+
+-- lines, each with its line feed
+abbrev fed : List (List ℕ) → List ℕ
+fed [] = []
+fed (line ∷ lines) = line ++ (10 ∷ fed lines)
+
+-- lines that were read are those of what has been heard
+record Heard' (before : List Said) (lines : List (List ℕ)) (new : Heard) : Type 0 where
+  pub said : List Said
+  pub tells : Tells said new
+  pub text : lines_text before ++ fed lines ≡ lines_text said
+
+line_told : (heard new : Heard) (before : List Said) (line : List ℕ) (lines : List (List ℕ)) → lines_next heard (line ∷ lines) ≡ ok new → Tells before heard
+    → ((then' : Heard) (more : List Said) → lines_next then' lines ≡ ok new → Tells more then' → Heard' more lines new) → Heard' before (line ∷ lines) new
+unfolding line_next
+line_told heard new before line lines h t later =
+    let w = went_on (line_next heard line) (λ then'. lines_next then' lines) new h in
+    let p = passed (is_at heard stages.Ended) (line_at (words_of line) >>= λ said. next heard said) BadLine w.0 w.1 in
+    let s = went_on (line_at (words_of line)) (λ said. next heard said) w.0 p.1 in
+    let spelt = line_spelt line s.0 s.1 in
+    let more : List Said = before ++ s.0 ∷ [] in
+    let rest = later w.0 more w.2 (next_told heard w.0 before s.0 s.2 spelt.1 t) in
+    let one : lines_text more ≡ lines_text before ++ (line ++ feed) = lines_append before (s.0 ∷ []) ∙ ap (λ l. lines_text before ++ l) (append-nil (line_text s.0) ∙ sym spelt.0) in
+    record {
+      said = rest.said;
+      tells = rest.tells;
+      text =
+          ap (λ l. lines_text before ++ l) (sym (append_assoc line feed (fed lines)))
+          ∙ sym (append_assoc (lines_text before) (line ++ feed) (fed lines))
+          ∙ ap (λ l. l ++ fed lines) (sym one)
+          ∙ rest.text;
+    }
+
+lines_told : (heard new : Heard) (before : List Said) (lines : List (List ℕ)) → lines_next heard lines ≡ ok new → Tells before heard → Heard' before lines new
+lines_told heard new before [] h t = record { said = before; tells = subst (Tells before) (ok_is heard new h) t; text = append-nil (lines_text before) }
+lines_told heard new before (line ∷ lines) h t = line_told heard new before line lines h t (λ then' more later told. lines_told then' new more lines later told)
+
+-- the parts of a text that ends with a line feed
+parts_fed : (n : ℕ) (parts : List (List ℕ)) → n ≡ length parts - 1 → slice_index_or parts n [] ≡ [] → join_with_byte 10 parts ≡ fed (take n parts)
+parts_fed n [] e last = subst (λ m. [] ≡ fed (take m [])) (sym e) refl
+parts_fed zero (part ∷ []) e last = last
+parts_fed (suc n) (part ∷ []) e last = absurd (omega (arith, e))
+parts_fed zero (part ∷ next ∷ parts) e last = absurd (omega (arith, e))
+parts_fed (suc n) (part ∷ next ∷ parts) e last = ap (λ rest. part ++ (10 ∷ rest)) (parts_fed n (next ∷ parts) (omega (arith, e)) last)
+
+none_of : (xs : List ℕ) → (length xs == 0) ≡ true → xs ≡ []
+none_of [] h = refl
+none_of (x ∷ xs) h = absurd (omega (arith, eqb-true (length (x ∷ xs)) 0 h))
+
+-- a plan that was heard is in range, and its text are the lines
+ended_told : (heard : Heard) (said : List Said) → is_at heard stages.Ended ≡ true → Tells said heard → IsPlanInRange (plan_of heard) × (said ≡ plan_lines (plan_of heard))
+ended_told heard said at tells =
+    let here = tells_at stages.Ended said heard at tells in
+    let o : IsOver heard = here.1 in (
+      record {
+        few_devices = o.front.few_devices;
+        names = o.front.names;
+        classes = o.front.classes;
+        fall = o.front.fall;
+        stranded = o.stranded;
+        rise = o.rise;
+        few_jobs = omega (arith, o.count, o.few);
+      },
+      here.0 ∙ append_assoc (SaysPlan ∷ device_lines heard.devices) (classes_lines heard.devices heard.classes) (stranded_lines heard.stranded ++ (SaysEnd ∷ [])),
+    )
+
+-- a text that is read as a plan is the text of that plan
+pub text_told : (text : List ℕ) (named : NamedPlan) → plan_at text ≡ ok named → IsTextOf text named
+unfolding plan_in plan_from ended plan_text
+text_told text named h =
+    let parts : List (List ℕ) = texts_of text in
+    let n : ℕ = length parts - 1 in
+    let lines : List (List ℕ) = take n parts in
+    let rest : List ℕ = slice_index_or parts n [] in
+    let w = went_on (lines_next (nothing_heard DEFAULT_PRIORITY) lines) (λ heard. ended heard rest) named h in
+    let heard : Heard = w.0 in
+    let p = passed (not (is_at heard stages.Ended)) (if length rest == 0 then ok (plan_of heard) else Err BadLine) NoEnd named w.2 in
+    let t = taken (length rest == 0) (ok (plan_of heard)) BadLine named p.1 in
+    let told : Heard' [] lines heard = lines_told (nothing_heard DEFAULT_PRIORITY) heard [] lines w.1 (refl, refl) in
+    let whole = ended_told heard told.said (not-false (is_at heard stages.Ended) p.0) told.tells in
+    let is : text ≡ plan_text (plan_of heard) =
+    sym (join_with_byte-slice_split 10 text)
+    ∙ parts_fed n parts refl (none_of rest t.0)
+    ∙ told.text
+    ∙ ap lines_text whole.1 in
+    subst (IsTextOf text) (ok_is (plan_of heard) named t.1) (record { in_range = whole.0; is = is })
+
+pub is_one_text : (text : List ℕ) (named : NamedPlan) → (plan_at text ≡ ok named) ↔ IsTextOf text named
+is_one_text text named = (text_told text named, λ t. ap plan_at t.is ∙ plan_back named t.in_range)
+
+-- and so it is for what a function returned that gives the plan of a text
+pub told_since : (result : Result NamedPlan ReadError) (text : List ℕ) → Gives (λ plan. plan) result (plan_at text) → IfOk result (λ named. IsTextOf text named)
+told_since (Ok named) text h = text_told text named h
+told_since (Err error) text h = tt

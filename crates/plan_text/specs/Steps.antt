@@ -1,0 +1,236 @@
+-- The steps of a reader of a plan's text: what it has heard, and how each line that is read changes that.
+-- Only private functions cite them, and which fault a text has rests on them. Which texts are plans
+-- doesn't: a text is one exactly where it is the text of that plan (`TextOf.antt`), by a law.
+use Rattle.std.specs.Prelude.{◌≡◌, ◌==◌, ◌&&◌, ◌+◌, not, ℕ, ℤ, Bool, true, List, [], ◌∷◌, ◌++◌, length, slice_index_or, nat_le, nat_lt, Result, Ok, Err, Option, Some, None, if◌then◌else◌}
+use Rattle.std.specs.List.{list_all}
+use Rattle.std.specs.Str.{bytes_eq}
+use Rattle.base_types.specs.declared.limits.TheConstants.Limits.{UNFINISHED_JOBS, DEVICES, JOB_TIME, WAIT}
+use Rattle.base_types.specs.declared.needs.Stranded.{Stranded}
+use Rattle.cost_table.specs.Class.{Class}
+use Rattle.prices.specs.declared.plan.PlannedClass.{PlannedClass}
+use Rattle.plan_text.specs.declared.fault.TextFault.{TextFault}
+use Rattle.plan_text.specs.declared.fault.TextFault.TheVariants.{BadLine, OutOfRange}
+use Rattle.plan_text.specs.declared.fault.ReadError.{ReadError}
+use Rattle.plan_text.specs.declared.stage.Stage.{Stage}
+use Rattle.plan_text.specs.declared.stage.Stage.TheVariants as stages
+use Rattle.plan_text.specs.declared.draft.Draft.{Draft}
+use Rattle.plan_text.specs.declared.open_class.OpenClass.{OpenClass}
+use Rattle.text.specs.Steps.{◌>>=◌}
+use Rattle.plan_text.specs.Reading.{Fails}
+use Rattle.plan_text.specs.Line.{Said, SaysPlan, SaysDevice, SaysClass, SaysJob, SaysWait, SaysWay, SaysTotal, SaysJobPrices, SaysPlacePrices, SaysStranded, SaysEnd}
+
+-- the class whose lines are being read
+pub record Opened : Type 0 where
+  pub priority : ℕ
+  pub ids : List ℕ
+  pub rows : List (List (Option ℕ))
+  pub waits : List ℕ
+  pub queues : List (List ℕ)
+  pub total : ℕ
+  pub job_prices : List ℤ
+  pub place_prices : List (List ℤ)
+
+-- what the lines so far have said: the stage that they have reached, the names of the devices, the
+-- whole classes, the stranded jobs, how many lines of jobs and stranded jobs there were, what the
+-- priority of the next class must be below, what the next id must be above, and the class that is
+-- being read
+pub record Heard : Type 0 where
+  pub stage : Stage
+  pub devices : List (List ℕ)
+  pub classes : List PlannedClass
+  pub stranded : List Stranded
+  pub jobs : ℕ
+  pub below : ℕ
+  pub last : ℕ
+  pub opened : Opened
+
+-- an empty class
+abbrev pub opened_at : ℕ → Opened
+opened_at priority = record { priority = priority; ids = []; rows = []; waits = []; queues = []; total = 0; job_prices = []; place_prices = [] }
+
+-- the order of the stages
+abbrev pub stage_number : Stage → ℕ
+stage_number stages.Start = 0
+stage_number stages.Devices = 1
+stage_number stages.Jobs = 2
+stage_number stages.Ways = 3
+stage_number stages.JobPrices = 4
+stage_number stages.PlacePrices = 5
+stage_number stages.Stranded = 6
+stage_number stages.Ended = 7
+
+abbrev pub is_at : Heard → Stage → Bool
+is_at heard stage = stage_number heard.stage == stage_number stage
+
+-- whether there are as many of these as devices
+abbrev pub one_each : {X : Type 0} → Heard → List X → Bool
+one_each heard xs = length xs == length heard.devices
+
+-- whether the device at this place has this name
+abbrev pub is_named : Heard → ℕ → List ℕ → Bool
+is_named heard place name = nat_lt place (length heard.devices) && bytes_eq (slice_index_or heard.devices place []) name
+
+-- the line `plan`, the first
+unfoldable pub plan_next : Heard → Result Heard TextFault
+plan_next heard = if is_at heard stages.Start then Ok (record heard { stage = stages.Devices }) else Err BadLine
+
+unfoldable pub device_next : Heard → List ℕ → Result Heard TextFault
+device_next heard name =
+    if not (is_at heard stages.Devices) then Err BadLine
+    else if nat_lt (length heard.devices) DEVICES then Ok (record heard { devices = heard.devices ++ name ∷ [] })
+    else Err OutOfRange
+
+-- whether ids rise
+abbrev pub rises : List ℕ → Bool
+rises [] = true
+rises (id ∷ []) = true
+rises (id ∷ next ∷ ids) = nat_lt id next && rises (next ∷ ids)
+
+-- a time within its range, or none
+abbrev pub is_time : Option ℕ → Bool
+is_time None = true
+is_time (Some time) = nat_le 1 time && nat_le time JOB_TIME
+
+unfoldable pub is_row : ℕ → List (Option ℕ) → Bool
+is_row devices row = (length row == devices) && list_all is_time row
+
+unfoldable pub is_wait : ℕ → Bool
+is_wait wait = nat_le wait WAIT
+
+-- whether lists are the problem of a class
+unfoldable pub is_problem : Class → Bool
+is_problem c =
+    nat_le (length c.ids) UNFINISHED_JOBS && nat_le (length c.waits) DEVICES && (length c.rows == length c.ids)
+    && rises c.ids && list_all (is_row (length c.waits)) c.rows && list_all is_wait c.waits
+
+abbrev pub problem_of : Opened → Class
+problem_of opened = record { ids = opened.ids; rows = opened.rows; waits = opened.waits }
+
+abbrev pub planned : Opened → PlannedClass
+planned opened = record {
+  priority = opened.priority;
+  problem = problem_of opened;
+  priced = record { way = opened.queues; prices = record { jobs = opened.job_prices; places = opened.place_prices }; total = opened.total };
+}
+
+-- the class that was being read stands with those before
+abbrev pub opened_kept : Heard → Heard
+opened_kept heard = record heard { classes = heard.classes ++ planned heard.opened ∷ []; last = 0; opened = opened_at heard.opened.priority }
+
+-- so it does once its lines are all there
+unfoldable pub closed : Heard → Result Heard TextFault
+closed heard =
+    if is_at heard stages.Devices then Ok heard
+    else if is_at heard stages.PlacePrices && one_each heard heard.opened.place_prices
+    then (if is_problem (problem_of heard.opened) then Ok (opened_kept heard) else Err OutOfRange)
+    else Err BadLine
+
+unfoldable pub class_opened : Heard → ℕ → Result Heard TextFault
+class_opened heard priority =
+    if nat_lt priority heard.below
+    then Ok (record heard { stage = stages.Jobs; below = priority; last = 0; opened = opened_at priority })
+    else Err OutOfRange
+
+unfoldable pub class_next : Heard → ℕ → Result Heard TextFault
+class_next heard priority = closed heard >>= λ whole. class_opened whole priority
+
+-- whether a line of a job may still come, and its id is above the one before
+abbrev pub may_have : Heard → ℕ → Bool
+may_have heard id = nat_lt heard.jobs UNFINISHED_JOBS && nat_lt heard.last id
+
+unfoldable pub job_next : Heard → ℕ → List (Option ℕ) → Result Heard TextFault
+job_next heard id times =
+    if not (is_at heard stages.Jobs && one_each heard times) then Err BadLine
+    else if may_have heard id
+    then Ok (record heard { jobs = heard.jobs + 1; last = id; opened = record heard.opened { ids = heard.opened.ids ++ id ∷ []; rows = heard.opened.rows ++ times ∷ [] } })
+    else Err OutOfRange
+
+unfoldable pub wait_next : Heard → List ℕ → Result Heard TextFault
+wait_next heard waits =
+    if is_at heard stages.Jobs && one_each heard waits
+    then Ok (record heard { stage = stages.Ways; opened = record heard.opened { waits = waits } })
+    else Err BadLine
+
+unfoldable pub way_next : Heard → List ℕ → List ℕ → Result Heard TextFault
+way_next heard name jobs =
+    if is_at heard stages.Ways && is_named heard (length heard.opened.queues) name
+    then Ok (record heard { opened = record heard.opened { queues = heard.opened.queues ++ jobs ∷ [] } })
+    else Err BadLine
+
+unfoldable pub total_next : Heard → ℕ → Result Heard TextFault
+total_next heard total =
+    if is_at heard stages.Ways && one_each heard heard.opened.queues
+    then Ok (record heard { stage = stages.JobPrices; opened = record heard.opened { total = total } })
+    else Err BadLine
+
+unfoldable pub job_prices_next : Heard → List ℤ → Result Heard TextFault
+job_prices_next heard prices =
+    if is_at heard stages.JobPrices
+    then Ok (record heard { stage = stages.PlacePrices; opened = record heard.opened { job_prices = prices } })
+    else Err BadLine
+
+unfoldable pub place_prices_next : Heard → List ℕ → List ℤ → Result Heard TextFault
+place_prices_next heard name prices =
+    if is_at heard stages.PlacePrices && is_named heard (length heard.opened.place_prices) name
+    then Ok (record heard { opened = record heard.opened { place_prices = heard.opened.place_prices ++ prices ∷ [] } })
+    else Err BadLine
+
+-- a stranded job comes after another, or after the classes
+unfoldable pub classes_over : Heard → Result Heard TextFault
+classes_over heard = if is_at heard stages.Stranded then Ok heard else closed heard
+
+unfoldable pub stranded_added : Heard → Stranded → Result Heard TextFault
+stranded_added heard stranded =
+    if may_have heard stranded.job
+    then Ok (record heard { stage = stages.Stranded; stranded = heard.stranded ++ stranded ∷ []; jobs = heard.jobs + 1; last = stranded.job })
+    else Err OutOfRange
+
+unfoldable pub stranded_next : Heard → Stranded → Result Heard TextFault
+stranded_next heard stranded = classes_over heard >>= λ whole. stranded_added whole stranded
+
+unfoldable pub end_next : Heard → Result Heard TextFault
+end_next heard = classes_over heard >>= λ whole. Ok (record whole { stage = stages.Ended })
+
+-- what has been heard once a line has said this
+abbrev pub next : Heard → Said → Result Heard TextFault
+next heard SaysPlan = plan_next heard
+next heard (SaysDevice name) = device_next heard name
+next heard (SaysClass priority) = class_next heard priority
+next heard (SaysJob id times) = job_next heard id times
+next heard (SaysWait waits) = wait_next heard waits
+next heard (SaysWay device jobs) = way_next heard device jobs
+next heard (SaysTotal total) = total_next heard total
+next heard (SaysJobPrices prices) = job_prices_next heard prices
+next heard (SaysPlacePrices device prices) = place_prices_next heard device prices
+next heard (SaysStranded stranded) = stranded_next heard stranded
+next heard SaysEnd = end_next heard
+
+-- what a reader has heard
+abbrev pub opened_of : OpenClass → Opened
+opened_of open' = record {
+  priority = open'.priority;
+  ids = open'.ids.items;
+  rows = open'.rows.items;
+  waits = open'.waits.items;
+  queues = open'.queues.items;
+  total = open'.total;
+  job_prices = open'.job_prices.items;
+  place_prices = open'.place_prices.items;
+}
+
+abbrev pub heard_by : Draft → Heard
+heard_by draft = record {
+  stage = draft.stage;
+  devices = draft.devices.items;
+  classes = draft.classes.items;
+  stranded = draft.stranded.items;
+  jobs = draft.jobs;
+  below = draft.below;
+  last = draft.last;
+  opened = opened_of draft.opened;
+}
+
+-- what a step of a reader leaves, unless memory ran out
+abbrev pub Leaves : {X : Type 0} → Result X ReadError → Heard → Result Heard TextFault → Type 0
+Leaves (Ok x) new heard = heard ≡ Ok new
+Leaves (Err error) new heard = Fails error heard
