@@ -9,12 +9,12 @@ fn reason(error: &io::Error) -> &'static str {
         ErrorKind::NotFound => "no such file",
         ErrorKind::PermissionDenied => "permission denied",
         ErrorKind::AddrInUse => "the address is in use",
-        ErrorKind::AddrNotAvailable => "this machine hasn't that address",
+        ErrorKind::AddrNotAvailable => "this machine does not have that address",
         ErrorKind::IsADirectory => "it is a folder",
         ErrorKind::NotADirectory => "a part of its path is no folder",
         ErrorKind::StorageFull => "no space is left",
         ErrorKind::OutOfMemory => "out of memory",
-        ErrorKind::Unsupported => "the system doesn't know such addresses",
+        ErrorKind::Unsupported => "the system does not know such addresses",
         _ => "the system refuses it",
     }
 }
