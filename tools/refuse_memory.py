@@ -1,8 +1,9 @@
 #!/usr/bin/env python3
 """Plays each example again and again, each time with one request for memory refused, the first one first, and compares
 what comes of it: the same output as ever, or with status 3 a front of it. Where connections are open the server may also
-go on, as it does for want of memory: a reply of 0x0505, an LPD byte 01, a connection that is closed. Ends with status 1
-where anything else came.
+go on, as it does for want of memory: a reply of 0x0505, an LPD byte 01, a connection that is closed. In the exchanges of
+Print-Jobs alone 0x0505 has to be among the answers, and never with a job: the ids of the jobs that are taken follow one
+another, and there is no plan more than these. Ends with status 1 where anything else came.
 
     tools/refuse_memory.py [--each N] [NAME..]      (all examples where none is named)
 
@@ -13,6 +14,7 @@ import argparse
 import collections
 import os
 import pathlib
+import re
 import subprocess
 import sys
 import tempfile
@@ -22,6 +24,11 @@ from running import PROGRAM, TOP  # noqa: E402
 
 EXAMPLES = TOP / "crates/play_examples/data"
 SECONDS = 60
+# examples whose requests are Print-Jobs alone, each of which makes a job or none
+PRINTS = ("http_exchange", "exchange_at_once", "chunked_at_once")
+BUSY = b"\x01\x01\x05\x05"
+TAKEN = b"\x01\x01\x00\x00"
+JOB_ID = b"\x21\x00\x06job-id\x00\x04"
 
 
 def command(example):
@@ -53,16 +60,46 @@ def outcome(run, wanted, connects):
     return "stopped" if status == 3 and (connects or wanted[1].startswith(output)) else "wrong"
 
 
+def bodies(output):
+    """The bodies of the replies of IPP that the peers got."""
+    got = collections.defaultdict(bytes)
+    for line in output.decode().splitlines():
+        words = line.split()
+        if words[:1] == ["out"]:
+            got[words[1]] += bytes.fromhex(words[2])
+    for stream in got.values():
+        while b"\r\n\r\n" in stream:
+            head, _, stream = stream.partition(b"\r\n\r\n")
+            length = re.search(rb"Content-Length: (\d+)", head)
+            size = int(length.group(1)) if length else 0
+            yield stream[:size]
+            stream = stream[size:]
+
+
+def has_job_of_none(output):
+    """Whether a job exists whose request was answered 0x0505: an id was passed over, or a job too many was planned."""
+    taken = [body for body in bodies(output) if body.startswith(TAKEN)]
+    ids = sorted(int.from_bytes(body.partition(JOB_ID)[2][:4], "big") for body in taken)
+    plans = sum(line.startswith(b"plan ") for line in output.splitlines())
+    return ids != list(range(1, len(ids) + 1)) or plans > len(ids)
+
+
 def refuse_each(library, example, most):
     """How many requests there were, how many runs ended in which way, and after which requests something else came."""
     wanted = play(library, example, 0)
     connects = b"\nopen " in example.read_bytes()
-    ways, wrong = collections.Counter(), []
+    ways, wrong, busy = collections.Counter(), [], 0
     for refused in range(1, wanted[2] + 1, max(1, -(-wanted[2] // most))):
-        way = outcome(play(library, example, refused), wanted, connects)
+        run = play(library, example, refused)
+        way = outcome(run, wanted, connects)
+        if example.stem in PRINTS:
+            busy += any(body.startswith(BUSY) for body in bodies(run[1]))
+            way = "wrong" if has_job_of_none(run[1]) else way
         ways[way] += 1
         if way == "wrong":
             wrong.append(refused)
+    if example.stem in PRINTS and not busy and most >= wanted[2]:
+        wrong.append("no 0x0505")
     return wanted[2], ways, wrong
 
 

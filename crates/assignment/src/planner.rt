@@ -26,7 +26,7 @@ impl Lazy {
     }
 
     /// What [`Planner::plan_class`] answers, where each time is read by a look that is counted. The
-    /// looks rise by at most `J * J * (J + D)` for J jobs on D devices.
+    /// looks rise by at most `J * D` for J jobs on D devices: each time is looked up once.
     pub fn plan_counted<T: Times>(&self, times: &mut T) -> Result<PricedWay, AllocError>
         requires able { EachAble (T.class times.old) }
         requires room { T.looked times.old < 2 ^ 62 }
@@ -34,7 +34,7 @@ impl Lazy {
         ensures best { IfOk result (λ p. IsBest (T.class times.old) p.way) }
         ensures same { T.class times.new ≡ T.class times.old }
         ensures looked { let jobs = length (T.class times.old).ids in let devices = length (T.class times.old).waits in
-            T.looked times.new ≤ T.looked times.old + jobs * jobs * (jobs + devices) }
+            T.looked times.new ≤ T.looked times.old + jobs * devices }
     {
         plan(self.alloc, times, Shown::Next)
     }
@@ -77,7 +77,7 @@ fn plan<T: Times>(alloc: Global, times: &mut T, shown: Shown) -> Result<PricedWa
     ensures class { IsClass (T.class times.old) }
     ensures same { T.class times.new ≡ T.class times.old }
     ensures looked { let jobs = length (T.class times.old).ids in let devices = length (T.class times.old).waits in
-        T.looked times.new ≤ T.looked times.old + jobs * jobs * (jobs + devices) }
+        T.looked times.new ≤ T.looked times.old + jobs * devices }
 {
     let entries = read(alloc, times)?;
     let seating = seat_all(alloc, &entries.costs, shown)?;

@@ -1,4 +1,4 @@
-/// Every bound of the server, in one place.
+/// The bounds that the crates share, and those of the settings.
 ///
 /// A bound on bytes of a line counts its line feed. Times are in milliseconds.
 pub struct Limits;

@@ -4,7 +4,7 @@
 //! has a cause just where no device of the settings is able. It takes no memory, and knows nothing
 //! of how long a device is busy.
 //!
-//! Tests stand in `planner_tests`.
+//! Its rows are traces of `play_examples`.
 #![tactic(auto)]
 
 mod able_device;

@@ -6,7 +6,7 @@
 //!
 //! The functions of [`table`] say the same of a connection among many, by its key: each answers what
 //! became of it, and nothing else changes. Which of it becomes an event of the core, and what is due then,
-//! stands above. Tests stand in `server_tests`.
+//! stands above. Its rows are sessions of `server_tests` and traces of `play_examples`.
 #![tactic(auto)]
 
 mod connection;

@@ -6,7 +6,7 @@
 //! their lines; [`read_report`] reads one line by itself. It opens no connection, and what a report does to a job or a device stands
 //! elsewhere. `docs/DEVICES.md` has the protocol for someone who writes an adapter.
 //!
-//! Tests stand in `reader_tests`.
+//! Its rows are traces of `play_examples`.
 #![tactic(auto)]
 
 mod fault;

@@ -6,7 +6,7 @@
 //! whose body is too short for an IPP message. It knows nothing else of what the bodies say, and
 //! answers nothing by itself.
 //!
-//! Tests stand in `reader_tests`.
+//! Its rows are traces of `play_examples`.
 #![tactic(auto)]
 
 mod after;

@@ -6,7 +6,7 @@
 //! It answers nothing and keeps no files, but lends each until the next call: what is done with an
 //! item stands elsewhere.
 //!
-//! Tests stand in `reader_tests`.
+//! Its rows are traces of `play_examples`.
 #![tactic(auto)]
 
 mod command;

@@ -5,7 +5,7 @@
 //! their octets are shared with whoever has the job. A few bytes need no memory but what was reserved at
 //! the start ([`RESERVED_BYTES`]).
 //!
-//! Tests stand in `server_tests`.
+//! Its rows are sessions of `server_tests` and traces of `play_examples`.
 #![tactic(auto)]
 
 mod output;

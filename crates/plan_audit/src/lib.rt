@@ -2,8 +2,8 @@
 //!
 //! The one call is [`run_check`]: for every input it writes exactly the verdict on the plan of that
 //! text, or why the text is refused, and gives the exit status. How a text is read is `plan_text`'s,
-//! what a verdict says `plan_checker`'s; no word of a command line is read here. Tests stand in
-//! `printd` and `play_examples`.
+//! what a verdict says `plan_checker`'s; no word of a command line is read here. Its rows are
+//! plans of `play_examples`.
 #![tactic(auto)]
 
 mod check;

@@ -17,7 +17,7 @@ pub struct Example {
     pub status: ExitStatus,
 }
 
-pub const EXAMPLES: [Example; 112] = [
+pub const EXAMPLES: [Example; 117] = [
     Example {
         input: "two_devices.trace",
         output: "two_devices.out",
@@ -689,5 +689,35 @@ pub const EXAMPLES: [Example; 112] = [
         output: "stranded_in_the_upper_class.out",
         program: Program::Check,
         status: ExitStatus::No,
+    },
+    Example {
+        input: "malformed_at_once.trace",
+        output: "malformed_at_once.out",
+        program: Program::Replay,
+        status: ExitStatus::Done,
+    },
+    Example {
+        input: "exchange_at_once.trace",
+        output: "exchange_at_once.out",
+        program: Program::Replay,
+        status: ExitStatus::Done,
+    },
+    Example {
+        input: "chunked_at_once.trace",
+        output: "chunked_at_once.out",
+        program: Program::Replay,
+        status: ExitStatus::Done,
+    },
+    Example {
+        input: "lpd_at_once.trace",
+        output: "lpd_at_once.out",
+        program: Program::Replay,
+        status: ExitStatus::Done,
+    },
+    Example {
+        input: "documents_at_once.trace",
+        output: "documents_at_once.out",
+        program: Program::Replay,
+        status: ExitStatus::Done,
     },
 ];

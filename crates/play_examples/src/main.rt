@@ -6,10 +6,12 @@
 //! behind these contracts are held against rows that were worked out by hand.
 #![tactic(auto)]
 
+mod cuts;
 mod example;
 mod many_jobs;
 mod texts;
 
+use crate::cuts::{STREAMS, Stream, stays_in_two_pieces};
 use crate::example::{EXAMPLES, Example, Program};
 use crate::many_jobs::CROWDS;
 use crate::texts::each_is_proved;
@@ -86,11 +88,32 @@ fn play_crowds(rt: &HostRuntime) -> io::Result<bool> {
     Ok(all)
 }
 
+/// Whether what comes of a stream is as it must be, wherever it is cut in two. The error is the
+/// system's, of its files.
+fn is_the_same_when_cut(rt: &HostRuntime, stream: &Stream) -> io::Result<bool> {
+    let input = fs::read(rt, stream.input)?;
+    let wanted = fs::read(rt, stream.output)?;
+    Ok(stays_in_two_pieces(rt.alloc(), &input, &wanted)?)
+}
+
+/// Plays the streams in two pieces, cut at each byte: whether each is as it must be.
+fn play_cuts(rt: &HostRuntime) -> io::Result<bool> {
+    let mut all = true;
+    for stream in &STREAMS {
+        let as_wanted = is_the_same_when_cut(rt, stream)?;
+        print!(rt; "in two pieces ")?;
+        tell(rt, stream.input, as_wanted)?;
+        all = all && as_wanted;
+    }
+    Ok(all)
+}
+
 /// Plays them all: whether each is as it must be.
 fn play_all(rt: &HostRuntime) -> io::Result<bool> {
     let files = play_files(rt)?;
     let crowds = play_crowds(rt)?;
-    Ok(files && crowds)
+    let cuts = play_cuts(rt)?;
+    Ok(files && crowds && cuts)
 }
 
 fn main(rt: HostRuntime) -> ExitCode {

@@ -4,7 +4,7 @@
 //! fair prices is best, and no timetable, whatever its gaps, does better than a best way. It finds
 //! no way and judges none: a solver finds one, a checker judges it, and neither is mentioned here.
 //!
-//! Tests stand in `planner_tests`.
+//! Its rows are plans of `play_examples`.
 #![tactic(auto)]
 
 mod laws;

@@ -7,7 +7,7 @@
 //! values. It keeps no jobs and looks at no clock: what a value depends on is passed in, such as
 //! whether a job keeps the printer busy ([`keeps_busy`]). Only what makes attributes takes memory.
 //!
-//! Tests stand in `queue_tests`.
+//! Its rows are traces of `play_examples`.
 #![tactic(auto)]
 
 mod attribute;

@@ -29,12 +29,10 @@ fn last_job_id(rt: HostRuntime) -> Result<(), Fail> {
     let mut spool = Spool::new(rt.alloc(), last);
     let first = spool.submit(new_job(rt.alloc())?).ok();
     assert!(rt; first == Some(last));
-    let second = spool.submit(new_job(rt.alloc())?).err();
-    assert!(rt;
-        matches!(
-            second.map(|refused| refused.refusal),
-            Some(SpoolRefusal::Busy)
-        )
-    );
+    let is_busy = match spool.submit(new_job(rt.alloc())?) {
+        Ok(_) => false,
+        Err(refused) => matches!(refused.refusal, SpoolRefusal::Busy),
+    };
+    assert!(rt; is_busy);
     Ok(())
 }

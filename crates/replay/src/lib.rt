@@ -4,7 +4,7 @@
 //! lines, over a wire in memory whose peers send what the trace says, and gives the exit status. Where no
 //! line speaks of a connection, that is one run of the core over the lines' events
 //! ([`lines_are_one_run`]). What a server does is `server`'s; no word of a command line is read here.
-//! Tests stand in `play_examples`.
+//! Its rows are traces of `play_examples`.
 #![tactic(auto)]
 
 mod law;

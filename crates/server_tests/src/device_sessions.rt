@@ -1,6 +1,7 @@
 //! Devices over a wire in memory: what they write, and what they get.
 use crate::exchanges::{CANCEL, PLAIN};
-use crate::in_memory::{CUTS, TURNS, client, got, is_closed, serve};
+use crate::in_memory::{CUTS, TURNS, client, engine, got, is_closed, serve};
+use base_types::Moment;
 use server::NoteLog;
 use std::alloc::{AllocError, Global};
 use std::test::Fail;
@@ -103,6 +104,40 @@ fn sessions_in_pieces(rt: HostRuntime) -> Result<(), Fail> {
             assert!(rt; kept);
         }
     }
+    Ok(())
+}
+
+/// A device takes three bytes of what is written to it at a time.
+fn slow_device(alloc: Global) -> Result<Memory, AllocError> {
+    let lines = b"HELLO A\nREADY\n".as_slice();
+    let mut wire = print_room(alloc, PLAIN.sent, &[lines], (4096, 4096))?;
+    if let Some(device) = wire.peers.get_mut(1) {
+        device.most = 3;
+    }
+    Ok(wire)
+}
+
+/// Whether a device that says that its job is done once it has taken three of the job's bytes gets the
+/// rest of them, once.
+fn gets_the_rest(alloc: Global) -> Result<bool, AllocError> {
+    let mut wire = slow_device(alloc)?;
+    let mut notes = NoteLog::new(alloc);
+    let mut engine = engine(alloc)?;
+    engine.turn(&mut wire, &mut notes, Moment::start());
+    let begun = got(&wire, 1, b"JOB");
+    if let Some(device) = wire.peers.get_mut(1) {
+        device.input.extend_from_slice(b"DONE 1\n")?;
+    }
+    for _turn in 0..20 {
+        engine.turn(&mut wire, &mut notes, Moment::start());
+    }
+    Ok(begun && got(&wire, 1, JOB) && !is_closed(&wire, 1))
+}
+
+#[test]
+fn early_done(rt: HostRuntime) -> Result<(), Fail> {
+    let rest = gets_the_rest(rt.alloc())?;
+    assert!(rt; rest);
     Ok(())
 }
 

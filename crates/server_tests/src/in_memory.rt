@@ -28,7 +28,7 @@ pub(crate) const CUTS: [(usize, usize); 3] = [(4096, 4096), (7, 3), (1, 1)];
 pub(crate) const TURNS: usize = 1000;
 
 /// A server that has just started.
-fn engine(alloc: Global) -> Result<Engine<Lazy>, AllocError> {
+pub(crate) fn engine(alloc: Global) -> Result<Engine<Lazy>, AllocError> {
     let Ok(settings) = read_settings(alloc, SETTINGS) else {
         return Err(AllocError);
     };
@@ -142,6 +142,33 @@ fn fault_at_each_poll(rt: HostRuntime) -> Result<(), Fail> {
     for fault_at in 0..40 {
         let cut_off = is_cut_off(rt.alloc(), fault_at)?;
         assert!(rt; cut_off);
+    }
+    Ok(())
+}
+
+/// Whether of three clients, whose answers don't depend on one another, at most one isn't given all of
+/// its answer where a poll faults.
+fn others_are_whole(alloc: Global, fault_at: u64) -> Result<bool, AllocError> {
+    let mut wire = clients(
+        alloc,
+        &[PLAIN.sent, NOT_POST.sent, SHORT_BODY.sent],
+        (64, 100),
+    )?;
+    wire.fault_at = fault_at;
+    let mut notes = NoteLog::new(alloc);
+    let served = serve(alloc, &mut wire, &mut notes, 60);
+    let first = got(&wire, 0, PLAIN.answered);
+    let second = got(&wire, 1, NOT_POST.answered);
+    let third = got(&wire, 2, SHORT_BODY.answered);
+    Ok(served && (first || second) && (second || third) && (first || third))
+}
+
+/// A fault at any poll: every other connection is given all that was due.
+#[test]
+fn others_at_a_fault(rt: HostRuntime) -> Result<(), Fail> {
+    for fault_at in 0..60 {
+        let whole = others_are_whole(rt.alloc(), fault_at)?;
+        assert!(rt; whole);
     }
     Ok(())
 }

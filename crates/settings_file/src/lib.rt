@@ -8,7 +8,7 @@
 //! A text is read by the crate `toml`, so a key that is written twice is no TOML, and the order
 //! of the keys in a table is not looked at.
 //!
-//! Tests stand in `reader_tests`.
+//! Its rows are traces of `play_examples`.
 #![tactic(auto)]
 
 mod device;

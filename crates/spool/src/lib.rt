@@ -6,7 +6,7 @@
 //! states need. Jobs live in memory alone, and no document is read or converted. Which device prints
 //! a job is decided above; the spool knows only whether one has it.
 //!
-//! Tests stand in `queue_tests`.
+//! Its rows are traces of `play_examples`.
 #![tactic(auto)]
 
 mod asker;

@@ -1,0 +1,112 @@
+//! Streams that come in two pieces, cut at each byte in turn: what comes of them stays the same.
+
+use replay::run_replay;
+use std::alloc::{AllocError, Global};
+use streams::ExitStatus;
+
+/// An example of one connection, whose peer sends all in one piece.
+pub struct Stream {
+    pub input: &'static str,
+    pub output: &'static str,
+}
+
+pub const STREAMS: [Stream; 5] = [
+    Stream {
+        input: "malformed_at_once.trace",
+        output: "malformed_at_once.out",
+    },
+    Stream {
+        input: "exchange_at_once.trace",
+        output: "exchange_at_once.out",
+    },
+    Stream {
+        input: "chunked_at_once.trace",
+        output: "chunked_at_once.out",
+    },
+    Stream {
+        input: "lpd_at_once.trace",
+        output: "lpd_at_once.out",
+    },
+    Stream {
+        input: "documents_at_once.trace",
+        output: "documents_at_once.out",
+    },
+];
+
+/// How the line begins that has all that the peer sends, as that of each of its pieces.
+const SENT: &[u8] = b"in 1 ";
+
+/// How a line begins that has bytes that the peer gets.
+const GOT: &[u8] = b"out 1 ";
+
+/// Appends a line.
+fn put_line(text: &mut Vec<u8>, line: &[u8]) -> Result<(), AllocError> {
+    text.extend_from_slice(line)?;
+    text.push(b'\n')?;
+    Ok(())
+}
+
+/// The trace, in which the line that has all that the peer sends is cut in two behind so many of its
+/// characters.
+fn in_two_pieces(alloc: Global, trace: &[u8], place: usize) -> Result<Vec<u8>, AllocError> {
+    let mut text = Vec::new(alloc);
+    for line in trace.trim_ascii_end().split(|byte| *byte == b'\n') {
+        match line.split_at_checked(place) {
+            Some((front, back)) if line.starts_with(SENT) => {
+                put_line(&mut text, front)?;
+                text.extend_from_slice(SENT)?;
+                put_line(&mut text, back)?;
+            }
+            _ => put_line(&mut text, line)?,
+        }
+    }
+    Ok(text)
+}
+
+/// What happens by an output, and then all that the peer got, however often it got some.
+fn told(alloc: Global, output: &[u8]) -> Result<Vec<u8>, AllocError> {
+    let mut text = Vec::new(alloc);
+    let mut got = Vec::new(alloc);
+    for line in output.split(|byte| *byte == b'\n') {
+        match line.strip_prefix(GOT) {
+            Some(bytes) => got.extend_from_slice(bytes)?,
+            None => put_line(&mut text, line)?,
+        }
+    }
+    text.extend_from_slice(&got)?;
+    Ok(text)
+}
+
+/// What a trace tells that is played to its end; nothing, where it isn't.
+fn told_of(alloc: Global, trace: &[u8]) -> Result<Option<Vec<u8>>, AllocError> {
+    let mut output = Vec::new(alloc);
+    let mut input = trace;
+    match run_replay(alloc, &mut input, &mut output, false) {
+        ExitStatus::Done => Ok(Some(told(alloc, &output)?)),
+        _ => Ok(None),
+    }
+}
+
+/// How many bytes the peer sends.
+fn sent_in(trace: &[u8]) -> usize {
+    for line in trace.split(|byte| *byte == b'\n') {
+        if let Some(digits) = line.strip_prefix(SENT) {
+            return digits.len() / 2;
+        }
+    }
+    0
+}
+
+/// Whether just this is told, wherever the bytes are cut in two.
+pub fn stays_in_two_pieces(alloc: Global, trace: &[u8], wanted: &[u8]) -> Result<bool, AllocError> {
+    let wanted = told(alloc, wanted)?;
+    for count in 1..sent_in(trace) {
+        let place = count.saturating_mul(2).saturating_add(SENT.len());
+        let cut = in_two_pieces(alloc, trace, place)?;
+        match told_of(alloc, &cut)? {
+            Some(told) if told == wanted => {}
+            _ => return Ok(false),
+        }
+    }
+    Ok(sent_in(trace) > 1)
+}
