@@ -1,4 +1,5 @@
 //! What the program may be asked to do.
+use crate::attach_words::Attaching;
 use std::net::SocketAddr;
 
 /// What the program is asked to do.
@@ -13,6 +14,8 @@ pub enum Asked<'a> {
     /// Judge the text of a plan from standard input, and where the starts are asked for tell when
     /// each job starts.
     Check { starts: bool },
+    /// Attach a printer to a server.
+    Attach(Attaching<'a>),
 }
 
 /// How to serve.

@@ -7,8 +7,10 @@
 #![tactic(auto)]
 
 mod asked;
+mod attach_words;
 mod doors;
 mod read;
 
 pub use asked::{AboutSettings, Asked, Serving};
+pub use attach_words::Attaching;
 pub use read::read_words;

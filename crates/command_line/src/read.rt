@@ -1,6 +1,7 @@
 //! The commands of `printd`, as `clap` reads them.
 
 use crate::asked::{AboutSettings, Asked, Serving};
+use crate::attach_words::{attach_command, attach_words};
 use crate::doors::{WordsError, addresses, default_address};
 use clap::error::ErrorKind;
 use clap::{Arg, ArgAction, ArgMatches, Command, Error};
@@ -146,7 +147,8 @@ fn command<'a>(alloc: Global) -> Result<Command<'a>, AllocError> {
         .subcommand(serve_command(alloc)?)?
         .subcommand(settings_command(alloc)?)?
         .subcommand(replay_command(alloc)?)?
-        .subcommand(check_command(alloc)?)
+        .subcommand(check_command(alloc)?)?
+        .subcommand(attach_command(alloc)?)
 }
 
 fn parse<'a>(alloc: Global, words: &'a [&'a str]) -> Result<ArgMatches<'a>, Error> {
@@ -191,6 +193,7 @@ fn meaning<'a>(alloc: Global, found: &ArgMatches<'a>) -> Result<Option<Asked<'a>
         "check" => Some(Asked::Check {
             starts: inner.get_flag("starts"),
         }),
+        "attach" => attach_words(inner).map(|attaching| Asked::Attach(attaching)),
         _ => None,
     })
 }

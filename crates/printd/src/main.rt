@@ -1,12 +1,15 @@
 //! The program: `printd serve` is the server over sockets, `printd settings` shows or judges settings,
-//! `printd replay` reads a trace from standard input and writes what the server does, and `printd check`
-//! reads the text of a plan and writes the verdict on it.
+//! `printd replay` reads a trace from standard input and writes what the server does, `printd check`
+//! reads the text of a plan and writes the verdict on it, and `printd attach` is a device of a server, whose
+//! jobs a printer prints.
 #![tactic(auto)]
 
+mod attaching;
 mod failure;
 mod serving;
 mod settings;
 
+use crate::attaching::run_attach;
 use crate::failure::cannot;
 use crate::serving::run_serve;
 use crate::settings::run_settings;
@@ -65,6 +68,7 @@ fn run(rt: &HostRuntime, asked: Asked<'_>) -> Result<ExitStatus, ExitStatus> {
         Asked::Settings(about) => run_settings(rt, about),
         Asked::Replay { plans } => Ok(replay(rt, plans)),
         Asked::Check { starts } => Ok(check(rt, starts)),
+        Asked::Attach(attaching) => run_attach(rt, attaching),
     }
 }
 

@@ -1,0 +1,308 @@
+//! What an adapter does in a turn.
+use crate::caller::{Caller, Reached};
+use crate::heard::{Breach, Heard};
+use crate::line::{Came, ServerLine};
+use crate::log::{Log, Note};
+use crate::plan::Plan;
+use crate::printer::{Manner, Printer};
+use attachment::{Attachment, PrinterState};
+use base_types::{JobId, Report, Text};
+use device_orders::{JobOrder, Order, OrderError, OrderItem};
+use mio::event::Event;
+use mio::{Poll, Token};
+use std::alloc::{AllocError, Global};
+use std::net::Net;
+use std::rt::Files;
+
+/// What waits tell of the server and of the printer under.
+const SERVER: Token = Token(0);
+
+const PRINTER: Token = Token(1);
+
+/// How many pieces of the server a turn reads at most, and how many items of one piece.
+const PIECES: u32 = 64;
+
+const ITEMS: u32 = 131_072;
+
+/// How long nothing is waited for at most, in ms.
+const LONGEST_PAUSE: u64 = 60_000;
+
+/// An adapter: its attachment between the server and the printer.
+#[derive(Drop)]
+pub(crate) struct Desk {
+    alloc: Global,
+    name: String,
+    attachment: Attachment,
+    line: ServerLine,
+    printer: Printer,
+    log: Log,
+    worked: bool,
+}
+
+/// Why the server is no longer heard.
+#[derive(Clone, Copy, Debug)]
+enum Stop {
+    /// Its connection has ended, or it wrote what it never writes.
+    Lost,
+    OutOfMemory,
+}
+
+impl From<AllocError> for Stop {
+    fn from(_: AllocError) -> Stop {
+        Stop::OutOfMemory
+    }
+}
+
+impl Desk {
+    /// An adapter that has done nothing yet, and keeps a log or not.
+    pub(crate) fn new(alloc: Global, plan: Plan, logs: bool) -> Result<Desk, AllocError> {
+        let name = plan.name.clone()?;
+        let manner = Manner {
+            name: plan.name,
+            format: plan.format,
+            ms_per_page: plan.ms_per_page,
+            linger: plan.linger,
+            timeout: plan.timeout,
+        };
+        Ok(Desk {
+            alloc,
+            name,
+            attachment: Attachment::new(alloc),
+            line: ServerLine::new(alloc, Caller::new(alloc, plan.server, SERVER))?,
+            printer: Printer::new(alloc, plan.target, manner, PRINTER),
+            log: Log::new(alloc, logs),
+            worked: false,
+        })
+    }
+
+    /// Takes what a wait told.
+    pub(crate) fn told(&mut self, event: &Event) {
+        self.line.told(event);
+        self.printer.told(event);
+    }
+
+    /// The lines of the log since the last call.
+    pub(crate) fn take_log(&mut self) -> Vec<u8> {
+        self.log.take()
+    }
+
+    /// One turn: connects, hears the server, goes on with the printer, and says what is due.
+    pub(crate) fn turn<R: Net + Files>(&mut self, rt: &R, poll: &Poll, now: u64) {
+        self.log.set_now(now);
+        self.worked = false;
+        let stop = self.take_turn(rt, poll, now);
+        if let Err(stop) = stop {
+            self.heed_stop(rt, stop, now);
+        }
+    }
+
+    /// The parts of a turn, up to one that stops it.
+    fn take_turn<R: Net + Files>(&mut self, rt: &R, poll: &Poll, now: u64) -> Result<(), Stop> {
+        self.call_server(rt, poll, now)?;
+        self.hear_server(rt, now)?;
+        self.turn_printer(rt, poll, now)?;
+        self.tell_state()?;
+        self.flush()
+    }
+
+    /// Heeds why a turn was stopped.
+    fn heed_stop<R: Net + Files>(&mut self, rt: &R, stop: Stop, now: u64) {
+        match stop {
+            Stop::Lost => self.unlink(rt, Breach::Unlinked, now),
+            Stop::OutOfMemory => self.unlink(rt, Breach::OutOfMemory, now),
+        }
+    }
+
+    /// The ms until there is something to do though nothing happens.
+    pub(crate) fn pause(&self, now: u64) -> u64 {
+        if self.worked || self.printer.has_worked() {
+            return 0;
+        }
+        let line = self.line.pause(now).unwrap_or(LONGEST_PAUSE);
+        let has_job = self.attachment.job().is_some();
+        let printer = self.printer.pause(now, has_job).unwrap_or(LONGEST_PAUSE);
+        line.min(printer).min(LONGEST_PAUSE)
+    }
+
+    /// Connects to the server, and says who this is.
+    fn call_server(&mut self, net: &impl Net, poll: &Poll, now: u64) -> Result<(), Stop> {
+        match self.line.turn(net, poll, now) {
+            Reached::Not | Reached::Still => {}
+            Reached::Away => self.log.note(Note::ServerAway),
+            Reached::Now => {
+                self.attachment.link();
+                let name = Text::copy_of(self.alloc, self.name.as_bytes())?;
+                self.line.say(&Report::Hello(name))?;
+                self.log.note(Note::Linked);
+            }
+        }
+        Ok(())
+    }
+
+    /// Hears all that the server says for now.
+    fn hear_server<R: Net + Files>(&mut self, rt: &R, now: u64) -> Result<(), Stop> {
+        for _ in 0..PIECES {
+            match self.line.read()? {
+                Came::Nothing => return Ok(()),
+                Came::End => return Err(Stop::Lost),
+                Came::Bytes => self.hear_piece(rt, now)?,
+            }
+        }
+        Ok(())
+    }
+
+    /// Hears the items of a piece.
+    fn hear_piece<R: Net + Files>(&mut self, rt: &R, now: u64) -> Result<(), Stop> {
+        self.worked = true;
+        for _ in 0..ITEMS {
+            match self.line.next_item() {
+                Ok(None) => return Ok(()),
+                Ok(Some(item)) => self.heed(rt, item, now)?,
+                Err(OrderError::OutOfMemory) => return Err(Stop::OutOfMemory),
+                Err(OrderError::Fault(fault)) => {
+                    self.log.note(Note::Refused(fault));
+                    return Err(Stop::Lost);
+                }
+            }
+        }
+        Ok(())
+    }
+
+    /// Heeds an item of the server's.
+    fn heed<R: Net + Files>(&mut self, rt: &R, item: OrderItem, now: u64) -> Result<(), Stop> {
+        match item {
+            OrderItem::Octets => self.take_octets(rt),
+            OrderItem::Order(order) => self.obey(rt, &order, now),
+        }
+    }
+
+    /// Obeys an order of the server's.
+    fn obey<R: Net + Files>(&mut self, rt: &R, order: &Order, now: u64) -> Result<(), Stop> {
+        match order {
+            Order::Job(order) => self.begin(order, now),
+            Order::Cancel(job) => self.cancel(rt, *job),
+        }
+    }
+
+    /// Begins a job.
+    fn begin(&mut self, order: &JobOrder, now: u64) -> Result<(), Stop> {
+        let job = order.job.number();
+        if self.attachment.job().is_some() {
+            self.log.note(Note::JobTooEarly(job));
+            return Err(Stop::Lost);
+        }
+        let times = self.printer.times(order);
+        self.attachment.order(order.job, order.octets, times);
+        self.printer.begin(order, now);
+        self.log.note(Note::Began {
+            job,
+            octets: order.octets,
+            copies: order.copies,
+        });
+        Ok(())
+    }
+
+    /// Takes octets of the job, if it is still in hand.
+    fn take_octets<R: Net + Files>(&mut self, rt: &R) -> Result<(), Stop> {
+        let part = self.line.part();
+        let Some(room) = self.attachment.room() else {
+            return Ok(());
+        };
+        if part.len() > room {
+            return Ok(());
+        }
+        match self.attachment.take(part) {
+            Ok(()) => Ok(()),
+            Err(AllocError) => self.fail(rt, Breach::OutOfMemory),
+        }
+    }
+
+    /// Gives the job up that the server cancels, if it is in hand.
+    fn cancel<R: Net + Files>(&mut self, rt: &R, job: JobId) -> Result<(), Stop> {
+        self.attachment.cancel(job);
+        if self.attachment.job() == Some(job) {
+            self.fail(rt, Breach::Canceled)?;
+        }
+        Ok(())
+    }
+
+    /// Goes on with the printer.
+    fn turn_printer<R: Net + Files>(&mut self, rt: &R, poll: &Poll, now: u64) -> Result<(), Stop> {
+        match self.printer.turn(rt, poll, &mut self.attachment, now) {
+            Heard::Nothing => Ok(()),
+            Heard::Away => {
+                self.attachment.set_printer(PrinterState::Stopped);
+                self.log.note(Note::PrinterAway);
+                Ok(())
+            }
+            Heard::Back => {
+                self.attachment.set_printer(PrinterState::Running);
+                self.log.note(Note::PrinterBack);
+                Ok(())
+            }
+            Heard::Printed => self.finish(rt),
+            Heard::Failed(breach) => self.fail(rt, breach),
+        }
+    }
+
+    /// The printer has printed the job.
+    fn finish<R: Net + Files>(&mut self, rt: &R) -> Result<(), Stop> {
+        let report = self.attachment.finish();
+        self.printer.drop_job(rt);
+        self.answer(report, Breach::Broken)
+    }
+
+    /// The job can't be printed.
+    fn fail<R: Net + Files>(&mut self, rt: &R, breach: Breach) -> Result<(), Stop> {
+        let report = self.attachment.fail();
+        self.printer.drop_job(rt);
+        self.answer(report, breach)
+    }
+
+    /// Answers the server what became of a job.
+    fn answer(&mut self, report: Option<Report>, breach: Breach) -> Result<(), Stop> {
+        self.worked = true;
+        let Some(report) = report else {
+            return Ok(());
+        };
+        match &report {
+            Report::Done { job } => self.log.note(Note::Done(*job)),
+            Report::Fail { job } => self.log.note(Note::Failed(*job, breach)),
+            _ => {}
+        }
+        Ok(self.line.say(&report)?)
+    }
+
+    /// Tells the server of the printer's state, where it doesn't know it.
+    fn tell_state(&mut self) -> Result<(), Stop> {
+        if !self.line.is_linked() {
+            return Ok(());
+        }
+        if let Some(report) = self.attachment.tell() {
+            self.line.say(&report)?;
+        }
+        Ok(())
+    }
+
+    /// Writes what is to be written to the server.
+    fn flush(&mut self) -> Result<(), Stop> {
+        match self.line.flush() {
+            Ok(moved) => {
+                self.worked |= moved;
+                Ok(())
+            }
+            Err(_) => Err(Stop::Lost),
+        }
+    }
+
+    /// The connection to the server is of no use any more: the server aborts the job.
+    fn unlink<R: Net + Files>(&mut self, rt: &R, breach: Breach, now: u64) {
+        if let Some(job) = self.attachment.job() {
+            self.log.note(Note::Failed(job.number(), breach));
+        }
+        self.line.lose(now);
+        self.printer.drop_job(rt);
+        self.attachment.link();
+        self.log.note(Note::Unlinked);
+    }
+}

@@ -1,0 +1,87 @@
+//! What a document is, by its first bytes.
+
+/// What a document is.
+#[derive(Clone, Copy, Debug, PartialEq, Eq)]
+pub enum Format {
+    Pdf,
+    PostScript,
+    /// PCL, or PJL with any language in it.
+    Pcl,
+    PwgRaster,
+    AppleRaster,
+    Jpeg,
+    Png,
+    Text,
+    /// Anything else.
+    Octets,
+}
+
+/// The first bytes of documents, and what they are.
+const FRONTS: [(&[u8], Format); 9] = [
+    (b"%PDF-", Format::Pdf),
+    (b"%!", Format::PostScript),
+    (b"\x1b%-12345X", Format::Pcl),
+    (b"\x1bE", Format::Pcl),
+    (b"\x1b&", Format::Pcl),
+    (b"RaS2", Format::PwgRaster),
+    (b"UNIRAST", Format::AppleRaster),
+    (b"\xff\xd8\xff", Format::Jpeg),
+    (b"\x89PNG", Format::Png),
+];
+
+/// The media types of formats, and the endings of their files.
+const NAMES: [(Format, &str, &str); 9] = [
+    (Format::Pdf, "application/pdf", "pdf"),
+    (Format::PostScript, "application/postscript", "ps"),
+    (Format::Pcl, "application/vnd.hp-PCL", "pcl"),
+    (Format::PwgRaster, "image/pwg-raster", "pwg"),
+    (Format::AppleRaster, "image/urf", "urf"),
+    (Format::Jpeg, "image/jpeg", "jpg"),
+    (Format::Png, "image/png", "png"),
+    (Format::Text, "text/plain", "txt"),
+    (Format::Octets, "application/octet-stream", "bin"),
+];
+
+/// How many bytes are looked at to tell whether a document is text.
+const LOOKED_AT: usize = 512;
+
+impl Format {
+    /// What a document is whose first bytes are these.
+    pub fn sniffed(bytes: &[u8]) -> Format {
+        for (front, format) in FRONTS {
+            if bytes.starts_with(front) {
+                return format;
+            }
+        }
+        if !bytes.is_empty() && bytes.iter().take(LOOKED_AT).all(|byte| is_text(*byte)) {
+            Format::Text
+        } else {
+            Format::Octets
+        }
+    }
+
+    /// The format of this media type, in any case; any other is octets.
+    pub fn named(media_type: &str) -> Format {
+        for (format, name, _) in NAMES {
+            if name.eq_ignore_ascii_case(media_type) {
+                return format;
+            }
+        }
+        Format::Octets
+    }
+
+    /// The ending of its files.
+    pub fn ending(self) -> &'static str {
+        for (format, _, ending) in NAMES {
+            if format == self {
+                return ending;
+            }
+        }
+        "bin"
+    }
+}
+
+/// Whether a byte may stand in a text.
+fn is_text(byte: u8) -> bool {
+    matches!(byte, 9 | 10 | 12 | 13 | 32..=126 | 128..=255)
+}

@@ -1,0 +1,30 @@
+/// Why a job can't be printed.
+#[derive(Clone, Copy, Debug, PartialEq, Eq)]
+pub(crate) enum Breach {
+    /// The server canceled it.
+    Canceled,
+    /// The connection to the server was lost.
+    Unlinked,
+    /// The printer closed or broke its connection before it had all.
+    Broken,
+    /// The printer took and said nothing for too long.
+    Silent,
+    /// A file can't be written.
+    Unwritten,
+    /// There is no memory for its octets.
+    OutOfMemory,
+}
+
+/// What a printer came to in a turn.
+#[derive(Clone, Copy, Debug, PartialEq, Eq)]
+pub(crate) enum Heard {
+    Nothing,
+    /// It can't be reached, for the first time since it was.
+    Away,
+    /// It can be reached, after it couldn't.
+    Back,
+    /// It has printed the job.
+    Printed,
+    /// It can't print the job.
+    Failed(Breach),
+}

@@ -1,0 +1,98 @@
+//! A socket to a peer.
+ghost use Rattle.std.specs.Io.{ReadsAtMost, WritesAtMost};
+
+use mio::event::Event;
+use mio::net::TcpStream;
+use mio::{Interest, Poll, Token};
+use std::io;
+use std::io::{ErrorKind, Read, Write};
+use std::net::{Net, Shutdown, SocketAddr};
+
+/// A socket to a peer, with what was told of it. Where a call had to wait, none is made until something is
+/// told.
+#[derive(Drop)]
+pub(crate) struct Link {
+    stream: TcpStream,
+    readable: bool,
+    writable: bool,
+}
+
+/// A call that has to wait.
+fn waits() -> io::Error {
+    io::Error::from(ErrorKind::WouldBlock)
+}
+
+impl Link {
+    /// Begins to connect. Waits tell of it under this token.
+    pub(crate) fn begin(
+        net: &impl Net,
+        poll: &Poll,
+        address: SocketAddr,
+        token: Token,
+    ) -> io::Result<Link> {
+        let mut stream = TcpStream::connect(net, address)?;
+        poll.registry().register(&mut stream, token, Interest::READABLE | Interest::WRITABLE)?;
+        Ok(Link {
+            stream,
+            readable: false,
+            writable: false,
+        })
+    }
+
+    /// Takes what a wait told.
+    pub(crate) fn told(&mut self, event: &Event) {
+        self.readable |= event.is_readable() || event.is_read_closed() || event.is_error();
+        self.writable |= event.is_writable() || event.is_write_closed() || event.is_error();
+    }
+
+    /// Whether it is connected by now. The error is why it can't be.
+    pub(crate) fn is_open(&self) -> io::Result<bool> {
+        if !self.writable {
+            return Ok(false);
+        }
+        if let Some(error) = self.stream.take_error()? {
+            return Err(error);
+        }
+        self.stream.peer_addr()?;
+        self.stream.set_nodelay(true)?;
+        Ok(true)
+    }
+
+    /// Reads some bytes; the count is 0 where none will come any more.
+    pub(crate) fn read(&mut self, buffer: &mut [u8]) -> io::Result<usize>
+        ensures { ReadsAtMost result buffer.new }
+    {
+        if !self.readable {
+            return Err(waits());
+        }
+        let read = self.stream.read(buffer);
+        if let Err(error) = &read {
+            self.readable = error.kind() != ErrorKind::WouldBlock;
+        }
+        read
+    }
+
+    /// Writes some bytes.
+    pub(crate) fn write(&mut self, bytes: &[u8]) -> io::Result<usize>
+        ensures { WritesAtMost result bytes.now }
+    {
+        if !self.writable {
+            return Err(waits());
+        }
+        let written = self.stream.write(bytes);
+        if let Err(error) = &written {
+            self.writable = error.kind() != ErrorKind::WouldBlock;
+        }
+        written
+    }
+
+    /// Nothing more will be written.
+    pub(crate) fn end_writing(&self) -> io::Result<()> {
+        self.stream.shutdown(Shutdown::Write)
+    }
+}
+
+/// Whether a call only has to be made again.
+pub(crate) fn has_to_wait(error: &io::Error) -> bool {
+    matches!(error.kind(), ErrorKind::WouldBlock | ErrorKind::Interrupted)
+}

@@ -1,0 +1,124 @@
+//! What an adapter is to do.
+use crate::format::Format;
+use crate::place::Place;
+use base_types::is_name;
+use std::alloc::{AllocError, Global};
+use url::{ParseError, Url};
+
+/// The port of AppSocket.
+const APP_SOCKET: u16 = 9100;
+
+/// What prints.
+#[derive(Debug, Drop)]
+pub enum Target {
+    /// Each job becomes a file of this folder.
+    Folder(String),
+    /// A printer that speaks AppSocket.
+    AppSocket(Place),
+}
+
+/// What an adapter is to do.
+#[derive(Debug, Drop)]
+pub struct Plan {
+    /// The device that it is.
+    pub name: String,
+    /// Where the server's devices come in.
+    pub server: Place,
+    pub target: Target,
+    /// What every document is; where it isn't said, the first bytes tell.
+    pub format: Option<Format>,
+    /// How long a folder takes for a page, in ms.
+    pub ms_per_page: u32,
+    /// How long a printer that has taken all may be silent before the job counts as printed, in ms.
+    pub linger: u64,
+    /// How long a printer may neither take nor say anything, in ms.
+    pub timeout: u64,
+}
+
+/// The words that say what an adapter is to do.
+#[derive(Clone, Copy, Debug)]
+pub struct PlanWords<'a> {
+    pub name: &'a str,
+    pub server: &'a str,
+    pub to: &'a str,
+    pub format: Option<&'a str>,
+    pub ms_per_page: u32,
+    /// In seconds.
+    pub linger: u32,
+    /// In seconds.
+    pub timeout: u32,
+}
+
+/// Which of the words makes no sense.
+#[derive(Clone, Copy, Debug, PartialEq, Eq)]
+pub enum WordFault {
+    /// The name is none of a device.
+    Name,
+    /// The server isn't a host and a port.
+    Server,
+    /// The target isn't one of those that there are.
+    To,
+    OutOfMemory,
+}
+
+impl From<AllocError> for WordFault {
+    fn from(_: AllocError) -> WordFault {
+        WordFault::OutOfMemory
+    }
+}
+
+/// What the words say, or the first of them that makes no sense. Nothing is opened.
+pub fn read_plan(alloc: Global, words: PlanWords<'_>) -> Result<Plan, WordFault> {
+    if !is_name(words.name.as_bytes()) {
+        return Err(WordFault::Name);
+    }
+    let Some(server) = Place::read(alloc, words.server)? else {
+        return Err(WordFault::Server);
+    };
+    Ok(Plan {
+        name: String::from_str(alloc, words.name)?,
+        server,
+        target: read_target(alloc, words.to)?,
+        format: words.format.map(|name| Format::named(name)),
+        ms_per_page: words.ms_per_page,
+        linger: u64::from(words.linger) * 1000,
+        timeout: u64::from(words.timeout) * 1000,
+    })
+}
+
+/// The target that a text names.
+fn read_target(alloc: Global, text: &str) -> Result<Target, WordFault> {
+    if let Some(folder) = text.strip_prefix("file:") {
+        if folder.is_empty() {
+            return Err(WordFault::To);
+        }
+        return Ok(Target::Folder(String::from_str(alloc, folder)?));
+    }
+    let url = match Url::parse(alloc, text) {
+        Ok(url) => url,
+        Err(ParseError::OutOfMemory) => return Err(WordFault::OutOfMemory),
+        Err(_) => return Err(WordFault::To),
+    };
+    read_url(alloc, &url)
+}
+
+/// The target that a URL names.
+fn read_url(alloc: Global, url: &Url) -> Result<Target, WordFault> {
+    let Some(host) = url.host_str() else {
+        return Err(WordFault::To);
+    };
+    let port = url.port().unwrap_or(APP_SOCKET);
+    if url.scheme() != "socket" || !is_bare(url) || port == 0 {
+        return Err(WordFault::To);
+    }
+    Ok(Target::AppSocket(Place::new(alloc, host, port)?))
+}
+
+/// Whether a URL has nothing but a scheme, a host and a port.
+fn is_bare(url: &Url) -> bool {
+    (url.path().is_empty() || url.path() == "/")
+        && url.query().is_none()
+        && url.fragment().is_none()
+        && url.username().is_empty()
+        && url.password().is_none()
+}

@@ -1,0 +1,90 @@
+-- What an attachment promises of its life. Each promise says what may happen next, and is silent of what it doesn't speak of.
+use Rattle.std.specs.Prelude.{ℕ, ◌≡◌, ◌+◌, ◌<◌, ◌≤◌, ◌==◌, if◌then◌else◌, Bool, true, false, List, [], ◌++◌, length, take, drop, Option, Some, None}
+use Rattle.base_types.specs.Report.{SaysReady, SaysStop, SaysPages, SaysDone, SaysFail}
+use Rattle.attachment.specs.declared.state.PrinterState.{PrinterState}
+use Rattle.attachment.specs.declared.state.PrinterState.TheVariants.{Running, Stopped}
+use Rattle.attachment.specs.Life.{Event, Links, Ordered, Came, Canceled, Sent, EndsCopy, Printed, Is, Says}
+
+-- ---- each job is answered once: between a job and the next there is just one DONE or FAIL, and it names that job, as does each PAGES before it. The place is the job that isn't answered yet.
+
+abbrev pub AnswersOnce : Option ℕ → Event → Option ℕ → Type 0
+AnswersOnce asked Links next = next ≡ None
+AnswersOnce asked (Ordered job octets times) next = (asked ≡ None) × (next ≡ Some job)
+AnswersOnce asked (Says (SaysDone job)) next = (asked ≡ Some job) × (next ≡ None)
+AnswersOnce asked (Says (SaysFail job)) next = (asked ≡ Some job) × (next ≡ None)
+AnswersOnce asked (Says (SaysPages job printed)) next = (asked ≡ Some job) × (next ≡ asked)
+AnswersOnce asked event next = next ≡ asked
+
+-- ---- what is sent is the job's: of each copy the octets that came, in order, and the next copy once all of them are sent; DONE once it was sent as often as it is to be, and is printed.
+
+-- a job as it is sent: how many octets it has, those that have come, how many are sent of this copy, the copies sent before, and whether it is printed
+pub record Sending : Type 0 where
+  pub octets : ℕ
+  pub times : ℕ
+  pub came : List ℕ
+  pub sent : ℕ
+  pub copies : ℕ
+  pub printed : Bool
+
+-- these octets are the next of a list behind so many
+abbrev pub AreNext : List ℕ → ℕ → List ℕ → Type 0
+AreNext octets count came = take (length octets) (drop count came) ≡ octets
+
+-- what happens to a job that is sent
+abbrev pub JobSends : Sending → Event → Option Sending → Type 0
+JobSends job Links next = next ≡ None
+JobSends job (Ordered id octets times) next = ⊥
+JobSends job (Came octets) next = (length (job.came ++ octets) ≤ job.octets) × (next ≡ Some (record job { came = job.came ++ octets }))
+JobSends job (Sent octets) next = (job.copies < job.times) × AreNext octets job.sent job.came × (next ≡ Some (record job { sent = job.sent + length octets }))
+JobSends job EndsCopy next = (job.copies < job.times) × (job.sent ≡ job.octets) × (next ≡ Some (record job { sent = 0; copies = job.copies + 1 }))
+JobSends job Printed next = next ≡ Some (record job { printed = true })
+JobSends job (Says (SaysDone id)) next = (job.copies ≡ job.times) × (job.printed ≡ true) × (next ≡ None)
+JobSends job (Says (SaysFail id)) next = next ≡ None
+JobSends job event next = next ≡ Some job
+
+-- no octet comes or is sent without a job
+abbrev pub NothingSends : Event → Option Sending → Type 0
+NothingSends (Ordered id octets times) next = next ≡ Some (record { octets = octets; times = times; came = []; sent = 0; copies = 0; printed = false })
+NothingSends (Came octets) next = ⊥
+NothingSends (Sent octets) next = ⊥
+NothingSends EndsCopy next = ⊥
+NothingSends event next = next ≡ None
+
+abbrev pub SendsTheJob : Option Sending → Event → Option Sending → Type 0
+SendsTheJob None event next = NothingSends event next
+SendsTheJob (Some job) event next = JobSends job event next
+
+-- ---- a cancel is heeded: after it no octet of the job is sent. The place is the job, and whether it is canceled.
+
+pub record Heeded : Type 0 where
+  pub job : ℕ
+  pub canceled : Bool
+
+abbrev pub canceled_if : ℕ → Heeded → Heeded
+canceled_if job at = if at.job == job then record at { canceled = true } else at
+
+abbrev pub JobHeeds : Heeded → Event → Option Heeded → Type 0
+JobHeeds at Links next = next ≡ None
+JobHeeds at (Canceled job) next = next ≡ Some (canceled_if job at)
+JobHeeds at (Sent octets) next = (at.canceled ≡ false) × (next ≡ Some at)
+JobHeeds at (Says (SaysDone job)) next = next ≡ None
+JobHeeds at (Says (SaysFail job)) next = next ≡ None
+JobHeeds at event next = next ≡ Some at
+
+abbrev pub HeedsCancel : Option Heeded → Event → Option Heeded → Type 0
+HeedsCancel None (Ordered job octets times) next = next ≡ Some (record { job = job; canceled = false })
+HeedsCancel None event next = next ≡ None
+HeedsCancel (Some at) event next = JobHeeds at event next
+
+-- ---- READY and STOP alternate as the printer's state does: each is said of the printer as it is then, and not twice. The place is how the printer is, and how the server was told that it is.
+
+pub record Told : Type 0 where
+  pub printer : PrinterState
+  pub told : Option PrinterState
+
+abbrev pub TellsState : Told → Event → Told → Type 0
+TellsState at Links next = next ≡ record at { told = None }
+TellsState at (Is printer) next = next ≡ record at { printer = printer }
+TellsState at (Says SaysReady) next = (at.printer ≡ Running) × (at.told ≡ Some Running → ⊥) × (next ≡ record at { told = Some Running })
+TellsState at (Says SaysStop) next = (at.printer ≡ Stopped) × (at.told ≡ Some Stopped → ⊥) × (next ≡ record at { told = Some Stopped })
+TellsState at event next = next ≡ at

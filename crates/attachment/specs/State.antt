@@ -1,0 +1,117 @@
+-- Where an attachment stands, and what its life was then.
+use Rattle.std.specs.Prelude.{ℕ, ◌+◌, ◌≤◌, ◌==◌, ◌&&◌, if◌then◌else◌, nat_lt, Bool, true, false, List, [], ◌∷◌, ◌++◌, length, drop, Option, Some, None, option_map}
+use Rattle.base_types.specs.declared.report.Report.{Report}
+use Rattle.base_types.specs.Report.{ReportRecord, report_of, SaysReady, SaysStop, SaysPages, SaysDone, SaysFail}
+use Rattle.attachment.specs.declared.state.PrinterState.{PrinterState}
+use Rattle.attachment.specs.declared.state.PrinterState.TheVariants.{Running, Stopped}
+use Rattle.attachment.specs.Life.{Event, Says, Leads}
+use Rattle.attachment.specs.Promises.{Sending, Heeded, Told, AnswersOnce, SendsTheJob, HeedsCancel, TellsState}
+
+-- a job in hand: its octets and those that have come, how often they are to be sent and were sent, how many are sent of this copy, and whether it is canceled
+pub record WorkRecord : Type 0 where
+  pub job : ℕ
+  pub octets : ℕ
+  pub times : ℕ
+  pub came : List ℕ
+  pub sent : ℕ
+  pub copies : ℕ
+  pub canceled : Bool
+
+pub record AttachmentRecord : Type 0 where
+  pub work : Option WorkRecord
+  pub printer : PrinterState
+  pub told : Option PrinterState
+
+abbrev pub id_of : WorkRecord → ℕ
+id_of work = work.job
+
+abbrev pub sending_of : WorkRecord → Sending
+sending_of work = record { octets = work.octets; times = work.times; came = work.came; sent = work.sent; copies = work.copies; printed = false }
+
+abbrev pub heeded_of : WorkRecord → Heeded
+heeded_of work = record { job = work.job; canceled = work.canceled }
+
+abbrev pub told_of : AttachmentRecord → Told
+told_of at = record { printer = at.printer; told = at.told }
+
+-- before anything happens a printer is taken to run
+abbrev pub unsaid : Told
+unsaid = record { printer = Running; told = None }
+
+-- an attachment stands where this life has led, and the life keeps each promise
+pub record Stands (life : List Event) (at : AttachmentRecord) : Type 0 where
+  pub answers : Leads AnswersOnce None life (option_map id_of at.work)
+  pub sends : Leads SendsTheJob None life (option_map sending_of at.work)
+  pub heeds : Leads HeedsCancel None life (option_map heeded_of at.work)
+  pub tells : Leads TellsState unsaid life (told_of at)
+
+-- these events lead an attachment on, whatever its life was
+abbrev pub Lives : AttachmentRecord → List Event → AttachmentRecord → Type 0
+Lives old events new = (life : List Event) → Stands life old → Stands (life ++ events) new
+
+-- what may be sent of a job
+abbrev pub due_of : WorkRecord → List ℕ
+due_of work = if work.canceled then [] else if nat_lt work.copies work.times then drop work.sent work.came else []
+
+abbrev pub due_in : Option WorkRecord → List ℕ
+due_in None = []
+due_in (Some work) = due_of work
+
+-- all octets of a copy are sent
+abbrev pub copy_sent_of : WorkRecord → Bool
+copy_sent_of work = nat_lt work.copies work.times && (work.sent == work.octets)
+
+abbrev pub copy_sent_in : Option WorkRecord → Bool
+copy_sent_in None = false
+copy_sent_in (Some work) = copy_sent_of work
+
+abbrev pub is_sent_in : Option WorkRecord → Bool
+is_sent_in None = false
+is_sent_in (Some work) = work.copies == work.times
+
+-- how many octets of the job are still to come
+abbrev pub HasRoom : Option WorkRecord → ℕ → Type 0
+HasRoom None count = ⊥
+HasRoom (Some work) count = length work.came + count ≤ work.octets
+
+abbrev pub said_by : Option Report → List Event
+said_by None = []
+said_by (Some report) = Says (report_of report) ∷ []
+
+-- a job that the printer has printed is done if it was sent as often as it was to be
+abbrev pub end_report : WorkRecord → ReportRecord
+end_report work = if work.copies == work.times then SaysDone work.job else SaysFail work.job
+
+abbrev pub pages_report : ℕ → WorkRecord → ReportRecord
+pages_report printed work = SaysPages work.job printed
+
+abbrev pub fail_report : WorkRecord → ReportRecord
+fail_report work = SaysFail work.job
+
+-- what is to be said of the printer, where the server doesn't know it
+abbrev pub state_report : PrinterState → Option PrinterState → Option ReportRecord
+state_report Running (Some Running) = None
+state_report Running told = Some SaysReady
+state_report Stopped (Some Stopped) = None
+state_report Stopped told = Some SaysStop
+
+-- ---- what changes
+
+abbrev pub begun : ℕ → ℕ → ℕ → WorkRecord
+begun job octets times = record { job = job; octets = octets; times = times; came = []; sent = 0; copies = 0; canceled = false }
+
+abbrev pub with_came : List ℕ → WorkRecord → WorkRecord
+with_came octets work = record work { came = work.came ++ octets }
+
+abbrev pub with_sent : ℕ → WorkRecord → WorkRecord
+with_sent count work = record work { sent = work.sent + count }
+
+abbrev pub with_copy : WorkRecord → WorkRecord
+with_copy work = record work { sent = 0; copies = work.copies + 1 }
+
+abbrev pub with_cancel : ℕ → WorkRecord → WorkRecord
+with_cancel job work = if work.job == job then record work { canceled = true } else work
+
+-- the same attachment with its job changed
+abbrev pub changed : (WorkRecord → WorkRecord) → AttachmentRecord → AttachmentRecord
+changed change at = record at { work = option_map change at.work }

@@ -1,0 +1,315 @@
+//! An attachment.
+ghost use Rattle.std.specs.Prelude.{ℕ, ◌≡◌, ◌<◌, ◌≤◌, ◌++◌, [], ◌∷◌, None, Some, IfSome, OnOk, OnErr, true, take, length, option_map};
+ghost use Rattle.base_types.specs.Report.{report_of};
+ghost use Rattle.attachment.specs.Life.{Links, Ordered, Came, Canceled, Sent, EndsCopy, Printed, Is};
+ghost use Rattle.attachment.specs.State.{Stands, Lives, HasRoom, copy_sent_in, is_sent_in, due_in, end_report, fail_report, pages_report, state_report, id_of, said_by, begun, with_came, with_sent, with_copy, with_cancel, changed};
+
+use crate::state::PrinterState;
+use crate::work::Work;
+use base_types::{JobId, Report};
+use std::alloc::{AllocError, Global};
+use std::marker::Model;
+
+/// A printer's attachment. In clauses it is a record of the job in hand, of how the printer is, and of how
+/// the server was told that it is.
+#[derive(Debug, Drop)]
+pub struct Attachment {
+    alloc: Global,
+    work: Option<Work>,
+    printer: PrinterState,
+    told: Option<PrinterState>,
+}
+
+impl Model for Attachment {
+    ghost use Rattle.attachment.specs.State.{AttachmentRecord};
+
+    ghost Value = { AttachmentRecord };
+
+    ghost view = { λ a. record { work = a.work; printer = a.printer; told = a.told } };
+}
+
+impl Attachment {
+    /// An attachment to which nothing has happened yet. Its printer is taken to run.
+    pub fn new(alloc: Global) -> Attachment
+        ensures { Stands [] result }
+    {
+        Attachment {
+            alloc,
+            work: None,
+            printer: PrinterState::Running,
+            told: None,
+        }
+    }
+
+    /// A connection to the server begins. A job that there was is gone: the server has aborted it.
+    pub fn link(&mut self)
+        ensures life { Lives self.old (Links ∷ []) self.new }
+        ensures none { self.new.work ≡ None }
+    {
+        self.forget();
+    }
+
+    /// The server brings a job of so many octets, which are to be sent so many times.
+    pub fn order(&mut self, job: JobId, octets: u32, times: u32)
+        requires { self.old.work ≡ None }
+        ensures life { Lives self.old (Ordered job octets times ∷ []) self.new }
+        ensures job { option_map id_of self.new.work ≡ Some job }
+    {
+        self.begin(job, octets, times);
+    }
+
+    /// The job that isn't answered yet.
+    pub fn job(&self) -> Option<JobId>
+        ensures { result ≡ option_map id_of self.now.work }
+    {
+        match &self.work {
+            Some(work) => Some(work.job()),
+            None => None,
+        }
+    }
+
+    /// How many octets of the job are still to come, where there is one.
+    pub fn room(&self) -> Option<usize>
+        ensures { IfSome result (λ room. (count : ℕ) → count ≤ room → HasRoom self.now.work count) }
+    {
+        match &self.work {
+            Some(work) => Some(work.room()),
+            None => None,
+        }
+    }
+
+    /// Octets of the job come. Where there is no memory, none of them is taken.
+    pub fn take(&mut self, octets: &[u8]) -> Result<(), AllocError>
+        requires { HasRoom self.old.work (length octets.now) }
+        ensures life { OnOk result (Lives self.old (Came octets.now ∷ []) self.new) }
+        ensures err { OnErr result (self.new ≡ self.old) }
+    {
+        self.keep(octets)
+    }
+
+    /// The server cancels a job, which is the one in hand or none.
+    pub fn cancel(&mut self, job: JobId)
+        ensures life { Lives self.old (Canceled job ∷ []) self.new }
+        ensures stays { option_map id_of self.new.work ≡ option_map id_of self.old.work }
+    {
+        self.mark(job);
+    }
+
+    /// The octets that may be sent now: none after a cancel.
+    pub fn due(&self) -> &[u8]
+        ensures { result.now ≡ due_in self.now.work }
+    {
+        match &self.work {
+            Some(work) => work.due(),
+            None => &[],
+        }
+    }
+
+    /// The printer took so many octets of those that are due, one at least.
+    pub fn send(&mut self, count: usize)
+        requires some { 0 < count }
+        requires due { count ≤ length (due_in self.old.work) }
+        ensures life { Lives self.old (Sent (take count (due_in self.old.work)) ∷ []) self.new }
+        ensures stays { option_map id_of self.new.work ≡ option_map id_of self.old.work }
+    {
+        self.pass(count);
+    }
+
+    /// Whether the octets of a copy are all sent.
+    pub fn is_copy_sent(&self) -> bool
+        ensures { result ≡ copy_sent_in self.now.work }
+    {
+        match &self.work {
+            Some(work) => work.is_copy_sent(),
+            None => false,
+        }
+    }
+
+    /// A copy is sent; the next is due, if one is to follow.
+    pub fn end_copy(&mut self)
+        requires { copy_sent_in self.old.work ≡ true }
+        ensures life { Lives self.old (EndsCopy ∷ []) self.new }
+        ensures stays { option_map id_of self.new.work ≡ option_map id_of self.old.work }
+    {
+        self.pass_copy();
+    }
+
+    /// Whether the job was sent as often as it is to be.
+    pub fn is_sent(&self) -> bool
+        ensures { result ≡ is_sent_in self.now.work }
+    {
+        match &self.work {
+            Some(work) => work.is_sent(),
+            None => false,
+        }
+    }
+
+    /// What is said where the printer has printed so many impressions of the job, all copies together.
+    pub fn pages(&self, printed: u32) -> Option<Report>
+        ensures life { Lives self.now (said_by result) self.now }
+        ensures value { option_map report_of result ≡ option_map (pages_report printed) self.now.work }
+    {
+        match &self.work {
+            Some(work) => Some(work.pages_report(printed)),
+            None => None,
+        }
+    }
+
+    /// What is said where the printer has printed the job: DONE if it was sent as often as it is to be,
+    /// else FAIL. The job is no longer in hand.
+    pub fn finish(&mut self) -> Option<Report>
+        ensures life { Lives self.old (Printed ∷ said_by result) self.new }
+        ensures value { option_map report_of result ≡ option_map end_report self.old.work }
+        ensures none { self.new.work ≡ None }
+    {
+        let report = self.end_report();
+        self.drop_work();
+        report
+    }
+
+    /// What is said where the job can't be printed: FAIL. It is no longer in hand.
+    pub fn fail(&mut self) -> Option<Report>
+        ensures life { Lives self.old (said_by result) self.new }
+        ensures value { option_map report_of result ≡ option_map fail_report self.old.work }
+        ensures none { self.new.work ≡ None }
+    {
+        let report = self.fail_report();
+        self.drop_work();
+        report
+    }
+
+    /// The printer is so from now on.
+    pub fn set_printer(&mut self, printer: PrinterState)
+        ensures life { Lives self.old (Is printer ∷ []) self.new }
+        ensures stays { self.new.work ≡ self.old.work }
+    {
+        self.put_printer(printer);
+    }
+
+    /// What is to be said of the printer's state, where the server doesn't know it.
+    pub fn tell(&mut self) -> Option<Report>
+        ensures life { Lives self.old (said_by result) self.new }
+        ensures value { option_map report_of result ≡ state_report self.old.printer self.old.told }
+        ensures stays { self.new.work ≡ self.old.work }
+    {
+        let report = self.due_report();
+        self.mark_told();
+        report
+    }
+
+    /// What is to be said of the printer's state.
+    fn due_report(&self) -> Option<Report>
+        ensures { option_map report_of result ≡ state_report self.now.printer self.now.told }
+    {
+        state_report(self.printer, self.told)
+    }
+
+    /// The printer's state is told.
+    fn mark_told(&mut self)
+        ensures { self.new ≡ record self.old { told = Some self.old.printer } }
+    {
+        self.told = Some(self.printer);
+    }
+
+    /// Has a printer that is so.
+    fn put_printer(&mut self, printer: PrinterState)
+        ensures { self.new ≡ record self.old { printer = printer } }
+    {
+        self.printer = printer;
+    }
+
+    /// What is said of a job that is printed.
+    fn end_report(&self) -> Option<Report>
+        ensures { option_map report_of result ≡ option_map end_report self.now.work }
+    {
+        match &self.work {
+            Some(work) => Some(work.end_report()),
+            None => None,
+        }
+    }
+
+    /// What is said of a job that can't be printed.
+    fn fail_report(&self) -> Option<Report>
+        ensures { option_map report_of result ≡ option_map fail_report self.now.work }
+    {
+        match &self.work {
+            Some(work) => Some(work.fail_report()),
+            None => None,
+        }
+    }
+
+    /// Has no job, and has told nothing.
+    fn forget(&mut self)
+        ensures { self.new ≡ record self.old { work = None; told = None } }
+    {
+        self.work = None;
+        self.told = None;
+    }
+
+    /// Has no job.
+    fn drop_work(&mut self)
+        ensures { self.new ≡ record self.old { work = None } }
+    {
+        self.work = None;
+    }
+
+    /// Has this job.
+    fn begin(&mut self, job: JobId, octets: u32, times: u32)
+        ensures { self.new ≡ record self.old { work = Some (begun job octets times) } }
+    {
+        self.work = Some(Work::new(self.alloc, job, octets, times));
+    }
+
+    /// Keeps octets of the job.
+    fn keep(&mut self, octets: &[u8]) -> Result<(), AllocError>
+        requires { HasRoom self.old.work (length octets.now) }
+        ensures ok { OnOk result (self.new ≡ changed (with_came octets.now) self.old) }
+        ensures err { OnErr result (self.new ≡ self.old) }
+    {
+        match &mut self.work {
+            Some(work) => work.take(octets),
+            None => unreachable!(),
+        }
+    }
+
+    /// Marks a job as canceled.
+    fn mark(&mut self, job: JobId)
+        ensures { self.new ≡ changed (with_cancel job) self.old }
+    {
+        if let Some(work) = &mut self.work {
+            work.cancel(job);
+        }
+    }
+
+    /// Goes past octets that are sent.
+    fn pass(&mut self, count: usize)
+        requires { count ≤ length (due_in self.old.work) }
+        ensures { self.new ≡ changed (with_sent count) self.old }
+    {
+        if let Some(work) = &mut self.work {
+            work.send(count);
+        }
+    }
+
+    /// Goes on with the next copy.
+    fn pass_copy(&mut self)
+        requires { copy_sent_in self.old.work ≡ true }
+        ensures { self.new ≡ changed with_copy self.old }
+    {
+        if let Some(work) = &mut self.work {
+            work.end_copy();
+        }
+    }
+}
+
+/// What is to be said of a printer, of which the server was told so.
+fn state_report(printer: PrinterState, told: Option<PrinterState>) -> Option<Report>
+    ensures { option_map report_of result ≡ state_report printer told }
+{
+    match (printer, told) {
+        (PrinterState::Running, Some(PrinterState::Running)) => None,
+        (PrinterState::Running, _) => Some(Report::Ready),
+        (PrinterState::Stopped, Some(PrinterState::Stopped)) => None,
+        (PrinterState::Stopped, _) => Some(Report::Stop),
+    }
+}

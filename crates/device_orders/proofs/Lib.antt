@@ -1,0 +1,4 @@
+mod Words
+mod Streams
+mod Written
+mod Told

@@ -1,0 +1,53 @@
+-- The lines that a device writes.
+use Rattle.std.specs.Prelude.{ℕ, ◌≡◌, ◌≤◌, All, IsTrue, List, [], ◌∷◌, ◌++◌, Some, codes}
+use Rattle.std.specs.Fmt.{decimal}
+use Rattle.base_types.specs.declared.limits.TheConstants.Limits.{LAST_JOB_ID, BUSY}
+use Rattle.base_types.specs.Forms.{is_name, is_media}
+use Rattle.base_types.specs.Report.{ReportRecord, SaysHello, SaysMedia, SaysReady, SaysStop, SaysBusy, SaysPages, SaysDone, SaysFail, IsGone}
+use Rattle.device_link.specs.Line.{said}
+use Rattle.text.specs.Parts.{words_of}
+
+abbrev pub hello_line : List ℕ → List ℕ
+hello_line name = codes "HELLO " ++ (name ++ codes "\n")
+
+-- the names, the first behind this separator and each other behind a comma
+abbrev pub listed : ℕ → List (List ℕ) → List ℕ
+listed separator [] = []
+listed separator (name ∷ names) = (separator ∷ name) ++ listed 44 names
+
+abbrev pub media_line : List (List ℕ) → List ℕ
+media_line names = codes "MEDIA" ++ (listed 32 names ++ codes "\n")
+
+abbrev pub number_line : List ℕ → ℕ → List ℕ
+number_line word number = word ++ (codes " " ++ (decimal number ++ codes "\n"))
+
+abbrev pub pages_line : ℕ → ℕ → List ℕ
+pages_line job printed = codes "PAGES " ++ (decimal job ++ (codes " " ++ (decimal printed ++ codes "\n")))
+
+-- that its connection has ended a device can't write
+abbrev pub report_line : ReportRecord → List ℕ
+report_line (SaysHello name) = hello_line name
+report_line (SaysMedia names) = media_line names
+report_line SaysReady = codes "READY\n"
+report_line SaysStop = codes "STOP\n"
+report_line (SaysBusy time) = number_line (codes "BUSY") time
+report_line (SaysPages job printed) = pages_line job printed
+report_line (SaysDone job) = number_line (codes "DONE") job
+report_line (SaysFail job) = number_line (codes "FAIL") job
+report_line IsGone = []
+
+-- what of a report has a line: names are names, and numbers are in range
+abbrev pub HasLine : ReportRecord → Type 0
+HasLine (SaysHello name) = IsTrue (is_name name)
+HasLine (SaysMedia names) = All (λ name. IsTrue (is_media name)) names
+HasLine SaysReady = Unit {0}
+HasLine SaysStop = Unit {0}
+HasLine (SaysBusy time) = time ≤ BUSY
+HasLine (SaysPages job printed) = (job ≤ LAST_JOB_ID) × (printed ≤ LAST_JOB_ID)
+HasLine (SaysDone job) = job ≤ LAST_JOB_ID
+HasLine (SaysFail job) = job ≤ LAST_JOB_ID
+HasLine IsGone = ⊥
+
+-- the line of a report, without its line feed, says just that report
+abbrev pub ReadAsMeant : Type 0
+ReadAsMeant = (report : ReportRecord) → HasLine report → (line : List ℕ) × (report_line report ≡ line ++ codes "\n") × (said (words_of line) ≡ Some report)

@@ -1,0 +1,64 @@
+//! `printd attach`.
+use crate::failure::cannot;
+use attach::{PlanWords, WordFault, attach, read_plan};
+use command_line::Attaching;
+use std::io;
+use streams::ExitStatus;
+
+/// Attaches a printer, until told to stop; the error is one of what was said.
+pub(crate) fn run_attach(
+    rt: &HostRuntime,
+    attaching: Attaching<'_>,
+) -> Result<ExitStatus, ExitStatus> {
+    let words = PlanWords {
+        name: attaching.name,
+        server: attaching.server,
+        to: attaching.to,
+        format: attaching.format,
+        ms_per_page: attaching.ms_per_page,
+        linger: attaching.linger,
+        timeout: attaching.timeout,
+    };
+    let plan = read_plan(rt.alloc(), words).map_err(|fault| refuse(rt, fault, words))?;
+    let mut errors = rt.stderr();
+    match attach(
+        rt.alloc(),
+        rt,
+        plan,
+        attaching.turns,
+        attaching.log,
+        &mut errors,
+    ) {
+        Ok(()) => Ok(ExitStatus::Done),
+        Err(error) => Err(cannot(rt, "attach a printer", error)),
+    }
+}
+
+/// Says which word makes no sense, and gives the status.
+fn refuse(rt: &HostRuntime, fault: WordFault, words: PlanWords<'_>) -> ExitStatus {
+    let said = match fault {
+        WordFault::Name => say(
+            rt,
+            "--name",
+            words.name,
+            "letters, digits, _ and -, 32 at most",
+        ),
+        WordFault::Server => say(rt, "--server", words.server, "HOST:PORT"),
+        WordFault::To => say(rt, "--to", words.to, "file:DIR or socket://HOST[:PORT]"),
+        WordFault::OutOfMemory => return cannot(rt, "attach a printer", out_of_memory()),
+    };
+    match said {
+        Ok(()) => ExitStatus::Refused,
+        Err(_) => ExitStatus::Failed,
+    }
+}
+
+/// The error that there is no memory.
+fn out_of_memory() -> io::Error {
+    io::Error::from(io::ErrorKind::OutOfMemory)
+}
+
+/// Says that a word makes no sense, and what does.
+fn say(rt: &HostRuntime, option: &str, value: &str, wanted: &str) -> io::Result<()> {
+    eprintln!(rt; "error: '{value}' makes no sense for {option}: it is {wanted}")
+}

@@ -1,0 +1,86 @@
+#!/usr/bin/env python3
+"""A printer that speaks AppSocket: it takes what each connection brings, and keeps it.
+
+    printer.py PORT FOLDER [FAULT ..]
+
+The bytes of the connections go to FOLDER/1, FOLDER/2 and so on; once the other side has ended, the printer
+closes. FAULT N of the list is what it does at connection N instead, and after the last of them all is well:
+
+    well         nothing else
+    early        it closes after 1,000 bytes, without reading on
+    reset        it resets the connection after 1,000 bytes
+    stall        it reads 1,000 bytes and then nothing more, and keeps the connection
+    open         it reads all, and doesn't close by itself
+    slow         it reads 10,000 bytes a second
+    talk         it writes 100,000 bytes of nonsense and then reads all
+
+It ends with SIGTERM.
+"""
+import pathlib
+import socket
+import struct
+import sys
+import threading
+import time
+
+FIRST = 1000
+
+
+def rest_of(connection, taken):
+    """Adds what still comes to the bytes taken."""
+    while part := connection.recv(65536):
+        taken.extend(part)
+
+
+def serve_slowly(connection, taken):
+    """Adds what still comes, at ten kilobytes a second."""
+    while part := connection.recv(1000):
+        taken.extend(part)
+        time.sleep(0.1)
+
+
+def serve(connection, fault, taken):
+    """Takes a connection's bytes, or does what the fault says."""
+    if fault in ("early", "reset", "stall"):
+        while len(taken) < FIRST and (part := connection.recv(FIRST - len(taken))):
+            taken.extend(part)
+    if fault == "reset":
+        connection.setsockopt(socket.SOL_SOCKET, socket.SO_LINGER, struct.pack("ii", 1, 0))
+    if fault in ("early", "reset"):
+        return
+    if fault == "stall":
+        time.sleep(3600)
+    if fault == "slow":
+        serve_slowly(connection, taken)
+        return
+    if fault == "talk":
+        connection.sendall(b"nonsense\r\n" * 10000)
+    rest_of(connection, taken)
+    if fault == "open":
+        time.sleep(3600)
+
+
+def keep(connection, fault, path):
+    """Serves a connection, and keeps its bytes."""
+    taken = bytearray()
+    try:
+        with connection:
+            serve(connection, fault, taken)
+    except OSError as error:
+        print(path.name, error, flush=True)
+    finally:
+        path.write_bytes(taken)
+
+
+def main():
+    port, folder, faults = int(sys.argv[1]), pathlib.Path(sys.argv[2]), sys.argv[3:]
+    folder.mkdir(parents=True, exist_ok=True)
+    with socket.create_server(("127.0.0.1", port)) as listener:
+        for number in range(1, 1_000_000):
+            connection, _ = listener.accept()
+            fault = faults[number - 1] if number <= len(faults) else "well"
+            threading.Thread(target=keep, args=(connection, fault, folder / str(number)), daemon=True).start()
+
+
+if __name__ == "__main__":
+    main()
