@@ -107,7 +107,7 @@ impl Link {
         if !self.readable {
             return Err(waits());
         }
-        if !self.much {
+        if !self.much || !self.ahead.has_room() {
             return self.read_piece(buffer);
         }
         self.read_ahead()?;
