@@ -25,7 +25,8 @@ const FIRST_LISTENER: usize = usize::MAX;
 /// Listeners at the three doors, and the connections that they accepted.
 ///
 /// A client that is silent for a minute, or takes longer than that for 4,096 bytes to which nothing is
-/// answered, is taken as one that has ended. A device never is.
+/// answered, is taken as one that has ended; so is a device of which nothing came for a minute, and no other.
+/// That is judged only where a call has to wait: what is there is read, however late.
 #[derive(Drop)]
 pub struct Sockets {
     alloc: Global,
@@ -170,7 +171,7 @@ impl Sockets {
             Token(self.links.vacant_key()),
             Interest::READABLE | Interest::WRITABLE,
         )?;
-        let link = Link::new(self.alloc, stream, self.moment, door != Door::Devices);
+        let link = Link::new(self.alloc, stream, self.moment, door == Door::Devices);
         Ok((link, peer))
     }
 
@@ -183,19 +184,14 @@ impl Sockets {
         }
     }
 
-    /// Whether the peer of this number has no time left.
-    fn has_no_time(&mut self, id: WireId) -> bool
+    /// The peer of this number has no time left.
+    fn falls_silent(&mut self, id: WireId)
         ensures { self.new.failures ≡ self.old.failures }
     {
-        let Some(link) = self.links.get_mut(id as usize) else {
-            return false;
-        };
-        let over = link.is_over(self.moment);
-        if over {
+        if let Some(link) = self.links.get_mut(id as usize) {
             link.leaves(Leave::Silent);
-            self.worked = true;
         }
-        over
+        self.worked = true;
     }
 
     /// The connection of this number is broken.
@@ -258,13 +254,11 @@ impl Wire for Sockets {
         if buffer.is_empty() {
             return Answer::Waiting;
         }
-        if self.has_no_time(id) {
-            return Answer::End;
-        }
         let moment = self.moment;
         let Some(link) = self.links.get_mut(id as usize) else {
             return Answer::End;
         };
+        let over = link.is_over(moment);
         match link.read(buffer, moment) {
             Ok(0) => {
                 link.leaves(Leave::Left);
@@ -279,18 +273,20 @@ impl Wire for Sockets {
                 self.breaks(id);
                 Answer::Fault
             }
+            Err(_) if over => {
+                self.falls_silent(id);
+                Answer::End
+            }
             Err(_) => Answer::Waiting,
         }
     }
 
     fn poll_write(&mut self, id: WireId, bytes: &[IoSlice<'_>]) -> Answer<usize> {
-        if self.has_no_time(id) {
-            return Answer::End;
-        }
         let moment = self.moment;
         let Some(link) = self.links.get_mut(id as usize) else {
             return Answer::End;
         };
+        let over = link.is_over(moment);
         match link.write(bytes, moment) {
             Ok(0) => Answer::Waiting,
             Ok(count) => {
@@ -300,6 +296,10 @@ impl Wire for Sockets {
             Err(error) if self.counts_fault(error) => {
                 self.breaks(id);
                 Answer::Fault
+            }
+            Err(_) if over => {
+                self.falls_silent(id);
+                Answer::End
             }
             Err(_) => Answer::Waiting,
         }
