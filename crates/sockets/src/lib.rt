@@ -9,7 +9,9 @@
 #![tactic(auto)]
 
 mod ahead;
+mod allowance;
 mod entrance;
+mod lingering;
 mod link;
 mod patience;
 mod sockets;

@@ -59,6 +59,11 @@ impl Link {
         self.leave = leave;
     }
 
+    /// Its socket; what was read ahead is gone.
+    pub(crate) fn into_stream(self) -> TcpStream {
+        self.stream
+    }
+
     /// Takes what a wait told.
     pub(crate) fn told(&mut self, event: &Event) {
         self.ends |= event.is_read_closed() || event.is_error();

@@ -2,6 +2,7 @@
 ghost use Rattle.std.specs.Prelude.{◌≡◌, ◌+◌, false, if◌then◌else◌};
 
 use crate::entrance::{Entrance, Entrances, Listening};
+use crate::lingering::Lingerings;
 use crate::link::Link;
 use crate::visits::{Leave, Visit, Visits};
 use base_types::{Limits, Moment};
@@ -19,7 +20,7 @@ use wires::{Answer, Door, Wire, WireId};
 const EVENTS: usize = 128;
 
 /// Waits tell of the first listener under this number, of the next under the one before it, and so on;
-/// of a connection under its own number.
+/// of a connection under its own number. Between them are those that were given up.
 const FIRST_LISTENER: usize = usize::MAX;
 
 /// Listeners at the three doors, and the connections that they accepted.
@@ -32,6 +33,8 @@ pub struct Sockets {
     alloc: Global,
     entrances: Entrances,
     links: Slab<Link>,
+    /// Those that were given up, and are read on for a while.
+    lingerings: Lingerings,
     poll: Poll,
     events: Events,
     failures: u64,
@@ -46,11 +49,17 @@ pub struct Sockets {
 }
 
 /// Hands each socket what a wait told of it.
-fn tell(events: &Events, entrances: &mut Entrances, links: &mut Slab<Link>) {
+fn tell(
+    events: &Events,
+    entrances: &mut Entrances,
+    links: &mut Slab<Link>,
+    lingerings: &mut Lingerings,
+) {
     for event in events.iter() {
         let Token(key) = event.token();
         match links.get_mut(key) {
             Some(link) => link.told(event),
+            None if lingerings.told(event) => {}
             None => entrances.told(FIRST_LISTENER - key),
         }
     }
@@ -72,6 +81,7 @@ impl Sockets {
             alloc,
             entrances: Entrances::new(alloc),
             links: Slab::with_capacity(alloc, Limits::CONNECTIONS)?,
+            lingerings: Lingerings::new(alloc)?,
             events: Events::with_capacity(alloc, EVENTS)?,
             poll: Poll::new(net)?,
             failures: 0,
@@ -129,7 +139,13 @@ impl Sockets {
         if self.events.is_empty() && !most.is_zero() {
             rest(&mut self.links);
         }
-        tell(&self.events, &mut self.entrances, &mut self.links);
+        tell(
+            &self.events,
+            &mut self.entrances,
+            &mut self.links,
+            &mut self.lingerings,
+        );
+        self.lingerings.drain(self.moment);
         Ok(())
     }
 
@@ -138,9 +154,9 @@ impl Sockets {
         self.waited == self.moment
     }
 
-    /// The ms until the first client has no time left, at most so many.
+    /// The ms until the first client has no time left, or one that was given up, at most so many.
     pub fn time_left(&self, most: u64) -> u64 {
-        let mut least = most;
+        let mut least = self.lingerings.left(self.moment, most);
         for key in 0..self.links.capacity() {
             if let Some(link) = self.links.get(key) {
                 least = link.left(self.moment).unwrap_or(most).min(least);
@@ -202,6 +218,16 @@ impl Sockets {
             link.leaves(Leave::Broken);
         }
         self.worked = true;
+    }
+
+    /// Gives a connection up. One whose peer may still send is read on for a while.
+    fn lets_go(&mut self, link: Link)
+        ensures { self.new.failures ≡ self.old.failures }
+    {
+        if link.leave() == Leave::Served {
+            let stream = link.into_stream();
+            let _kept = self.lingerings.add(&self.poll, stream, self.moment);
+        }
     }
 
     /// Counts a failed call, unless it would only have waited or the count is full: whether it was
@@ -311,6 +337,7 @@ impl Wire for Sockets {
                 id,
                 leave: link.leave(),
             });
+            self.lets_go(link);
         }
         self.worked = true;
     }
