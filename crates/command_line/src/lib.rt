@@ -10,5 +10,5 @@ mod asked;
 mod doors;
 mod read;
 
-pub use asked::{AboutSettings, Asked, Serving};
+pub use asked::{AboutSettings, Asked, Log, Serving};
 pub use read::read_words;

@@ -4,6 +4,7 @@
 #![tactic(auto)]
 
 mod failure;
+mod log_output;
 mod serving;
 mod settings;
 
