@@ -11,6 +11,7 @@
 mod ahead;
 mod allowance;
 mod entrance;
+mod keepalive;
 mod lingering;
 mod link;
 mod patience;

@@ -2,6 +2,7 @@
 ghost use Rattle.std.specs.Prelude.{◌≡◌, ◌+◌, false, if◌then◌else◌};
 
 use crate::entrance::{Entrance, Entrances, Listening};
+use crate::keepalive::probe;
 use crate::lingering::Lingerings;
 use crate::link::Link;
 use crate::visits::{Leave, Visit, Visits};
@@ -176,7 +177,7 @@ impl Sockets {
     }
 
     /// The next connection of a door, of which waits tell under the next free number: what is written
-    /// to it goes out at once.
+    /// to it goes out at once, and a device that is silent is probed.
     fn accept(&mut self, door: Door) -> io::Result<(Link, SocketAddr)>
         ensures { self.new.failures ≡ self.old.failures }
     {
@@ -187,7 +188,9 @@ impl Sockets {
             Token(self.links.vacant_key()),
             Interest::READABLE | Interest::WRITABLE,
         )?;
-        let link = Link::new(self.alloc, stream, self.moment, door == Door::Devices);
+        let device = door == Door::Devices;
+        let _probed = device && probe(&stream);
+        let link = Link::new(self.alloc, stream, self.moment, device);
         Ok((link, peer))
     }
 
