@@ -29,8 +29,16 @@ pub struct Serving<'a> {
     pub lpd: Vec<SocketAddr>,
     pub devices: Vec<SocketAddr>,
     pub turns: u64,
-    /// Whether what happens is written to standard error.
-    pub log: bool,
+    /// Where what happens is written, if it is.
+    pub log: Option<Log<'a>>,
+}
+
+/// Where a log goes.
+#[derive(Clone, Copy, Debug, PartialEq, Eq)]
+pub enum Log<'a> {
+    StandardError,
+    /// The end of this file.
+    File(&'a str),
 }
 
 /// What is asked about settings.

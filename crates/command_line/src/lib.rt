@@ -11,6 +11,6 @@ mod attach_words;
 mod doors;
 mod read;
 
-pub use asked::{AboutSettings, Asked, Serving};
+pub use asked::{AboutSettings, Asked, Log, Serving};
 pub use attach_words::Attaching;
 pub use read::read_words;

@@ -1,6 +1,6 @@
 //! The commands of `printd`, as `clap` reads them.
 
-use crate::asked::{AboutSettings, Asked, Serving};
+use crate::asked::{AboutSettings, Asked, Log, Serving};
 use crate::attach_words::{attach_command, attach_words};
 use crate::doors::{WordsError, addresses, default_address};
 use clap::error::ErrorKind;
@@ -17,6 +17,9 @@ const LPD_PORT: u16 = 515;
 
 /// Turns without an end: at ten a second, three thousand years.
 const MOST_TURNS: u64 = 1_000_000_000_000;
+
+/// What stands for standard error in the place of a file.
+const STANDARD_ERROR: &str = "-";
 
 /// Where clients of a door come in; it may be given several times.
 fn door<'a>(alloc: Global, name: &'a str, port: &'a str, help: &'a str) -> Arg<'a> {
@@ -43,6 +46,18 @@ fn address<'a>(alloc: Global) -> Arg<'a> {
         .value_name("ADDRESS")
         .default_value("127.0.0.1")
         .help("The address of each door that names none")
+}
+
+fn log<'a>(alloc: Global) -> Arg<'a> {
+    Arg::new(alloc, "log")
+        .long("log")
+        .action(ArgAction::Set)
+        .value_name("FILE")
+        .num_args(0..=1)
+        .default_missing_value(STANDARD_ERROR)
+        .help(
+            "Append what happens to a file; without its name, or with -, write it to standard error",
+        )
 }
 
 fn turns<'a>(alloc: Global) -> Arg<'a> {
@@ -75,11 +90,7 @@ fn serve_command<'a>(alloc: Global) -> Result<Command<'a>, AllocError> {
         .arg(door(alloc, "devices", "8632", "Where devices come in"))?
         .arg(address(alloc))?
         .arg(turns(alloc))?
-        .arg(flag(
-            alloc,
-            "log",
-            "Write plans, starts and cancels to standard error",
-        ))
+        .arg(log(alloc))
 }
 
 fn settings_command<'a>(alloc: Global) -> Result<Command<'a>, AllocError> {
@@ -155,6 +166,15 @@ fn parse<'a>(alloc: Global, words: &'a [&'a str]) -> Result<ArgMatches<'a>, Erro
     command(alloc)?.try_get_matches_from(words)
 }
 
+/// Where a log goes, by its word.
+fn log_to(word: &str) -> Log<'_> {
+    if word == STANDARD_ERROR {
+        Log::StandardError
+    } else {
+        Log::File(word)
+    }
+}
+
 /// How to serve. The error is the text about the words that make no sense, or out of memory.
 fn serve_words<'a>(alloc: Global, found: &ArgMatches<'a>) -> Result<Serving<'a>, WordsError> {
     let address = default_address(alloc, found)?;
@@ -164,7 +184,7 @@ fn serve_words<'a>(alloc: Global, found: &ArgMatches<'a>) -> Result<Serving<'a>,
         lpd: addresses(alloc, found, "lpd", address)?,
         devices: addresses(alloc, found, "devices", address)?,
         turns: found.get_one::<u64>("turns").unwrap_or(MOST_TURNS),
-        log: found.get_flag("log"),
+        log: found.get_str("log").map(log_to),
     })
 }
 

@@ -6,6 +6,7 @@
 
 mod attaching;
 mod failure;
+mod log_output;
 mod serving;
 mod settings;
 

@@ -1,9 +1,10 @@
 //! The server over the system's sockets.
 ghost use Rattle.settings_file.specs.Settings.{MeetsLimits};
 
-use crate::failure::cannot;
+use crate::failure::{cannot, cannot_with};
+use crate::log_output::{LogFile, LogOutput};
 use crate::settings::{built_in, settings_of};
-use command_line::Serving;
+use command_line::{Log, Serving};
 use serve::serve;
 use settings_file::Settings;
 use sockets::{Listening, Sockets};
@@ -87,6 +88,21 @@ fn open(rt: &HostRuntime, serving: &Serving<'_>) -> Result<Sockets, ExitStatus> 
     Ok(sockets)
 }
 
+/// Where the log goes, if there is one.
+fn log_of<'a>(
+    rt: &'a HostRuntime,
+    serving: &Serving<'a>,
+) -> Result<Option<LogOutput<'a>>, ExitStatus> {
+    match serving.log {
+        None => Ok(None),
+        Some(Log::StandardError) => Ok(Some(LogOutput::StandardError(rt.stderr()))),
+        Some(Log::File(path)) => match LogFile::open(rt, path) {
+            Ok(file) => Ok(Some(LogOutput::File(file))),
+            Err(error) => Err(cannot_with(rt, "append to", path, error)),
+        },
+    }
+}
+
 /// Serves with these settings.
 fn serve_settings(
     rt: &HostRuntime,
@@ -95,10 +111,16 @@ fn serve_settings(
 ) -> Result<ExitStatus, ExitStatus>
     requires { MeetsLimits settings }
 {
+    let mut log = log_of(rt, serving)?;
     let sockets = open(rt, serving)?;
-    let mut errors = rt.stderr();
-    let log = if serving.log { Some(&mut errors) } else { None };
-    match serve(rt.alloc(), rt, sockets, settings, serving.turns, log) {
+    match serve(
+        rt.alloc(),
+        rt,
+        sockets,
+        settings,
+        serving.turns,
+        log.as_mut(),
+    ) {
         Ok(()) => Ok(ExitStatus::Done),
         Err(error) => Err(cannot(rt, "go on serving", error)),
     }

@@ -5,7 +5,7 @@ use std::test::Fail;
 use streams::ExitStatus;
 
 /// Lines of words that are read, and what they ask for.
-const READ: [(&str, &str); 13] = [
+const READ: [(&str, &str); 14] = [
     ("printd replay", "Replay { plans: false }"),
     ("printd replay --plans", "Replay { plans: true }"),
     ("printd check", "Check { starts: false }"),
@@ -25,23 +25,27 @@ const READ: [(&str, &str); 13] = [
     ),
     (
         "printd serve",
-        "Serve(Serving { settings: None, ipp: [127.0.0.1:8631], lpd: [127.0.0.1:8515], devices: [127.0.0.1:8632], turns: 1000000000000, log: false })",
+        "Serve(Serving { settings: None, ipp: [127.0.0.1:8631], lpd: [127.0.0.1:8515], devices: [127.0.0.1:8632], turns: 1000000000000, log: None })",
     ),
     (
         "printd serve --settings lab.toml --ipp 631 --lpd 515 --devices 0 --log --turns 7",
-        "Serve(Serving { settings: Some(\"lab.toml\"), ipp: [127.0.0.1:631], lpd: [127.0.0.1:515], devices: [127.0.0.1:0], turns: 7, log: true })",
+        "Serve(Serving { settings: Some(\"lab.toml\"), ipp: [127.0.0.1:631], lpd: [127.0.0.1:515], devices: [127.0.0.1:0], turns: 7, log: Some(StandardError) })",
+    ),
+    (
+        "printd serve --log printd.log --ipp 631",
+        "Serve(Serving { settings: None, ipp: [127.0.0.1:631], lpd: [127.0.0.1:8515], devices: [127.0.0.1:8632], turns: 1000000000000, log: Some(File(\"printd.log\")) })",
     ),
     (
         "printd serve --address 0.0.0.0 --ipp 631 --devices 127.0.0.1:8632",
-        "Serve(Serving { settings: None, ipp: [0.0.0.0:631], lpd: [0.0.0.0:8515], devices: [127.0.0.1:8632], turns: 1000000000000, log: false })",
+        "Serve(Serving { settings: None, ipp: [0.0.0.0:631], lpd: [0.0.0.0:8515], devices: [127.0.0.1:8632], turns: 1000000000000, log: None })",
     ),
     (
         "printd serve --ipp 10.0.0.1:631 --ipp [::1]:632 --lpd 515 --lpd 516",
-        "Serve(Serving { settings: None, ipp: [10.0.0.1:631, [::1]:632], lpd: [127.0.0.1:515, 127.0.0.1:516], devices: [127.0.0.1:8632], turns: 1000000000000, log: false })",
+        "Serve(Serving { settings: None, ipp: [10.0.0.1:631, [::1]:632], lpd: [127.0.0.1:515, 127.0.0.1:516], devices: [127.0.0.1:8632], turns: 1000000000000, log: None })",
     ),
     (
         "printd serve --address ::",
-        "Serve(Serving { settings: None, ipp: [[::]:8631], lpd: [[::]:8515], devices: [[::]:8632], turns: 1000000000000, log: false })",
+        "Serve(Serving { settings: None, ipp: [[::]:8631], lpd: [[::]:8515], devices: [[::]:8632], turns: 1000000000000, log: None })",
     ),
 ];
 

@@ -11,6 +11,7 @@
 mod clock;
 mod ends;
 mod log;
+mod log_writer;
 mod run;
 
 pub use run::{Server, serve};

@@ -4,6 +4,7 @@ ghost use Rattle.settings_file.specs.Settings.{MeetsLimits};
 use crate::clock::moment_since;
 use crate::ends::Begun;
 use crate::log::Lines;
+use crate::log_writer::LogWriter;
 use assignment::Lazy;
 use base_types::{Moment, Text};
 use dispatcher::Dispatched;
@@ -113,8 +114,9 @@ impl Server {
 }
 
 /// Serves with these settings over sockets that listen: so many turns, each at the ms since the first,
-/// with a log of what happens where one is given. A log that can't be written stops nothing. The error
-/// is the clock's or the system's, or out of memory.
+/// with a log of what happens where one is given. A log that can't be written stops nothing: the output is
+/// to answer a write that would wait with an error, and the lines are dropped and counted. The error is the
+/// clock's or the system's, or out of memory.
 pub fn serve<W: Write>(
     alloc: Global,
     clock: &impl Clock,
@@ -127,7 +129,9 @@ pub fn serve<W: Write>(
 {
     let mut server = Server::new(alloc, sockets, settings)?;
     match log {
-        Some(log) => take_logged_turns(clock, &mut server, turns, log),
+        Some(log) => {
+            take_logged_turns(clock, &mut server, turns, &mut LogWriter::new(alloc, log))
+        }
         None => take_turns(clock, &mut server, turns),
     }
 }
@@ -147,7 +151,7 @@ fn take_logged_turns<W: Write>(
     clock: &impl Clock,
     server: &mut Server,
     turns: u64,
-    log: &mut W,
+    log: &mut LogWriter<'_, W>,
 ) -> io::Result<()> {
     let start = Instant::now(clock)?;
     for _ in 0..turns {
@@ -159,11 +163,11 @@ fn take_logged_turns<W: Write>(
 }
 
 /// Writes the lines of a turn, or says that there was no memory for them.
-fn put_lines<W: Write>(heard: Result<Vec<u8>, AllocError>, log: &mut W) {
-    let _written = match heard {
-        Ok(lines) => log.write_all(&lines),
-        Err(AllocError) => log.write_all(b"no memory for the log\n"),
-    };
+fn put_lines<W: Write>(heard: Result<Vec<u8>, AllocError>, log: &mut LogWriter<'_, W>) {
+    match heard {
+        Ok(lines) => log.put(&lines),
+        Err(AllocError) => log.put(b"no memory for the log\n"),
+    }
 }
 
 /// A listener that keeps nothing.

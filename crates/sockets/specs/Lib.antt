@@ -1,2 +1,3 @@
+pub mod Allowance
 pub mod Patience
 pub mod Visits

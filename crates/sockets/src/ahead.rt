@@ -59,12 +59,22 @@ impl Ahead {
         count
     }
 
-    /// Reads what a socket has; the count is 0 where none will come any more. What wasn't taken before is
-    /// gone.
-    pub(crate) fn read(&mut self, stream: &mut TcpStream) -> io::Result<usize> {
+    /// Whether there is memory to read into, which is taken now where it wasn't yet.
+    pub(crate) fn has_room(&mut self) -> bool {
         if self.bytes.is_empty() {
-            self.bytes = vec![in self.alloc; 0; AHEAD]?;
+            self.start = 0;
+            self.end = 0;
+            match vec![in self.alloc; 0; AHEAD] {
+                Ok(bytes) => self.bytes = bytes,
+                Err(AllocError) => return false,
+            }
         }
+        true
+    }
+
+    /// Reads what a socket has into the memory there is; the count is 0 where none will come any more. What
+    /// wasn't taken before is gone.
+    pub(crate) fn read(&mut self, stream: &mut TcpStream) -> io::Result<usize> {
         self.start = 0;
         self.end = 0;
         let count = stream.read(&mut self.bytes)?;

@@ -9,7 +9,10 @@
 #![tactic(auto)]
 
 mod ahead;
+mod allowance;
 mod entrance;
+mod keepalive;
+mod lingering;
 mod link;
 mod patience;
 mod sockets;

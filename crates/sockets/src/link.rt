@@ -26,8 +26,6 @@ pub(crate) struct Link {
     much: bool,
     ahead: Ahead,
     patience: Patience,
-    /// Whether its peer's time is counted: a device may be silent for as long as it likes.
-    timed: bool,
     leave: Leave,
 }
 
@@ -37,8 +35,8 @@ fn waits() -> io::Error {
 }
 
 impl Link {
-    /// The socket of a connection that has just come.
-    pub(crate) fn new(alloc: Global, stream: TcpStream, moment: Moment, timed: bool) -> Link {
+    /// The socket of a connection that has just come, and whether its peer is a device.
+    pub(crate) fn new(alloc: Global, stream: TcpStream, moment: Moment, device: bool) -> Link {
         Link {
             stream,
             readable: true,
@@ -46,8 +44,7 @@ impl Link {
             ends: false,
             much: false,
             ahead: Ahead::new(alloc),
-            patience: Patience::new(moment),
-            timed,
+            patience: Patience::new(moment, device),
             leave: Leave::Served,
         }
     }
@@ -62,6 +59,11 @@ impl Link {
         self.leave = leave;
     }
 
+    /// Its socket; what was read ahead is gone.
+    pub(crate) fn into_stream(self) -> TcpStream {
+        self.stream
+    }
+
     /// Takes what a wait told.
     pub(crate) fn told(&mut self, event: &Event) {
         self.ends |= event.is_read_closed() || event.is_error();
@@ -71,19 +73,16 @@ impl Link {
 
     /// The ms that its peer has left, if its time is counted.
     pub(crate) fn left(&self, moment: Moment) -> Option<u64> {
-        if self.timed {
-            Some(self.patience.left(moment))
-        } else {
-            None
-        }
+        self.patience.left(moment)
     }
 
-    /// Whether its peer has no time left.
-    pub(crate) fn is_over(&self, moment: Moment) -> bool {
-        match self.left(moment) {
-            Some(left) => left == 0,
-            None => false,
-        }
+    /// Whether its peer has no time left. Then the next call asks the system, whatever was told before: a
+    /// process that stood still may not have been told yet of what is there.
+    pub(crate) fn is_over(&mut self, moment: Moment) -> bool {
+        let over = self.patience.left(moment) == Some(0);
+        self.readable |= over;
+        self.writable |= over;
+        over
     }
 
     /// Reads some bytes; the count is 0 where none will come any more.
@@ -107,7 +106,7 @@ impl Link {
         if !self.readable {
             return Err(waits());
         }
-        if !self.much {
+        if !self.much || !self.ahead.has_room() {
             return self.read_piece(buffer);
         }
         self.read_ahead()?;

@@ -2,6 +2,8 @@
 ghost use Rattle.std.specs.Prelude.{◌≡◌, ◌+◌, false, if◌then◌else◌};
 
 use crate::entrance::{Entrance, Entrances, Listening};
+use crate::keepalive::probe;
+use crate::lingering::Lingerings;
 use crate::link::Link;
 use crate::visits::{Leave, Visit, Visits};
 use base_types::{Limits, Moment};
@@ -19,18 +21,21 @@ use wires::{Answer, Door, Wire, WireId};
 const EVENTS: usize = 128;
 
 /// Waits tell of the first listener under this number, of the next under the one before it, and so on;
-/// of a connection under its own number.
+/// of a connection under its own number. Between them are those that were given up.
 const FIRST_LISTENER: usize = usize::MAX;
 
 /// Listeners at the three doors, and the connections that they accepted.
 ///
 /// A client that is silent for a minute, or takes longer than that for 4,096 bytes to which nothing is
-/// answered, is taken as one that has ended. A device never is.
+/// answered, is taken as one that has ended; so is a device of which nothing came for a minute, and no other.
+/// That is judged only where a call has to wait: what is there is read, however late.
 #[derive(Drop)]
 pub struct Sockets {
     alloc: Global,
     entrances: Entrances,
     links: Slab<Link>,
+    /// Those that were given up, and are read on for a while.
+    lingerings: Lingerings,
     poll: Poll,
     events: Events,
     failures: u64,
@@ -45,11 +50,17 @@ pub struct Sockets {
 }
 
 /// Hands each socket what a wait told of it.
-fn tell(events: &Events, entrances: &mut Entrances, links: &mut Slab<Link>) {
+fn tell(
+    events: &Events,
+    entrances: &mut Entrances,
+    links: &mut Slab<Link>,
+    lingerings: &mut Lingerings,
+) {
     for event in events.iter() {
         let Token(key) = event.token();
         match links.get_mut(key) {
             Some(link) => link.told(event),
+            None if lingerings.told(event) => {}
             None => entrances.told(FIRST_LISTENER - key),
         }
     }
@@ -71,6 +82,7 @@ impl Sockets {
             alloc,
             entrances: Entrances::new(alloc),
             links: Slab::with_capacity(alloc, Limits::CONNECTIONS)?,
+            lingerings: Lingerings::new(alloc)?,
             events: Events::with_capacity(alloc, EVENTS)?,
             poll: Poll::new(net)?,
             failures: 0,
@@ -128,7 +140,13 @@ impl Sockets {
         if self.events.is_empty() && !most.is_zero() {
             rest(&mut self.links);
         }
-        tell(&self.events, &mut self.entrances, &mut self.links);
+        tell(
+            &self.events,
+            &mut self.entrances,
+            &mut self.links,
+            &mut self.lingerings,
+        );
+        self.lingerings.drain(self.moment);
         Ok(())
     }
 
@@ -137,9 +155,9 @@ impl Sockets {
         self.waited == self.moment
     }
 
-    /// The ms until the first client has no time left, at most so many.
+    /// The ms until the first client has no time left, or one that was given up, at most so many.
     pub fn time_left(&self, most: u64) -> u64 {
-        let mut least = most;
+        let mut least = self.lingerings.left(self.moment, most);
         for key in 0..self.links.capacity() {
             if let Some(link) = self.links.get(key) {
                 least = link.left(self.moment).unwrap_or(most).min(least);
@@ -159,7 +177,7 @@ impl Sockets {
     }
 
     /// The next connection of a door, of which waits tell under the next free number: what is written
-    /// to it goes out at once.
+    /// to it goes out at once, and a device that is silent is probed.
     fn accept(&mut self, door: Door) -> io::Result<(Link, SocketAddr)>
         ensures { self.new.failures ≡ self.old.failures }
     {
@@ -170,7 +188,9 @@ impl Sockets {
             Token(self.links.vacant_key()),
             Interest::READABLE | Interest::WRITABLE,
         )?;
-        let link = Link::new(self.alloc, stream, self.moment, door != Door::Devices);
+        let device = door == Door::Devices;
+        let _probed = device && probe(&stream);
+        let link = Link::new(self.alloc, stream, self.moment, device);
         Ok((link, peer))
     }
 
@@ -183,19 +203,14 @@ impl Sockets {
         }
     }
 
-    /// Whether the peer of this number has no time left.
-    fn has_no_time(&mut self, id: WireId) -> bool
+    /// The peer of this number has no time left.
+    fn falls_silent(&mut self, id: WireId)
         ensures { self.new.failures ≡ self.old.failures }
     {
-        let Some(link) = self.links.get_mut(id as usize) else {
-            return false;
-        };
-        let over = link.is_over(self.moment);
-        if over {
+        if let Some(link) = self.links.get_mut(id as usize) {
             link.leaves(Leave::Silent);
-            self.worked = true;
         }
-        over
+        self.worked = true;
     }
 
     /// The connection of this number is broken.
@@ -206,6 +221,16 @@ impl Sockets {
             link.leaves(Leave::Broken);
         }
         self.worked = true;
+    }
+
+    /// Gives a connection up. One whose peer may still send is read on for a while.
+    fn lets_go(&mut self, link: Link)
+        ensures { self.new.failures ≡ self.old.failures }
+    {
+        if link.leave() == Leave::Served {
+            let stream = link.into_stream();
+            let _kept = self.lingerings.add(&self.poll, stream, self.moment);
+        }
     }
 
     /// Counts a failed call, unless it would only have waited or the count is full: whether it was
@@ -258,13 +283,11 @@ impl Wire for Sockets {
         if buffer.is_empty() {
             return Answer::Waiting;
         }
-        if self.has_no_time(id) {
-            return Answer::End;
-        }
         let moment = self.moment;
         let Some(link) = self.links.get_mut(id as usize) else {
             return Answer::End;
         };
+        let over = link.is_over(moment);
         match link.read(buffer, moment) {
             Ok(0) => {
                 link.leaves(Leave::Left);
@@ -279,18 +302,20 @@ impl Wire for Sockets {
                 self.breaks(id);
                 Answer::Fault
             }
+            Err(_) if over => {
+                self.falls_silent(id);
+                Answer::End
+            }
             Err(_) => Answer::Waiting,
         }
     }
 
     fn poll_write(&mut self, id: WireId, bytes: &[IoSlice<'_>]) -> Answer<usize> {
-        if self.has_no_time(id) {
-            return Answer::End;
-        }
         let moment = self.moment;
         let Some(link) = self.links.get_mut(id as usize) else {
             return Answer::End;
         };
+        let over = link.is_over(moment);
         match link.write(bytes, moment) {
             Ok(0) => Answer::Waiting,
             Ok(count) => {
@@ -300,6 +325,10 @@ impl Wire for Sockets {
             Err(error) if self.counts_fault(error) => {
                 self.breaks(id);
                 Answer::Fault
+            }
+            Err(_) if over => {
+                self.falls_silent(id);
+                Answer::End
             }
             Err(_) => Answer::Waiting,
         }
@@ -311,6 +340,7 @@ impl Wire for Sockets {
                 id,
                 leave: link.leave(),
             });
+            self.lets_go(link);
         }
         self.worked = true;
     }

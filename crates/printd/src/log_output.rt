@@ -1,0 +1,88 @@
+//! Where a log goes: standard error, or a file.
+use libc::net::{POLLOUT, poll};
+use libc::types::pollfd;
+use std::fs::{File, OpenOptions};
+use std::io::{ErrorKind, Stderr, Write};
+use std::os::fd::{AsRawFd, RawFd};
+use std::os::unix::fs::MetadataExt;
+use std::{fs, io};
+
+/// The descriptor of standard error.
+const STANDARD_ERROR: RawFd = 2;
+
+/// Where the lines of a log go. A write that would wait gives [`ErrorKind::WouldBlock`].
+#[derive(Drop)]
+pub(crate) enum LogOutput<'a> {
+    StandardError(Stderr),
+    File(LogFile<'a>),
+}
+
+/// A file to which lines are appended. It is opened anew where its path leads to another file, or to none.
+#[derive(Drop)]
+pub(crate) struct LogFile<'a> {
+    rt: &'a HostRuntime,
+    path: &'a str,
+    file: File,
+}
+
+/// Opens a file to append to, which is made where it isn't there.
+fn open(rt: &HostRuntime, path: &str) -> io::Result<File> {
+    OpenOptions::new().append(true).create(true).open(rt, path)
+}
+
+/// Whether a write of up to 4,096 bytes to a descriptor doesn't wait, by the system's word.
+fn has_room(fd: RawFd) -> bool {
+    let mut asked = [pollfd {
+        fd,
+        events: POLLOUT,
+        revents: 0,
+    }];
+    poll(&mut asked, 0) > 0
+}
+
+impl<'a> LogFile<'a> {
+    /// The error is the system's.
+    pub(crate) fn open(rt: &'a HostRuntime, path: &'a str) -> io::Result<LogFile<'a>> {
+        let file = open(rt, path)?;
+        Ok(LogFile { rt, path, file })
+    }
+
+    /// Whether its path leads to it.
+    fn is_there(&self) -> io::Result<bool> {
+        let found = fs::metadata(self.rt, self.path)?;
+        let own = self.file.metadata()?;
+        Ok(found.dev() == own.dev() && found.ino() == own.ino())
+    }
+
+    /// Opens the file of its path, where that is another. Where that fails it goes on with the one it has.
+    fn renew(&mut self) {
+        if let Ok(true) = self.is_there() {
+            return;
+        }
+        if let Ok(file) = open(self.rt, self.path) {
+            self.file = file;
+        }
+    }
+}
+
+impl Write for LogOutput<'_> {
+    fn write(&mut self, bytes: &[u8]) -> io::Result<usize> {
+        match self {
+            LogOutput::StandardError(_) if !has_room(STANDARD_ERROR) => Err(io::Error::from(
+                ErrorKind::WouldBlock,
+            )),
+            LogOutput::StandardError(errors) => errors.write(bytes),
+            LogOutput::File(log) => {
+                log.renew();
+                if !has_room(log.file.as_raw_fd()) {
+                    return Err(io::Error::from(ErrorKind::WouldBlock));
+                }
+                log.file.write(bytes)
+            }
+        }
+    }
+
+    fn flush(&mut self) -> io::Result<()> {
+        Ok(())
+    }
+}
