@@ -13,6 +13,10 @@ closes. FAULT N of the list is what it does at connection N instead, and after t
     open         it reads all, and doesn't close by itself
     slow         it reads 10,000 bytes a second
     talk         it writes 100,000 bytes of nonsense and then reads all
+    pjl          it tells by PJL of each page (4,096 bytes) and of the end of the job, and doesn't close
+    jam          the same, but after the first page it is jammed for three seconds
+    given-up     the same, but the job ends after 1,000 bytes
+    mute         it reads all, says nothing of the job, and doesn't close
 
 It ends with SIGTERM.
 """
@@ -24,6 +28,8 @@ import threading
 import time
 
 FIRST = 1000
+PAGE = 4096
+JOB_ENDS = b"@PJL EOJ"
 
 
 def rest_of(connection, taken):
@@ -39,8 +45,37 @@ def serve_slowly(connection, taken):
         time.sleep(0.1)
 
 
+def tell(connection, kind, *lines):
+    """Writes a message of PJL's unsolicited status."""
+    connection.sendall(b"@PJL USTATUS %s\r\n" % kind + b"".join(line + b"\r\n" for line in lines) + b"\f")
+
+
+def serve_telling(connection, fault, taken):
+    """Takes a job wrapped in PJL, and tells of it."""
+    pages = 0
+    tell(connection, b"DEVICE", b"CODE=10001", b'DISPLAY="Ready"', b"ONLINE=TRUE")
+    tell(connection, b"JOB", b"START", b'NAME="a job"')
+    while JOB_ENDS not in taken and (part := connection.recv(65536)):
+        taken.extend(part)
+        while pages < len(taken) // PAGE:
+            pages += 1
+            tell(connection, b"PAGE", str(pages).encode("ascii"))
+            if fault == "jam" and pages == 1:
+                tell(connection, b"DEVICE", b"CODE=42000", b'DISPLAY="Paper jam"', b"ONLINE=FALSE")
+                time.sleep(3)
+                tell(connection, b"DEVICE", b"CODE=10001", b'DISPLAY="Ready"', b"ONLINE=TRUE")
+        if fault == "given-up" and len(taken) > FIRST:
+            break
+    if fault != "mute":
+        tell(connection, b"JOB", b"END", b'NAME="a job"', b"PAGES=%d" % pages)
+    rest_of(connection, taken)
+
+
 def serve(connection, fault, taken):
     """Takes a connection's bytes, or does what the fault says."""
+    if fault in ("pjl", "jam", "given-up", "mute"):
+        serve_telling(connection, fault, taken)
+        return
     if fault in ("early", "reset", "stall"):
         while len(taken) < FIRST and (part := connection.recv(FIRST - len(taken))):
             taken.extend(part)

@@ -1,7 +1,6 @@
 //! A printer that speaks AppSocket: one connection a job, its octets, and then what it says until it closes.
-use crate::caller::{Caller, Reached};
 use crate::heard::{Breach, Heard};
-use crate::link::has_to_wait;
+use crate::session::{Moved, Session, Stage};
 use attachment::Attachment;
 use mio::Poll;
 use mio::event::Event;
@@ -13,55 +12,29 @@ const CALLS: u32 = 64;
 /// How many bytes of what it says are read at a time.
 const PIECE: usize = 1024;
 
-/// What a printer's connection came to.
-#[derive(Clone, Copy, Debug, PartialEq, Eq)]
-enum Came {
-    Nothing,
-    /// Bytes went or came.
-    Moved,
-    /// The printer has closed.
-    Closed,
-    Broken,
-}
-
 /// A printer that speaks AppSocket.
 #[derive(Drop)]
 pub(crate) struct AppSocket {
-    caller: Caller,
+    session: Session,
     linger: u64,
-    timeout: u64,
-    /// It couldn't be reached when that was last tried.
-    away: bool,
     /// All is sent, and nothing more will be written.
     ends: bool,
-    /// When bytes last went or came, or nothing was to be sent.
-    last: u64,
-    worked: bool,
 }
 
 impl AppSocket {
-    /// A printer that is connected to for each job.
-    pub(crate) fn new(caller: Caller, linger: u64, timeout: u64) -> AppSocket {
+    /// A printer that is connected to for each job. Once it has taken all it may be silent for so many ms
+    /// before the job counts as printed.
+    pub(crate) fn new(session: Session, linger: u64) -> AppSocket {
         AppSocket {
-            caller,
+            session,
             linger,
-            timeout,
-            away: false,
             ends: false,
-            last: 0,
-            worked: false,
         }
     }
 
     /// Takes what a wait told.
     pub(crate) fn told(&mut self, event: &Event) {
-        self.caller.told(event);
-    }
-
-    /// Begins a job.
-    pub(crate) fn begin(&mut self, now: u64) {
-        self.ends = false;
-        self.last = now;
+        self.session.told(event);
     }
 
     /// Connects where a job is in hand, or the printer is away, and sends what is due.
@@ -72,70 +45,47 @@ impl AppSocket {
         attachment: &mut Attachment,
         now: u64,
     ) -> Heard {
-        self.worked = false;
-        if attachment.job().is_none() && !self.away {
-            return Heard::Nothing;
+        let has_job = attachment.job().is_some();
+        match self.session.reach(net, poll, has_job, now) {
+            Stage::Waits(heard) | Stage::Opened(heard) => heard,
+            Stage::Open => self.exchange(attachment, now),
         }
-        match self.caller.turn(net, poll, now) {
-            Reached::Not => Heard::Nothing,
-            Reached::Away => {
-                self.away = true;
-                Heard::Away
-            }
-            Reached::Now => self.reached(attachment, now),
-            Reached::Still => self.exchange(attachment, now),
-        }
-    }
-
-    /// The connection has come about.
-    fn reached(&mut self, attachment: &Attachment, now: u64) -> Heard {
-        self.last = now;
-        self.worked = true;
-        if attachment.job().is_none() {
-            self.caller.close();
-        }
-        if !self.away {
-            return Heard::Nothing;
-        }
-        self.away = false;
-        Heard::Back
     }
 
     /// Hears the printer, and sends it what is due.
     fn exchange(&mut self, attachment: &mut Attachment, now: u64) -> Heard {
         match self.listen(now) {
-            Came::Closed if self.ends => return Heard::Printed,
-            Came::Closed | Came::Broken => return Heard::Failed(Breach::Broken),
-            Came::Moved | Came::Nothing => {}
+            Moved::End if self.ends => return Heard::Printed,
+            Moved::End | Moved::Broken => return Heard::Failed(Breach::Broken),
+            Moved::Bytes(_) | Moved::Nothing => {}
         }
-        if !self.ends && self.send_all(attachment, now) == Came::Broken {
+        if !self.ends && self.send_all(attachment, now) == Moved::Broken {
             return Heard::Failed(Breach::Broken);
         }
-        self.wait(attachment, now)
+        if !self.ends {
+            return self.session.wait(now);
+        }
+        if self.session.silence(now) >= self.linger {
+            Heard::Printed
+        } else {
+            Heard::Nothing
+        }
     }
 
     /// Hears all that the printer says for now.
-    fn listen(&mut self, now: u64) -> Came {
+    fn listen(&mut self, now: u64) -> Moved {
         let mut buffer = [0u8; PIECE];
         for _ in 0..CALLS {
-            let Some(link) = self.caller.link() else {
-                return Came::Broken;
-            };
-            match link.read(&mut buffer) {
-                Ok(0) => return Came::Closed,
-                Ok(_) => {
-                    self.last = now;
-                    self.worked = true;
-                }
-                Err(error) if has_to_wait(&error) => return Came::Nothing,
-                Err(_) => return Came::Broken,
+            match self.session.read(&mut buffer, now) {
+                Moved::Bytes(_) => {}
+                moved => return moved,
             }
         }
-        Came::Moved
+        Moved::Nothing
     }
 
     /// Sends what is due, copy by copy, and ends the writing side after the last.
-    fn send_all(&mut self, attachment: &mut Attachment, now: u64) -> Came {
+    fn send_all(&mut self, attachment: &mut Attachment, now: u64) -> Moved {
         for _ in 0..CALLS {
             if attachment.is_copy_sent() {
                 attachment.end_copy();
@@ -143,84 +93,58 @@ impl AppSocket {
             if attachment.is_sent() {
                 return self.end(now);
             }
-            match self.send(attachment, now) {
-                Came::Moved => {}
-                came => return came,
+            match send_due(&mut self.session, attachment, now) {
+                Moved::Bytes(_) => {}
+                moved => return moved,
             }
         }
-        Came::Moved
+        Moved::Nothing
     }
 
     /// Ends the writing side.
-    fn end(&mut self, now: u64) -> Came {
+    fn end(&mut self, now: u64) -> Moved {
         self.ends = true;
-        self.last = now;
-        self.worked = true;
-        match self.caller.link() {
-            Some(link) if link.end_writing().is_ok() => Came::Moved,
-            _ => Came::Broken,
+        if self.session.end_writing(now) {
+            Moved::Nothing
+        } else {
+            Moved::Broken
         }
-    }
-
-    /// Sends some of what is due.
-    fn send(&mut self, attachment: &mut Attachment, now: u64) -> Came {
-        let due = attachment.due();
-        if due.is_empty() {
-            self.last = now;
-            return Came::Nothing;
-        }
-        let Some(link) = self.caller.link() else {
-            return Came::Broken;
-        };
-        match link.write(due) {
-            Ok(0) => Came::Nothing,
-            Ok(count) => {
-                attachment.send(count);
-                self.last = now;
-                self.worked = true;
-                Came::Moved
-            }
-            Err(error) if has_to_wait(&error) => Came::Nothing,
-            Err(_) => Came::Broken,
-        }
-    }
-
-    /// Whether the printer has been silent for long enough.
-    fn wait(&self, attachment: &Attachment, now: u64) -> Heard {
-        let silent = now.saturating_sub(self.last);
-        if self.ends && silent >= self.linger {
-            return Heard::Printed;
-        }
-        if !self.ends && !attachment.due().is_empty() && silent >= self.timeout {
-            return Heard::Failed(Breach::Silent);
-        }
-        Heard::Nothing
     }
 
     /// Forgets the job.
     pub(crate) fn drop_job(&mut self) {
         self.ends = false;
-        if !self.away {
-            self.caller.close();
-        }
+        self.session.close();
     }
 
     /// Whether the last turn moved bytes.
     pub(crate) fn has_worked(&self) -> bool {
-        self.worked
+        self.session.has_worked()
     }
 
     /// The ms until it has something to do by itself.
     pub(crate) fn pause(&self, now: u64, has_job: bool) -> Option<u64> {
-        if !has_job && !self.away {
-            return None;
+        let patience = if self.ends {
+            self.linger
+        } else {
+            self.session.timeout()
+        };
+        self.session.pause(now, has_job, patience)
+    }
+}
+
+/// Sends some of what is due. Where nothing is, the printer isn't waited for.
+pub(crate) fn send_due(session: &mut Session, attachment: &mut Attachment, now: u64) -> Moved {
+    let due = attachment.due();
+    if due.is_empty() {
+        session.rest(now);
+        return Moved::Nothing;
+    }
+    match session.write(due, now) {
+        Moved::Bytes(count) => {
+            attachment.send(count);
+            Moved::Bytes(count)
         }
-        match self.caller.pause(now) {
-            Some(pause) => Some(pause),
-            None => {
-                let patience = if self.ends { self.linger } else { self.timeout };
-                Some(patience.saturating_sub(now.saturating_sub(self.last)))
-            }
-        }
+        moved => moved,
     }
 }

@@ -92,7 +92,6 @@ impl Caller {
             Ok(true) => {
                 self.open = true;
                 self.failures = 0;
-                self.retry = Retry::new();
                 Reached::Now
             }
             Ok(false) if now.saturating_sub(self.since) < CONNECTING => Reached::Not,
@@ -136,8 +135,14 @@ impl Caller {
 
     /// Closes the connection, which has broken; the next try is made after a pause.
     pub(crate) fn lose(&mut self, now: u64) {
-        self.close();
+        self.link = None;
+        self.open = false;
         self.retry.failed(now);
+    }
+
+    /// The peer has said something: it is there, and the pauses begin anew.
+    pub(crate) fn heard(&mut self) {
+        self.retry = Retry::new();
     }
 
     /// The ms until the next try, where there is no connection.

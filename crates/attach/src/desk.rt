@@ -63,6 +63,7 @@ impl Desk {
             ms_per_page: plan.ms_per_page,
             linger: plan.linger,
             timeout: plan.timeout,
+            pjl: plan.pjl,
         };
         Ok(Desk {
             alloc,
@@ -99,7 +100,7 @@ impl Desk {
     /// The parts of a turn, up to one that stops it.
     fn take_turn<R: Net + Files>(&mut self, rt: &R, poll: &Poll, now: u64) -> Result<(), Stop> {
         self.call_server(rt, poll, now)?;
-        self.hear_server(rt, now)?;
+        self.hear_server(rt)?;
         self.turn_printer(rt, poll, now)?;
         self.tell_state()?;
         self.flush()
@@ -140,24 +141,24 @@ impl Desk {
     }
 
     /// Hears all that the server says for now.
-    fn hear_server<R: Net + Files>(&mut self, rt: &R, now: u64) -> Result<(), Stop> {
+    fn hear_server<R: Net + Files>(&mut self, rt: &R) -> Result<(), Stop> {
         for _ in 0..PIECES {
             match self.line.read()? {
                 Came::Nothing => return Ok(()),
                 Came::End => return Err(Stop::Lost),
-                Came::Bytes => self.hear_piece(rt, now)?,
+                Came::Bytes => self.hear_piece(rt)?,
             }
         }
         Ok(())
     }
 
     /// Hears the items of a piece.
-    fn hear_piece<R: Net + Files>(&mut self, rt: &R, now: u64) -> Result<(), Stop> {
+    fn hear_piece<R: Net + Files>(&mut self, rt: &R) -> Result<(), Stop> {
         self.worked = true;
         for _ in 0..ITEMS {
             match self.line.next_item() {
                 Ok(None) => return Ok(()),
-                Ok(Some(item)) => self.heed(rt, item, now)?,
+                Ok(Some(item)) => self.heed(rt, item)?,
                 Err(OrderError::OutOfMemory) => return Err(Stop::OutOfMemory),
                 Err(OrderError::Fault(fault)) => {
                     self.log.note(Note::Refused(fault));
@@ -169,23 +170,23 @@ impl Desk {
     }
 
     /// Heeds an item of the server's.
-    fn heed<R: Net + Files>(&mut self, rt: &R, item: OrderItem, now: u64) -> Result<(), Stop> {
+    fn heed<R: Net + Files>(&mut self, rt: &R, item: OrderItem) -> Result<(), Stop> {
         match item {
             OrderItem::Octets => self.take_octets(rt),
-            OrderItem::Order(order) => self.obey(rt, &order, now),
+            OrderItem::Order(order) => self.obey(rt, &order),
         }
     }
 
     /// Obeys an order of the server's.
-    fn obey<R: Net + Files>(&mut self, rt: &R, order: &Order, now: u64) -> Result<(), Stop> {
+    fn obey<R: Net + Files>(&mut self, rt: &R, order: &Order) -> Result<(), Stop> {
         match order {
-            Order::Job(order) => self.begin(order, now),
+            Order::Job(order) => self.begin(order),
             Order::Cancel(job) => self.cancel(rt, *job),
         }
     }
 
     /// Begins a job.
-    fn begin(&mut self, order: &JobOrder, now: u64) -> Result<(), Stop> {
+    fn begin(&mut self, order: &JobOrder) -> Result<(), Stop> {
         let job = order.job.number();
         if self.attachment.job().is_some() {
             self.log.note(Note::JobTooEarly(job));
@@ -193,7 +194,7 @@ impl Desk {
         }
         let times = self.printer.times(order);
         self.attachment.order(order.job, order.octets, times);
-        self.printer.begin(order, now);
+        self.printer.begin(order);
         self.log.note(Note::Began {
             job,
             octets: order.octets,
@@ -230,19 +231,34 @@ impl Desk {
     fn turn_printer<R: Net + Files>(&mut self, rt: &R, poll: &Poll, now: u64) -> Result<(), Stop> {
         match self.printer.turn(rt, poll, &mut self.attachment, now) {
             Heard::Nothing => Ok(()),
-            Heard::Away => {
-                self.attachment.set_printer(PrinterState::Stopped);
-                self.log.note(Note::PrinterAway);
-                Ok(())
-            }
-            Heard::Back => {
-                self.attachment.set_printer(PrinterState::Running);
-                self.log.note(Note::PrinterBack);
-                Ok(())
-            }
+            Heard::Away => Ok(self.stop(Note::PrinterAway)),
+            Heard::Stops => Ok(self.stop(Note::PrinterStopped)),
+            Heard::Back => Ok(self.run(Note::PrinterBack)),
+            Heard::Runs => Ok(self.run(Note::PrinterRuns)),
+            Heard::Pages(printed) => self.tell_pages(printed),
             Heard::Printed => self.finish(rt),
             Heard::Failed(breach) => self.fail(rt, breach),
         }
+    }
+
+    /// The printer prints nothing for now.
+    fn stop(&mut self, note: Note) {
+        self.attachment.set_printer(PrinterState::Stopped);
+        self.log.note(note);
+    }
+
+    /// The printer prints.
+    fn run(&mut self, note: Note) {
+        self.attachment.set_printer(PrinterState::Running);
+        self.log.note(note);
+    }
+
+    /// The printer has printed so many pages of the job.
+    fn tell_pages(&mut self, printed: u32) -> Result<(), Stop> {
+        if let Some(report) = self.attachment.pages(printed) {
+            self.line.say(&report)?;
+        }
+        Ok(())
     }
 
     /// The printer has printed the job.

@@ -7,6 +7,8 @@ pub(crate) enum Breach {
     Unlinked,
     /// The printer closed or broke its connection before it had all.
     Broken,
+    /// The printer refused it.
+    Refused,
     /// The printer took and said nothing for too long.
     Silent,
     /// A file can't be written.
@@ -23,6 +25,12 @@ pub(crate) enum Heard {
     Away,
     /// It can be reached, after it couldn't.
     Back,
+    /// It says that it needs someone: paper is out or jammed, a cover is open.
+    Stops,
+    /// It says that it prints again.
+    Runs,
+    /// So many pages of the job are printed.
+    Pages(u32),
     /// It has printed the job.
     Printed,
     /// It can't print the job.

@@ -79,6 +79,7 @@ impl ServerLine {
         match link.read(&mut self.buffer) {
             Ok(0) => Ok(Came::End),
             Ok(count) => {
+                self.caller.heard();
                 self.reader.feed(&self.buffer[..count])?;
                 Ok(Came::Bytes)
             }

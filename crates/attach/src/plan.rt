@@ -8,6 +8,9 @@ use url::{ParseError, Url};
 /// The port of AppSocket.
 const APP_SOCKET: u16 = 9100;
 
+/// The port of LPD (RFC 1179, section 3.1).
+const LPD: u16 = 515;
+
 /// What prints.
 #[derive(Debug, Drop)]
 pub enum Target {
@@ -15,6 +18,8 @@ pub enum Target {
     Folder(String),
     /// A printer that speaks AppSocket.
     AppSocket(Place),
+    /// A queue of a printer that speaks LPD.
+    Lpd(Place, String),
 }
 
 /// What an adapter is to do.
@@ -33,6 +38,8 @@ pub struct Plan {
     pub linger: u64,
     /// How long a printer may neither take nor say anything, in ms.
     pub timeout: u64,
+    /// A printer that speaks AppSocket speaks PJL too.
+    pub pjl: bool,
 }
 
 /// The words that say what an adapter is to do.
@@ -47,6 +54,7 @@ pub struct PlanWords<'a> {
     pub linger: u32,
     /// In seconds.
     pub timeout: u32,
+    pub pjl: bool,
 }
 
 /// Which of the words makes no sense.
@@ -58,6 +66,8 @@ pub enum WordFault {
     Server,
     /// The target isn't one of those that there are.
     To,
+    /// PJL is wanted, and the target doesn't speak AppSocket.
+    Pjl,
     OutOfMemory,
 }
 
@@ -75,14 +85,19 @@ pub fn read_plan(alloc: Global, words: PlanWords<'_>) -> Result<Plan, WordFault>
     let Some(server) = Place::read(alloc, words.server)? else {
         return Err(WordFault::Server);
     };
+    let target = read_target(alloc, words.to)?;
+    if words.pjl && !matches!(&target, Target::AppSocket(_)) {
+        return Err(WordFault::Pjl);
+    }
     Ok(Plan {
         name: String::from_str(alloc, words.name)?,
         server,
-        target: read_target(alloc, words.to)?,
+        target,
         format: words.format.map(|name| Format::named(name)),
         ms_per_page: words.ms_per_page,
         linger: u64::from(words.linger) * 1000,
         timeout: u64::from(words.timeout) * 1000,
+        pjl: words.pjl,
     })
 }
 
@@ -107,18 +122,28 @@ fn read_url(alloc: Global, url: &Url) -> Result<Target, WordFault> {
     let Some(host) = url.host_str() else {
         return Err(WordFault::To);
     };
-    let port = url.port().unwrap_or(APP_SOCKET);
-    if url.scheme() != "socket" || !is_bare(url) || port == 0 {
+    if has_more(url) || url.port() == Some(0) {
         return Err(WordFault::To);
     }
-    Ok(Target::AppSocket(Place::new(alloc, host, port)?))
+    let path = url.path().strip_prefix('/').unwrap_or(url.path());
+    match url.scheme() {
+        "socket" if path.is_empty() => {
+            let port = url.port().unwrap_or(APP_SOCKET);
+            Ok(Target::AppSocket(Place::new(alloc, host, port)?))
+        }
+        "lpd" if !path.is_empty() && !path.contains('/') => {
+            let port = url.port().unwrap_or(LPD);
+            let queue = String::from_str(alloc, path)?;
+            Ok(Target::Lpd(Place::new(alloc, host, port)?, queue))
+        }
+        _ => Err(WordFault::To),
+    }
 }
 
-/// Whether a URL has nothing but a scheme, a host and a port.
-fn is_bare(url: &Url) -> bool {
-    (url.path().is_empty() || url.path() == "/")
-        && url.query().is_none()
-        && url.fragment().is_none()
-        && url.username().is_empty()
-        && url.password().is_none()
+/// Whether a URL has more than a scheme, a host, a port and a path.
+fn has_more(url: &Url) -> bool {
+    url.query().is_some()
+        || url.fragment().is_some()
+        || !url.username().is_empty()
+        || url.password().is_some()
 }

@@ -4,7 +4,10 @@ use crate::caller::Caller;
 use crate::folder::Folder;
 use crate::format::Format;
 use crate::heard::Heard;
+use crate::lpd::Lpd;
+use crate::pjl::Pjl;
 use crate::plan::Target;
+use crate::session::Session;
 use attachment::Attachment;
 use device_orders::JobOrder;
 use mio::event::Event;
@@ -18,6 +21,8 @@ use std::rt::Files;
 pub(crate) enum Printer {
     Folder(Folder),
     AppSocket(AppSocket),
+    Lpd(Lpd),
+    Pjl(Pjl),
 }
 
 /// How a printer does its work.
@@ -28,6 +33,7 @@ pub(crate) struct Manner {
     pub(crate) ms_per_page: u32,
     pub(crate) linger: u64,
     pub(crate) timeout: u64,
+    pub(crate) pjl: bool,
 }
 
 impl Printer {
@@ -41,10 +47,19 @@ impl Printer {
                 manner.format,
                 manner.ms_per_page,
             )),
+            Target::AppSocket(place) if manner.pjl => Printer::Pjl(Pjl::new(
+                alloc,
+                Session::new(Caller::new(alloc, place, token), manner.timeout),
+            )),
             Target::AppSocket(place) => Printer::AppSocket(AppSocket::new(
-                Caller::new(alloc, place, token),
+                Session::new(Caller::new(alloc, place, token), manner.timeout),
                 manner.linger,
-                manner.timeout,
+            )),
+            Target::Lpd(place, queue) => Printer::Lpd(Lpd::new(
+                alloc,
+                Session::new(Caller::new(alloc, place, token), manner.timeout),
+                queue,
+                manner.name,
             )),
         }
     }
@@ -54,22 +69,26 @@ impl Printer {
         match self {
             Printer::Folder(_) => {}
             Printer::AppSocket(printer) => printer.told(event),
+            Printer::Lpd(printer) => printer.told(event),
+            Printer::Pjl(printer) => printer.told(event),
         }
     }
 
     /// How often it is sent the octets of a job.
     pub(crate) fn times(&self, order: &JobOrder) -> u32 {
         match self {
-            Printer::Folder(_) => 1,
+            Printer::Folder(_) | Printer::Lpd(_) | Printer::Pjl(_) => 1,
             Printer::AppSocket(_) => order.copies.max(1),
         }
     }
 
     /// Begins a job.
-    pub(crate) fn begin(&mut self, order: &JobOrder, now: u64) {
+    pub(crate) fn begin(&mut self, order: &JobOrder) {
         match self {
             Printer::Folder(folder) => folder.begin(order),
-            Printer::AppSocket(printer) => printer.begin(now),
+            Printer::AppSocket(_) => {}
+            Printer::Lpd(printer) => printer.begin(order),
+            Printer::Pjl(printer) => printer.begin(order),
         }
     }
 
@@ -84,6 +103,8 @@ impl Printer {
         match self {
             Printer::Folder(folder) => folder.turn(rt, attachment, now),
             Printer::AppSocket(printer) => printer.turn(rt, poll, attachment, now),
+            Printer::Lpd(printer) => printer.turn(rt, poll, attachment, now),
+            Printer::Pjl(printer) => printer.turn(rt, poll, attachment, now),
         }
     }
 
@@ -92,6 +113,8 @@ impl Printer {
         match self {
             Printer::Folder(folder) => folder.drop_job(files),
             Printer::AppSocket(printer) => printer.drop_job(),
+            Printer::Lpd(printer) => printer.drop_job(),
+            Printer::Pjl(printer) => printer.drop_job(),
         }
     }
 
@@ -100,6 +123,8 @@ impl Printer {
         match self {
             Printer::Folder(_) => false,
             Printer::AppSocket(printer) => printer.has_worked(),
+            Printer::Lpd(printer) => printer.has_worked(),
+            Printer::Pjl(printer) => printer.has_worked(),
         }
     }
 
@@ -108,6 +133,8 @@ impl Printer {
         match self {
             Printer::Folder(folder) => folder.pause(now),
             Printer::AppSocket(printer) => printer.pause(now, has_job),
+            Printer::Lpd(printer) => printer.pause(now, has_job),
+            Printer::Pjl(printer) => printer.pause(now, has_job),
         }
     }
 }

@@ -20,6 +20,8 @@ pub struct Attaching<'a> {
     pub linger: u32,
     /// How long a printer may neither take nor say anything, in seconds.
     pub timeout: u32,
+    /// Whether the printer speaks PJL.
+    pub pjl: bool,
     pub turns: u64,
     /// Whether what happens is written to standard error.
     pub log: bool,
@@ -58,7 +60,7 @@ fn to<'a>(alloc: Global) -> Arg<'a> {
         alloc,
         "to",
         "ADDRESS",
-        "What prints: file:DIR or socket://HOST[:PORT]",
+        "What prints: file:DIR, socket://HOST[:PORT] or lpd://HOST[:PORT]/QUEUE",
     )
     .required(true)
 }
@@ -105,6 +107,13 @@ fn timeout<'a>(alloc: Global) -> Arg<'a> {
     .default_value("300")
 }
 
+fn pjl<'a>(alloc: Global) -> Arg<'a> {
+    Arg::new(alloc, "pjl")
+        .long("pjl")
+        .action(ArgAction::SetTrue)
+        .help("Wrap each job in PJL, and hear of its pages and its end")
+}
+
 fn turns<'a>(alloc: Global) -> Arg<'a> {
     word(
         alloc,
@@ -133,6 +142,7 @@ pub(crate) fn attach_command<'a>(alloc: Global) -> Result<Command<'a>, AllocErro
         .arg(ms_per_page(alloc))?
         .arg(linger(alloc))?
         .arg(timeout(alloc))?
+        .arg(pjl(alloc))?
         .arg(turns(alloc))?
         .arg(log(alloc))
 }
@@ -147,6 +157,7 @@ pub(crate) fn attach_words<'a>(found: &ArgMatches<'a>) -> Option<Attaching<'a>> 
         ms_per_page: found.get_one::<u32>("ms-per-page")?,
         linger: found.get_one::<u32>("linger")?,
         timeout: found.get_one::<u32>("timeout")?,
+        pjl: found.get_flag("pjl"),
         turns: found.get_one::<u64>("turns").unwrap_or(u64::MAX),
         log: found.get_flag("log"),
     })

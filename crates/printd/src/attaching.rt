@@ -18,6 +18,7 @@ pub(crate) fn run_attach(
         ms_per_page: attaching.ms_per_page,
         linger: attaching.linger,
         timeout: attaching.timeout,
+        pjl: attaching.pjl,
     };
     let plan = read_plan(rt.alloc(), words).map_err(|fault| refuse(rt, fault, words))?;
     let mut errors = rt.stderr();
@@ -44,7 +45,13 @@ fn refuse(rt: &HostRuntime, fault: WordFault, words: PlanWords<'_>) -> ExitStatu
             "letters, digits, _ and -, 32 at most",
         ),
         WordFault::Server => say(rt, "--server", words.server, "HOST:PORT"),
-        WordFault::To => say(rt, "--to", words.to, "file:DIR or socket://HOST[:PORT]"),
+        WordFault::To => say(
+            rt,
+            "--to",
+            words.to,
+            "file:DIR, socket://HOST[:PORT] or lpd://HOST[:PORT]/QUEUE",
+        ),
+        WordFault::Pjl => say(rt, "--to", words.to, "with --pjl, socket://HOST[:PORT]"),
         WordFault::OutOfMemory => return cannot(rt, "attach a printer", out_of_memory()),
     };
     match said {

@@ -1,0 +1,267 @@
+//! A printer that speaks AppSocket and PJL: a job is wrapped in PJL, and the printer tells of it.
+ghost use Rattle.std.specs.Prelude.{◌≤◌, IfOk, length};
+
+use crate::app_socket::send_due;
+use crate::heard::{Breach, Heard};
+use crate::session::{Moved, Session, Stage};
+use attachment::Attachment;
+use base_types::Sides;
+use device_orders::JobOrder;
+use mio::Poll;
+use mio::event::Event;
+use pjl_status::{Status, StatusReader};
+use std::alloc::{AllocError, Global};
+use std::net::Net;
+use text::drop_front;
+
+/// How many calls to the printer a turn makes at most.
+const CALLS: u32 = 64;
+
+/// How many bytes of what it says are read at a time.
+const PIECE: usize = 1024;
+
+/// The first code of a printer that needs someone: a cover is open, paper is out or jammed.
+const NEEDS_SOMEONE: u32 = 40_000;
+
+/// What is sent now, or that all is.
+#[derive(Clone, Copy, Debug, PartialEq, Eq)]
+enum Part {
+    Head,
+    Data,
+    Foot,
+    Nothing,
+}
+
+/// A printer that speaks AppSocket and PJL.
+#[derive(Drop)]
+pub(crate) struct Pjl {
+    alloc: Global,
+    session: Session,
+    reader: StatusReader,
+    job: u32,
+    copies: u32,
+    sides: Sides,
+    part: Part,
+    /// What of the part, if it isn't the data, is still to be written.
+    output: Vec<u8>,
+    /// What the printer said and isn't read yet.
+    input: Vec<u8>,
+    /// The printer said that it needs someone.
+    stopped: bool,
+}
+
+impl Pjl {
+    /// A printer that is connected to for each job.
+    pub(crate) fn new(alloc: Global, session: Session) -> Pjl {
+        Pjl {
+            alloc,
+            session,
+            reader: StatusReader::new(alloc),
+            job: 0,
+            copies: 1,
+            sides: Sides::One,
+            part: Part::Nothing,
+            output: Vec::new(alloc),
+            input: Vec::new(alloc),
+            stopped: false,
+        }
+    }
+
+    /// Takes what a wait told.
+    pub(crate) fn told(&mut self, event: &Event) {
+        self.session.told(event);
+    }
+
+    /// Begins a job.
+    pub(crate) fn begin(&mut self, order: &JobOrder) {
+        self.job = order.job.number();
+        self.copies = order.copies;
+        self.sides = order.sides;
+    }
+
+    /// Connects where a job is in hand, or the printer is away, sends the job, and hears of it. A printer
+    /// that isn't listened to any more is taken to run.
+    pub(crate) fn turn(
+        &mut self,
+        net: &impl Net,
+        poll: &Poll,
+        attachment: &mut Attachment,
+        now: u64,
+    ) -> Heard {
+        let has_job = attachment.job().is_some();
+        if !has_job && self.stopped {
+            self.stopped = false;
+            return Heard::Runs;
+        }
+        match self.session.reach(net, poll, has_job, now) {
+            Stage::Waits(heard) => heard,
+            Stage::Opened(heard) => match self.open() {
+                Ok(()) => heard,
+                Err(AllocError) => Heard::Failed(Breach::OutOfMemory),
+            },
+            Stage::Open => match self.exchange(attachment, now) {
+                Ok(heard) => heard,
+                Err(AllocError) => Heard::Failed(Breach::OutOfMemory),
+            },
+        }
+    }
+
+    /// The connection has come about.
+    fn open(&mut self) -> Result<(), AllocError> {
+        self.reader = StatusReader::new(self.alloc);
+        self.input.clear();
+        self.output = self.head()?;
+        self.part = Part::Head;
+        Ok(())
+    }
+
+    /// Hears the printer, and sends it what is due.
+    fn exchange(&mut self, attachment: &mut Attachment, now: u64) -> Result<Heard, AllocError> {
+        match self.hear(now)? {
+            Heard::Nothing => {}
+            heard => return Ok(heard),
+        }
+        for _ in 0..CALLS {
+            match self.send(attachment, now)? {
+                Moved::Bytes(_) => {}
+                Moved::Nothing => break,
+                Moved::End | Moved::Broken => return Ok(Heard::Failed(Breach::Broken)),
+            }
+        }
+        if self.stopped {
+            self.session.rest(now);
+        }
+        Ok(self.session.wait(now))
+    }
+
+    /// Hears the next that the printer says of a job, a page or itself.
+    fn hear(&mut self, now: u64) -> Result<Heard, AllocError> {
+        if self.input.is_empty() {
+            let mut buffer = [0u8; PIECE];
+            match self.session.read(&mut buffer, now) {
+                Moved::Bytes(count) => self.input.extend_from_slice(&buffer[..count])?,
+                Moved::Nothing => return Ok(Heard::Nothing),
+                Moved::End | Moved::Broken => return Ok(Heard::Failed(Breach::Broken)),
+            }
+        }
+        self.read_input()
+    }
+
+    /// Reads what the printer said, up to the first that is worth telling.
+    fn read_input(&mut self) -> Result<Heard, AllocError> {
+        let read = read_front(&mut self.reader, &self.input, self.part, self.stopped)?;
+        drop_front(&mut self.input, read.0);
+        match read.1 {
+            Heard::Stops => self.stopped = true,
+            Heard::Runs => self.stopped = false,
+            _ => {}
+        }
+        Ok(read.1)
+    }
+
+    /// Sends some of the part.
+    fn send(&mut self, attachment: &mut Attachment, now: u64) -> Result<Moved, AllocError> {
+        if self.output.is_empty() {
+            match self.part {
+                Part::Head => self.part = Part::Data,
+                Part::Foot => self.part = Part::Nothing,
+                Part::Data | Part::Nothing => {}
+            }
+        }
+        if self.part == Part::Data {
+            if !attachment.is_copy_sent() {
+                return Ok(send_due(&mut self.session, attachment, now));
+            }
+            attachment.end_copy();
+            self.output = self.foot()?;
+            self.part = Part::Foot;
+        }
+        Ok(self.send_text(now))
+    }
+
+    /// Sends some of what is still to be written.
+    fn send_text(&mut self, now: u64) -> Moved {
+        let moved = self.session.write(&self.output, now);
+        if let Moved::Bytes(count) = moved {
+            drop_front(&mut self.output, count);
+        }
+        moved
+    }
+
+    /// What stands before a job: that the printer is to tell of it, and how it is printed.
+    fn head(&self) -> Result<Vec<u8>, AllocError> {
+        let job = self.job;
+        let copies = self.copies;
+        let sides = match self.sides {
+            Sides::One => "DUPLEX=OFF",
+            Sides::LongEdge => "DUPLEX=ON\r\n@PJL SET BINDING=LONGEDGE",
+            Sides::ShortEdge => "DUPLEX=ON\r\n@PJL SET BINDING=SHORTEDGE",
+        };
+        let text = format!(in self.alloc;
+            "\x1b%-12345X@PJL JOB NAME=\"printd-{job}\"\r\n@PJL USTATUSOFF\r\n@PJL USTATUS JOB=ON\r\n@PJL USTATUS PAGE=ON\r\n@PJL USTATUS DEVICE=ON\r\n@PJL INFO STATUS\r\n@PJL SET COPIES={copies}\r\n@PJL SET {sides}\r\n"
+        )?;
+        Vec::from_slice(self.alloc, text.as_bytes())
+    }
+
+    /// What stands behind a job.
+    fn foot(&self) -> Result<Vec<u8>, AllocError> {
+        let job = self.job;
+        let text = format!(in self.alloc;
+            "\x1b%-12345X@PJL EOJ NAME=\"printd-{job}\"\r\n\x1b%-12345X"
+        )?;
+        Vec::from_slice(self.alloc, text.as_bytes())
+    }
+
+    /// Forgets the job.
+    pub(crate) fn drop_job(&mut self) {
+        self.part = Part::Nothing;
+        self.output.clear();
+        self.input.clear();
+        self.session.close();
+    }
+
+    /// Whether the last turn moved bytes, or left some unread.
+    pub(crate) fn has_worked(&self) -> bool {
+        self.session.has_worked() || !self.input.is_empty()
+    }
+
+    /// The ms until it has something to do by itself.
+    pub(crate) fn pause(&self, now: u64, has_job: bool) -> Option<u64> {
+        if !has_job && self.stopped {
+            return Some(0);
+        }
+        self.session.pause(now, has_job, self.session.timeout())
+    }
+}
+
+/// Reads bytes up to the first that is worth telling: how many were read, and that.
+fn read_front(
+    reader: &mut StatusReader,
+    input: &[u8],
+    part: Part,
+    stopped: bool,
+) -> Result<(usize, Heard), AllocError>
+    ensures { IfOk result (λ read. read.0 ≤ length input.now) }
+{
+    for (place, byte) in input.iter().enumerate() {
+        if let Some(status) = reader.take(*byte)? {
+            let heard = heard_of(status, part, stopped);
+            if heard != Heard::Nothing {
+                return Ok((place + 1, heard));
+            }
+        }
+    }
+    Ok((input.len(), Heard::Nothing))
+}
+
+/// What a status says of a job of which this part is sent, by a printer that was stopped or not.
+fn heard_of(status: Status, part: Part, stopped: bool) -> Heard {
+    match status {
+        Status::Page(page) => Heard::Pages(page),
+        Status::JobEnded if part == Part::Nothing => Heard::Printed,
+        Status::JobEnded => Heard::Failed(Breach::Broken),
+        Status::Device(code) if code >= NEEDS_SOMEONE && !stopped => Heard::Stops,
+        Status::Device(code) if code < NEEDS_SOMEONE && stopped => Heard::Runs,
+        Status::Device(_) | Status::Other => Heard::Nothing,
+    }
+}

@@ -1,0 +1,190 @@
+//! The connection to a printer, while it has a job.
+ghost use Rattle.attach.specs.Moved.{MovesAtMost};
+
+use crate::caller::{Caller, Reached};
+use crate::heard::{Breach, Heard};
+use crate::link::has_to_wait;
+use mio::Poll;
+use mio::event::Event;
+use std::net::Net;
+
+/// How far a printer is reached.
+#[derive(Clone, Copy, Debug, PartialEq, Eq)]
+pub(crate) enum Stage {
+    /// There is no connection now.
+    Waits(Heard),
+    /// The connection has just come about.
+    Opened(Heard),
+    Open,
+}
+
+/// What a call on a connection moved.
+#[derive(Clone, Copy, Debug, PartialEq, Eq)]
+pub(crate) enum Moved {
+    Nothing,
+    /// So many bytes, one at least.
+    Bytes(usize),
+    /// The other side has ended.
+    End,
+    Broken,
+}
+
+/// The connection to a printer, while it has a job or is away.
+#[derive(Drop)]
+pub(crate) struct Session {
+    caller: Caller,
+    timeout: u64,
+    /// It couldn't be reached when that was last tried.
+    away: bool,
+    /// When bytes last went or came, or none were to.
+    last: u64,
+    worked: bool,
+}
+
+impl Session {
+    /// A printer that isn't connected to yet, which may neither take nor say anything for so many ms.
+    pub(crate) fn new(caller: Caller, timeout: u64) -> Session {
+        Session {
+            caller,
+            timeout,
+            away: false,
+            last: 0,
+            worked: false,
+        }
+    }
+
+    /// Takes what a wait told.
+    pub(crate) fn told(&mut self, event: &Event) {
+        self.caller.told(event);
+    }
+
+    /// Connects where there is a job, or the printer is away.
+    pub(crate) fn reach(&mut self, net: &impl Net, poll: &Poll, has_job: bool, now: u64) -> Stage {
+        self.worked = false;
+        if !has_job && !self.away {
+            return Stage::Waits(Heard::Nothing);
+        }
+        match self.caller.turn(net, poll, now) {
+            Reached::Not => Stage::Waits(Heard::Nothing),
+            Reached::Away => {
+                self.away = true;
+                Stage::Waits(Heard::Away)
+            }
+            Reached::Now => self.open(has_job, now),
+            Reached::Still => Stage::Open,
+        }
+    }
+
+    /// The connection has come about. Without a job it only showed that the printer is there.
+    fn open(&mut self, has_job: bool, now: u64) -> Stage {
+        self.last = now;
+        self.worked = true;
+        if !has_job {
+            self.caller.close();
+        }
+        if !self.away {
+            return Stage::Opened(Heard::Nothing);
+        }
+        self.away = false;
+        Stage::Opened(Heard::Back)
+    }
+
+    /// Reads some of what the printer says.
+    pub(crate) fn read(&mut self, buffer: &mut [u8], now: u64) -> Moved
+        ensures { MovesAtMost result buffer.new }
+    {
+        let Some(link) = self.caller.link() else {
+            return Moved::Broken;
+        };
+        match link.read(buffer) {
+            Ok(0) => Moved::End,
+            Ok(count) => {
+                self.last = now;
+                self.worked = true;
+                Moved::Bytes(count)
+            }
+            Err(error) if has_to_wait(&error) => Moved::Nothing,
+            Err(_) => Moved::Broken,
+        }
+    }
+
+    /// Writes some bytes, where there are any.
+    pub(crate) fn write(&mut self, bytes: &[u8], now: u64) -> Moved
+        ensures { MovesAtMost result bytes.now }
+    {
+        let Some(link) = self.caller.link() else {
+            return Moved::Broken;
+        };
+        if bytes.is_empty() {
+            return Moved::Nothing;
+        }
+        match link.write(bytes) {
+            Ok(0) => Moved::Nothing,
+            Ok(count) => {
+                self.last = now;
+                self.worked = true;
+                Moved::Bytes(count)
+            }
+            Err(error) if has_to_wait(&error) => Moved::Nothing,
+            Err(_) => Moved::Broken,
+        }
+    }
+
+    /// Ends the writing side: whether that could be done.
+    pub(crate) fn end_writing(&mut self, now: u64) -> bool {
+        self.last = now;
+        self.worked = true;
+        match self.caller.link() {
+            Some(link) => link.end_writing().is_ok(),
+            None => false,
+        }
+    }
+
+    /// Nothing is to be sent or heard for now: the printer's time begins anew.
+    pub(crate) fn rest(&mut self, now: u64) {
+        self.last = now;
+    }
+
+    /// How long the printer has been silent, in ms.
+    pub(crate) fn silence(&self, now: u64) -> u64 {
+        now.saturating_sub(self.last)
+    }
+
+    /// Whether the printer has been silent for too long.
+    pub(crate) fn wait(&self, now: u64) -> Heard {
+        if self.silence(now) >= self.timeout {
+            Heard::Failed(Breach::Silent)
+        } else {
+            Heard::Nothing
+        }
+    }
+
+    /// Closes the connection, where there is one.
+    pub(crate) fn close(&mut self) {
+        if !self.away {
+            self.caller.close();
+        }
+    }
+
+    /// Whether the last turn moved bytes.
+    pub(crate) fn has_worked(&self) -> bool {
+        self.worked
+    }
+
+    /// The ms until there is something to do though nothing happens, where the printer may be silent for
+    /// so many.
+    pub(crate) fn pause(&self, now: u64, has_job: bool, patience: u64) -> Option<u64> {
+        if !has_job && !self.away {
+            return None;
+        }
+        match self.caller.pause(now) {
+            Some(pause) => Some(pause),
+            None => Some(patience.saturating_sub(self.silence(now))),
+        }
+    }
+
+    /// How long the printer may be silent, in ms.
+    pub(crate) fn timeout(&self) -> u64 {
+        self.timeout
+    }
+}
