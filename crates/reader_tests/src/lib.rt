@@ -2,6 +2,8 @@
 #![tactic(auto)]
 
 #[cfg(test)]
+mod attached_printers;
+#[cfg(test)]
 mod command_words;
 #[cfg(test)]
 mod ipp_messages;
