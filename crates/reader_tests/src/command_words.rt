@@ -5,7 +5,7 @@ use std::test::Fail;
 use streams::ExitStatus;
 
 /// Lines of words that are read, and what they ask for.
-const READ: [(&str, &str); 14] = [
+const READ: [(&str, &str); 16] = [
     ("printd replay", "Replay { plans: false }"),
     ("printd replay --plans", "Replay { plans: true }"),
     ("printd check", "Check { starts: false }"),
@@ -47,11 +47,19 @@ const READ: [(&str, &str); 14] = [
         "printd serve --address ::",
         "Serve(Serving { settings: None, ipp: [[::]:8631], lpd: [[::]:8515], devices: [[::]:8632], turns: 1000000000000, log: None })",
     ),
+    (
+        "printd attach --name window --to file:printed",
+        "Attach(Attaching { name: \"window\", server: \"127.0.0.1:8632\", to: \"file:printed\", format: None, ms_per_page: 0, linger: 30, timeout: 300, pjl: false, turns: 18446744073709551615, log: false })",
+    ),
+    (
+        "printd attach --name a --to lpd://b/c --server d:1 --format application/pdf --ms-per-page 2 --linger 3 --timeout 4 --pjl --turns 5 --log",
+        "Attach(Attaching { name: \"a\", server: \"d:1\", to: \"lpd://b/c\", format: Some(\"application/pdf\"), ms_per_page: 2, linger: 3, timeout: 4, pjl: true, turns: 5, log: true })",
+    ),
 ];
 
 /// Lines of words that are refused: one that isn't known, a word without the one that it needs, a port
 /// and an address that are none, and turns out of range.
-const REFUSED: [&str; 9] = [
+const REFUSED: [&str; 11] = [
     "printd",
     "printd reply",
     "printd settings --avahi",
@@ -61,6 +69,8 @@ const REFUSED: [&str; 9] = [
     "printd serve --address office",
     "printd serve --turns 0",
     "printd serve --turns 1000000000001",
+    "printd attach --name window",
+    "printd attach --to file:printed",
 ];
 
 /// Lines of words that ask for a text.

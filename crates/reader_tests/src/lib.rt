@@ -4,6 +4,8 @@
 #[cfg(test)]
 mod announced_printers;
 #[cfg(test)]
+mod attached_printers;
+#[cfg(test)]
 mod command_words;
 #[cfg(test)]
 mod ipp_messages;
