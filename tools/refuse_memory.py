@@ -93,8 +93,10 @@ def refuse_each(library, example, most):
         run = play(library, example, refused)
         way = outcome(run, wanted, connects)
         if example.stem in PRINTS:
-            busy += any(body.startswith(BUSY) for body in bodies(run[1]))
-            way = "wrong" if has_job_of_none(run[1]) else way
+            # one request is refused, so that a run with this answer has no connection that was closed without its own
+            is_busy = any(body.startswith(BUSY) for body in bodies(run[1]))
+            busy += is_busy
+            way = "wrong" if is_busy and has_job_of_none(run[1]) else way
         ways[way] += 1
         if way == "wrong":
             wrong.append(refused)
