@@ -55,7 +55,7 @@ def outcome(run, wanted, connects):
     status, output, _ = run
     if (status, output) == wanted[:2]:
         return "as ever"
-    if connects and status == 0:
+    if connects and status == wanted[0]:
         return "went on"
     return "stopped" if status == 3 and (connects or wanted[1].startswith(output)) else "wrong"
 
