@@ -1,12 +1,14 @@
 -- A write of one device.
-use Rattle.std.proofs.Common.{◌≡◌, ℕ, zero, suc, ◌<◌, List, [], ◌∷◌, length, map, refl, ap, arith, get_or, set, All}
-use Rattle.std.proofs.lemmas.List.Elements.{All-cons, All-head, All-tail}
+use Rattle.std.proofs.Common.{◌≡◌, ℕ, zero, suc, ◌<◌, ◌≤◌, List, Some, None, [], ◌∷◌, length, map, refl, ap, arith, get_or, set, All}
+use Rattle.std.proofs.lemmas.List.Elements.{All-cons, All-head, All-tail, All-weaker}
 use Rattle.base_types.specs.declared.device.Activity.{Activity}
+use Rattle.base_types.specs.declared.device.Activity.TheVariants.{Running, Stopped}
 use Rattle.base_types.specs.declared.report.Report.{Report}
 use Rattle.base_types.specs.declared.report.Report.TheVariants as Says
 use Rattle.base_types.specs.Device.{Device}
 use Rattle.settings_file.specs.Settings.{DeviceEntry}
 use Rattle.print_room.specs.Opening.{opening_device}
+use Rattle.print_room.specs.Activity.{KeepsTime}
 use Rattle.print_room.specs.State.{with_device, doing}
 use Rattle.print_room.specs.Report.{refitted}
 
@@ -29,6 +31,16 @@ pub length_with : (place : ℕ) (change : Device → Device) (devices : List Dev
 length_with place change [] = refl
 length_with zero change (device ∷ devices) = refl
 length_with (suc place) change (device ∷ devices) = ap suc (length_with place change devices)
+
+keeps_later : (last now : ℕ) (activity : Activity) → last ≤ now → KeepsTime last activity → KeepsTime now activity
+keeps_later last now (Running (Some printing)) later keeps = omega (arith, later, keeps)
+keeps_later last now (Running None) later keeps = tt
+keeps_later last now (Stopped (Some interrupted)) later keeps = keeps
+keeps_later last now (Stopped None) later keeps = tt
+
+-- each device's job takes no longer at a later moment
+pub all_keep_later : (last now : ℕ) (devices : List Device) → last ≤ now → All (λ d. KeepsTime last d.activity) devices → All (λ d. KeepsTime now d.activity) devices
+all_keep_later last now devices later all = All-weaker (λ (d : Device). KeepsTime last d.activity) (λ (d : Device). KeepsTime now d.activity) (λ d keeps. keeps_later last now d.activity later keeps) devices all
 
 -- a report other than of media, a time or its end is of what the device does
 pub other_report : (now place : ℕ) (report : Report) (activity : Activity) (devices : List Device) → ((names : _) → report ≡ Says.Media names → ⊥) → ((time : _) → report ≡ Says.Busy time → ⊥) → (report ≡ Says.Gone → ⊥) → with_device place (refitted now report activity) devices ≡ with_device place (doing activity) devices

@@ -8,3 +8,4 @@ pub mod Starts
 pub mod DeviceJobs
 pub mod Keeping
 pub mod Beginning
+pub mod StillGood

@@ -7,5 +7,6 @@ pub mod Jobs
 pub mod Ready
 pub mod GoodPlan
 pub mod Gathered
+pub mod StillGood
 pub mod Dispatch
 pub mod Beginning

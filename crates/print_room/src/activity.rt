@@ -1,5 +1,5 @@
 //! What a device does over time.
-ghost use Rattle.std.specs.Prelude.{◌≡◌, ◌≤◌, ℕ};
+ghost use Rattle.std.specs.Prelude.{◌≡◌, ◌≤◌, ℕ, true};
 ghost use Rattle.print_room.specs.Activity.{idle, job_on, KeepsTime, running_from, stopped_at, taken_for, taking, wait_of};
 
 use base_types::{Activity, DeviceNow, Interrupted, JobId, Limits, Moment, Printing};
@@ -85,6 +85,23 @@ pub fn taken_for(activity: Activity, now: Moment) -> u64
         Activity::Running(Some(printing)) => printing.end.saturating_sub(now.millis()),
         Activity::Stopped(Some(interrupted)) => interrupted.left,
         Activity::Running(None) | Activity::Stopped(None) => 0,
+    }
+}
+
+/// Whether a device does the same.
+pub(crate) fn is_same(one: &Activity, other: &Activity) -> bool
+    ensures { result ≡ true → one.now ≡ other.now }
+{
+    match (one, other) {
+        (Activity::Running(None), Activity::Running(None))
+        | (Activity::Stopped(None), Activity::Stopped(None)) => true,
+        (Activity::Running(Some(one)), Activity::Running(Some(other))) => {
+            one.job == other.job && one.end == other.end
+        }
+        (Activity::Stopped(Some(one)), Activity::Stopped(Some(other))) => {
+            one.job == other.job && one.left == other.left
+        }
+        _ => false,
     }
 }
 

@@ -1,14 +1,18 @@
 //! A dispatch: the plan, and what it starts.
-ghost use Rattle.std.specs.Prelude.{◌≡◌, ◌≤◌, IfOk, OnOk, OnErr, true, false, IsOk};
+ghost use Rattle.std.specs.Prelude.{◌≡◌, ◌≤◌, ◌<◌, All, IfOk, OnOk, OnErr, true, false, IsOk, [], Some, length};
+ghost use Rattle.prices.specs.Plan.{PlanRecord};
+ghost use Rattle.print_room.specs.Beginning.{AllCanBegin};
 ghost use Rattle.print_room.specs.GoodPlan.{is_some_job};
 ghost use Rattle.print_room.specs.Ready.{ready_of};
-ghost use Rattle.print_room.specs.Dispatch.{DispatchedAs, marked_state};
+ghost use Rattle.print_room.specs.Dispatch.{DispatchedAs, beginning_all, marked_state};
+ghost use Rattle.print_room.specs.StillGood.{IsStillGood, waits_stay};
 ghost use Rattle.print_room.specs.DeviceJobs.{AllKeep};
 
+use crate::activity::wait_of;
 use crate::room::PrintRoom;
 use crate::started::Started;
 use crate::starting::starts_of;
-use base_types::Moment;
+use base_types::{Limits, Moment};
 use planners::Planner;
 use prices::Plan;
 use std::alloc::AllocError;
@@ -48,19 +52,66 @@ impl PrintRoom {
         ensures keep { OnOk result (AllKeep self.old self.new) }
         ensures err { OnErr result (self.new ≡ self.old) }
     {
+        if self.is_still_good(now) {
+            self.start_again(now)
+        } else {
+            self.plan_anew(planner, now)
+        }
+    }
+
+    /// Makes a plan of the ready jobs and starts what can start, where a job is ready.
+    fn plan_anew<P: Planner>(&mut self, planner: &P, now: Moment) -> Result<(), AllocError>
+        requires later { self.old.last ≤ now }
+        requires ready { is_some_job (ready_of self.old) ≡ true }
+        ensures ok { OnOk result (DispatchedAs now self.old true self.new) }
+        ensures keep { OnOk result (AllKeep self.old self.new) }
+        ensures err { OnErr result (self.new ≡ self.old) }
+    {
         let plan = self.good_plan(planner, now)?;
         let starts = starts_of(self.alloc, plan.classes(), &self.devices, now)?;
         self.keep(now, plan);
-        self.begin_all(&starts);
-        self.note_begun(starts);
+        self.start_all(starts);
         Ok(())
     }
 
-    /// Keeps what began with the last plan.
-    fn note_begun(&mut self, starts: Vec<Started>)
-        ensures { self.new ≡ record self.old { begun = starts.items } }
+    /// Starts what can start under the last plan, which is still good.
+    fn start_again(&mut self, now: Moment) -> Result<(), AllocError>
+        requires later { self.old.last ≤ now }
+        requires ready { is_some_job (ready_of self.old) ≡ true }
+        requires good { IsStillGood now self.old }
+        ensures ok { OnOk result (DispatchedAs now self.old true self.new) }
+        ensures keep { OnOk result (AllKeep self.old self.new) }
+        ensures err { OnErr result (self.new ≡ self.old) }
     {
-        self.begun = starts;
+        // Reading the jobs makes known what holds of them.
+        let _jobs = self.spool.jobs();
+        let Some(plan) = &self.plan else {
+            return Ok(());
+        };
+        let starts = starts_of(self.alloc, plan.classes(), &self.devices, now)?;
+        self.mark_again(now);
+        self.start_all(starts);
+        Ok(())
+    }
+
+    /// Whether the last plan is a good one for a moment: nothing that a plan reads has changed since it
+    /// was made, but for the moment, and no device waits longer or shorter for that.
+    fn is_still_good(&self, now: Moment) -> bool
+        ensures { result ≡ true → IsStillGood now self.now }
+    {
+        match self.good_for {
+            Some(then) => self.waits_stay(then, now),
+            None => false,
+        }
+    }
+
+    /// Whether each device is free as long after one moment as after another.
+    fn waits_stay(&self, one: Moment, other: Moment) -> bool
+        ensures { result ≡ waits_stay one other self.now.devices }
+    {
+        self.devices
+            .iter()
+            .all(|device| wait_of(device, one) == wait_of(device, other))
     }
 
     /// Keeps the plan, and marks the ready jobs as stranded or not, as it says.
@@ -69,7 +120,52 @@ impl PrintRoom {
         ensures { self.new ≡ marked_state now plan self.old }
     {
         self.advance(now);
+        self.good_for = None;
         self.spool.mark(&self.printers, plan.stranded());
         self.plan = Some(plan);
+    }
+
+    /// Marks the ready jobs as stranded or not, as the last plan says.
+    fn mark_again(&mut self, now: Moment)
+        requires { self.old.last ≤ now }
+        ensures { (plan : PlanRecord) → self.old.plan ≡ Some plan → self.new ≡ marked_state now plan self.old }
+    {
+        self.advance(now);
+        self.good_for = None;
+        if let Some(plan) = &self.plan {
+            self.spool.mark(&self.printers, plan.stranded());
+        }
+    }
+
+    /// Starts these jobs under the last plan. Where there are none, it is still good afterwards.
+    fn start_all(&mut self, starts: Vec<Started>)
+        requires inside { All (λ start. start.device < length self.old.devices) starts.items }
+        requires short { All (λ start. start.time ≤ Limits.JOB_TIME) starts.items }
+        requires can { AllCanBegin self.old.last starts.items self.old }
+        requires good { IsStillGood self.old.last (record self.old { begun = [] }) }
+        ensures { self.new ≡ record (beginning_all self.old.last starts.items self.old) { begun = starts.items } }
+    {
+        let begins_none = starts.is_empty();
+        self.begin_all(&starts);
+        self.note_begun(starts);
+        if begins_none {
+            self.note_good();
+        }
+    }
+
+    /// Keeps what began with the last plan.
+    fn note_begun(&mut self, starts: Vec<Started>)
+        ensures { self.new ≡ record self.old { begun = starts.items } }
+    {
+        self.good_for = None;
+        self.begun = starts;
+    }
+
+    /// Notes that the last plan is a good one of the room as it is, for the last moment.
+    fn note_good(&mut self)
+        requires { IsStillGood self.old.last self.old }
+        ensures { self.new ≡ self.old }
+    {
+        self.good_for = Some(self.last);
     }
 }

@@ -25,6 +25,7 @@ impl PrintRoom {
         ensures refused { IfErr result (λ refused. IsRefusal (new_refusal self.old.spool job.documents) refused.refusal) }
     {
         let id = self.spool.submit(job)?;
+        self.good_for = None;
         self.advance(now);
         Ok(id)
     }
@@ -41,6 +42,7 @@ impl PrintRoom {
         ensures refused { IfErr result (λ refusal. IsRefusal (new_refusal self.old.spool []) refusal) }
     {
         let id = self.spool.create(job)?;
+        self.good_for = None;
         self.advance(now);
         Ok(id)
     }
@@ -67,6 +69,7 @@ impl PrintRoom {
     {
         let asker = self.asker(name);
         self.spool.add_document(id, &asker, document, last, now)?;
+        self.good_for = None;
         self.advance(now);
         Ok(())
     }
@@ -99,6 +102,7 @@ impl PrintRoom {
     {
         let asker = self.asker(name);
         self.spool.hold(id, &asker, now)?;
+        self.good_for = None;
         self.advance(now);
         Ok(())
     }
@@ -116,6 +120,7 @@ impl PrintRoom {
     {
         let asker = self.asker(name);
         self.spool.release(id, &asker, now)?;
+        self.good_for = None;
         self.advance(now);
         Ok(())
     }
@@ -152,6 +157,7 @@ impl PrintRoom {
         ensures refused { IfErr result (λ refusal. cancel_refusal asker.now (spooled_at id self.old.spool.jobs) ≡ Some refusal) }
     {
         self.spool.cancel(id, asker, now)?;
+        self.good_for = None;
         self.advance(now);
         Ok(())
     }
@@ -191,5 +197,6 @@ impl PrintRoom {
     {
         self.advance(now);
         self.spool.expire(now);
+        self.good_for = None;
     }
 }

@@ -35,6 +35,7 @@ impl PrintRoom {
             last: Moment::start(),
             plan: None,
             begun: Vec::new(alloc),
+            good_for: None,
             alloc,
         })
     }

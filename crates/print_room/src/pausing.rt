@@ -37,6 +37,7 @@ impl PrintRoom {
     {
         let place = printer.place();
         if place < self.printers.len() {
+            self.good_for = None;
             self.printers[place] = printer_paused(paused);
         }
     }

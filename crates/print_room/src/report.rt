@@ -134,13 +134,16 @@ impl PrintRoom {
         ensures { self.new ≡ record self.old { devices = with_device place (refitted self.old.last report.now activity) self.old.devices } }
     {
         match report {
-            Report::Media(names) => self.load(place, names),
-            Report::Busy(time) => self.set_free_from(place, self.last.millis() + u64::from(*time)),
+            Report::Media(names) => self.update_media(place, names),
+            Report::Busy(time) => self.update_free_from(
+                place,
+                self.last.millis() + u64::from(*time),
+            ),
             Report::Gone => {
-                self.set_activity(place, activity);
-                self.set_free_from(place, 0);
+                self.update_activity(place, activity);
+                self.update_free_from(place, 0);
             }
-            _ => self.set_activity(place, activity),
+            _ => self.update_activity(place, activity),
         }
     }
 
@@ -151,7 +154,10 @@ impl PrintRoom {
         ensures documents { result.items ≡ documents_out job said self.old.spool.jobs }
     {
         match (job, said) {
-            (Some(id), Some(said)) => self.spool.tell(id, said, now),
+            (Some(id), Some(said)) => {
+                self.good_for = None;
+                self.spool.tell(id, said, now)
+            }
             _ => Vec::new(self.alloc),
         }
     }

@@ -1,12 +1,14 @@
 //! The room: what it is made of, and the change of one part.
 ghost use Rattle.std.specs.Prelude.{◌≡◌, ◌≤◌, ◌<◌, IfOk, length, None, Some, [], map};
-ghost use Rattle.std.specs.List.{list_any};
+ghost use Rattle.std.specs.List.{list_all, list_any};
 ghost use Rattle.std.specs.Str.{bytes_eq};
 ghost use Rattle.base_types.specs.Ranges.{IsNotBefore};
 ghost use Rattle.print_room.specs.Activity.{KeepsTime};
 ghost use Rattle.print_room.specs.State.{with_device, doing, free_from, holding, loaded_if};
+ghost use Rattle.print_room.specs.StillGood.{loads};
 ghost use Rattle.print_room.specs.DeviceJobs.{Agree, AllKeep};
 
+use crate::activity::is_same;
 use crate::started::Started;
 use base_types::{Activity, DeviceNow, Medium, Moment, PrinterSet, Text};
 use job_objects::Printer;
@@ -30,6 +32,8 @@ pub struct PrintRoom {
     pub(crate) plan: Option<Plan>,
     /// What began with the last plan.
     pub(crate) begun: Vec<Started>,
+    /// The moment for which the last plan is a good one of the room as it is, where that is known.
+    pub(crate) good_for: Option<Moment>,
     pub(crate) alloc: Global,
 }
 
@@ -38,6 +42,7 @@ impl Model for PrintRoom {
     ghost use Rattle.base_types.specs.declared.limits.TheConstants.Limits.{DEVICES};
     ghost use Rattle.print_room.specs.State.{State, AllKeepTime, sets_of};
     ghost use Rattle.print_room.specs.DeviceJobs.{Agree};
+    ghost use Rattle.print_room.specs.StillGood.{HoldsFor};
     ghost use Rattle.settings_file.specs.Settings.{MeetsLimits};
 
     ghost Value = { State };
@@ -52,7 +57,7 @@ impl Model for PrintRoom {
       begun = c.begun.items;
     } };
 
-    ghost invariant = { λ c. AllKeepTime c.last c.devices.items × (length c.devices.items ≤ DEVICES) × (c.sets.items ≡ sets_of c.settings) × Agree c.devices.items c.spool.jobs × (length c.printers.items ≡ length c.settings.printers) × (length c.devices.items ≡ length c.settings.devices) × MeetsLimits c.settings };
+    ghost invariant = { λ c. AllKeepTime c.last c.devices.items × (length c.devices.items ≤ DEVICES) × (c.sets.items ≡ sets_of c.settings) × Agree c.devices.items c.spool.jobs × (length c.printers.items ≡ length c.settings.printers) × (length c.devices.items ≡ length c.settings.devices) × MeetsLimits c.settings × HoldsFor c.good_for (record { settings = c.settings; paused = c.printers.items; devices = c.devices.items; spool = c.spool; last = c.last; plan = c.plan; begun = c.begun.items }) };
 }
 
 impl PrintRoom {
@@ -72,25 +77,62 @@ impl PrintRoom {
         requires agree { Agree (with_device place (doing activity) self.old.devices) self.old.spool.jobs }
         ensures { self.new ≡ record self.old { devices = with_device place (doing activity) self.old.devices } }
     {
+        self.good_for = None;
         let device = &mut self.devices[place];
         device.activity = activity;
     }
 
-    /// The device at a place begins no job before this moment.
-    pub(crate) fn set_free_from(&mut self, place: usize, moment: u64)
+    /// What the device at a place does from now on. Where it does that already, nothing changes.
+    pub(crate) fn update_activity(&mut self, place: usize, activity: Activity)
+        requires inside { place < length self.old.devices }
+        requires in_time { KeepsTime self.old.last activity }
+        requires agree { Agree (with_device place (doing activity) self.old.devices) self.old.spool.jobs }
+        ensures { self.new ≡ record self.old { devices = with_device place (doing activity) self.old.devices } }
+    {
+        if !is_same(&self.devices[place].activity, &activity) {
+            self.set_activity(place, activity);
+        }
+    }
+
+    /// The device at a place begins no job before this moment. Where it is so already, nothing changes.
+    pub(crate) fn update_free_from(&mut self, place: usize, moment: u64)
         requires inside { place < length self.old.devices }
         requires bound { IsNotBefore moment }
         ensures { self.new ≡ record self.old { devices = with_device place (free_from moment) self.old.devices } }
     {
+        if self.devices[place].not_before != moment {
+            self.set_free_from(place, moment);
+        }
+    }
+
+    /// These media are loaded in the device at a place, and no others. Where it is so already, nothing
+    /// changes.
+    pub(crate) fn update_media(&mut self, place: usize, names: &[Text])
+        requires { place < length self.old.devices }
+        ensures { self.new ≡ record self.old { devices = with_device place (holding names.now) self.old.devices } }
+    {
+        if !are_loaded(&self.devices[place].media, names) {
+            self.load(place, names);
+        }
+    }
+
+    /// The device at a place begins no job before this moment.
+    fn set_free_from(&mut self, place: usize, moment: u64)
+        requires inside { place < length self.old.devices }
+        requires bound { IsNotBefore moment }
+        ensures { self.new ≡ record self.old { devices = with_device place (free_from moment) self.old.devices } }
+    {
+        self.good_for = None;
         let device = &mut self.devices[place];
         device.not_before = moment;
     }
 
     /// These media are loaded in the device at a place, and no others.
-    pub(crate) fn load(&mut self, place: usize, names: &[Text])
+    fn load(&mut self, place: usize, names: &[Text])
         requires { place < length self.old.devices }
         ensures { self.new ≡ record self.old { devices = with_device place (holding names.now) self.old.devices } }
     {
+        self.good_for = None;
         let device = &mut self.devices[place];
         load(&mut device.media, names);
     }
@@ -103,6 +145,13 @@ fn load(media: &mut [Medium], names: &[Text])
     for medium in media.iter_mut() {
         medium.loaded = is_named(names, medium.name.as_bytes());
     }
+}
+
+/// Whether these media are loaded, as far as they are there, and no others.
+fn are_loaded(media: &[Medium], names: &[Text]) -> bool
+    ensures { result ≡ list_all (loads names.now) media.now }
+{
+    media.iter().all(|medium| medium.loaded == is_named(names, medium.name.as_bytes()))
 }
 
 /// Whether a text is one of these.

@@ -131,6 +131,7 @@ impl PrintRoom {
     {
         let now = self.last;
         let end = now.millis() + start.time;
+        self.good_for = None;
         self.spool.begin(start.job, now);
         self.set_activity(
             start.device.place(),

@@ -38,7 +38,7 @@ invariant_of-self c =
     let loaded : (with_items c.device.inside.media c.load.new.media).items ≡ map (loaded_if c.args.names.now) c.device.inside.media.items =
     with_items_is c.device.inside.media c.load.new.media same ∙ (c.load.ensures ∙ ap (λ (ms : List Medium). map (loaded_if c.args.names.now) ms) c.deref_mut.ensures.value) in
     rw loaded
-    (subst (λ (ds : List Device). All (λ d. KeepsTime old.last d.activity) ds × (length ds ≤ DEVICES) × (old.sets.items ≡ sets_of old.settings) × Agree ds old.spool.jobs × (length old.printers.items ≡ length old.settings.printers) × (length ds ≡ length old.settings.devices) × MeetsLimits old.settings)
+    (subst (λ (ds : List Device). All (λ d. KeepsTime old.last d.activity) ds × (length ds ≤ DEVICES) × (old.sets.items ≡ sets_of old.settings) × Agree ds old.spool.jobs × (length old.printers.items ≡ length old.settings.printers) × (length ds ≡ length old.settings.devices) × MeetsLimits old.settings × Unit {0})
     (sym (ap written c.device.view_is ∙ (ap written c.index_mut-device.ensures.value ∙ set_one change old.devices.items place c.index_mut-device.result.now inside))) (
       all_with (λ d. KeepsTime old.last d.activity) place change (λ d h. h) old.devices.items c.self.invariant.0,
       rw (length_with place change old.devices.items) c.self.invariant.1,
@@ -47,4 +47,5 @@ invariant_of-self c =
       c.self.invariant.4,
       length_with place change old.devices.items ∙ c.self.invariant.5,
       c.self.invariant.6,
+      tt,
     ))

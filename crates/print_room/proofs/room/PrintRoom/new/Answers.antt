@@ -24,4 +24,5 @@ invariant_of-result c =
       printers,
       ap (λ (ds : List Device). length ds) made ∙ length_opening c.args.settings.devices,
       c.requires,
+      tt,
     )

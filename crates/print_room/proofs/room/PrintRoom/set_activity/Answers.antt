@@ -26,7 +26,7 @@ invariant_of-self c =
     let inside : place < length old.devices.items = rw (ap (λ (s : State). s.devices) c.self.view_is) c.requires.inside in
     let written : Device → List Device = λ (d : Device). set old.devices.items place (change d) in
     let in_time : KeepsTime old.last c.args.activity = subst (λ (s : State). KeepsTime s.last c.args.activity) (sym c.self.view_is) c.requires.in_time in
-    subst (λ (ds : List Device). All (λ d. KeepsTime old.last d.activity) ds × (length ds ≤ DEVICES) × (old.sets.items ≡ sets_of old.settings) × Agree ds old.spool.jobs × (length old.printers.items ≡ length old.settings.printers) × (length ds ≡ length old.settings.devices) × MeetsLimits old.settings)
+    subst (λ (ds : List Device). All (λ d. KeepsTime old.last d.activity) ds × (length ds ≤ DEVICES) × (old.sets.items ≡ sets_of old.settings) × Agree ds old.spool.jobs × (length old.printers.items ≡ length old.settings.printers) × (length ds ≡ length old.settings.devices) × MeetsLimits old.settings × Unit {0})
     (sym (ap written c.device.view_is ∙ (ap written c.index_mut-device.ensures.value ∙ set_one change old.devices.items place c.index_mut-device.result.now inside))) (
       all_with (λ d. KeepsTime old.last d.activity) place change (λ d h. in_time) old.devices.items c.self.invariant.0,
       rw (length_with place change old.devices.items) c.self.invariant.1,
@@ -35,4 +35,5 @@ invariant_of-self c =
       c.self.invariant.4,
       length_with place change old.devices.items ∙ c.self.invariant.5,
       c.self.invariant.6,
+      tt,
     )
