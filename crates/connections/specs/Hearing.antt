@@ -178,3 +178,8 @@ abbrev pub named : ℕ → Talk → Talk
 named device (of.Http t) = of.Http t
 named device (of.Lpd t) = of.Lpd t
 named device (of.Link t) = of.Link (record t { device = Some device })
+
+abbrev pub unnamed : Talk → Talk
+unnamed (of.Http t) = of.Http t
+unnamed (of.Lpd t) = of.Lpd t
+unnamed (of.Link t) = of.Link (record t { device = None })

@@ -15,7 +15,7 @@ use Rattle.base_types.specs.declared.limits.TheConstants.Limits.{WAITING_OUTPUT_
 use Rattle.wires.specs.Poll.{Poll, Closes}
 use Rattle.connections.specs.LpdAsks.{is_last}
 use Rattle.connections.specs.Talks.{HttpTalkState, LpdTalkState, LinkTalkState}
-use Rattle.connections.specs.Hearing.{IsNewTalk, IsFedTalk, Brings, Begins, HasPart, LosesBody, work, closes_of, HearsTalk, device_of, named}
+use Rattle.connections.specs.Hearing.{IsNewTalk, IsFedTalk, Brings, Begins, HasPart, LosesBody, work, closes_of, HearsTalk, device_of, named, unnamed}
 use Rattle.outputs.specs.Output.{OffersFront}
 use Rattle.outputs.specs.declared.output.TheConstants.{RESERVED_BYTES}
 use Rattle.outputs.specs.declared.output.Offered.{Offered}
@@ -191,6 +191,10 @@ is_ended c = record c { ended = true }
 abbrev pub is_named : ℕ → ConnectionState → ConnectionState
 is_named device c = talking (named device c.talk) c
 
+-- the device that said its name there has another connection: this one is to be closed as by a fault
+abbrev pub gives_way : ConnectionState → ConnectionState
+gives_way c = record c { talk = unnamed c.talk; broken = true }
+
 -- a request begins on a connection, if there is one
 abbrev pub BeginsAs : ℕ → Bool → List (Option ConnectionState) → List (Option ConnectionState) → Type 0
 BeginsAs key closes old new = ChangesAt key (IsBegun closes) old new
@@ -235,6 +239,9 @@ pub record IsWholeOf (whole : Whole) (c d : ConnectionState) : Type 0 where
 
 abbrev pub broken_at : List (Option ConnectionState) → ℕ → Bool
 broken_at slots key = option_map_or (λ c. c.broken) (slice_index_or slots key None) false
+
+abbrev pub ended_at : List (Option ConnectionState) → ℕ → Bool
+ended_at slots key = option_map_or (λ c. c.ended) (slice_index_or slots key None) false
 
 -- the connection under this key is the first that is broken
 pub record IsFirstBroken (slots : List (Option ConnectionState)) (key : ℕ) : Type 0 where

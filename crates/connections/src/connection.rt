@@ -8,7 +8,7 @@ ghost use Rattle.connections.specs.LpdAsks.{is_last};
 ghost use Rattle.outputs.specs.declared.output.TheConstants.{RESERVED_BYTES};
 ghost use Rattle.outputs.specs.Output.{OffersFront};
 ghost use Rattle.connections.specs.Session.{is_queue};
-ghost use Rattle.connections.specs.Slots.{IsFed, IsBegun, IsGiven, IsUnread, talking, is_named, is_kept, is_read, is_done};
+ghost use Rattle.connections.specs.Slots.{IsFed, IsBegun, IsGiven, IsUnread, talking, is_named, gives_way, is_kept, is_read, is_done};
 
 use crate::lpd_talk::LpdAsks;
 use crate::talk::{Brought, Talk};
@@ -151,6 +151,21 @@ impl Connection {
         ensures { self.new ≡ is_named device self.old }
     {
         self.talk.name(device);
+    }
+
+    /// Whether its input has ended.
+    pub fn has_ended(&self) -> bool
+        ensures { result ≡ self.now.ended }
+    {
+        self.ended
+    }
+
+    /// The device that said its name has another connection: this one is to be closed as by a fault.
+    pub fn give_way(&mut self)
+        ensures { self.new ≡ gives_way self.old }
+    {
+        self.talk.unname();
+        self.broken = true;
     }
 
     /// Takes the next bytes of the wire. The error is out of memory: none of them is taken.

@@ -7,7 +7,7 @@ ghost use Rattle.device_link.specs.Orders.{cancel_line, job_line};
 ghost use Rattle.outputs.specs.Reply.{http_reply, refusal_head};
 ghost use Rattle.connections.specs.Hearing.{IsNewTalk};
 ghost use Rattle.connections.specs.Session.{is_queue};
-ghost use Rattle.connections.specs.Slots.{ConnectionState, KeepsAs, IsGrowth, BringsAs, FeedsAs, BeginsAs, TakesPartAs, LosesAs, TakesBodyAs, changed_at, is_broken, is_over, is_ended, is_named, is_read, is_done, is_of, device_at, broken_at, IsIn, LeavesAs, OffersAt, WishesAs};
+ghost use Rattle.connections.specs.Slots.{ConnectionState, KeepsAs, IsGrowth, BringsAs, FeedsAs, BeginsAs, TakesPartAs, LosesAs, TakesBodyAs, changed_at, is_broken, is_over, is_ended, is_named, gives_way, is_read, is_done, is_of, device_at, broken_at, ended_at, IsIn, LeavesAs, OffersAt, WishesAs};
 ghost use Rattle.wires.specs.declared.wire.Door.{Door};
 
 use crate::connection::Connection;
@@ -186,6 +186,26 @@ pub fn name(connections: &mut Slab<Connection>, key: usize, device: DeviceId)
 {
     if let Some(connection) = connections.get_mut(key) {
         connection.name(device);
+    }
+}
+
+/// The device that said its name on the connection under a key has another connection: this one is to be
+/// closed as by a fault.
+pub fn give_way(connections: &mut Slab<Connection>, key: usize)
+    ensures { connections.new.slots ≡ changed_at key gives_way connections.old.slots }
+{
+    if let Some(connection) = connections.get_mut(key) {
+        connection.give_way();
+    }
+}
+
+/// Whether the input of the connection under a key has ended.
+pub fn has_ended(connections: &Slab<Connection>, key: usize) -> bool
+    ensures { result ≡ ended_at connections.now.slots key }
+{
+    match connections.get(key) {
+        Some(connection) => connection.has_ended(),
+        None => false,
     }
 }
 

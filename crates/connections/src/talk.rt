@@ -1,7 +1,7 @@
 //! What a connection brings: a client's requests over HTTP, an LPD client's commands and files, or what a device reports.
 ghost use Rattle.std.specs.Prelude.{◌≡◌, OnOk, OnErr, Some};
 ghost use Rattle.connections.specs.Session.{is_queue};
-ghost use Rattle.connections.specs.Hearing.{IsNewTalk, IsFedLink, IsFedTalk, NextReport, Brings, link_reads, brought_of, Begins, HasPart, LosesBody, closes_of, HearsTalk, device_of, named};
+ghost use Rattle.connections.specs.Hearing.{IsNewTalk, IsFedLink, IsFedTalk, NextReport, Brings, link_reads, brought_of, Begins, HasPart, LosesBody, closes_of, HearsTalk, device_of, named, unnamed};
 
 use crate::http_talk::HttpTalk;
 use crate::lpd_talk::{LpdAsks, LpdTalk};
@@ -86,6 +86,13 @@ impl LinkTalk {
         ensures { self.new ≡ record self.old { device = Some device } }
     {
         self.device = Some(device);
+    }
+
+    /// The device has another connection.
+    fn unname(&mut self)
+        ensures { self.new ≡ record self.old { device = None } }
+    {
+        self.device = None;
     }
 }
 
@@ -205,6 +212,15 @@ impl Talk {
     {
         if let Talk::Link(talk) = self {
             talk.name(device);
+        }
+    }
+
+    /// The device that said its name has another connection.
+    pub fn unname(&mut self)
+        ensures { self.new ≡ unnamed self.old }
+    {
+        if let Talk::Link(talk) = self {
+            talk.unname();
         }
     }
 }

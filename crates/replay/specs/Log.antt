@@ -1,6 +1,6 @@
 -- A log: what was printed of what an engine tells.
 use Rattle.std.specs.Prelude.{ℕ, ◌≡◌, ◌⊎◌, Bool, List, [], ◌∷◌, ◌++◌, Option, None, option_map}
-use Rattle.server.specs.Polls.{Note, Planned, Canceled, Refused, Happening, Polled, Told}
+use Rattle.server.specs.Polls.{Note, Planned, Canceled, DeviceRefused, Refused, Happening, Polled, Told}
 use Rattle.transcripts.specs.Printed.{dispatch_lines, cancel_line}
 
 -- whether the texts of plans are asked for, the names of the devices, and what was heard, unless memory was refused
@@ -13,6 +13,7 @@ pub record LogRecord : Type 0 where
 abbrev pub note_text : Bool → List (List ℕ) → Note → List ℕ
 note_text texts names (Planned plan started) = dispatch_lines texts names plan started
 note_text texts names (Canceled cancel) = cancel_line names cancel
+note_text texts names (DeviceRefused id why) = []
 note_text texts names (Refused place id) = []
 
 -- a note is printed after what was heard before, or memory was refused

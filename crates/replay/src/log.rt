@@ -7,7 +7,7 @@ ghost use Rattle.replay.specs.Log.{note_text};
 use base_types::Text;
 use dispatcher::Dispatched;
 use events::Cancel;
-use server::{Notes, Place};
+use server::{DeviceRefusal, Notes, Place};
 use std::alloc::{AllocError, Global};
 use std::marker::Model;
 use std::mem;
@@ -51,6 +51,8 @@ impl Notes for Log {
             self.lose();
         }
     }
+
+    fn device_refused(&mut self, _id: WireId, _why: DeviceRefusal) {}
 
     fn refused(&mut self, _place: Place, _id: Option<WireId>) {}
 }

@@ -3,7 +3,7 @@ use crate::ends::Ended;
 use base_types::{DeviceId, JobId, Moment, Text};
 use job_objects::JobState;
 use plan_text::{cause_word, name_of};
-use server::{Heard, Place};
+use server::{DeviceRefusal, Heard, Place};
 use sockets::{Leave, Visit};
 use std::alloc::{AllocError, Global};
 use std::net::SocketAddr;
@@ -91,6 +91,7 @@ impl<'a> Lines<'a> {
             }
             Heard::Began(started) => self.add_job("start", started.job, started.device),
             Heard::Canceled(cancel) => self.add_job("cancel", cancel.job, cancel.device),
+            Heard::DeviceRefused(_, why) => self.add_device_refused(why),
             Heard::Refused(place, id) => self.add_refused(*place, *id),
         }
     }
@@ -101,6 +102,28 @@ impl<'a> Lines<'a> {
         self.begin(word)?;
         self.append(format!(in self.alloc; " {job} ")?)?;
         self.text.extend_from_slice(name_of(self.names, device))
+    }
+
+    /// Adds the line of a device's connection that is refused, with the name that was said on it, if one
+    /// was.
+    fn add_device_refused(&mut self, why: &DeviceRefusal) -> Result<(), AllocError> {
+        match why {
+            DeviceRefusal::UnknownName(name) => self.add_reason(name.as_bytes(), "unknown"),
+            DeviceRefusal::Connected(device) => {
+                self.add_reason(name_of(self.names, *device), "connected")
+            }
+            DeviceRefusal::Fault(Some(device)) => {
+                self.add_reason(name_of(self.names, *device), "fault")
+            }
+            DeviceRefusal::Fault(None) => self.add_reason(b"-", "fault"),
+        }
+    }
+
+    /// Adds a line of the name of a device and why it is refused.
+    fn add_reason(&mut self, name: &[u8], reason: &str) -> Result<(), AllocError> {
+        self.begin("refused device ")?;
+        self.text.extend_from_slice(name)?;
+        self.append(format!(in self.alloc; " {reason}")?)
     }
 
     /// Adds the line of a growth that was refused.

@@ -9,7 +9,7 @@ use assignment::Lazy;
 use base_types::{Moment, Text};
 use dispatcher::Dispatched;
 use events::Cancel;
-use server::{Engine, Heard, NoteLog, Notes, Place};
+use server::{DeviceRefusal, Engine, Heard, NoteLog, Notes, Place};
 use settings_file::Settings;
 use sockets::{Listening, Sockets, Visit, Visits};
 use std::alloc::{AllocError, Global};
@@ -180,6 +180,8 @@ impl Notes for Untold {
     fn dispatched(&mut self, _made: &Dispatched<'_>) {}
 
     fn canceled(&mut self, _cancel: Cancel) {}
+
+    fn device_refused(&mut self, _id: WireId, _why: DeviceRefusal) {}
 
     fn refused(&mut self, _place: Place, _id: Option<WireId>) {}
 }

@@ -18,7 +18,7 @@ use Rattle.dispatcher.specs.Run.{Comes, Run}
 use Rattle.requests.specs.declared.asked.Asked.{Asked}
 use Rattle.requests.specs.declared.asked.Asked.TheVariants as asks
 use Rattle.requests.specs.Asked.{Asks}
-use Rattle.server.specs.Polls.{Note, Happening, Polled, Told, Planned, Canceled, Refused}
+use Rattle.server.specs.Polls.{Note, Happening, Polled, Told, Planned, Canceled, DeviceRefused, Refused}
 use Rattle.server.specs.Ledger.{Entry, Ledger, Fate, opening_ledger}
 use Rattle.server.specs.Rel.{Rel, Nothing, Or}
 use Rattle.server.specs.Happening.{now_at, IsDropped}
@@ -89,6 +89,7 @@ plans_append : (hs ks : List Happening) → plans_told (hs ++ ks) ≡ plans_told
 plans_append [] ks = refl
 plans_append (Told (Planned plan started) ∷ hs) ks = ap (λ (ds : List Dispatch). (plan, started) ∷ ds) (plans_append hs ks)
 plans_append (Told (Canceled cancel) ∷ hs) ks = plans_append hs ks
+plans_append (Told (DeviceRefused id why) ∷ hs) ks = plans_append hs ks
 plans_append (Told (Refused place id) ∷ hs) ks = plans_append hs ks
 plans_append (Polled poll ∷ hs) ks = plans_append hs ks
 
@@ -96,6 +97,7 @@ cancels_append : (hs ks : List Happening) → cancels_told (hs ++ ks) ≡ cancel
 cancels_append [] ks = refl
 cancels_append (Told (Planned plan started) ∷ hs) ks = cancels_append hs ks
 cancels_append (Told (Canceled cancel) ∷ hs) ks = ap (λ (cs : List Cancel). cancel ∷ cs) (cancels_append hs ks)
+cancels_append (Told (DeviceRefused id why) ∷ hs) ks = cancels_append hs ks
 cancels_append (Told (Refused place id) ∷ hs) ks = cancels_append hs ks
 cancels_append (Polled poll ∷ hs) ks = cancels_append hs ks
 

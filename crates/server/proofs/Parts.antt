@@ -28,8 +28,8 @@ use Rattle.requests.specs.declared.asked.Asked.{Asked}
 use Rattle.requests.specs.declared.asked.Asked.TheVariants as asks
 use Rattle.replies.specs.QueueText.{ack_of, text_of}
 use Rattle.wires.specs.Poll.{Poll, Accepts, Reads, Writes, Closes}
-use Rattle.server.specs.Polls.{Refused, Happening, Polled, Told}
-use Rattle.server.specs.Ledger.{Entry, Ledger, Fate, Drained, Broken, opening_entry, with_new, device_of, waiting}
+use Rattle.server.specs.Polls.{DeviceRefused, Refused, Happening, Polled, Told}
+use Rattle.server.specs.Ledger.{Entry, Ledger, Fate, Drained, Broken, opening_entry, with_entry, with_new, device_of, waiting}
 use Rattle.server.specs.Rel.{Rel, Nothing, Polls, Then, If, Or, Times, Many, Each}
 use Rattle.server.specs.Keeping.{Sets, broken, Breaks, Drops, Keeps}
 use Rattle.server.specs.Happening.{now_at, Steps, IsDropped, Follows, Unanswered}
@@ -48,6 +48,8 @@ use Rattle.wires.specs.declared.wire.Answer.TheVariants as wire
 use Rattle.wires.specs.declared.wire.Answer.{Answer as WireAnswer}
 use Rattle.wires.specs.declared.wire.Door.{Door}
 use Rattle.wires.specs.declared.wire.Door.TheVariants.{Ipp, Lpd, Devices}
+use Rattle.server.specs.declared.notes.DeviceRefusal.{DeviceRefusal}
+use Rattle.server.specs.declared.notes.DeviceRefusal.TheVariants as why
 use Rattle.server.specs.declared.notes.Place.{Place}
 use Rattle.server.specs.declared.notes.Place.TheVariants as At
 use Rattle.server.proofs.Speaking.{plans_of, cancels_are, Calmly, calm_nothing, calm_then, calm_if, calm_or, calm_refusal, calm_sets, calm_drops, calm_drops_one, calm_breaks, calm_keeps, core_notes, IsUnpolled, never, no_refusal_told, Happened, happens, between_nothing}
@@ -259,14 +261,26 @@ module _ (moment : ℕ) (P : Rel) (k : Holds moment P) where
   tells_in : (device : ℕ) (said : ReportRecord) → Within P (Links.Tells moment device said)
   tells_in device said l hs l' (report, is, it) = reported_in device report l hs l' it
 
-  greets_in : (key : ℕ) (e : Entry) (reports : List ReportRecord) (said : ReportRecord) (device : Option ℕ) → Within P (Links.Greets moment key e reports said device)
-  greets_in key e reports said None l hs l' it = sets_in key (broken e) l hs l' it
-  greets_in key e reports said (Some device) l hs l' (inl (absent, it)) = then_in (sets_in key (Links.linked e reports (Some device))) (tells_in device said) l hs l' it
-  greets_in key e reports said (Some device) l hs l' (inr (other, it)) = sets_in key (broken e) l hs l' it
+  gives_way_at_in : (key : ℕ) (o : Option Entry) → Within P (Links.GivesWayAt key o)
+  gives_way_at_in key None = nothing_in
+  gives_way_at_in key (Some e) = sets_in key (Links.given_up e)
+
+  gives_way_in : (key : ℕ) → Within P (Links.GivesWay key)
+  gives_way_in key l hs l' it = gives_way_at_in key (l.entries key) l hs l' it
+
+  turns_away_in : (key : ℕ) (e : Entry) (why : DeviceRefusal) → Within P (Links.TurnsAway key e why)
+  turns_away_in key e why l hs l' it = k.calm l hs l' (calm_as (Told (DeviceRefused e.id why) ∷ []) (with_entry key (broken e) l) l hs l' refl refl refl refl it)
+
+  greets_in : (key : ℕ) (e : Entry) (reports : List ReportRecord) (name : List ℕ) (device : Option ℕ) → Within P (Links.Greets moment key e reports name device)
+  greets_in key e reports name None l hs l' it = turns_away_in key e (why.UnknownName name) l hs l' it
+  greets_in key e reports name (Some device) l hs l' (inl (absent, it)) = then_in (sets_in key (Links.linked e reports (Some device))) (tells_in device (SaysHello name)) l hs l' it
+  greets_in key e reports name (Some device) l hs l' (inr (inl (other, it))) = turns_away_in key e (why.Connected device) l hs l' it
+  greets_in key e reports name (Some device) l hs l' (inr (inr (other, ended, it))) =
+      then_in (sets_in key (Links.linked e reports (Some device))) (then_in (gives_way_in other) (then_in (gone_in (Some device)) (tells_in device (SaysHello name)))) l hs l' it
 
   report_in : (key : ℕ) (e : Entry) (reports : List ReportRecord) (device : Option ℕ) (said : ReportRecord) → Within P (Links.HearsReport moment key e reports device said)
   report_in key e reports (Some device) said l hs l' it = then_in (sets_in key (Links.linked e reports (Some device))) (tells_in device said) l hs l' it
-  report_in key e reports None (SaysHello name) l hs l' it = greets_in key e reports (SaysHello name) (Links.device_named name l.core) l hs l' it
+  report_in key e reports None (SaysHello name) l hs l' it = greets_in key e reports name (Links.device_named name l.core) l hs l' it
   report_in key e reports None (SaysMedia names) l hs l' it = absurd it
   report_in key e reports None SaysReady l hs l' it = absurd it
   report_in key e reports None SaysStop l hs l' it = absurd it
@@ -311,7 +325,7 @@ module _ (moment : ℕ) (P : Rel) (k : Holds moment P) where
       or_in {R = Http.HearsNext moment key} (λ l hs l' it. item_in key it.entry _ it.closes it.body it.what it.part l hs l' it.does)
       (or_in {R = Links.ReportsNext moment key} (λ l hs l' it. report_in key it.entry _ it.device it.said l hs l' it.does)
       (or_in {R = Links.LosesLine key} (λ l hs l' it. calmly_in (calm_drops At.Feed key it.entry) l hs l' it.does)
-      (or_in {R = Links.LinkBreaks key} (λ l hs l' it. sets_in key (broken it.entry) l hs l' it.does)
+      (or_in {R = Links.LinkBreaks key} (λ l hs l' it. turns_away_in key it.entry (why.Fault it.device) l hs l' it.does)
       (or_in (lpd_in key)
       (or_in {R = Queues.LosesLine key} {S = Queues.IsFaulty key} (λ l hs l' it. calmly_in (calm_drops At.Feed key it.entry) l hs l' it.does)
       (λ l hs l' it. then_in (sets_in key (Queues.talks it.entry it.items it.session true)) (calmly_in (calm_byte key nack)) l hs l' it.does))))))

@@ -13,31 +13,36 @@ use Rattle.device_link.specs.Line.{in_turn, said}
 use Rattle.device_link.specs.Stream.{LinkState, SaysFirst}
 use Rattle.device_link.specs.Stream as Link
 use Rattle.events.specs.declared.event.Event.TheVariants as Is
-use Rattle.server.specs.Polls.{Note, Refused, Happening, Told, alone}
+use Rattle.server.specs.Polls.{Note, DeviceRefused, Refused, Happening, Told, alone}
 use Rattle.server.specs.Ledger.{Entry, Ledger, with_entry}
 use Rattle.server.specs.Ledger as Ledger
-use Rattle.server.specs.Rel.{Rel, Nothing, Tells, Then}
-use Rattle.server.specs.Keeping.{Sets, broken, IsAbsent}
+use Rattle.server.specs.Rel.{Rel, Tells, Then}
+use Rattle.server.specs.Keeping.{Sets, broken}
 use Rattle.server.specs.Happening.{Unanswered}
-use Rattle.server.specs.Devices.{device_named, linked, Tells as Reports, Greets, HearsReport}
+use Rattle.server.specs.Devices.{device_named, linked, IsDeviceAs, Greets, HearsReport, TakesOver}
 use Rattle.server.specs.Polling.{ActsNext}
 use Rattle.connections.specs.Talks.{LinkTalkState}
 use Rattle.connections.specs.Hearing.{Brings, NextItem, NextReport, work, device_of}
-use Rattle.server.specs.Newcomers.{IsAlone, IsNewcomer, IsTurnedAway}
+use Rattle.server.specs.Newcomers.{IsAlone, IsHeld, IsMet, IsNameGreeted, IsGreeted, RefusesAt, unknown}
+use Rattle.server.specs.declared.devices.Greeting.{Greeting}
+use Rattle.server.specs.declared.devices.Greeting.TheVariants.{Taken, Replaces, IsThere, Unknown}
+use Rattle.server.specs.declared.notes.DeviceRefusal.{DeviceRefusal}
+use Rattle.server.specs.declared.notes.DeviceRefusal.TheVariants as reason
 use Rattle.connections.specs.declared.talk.Brought.{Brought}
 use Rattle.connections.specs.declared.talk.Brought.TheVariants as brings
 use Rattle.connections.specs.declared.talk.Talk.{Talk}
 use Rattle.connections.specs.declared.talk.Talk.TheVariants as of
 use Rattle.server.specs.declared.notes.Place.TheVariants as At
-use Rattle.connections.specs.Slots.{ConnectionState, Slots, work_at, load, OnSlot, IsBrought, IsReported, IsFirstReport, changed_at, talking, is_named, is_broken, is_of, device_at}
+use Rattle.connections.specs.Slots.{ConnectionState, Slots, work_at, load, OnSlot, IsBrought, IsReported, IsFirstReport, changed_at, talking, is_named, is_broken, is_of, device_at, ended_at}
 use Rattle.server.specs.State.{EngineState, slot_at, with_slots}
 use Rattle.server.specs.Stands.{FitsTalk, FitsLink, IsLinked, FitsConnection, Fits, Aside, Openly, Heard}
-use Rattle.server.proofs.Steps.{aside_nothing, quiet_then}
+use Rattle.server.proofs.Steps.{quiet_then}
 use Rattle.server.proofs.Slots.{set_there, set_twice, changed_again, quiet_at, work_there}
 use Rattle.server.proofs.Places.{found, fits_set}
 use Rattle.server.proofs.Keeping.{load_within, load_counts}
-use Rattle.server.proofs.Happening.{device_there, device_absent, tells}
+use Rattle.server.proofs.Happening.{device_as_there, device_absent, tells}
 use Rattle.server.proofs.Hearing.{counts_there}
+use Rattle.server.proofs.Closing.{never_none}
 use Rattle.server.proofs.Saying.{IsCut, loses_line}
 
 -- ---- what was taken off
@@ -197,42 +202,84 @@ is_of_before xs ys key report on device k =
     let same : device_of on.after.talk ≡ device_of on.before.talk = ap (λ (c : ConnectionState). device_of c.talk) on.changes.is ∙ sym (ap device_of on.changes.talk) in
     ap (λ (o : Option ℕ). option_map_or (λ place. place == device) o false) (ap (λ (vs : Slots). device_at vs k) on.slots ∙ same_devices xs key on.before on.after on.there same k)
 
-newcomer_is : (e : EngineState) (report : Report) (place : ℕ) → IsNewcomer e report place → (name : List ℕ) × (report ≡ reported.Hello name) × (device_named name e.core ≡ Some place) × IsAlone e place
-newcomer_is e (reported.Hello name) place (is, alone) = (name, refl, is, alone)
-newcomer_is e (reported.Media names) place it = absurd it
-newcomer_is e reported.Ready place it = absurd it
-newcomer_is e reported.Stop place it = absurd it
-newcomer_is e (reported.Busy time) place it = absurd it
-newcomer_is e (reported.Pages job printed) place it = absurd it
-newcomer_is e (reported.Done job) place it = absurd it
-newcomer_is e (reported.Fail job) place it = absurd it
-newcomer_is e reported.Gone place it = absurd it
+-- one connection is written whose input has ended as before
+same_endings : (xs : Slots) (key : ℕ) (c d : ConnectionState) → slice_index_or xs key None ≡ Some c → d.ended ≡ c.ended → (k : ℕ) → ended_at (slice_set xs key (Some d)) k ≡ ended_at xs k
+same_endings [] key c d is same k = refl
+same_endings (x ∷ xs) zero c d is same zero = same ∙ sym (ap (λ (o : Option ConnectionState). option_map_or (λ v. v.ended) o false) is)
+same_endings (x ∷ xs) zero c d is same (suc k) = refl
+same_endings (x ∷ xs) (suc key) c d is same zero = refl
+same_endings (x ∷ xs) (suc key) c d is same (suc k) = same_endings xs key c d is same k
 
--- a device says its name
-pub hears_name : {N : Type 0} (told : N → Note → N → Type 0) (n n' : N) (a b : EngineState) (mid slots : Slots) (moment key place : ℕ) (report : Report) (refused : Bool)
-    → OnSlot key (IsFirstReport report) a.slots mid → IsNewcomer (with_slots mid a) report place → slots ≡ changed_at key (is_named place) mid
-    → Openly (alone told) (Unanswered moment (Is.Report place report)) n (with_slots slots a) n' b refused → Heard (alone told) moment key n a n' b
-hears_name told n n' a b mid slots moment key place report refused first new is does =
-    let on : OnSlot key (IsReported report) a.slots mid = record { before = first.before; after = first.after; there = first.there; changes = first.changes.reported; slots = first.slots } in
+ended_before : (xs ys : Slots) (key : ℕ) (report : Report) → OnSlot key (IsReported report) xs ys → (k : ℕ) → ended_at ys k ≡ ended_at xs k
+ended_before xs ys key report on k =
+    ap (λ (vs : Slots). ended_at vs k) on.slots ∙ same_endings xs key on.before on.after on.there (ap (λ (c : ConnectionState). c.ended) on.changes.is) k
+
+-- a report by which something comes about is a name
+greeted_name : (e : EngineState) (report : Report) (greeting : Greeting) → (greeting ≡ Unknown → ⊥) → IsGreeted e report greeting → (name : List ℕ) × (report ≡ reported.Hello name) × IsNameGreeted e (device_named name e.core) greeting
+greeted_name e (reported.Hello name) greeting known it = (name, refl, it)
+greeted_name e (reported.Media names) greeting known it = absurd (known it)
+greeted_name e reported.Ready greeting known it = absurd (known it)
+greeted_name e reported.Stop greeting known it = absurd (known it)
+greeted_name e (reported.Busy time) greeting known it = absurd (known it)
+greeted_name e (reported.Pages job printed) greeting known it = absurd (known it)
+greeted_name e (reported.Done job) greeting known it = absurd (known it)
+greeted_name e (reported.Fail job) greeting known it = absurd (known it)
+greeted_name e reported.Gone greeting known it = absurd (known it)
+
+-- and it is a device's
+met : (e : EngineState) (o : Option ℕ) (greeting : Greeting) → (greeting ≡ Unknown → ⊥) → IsNameGreeted e o greeting → (device : ℕ) × (o ≡ Some device) × IsMet e device greeting
+met e None greeting known it = absurd (known it)
+met e (Some device) greeting known it = (device, refl, it)
+
+taken_known : (place : ℕ) → Taken place ≡ Unknown → ⊥
+taken_known place is = cc
+
+replaces_known : (place key : ℕ) → Replaces place key ≡ Unknown → ⊥
+replaces_known place key is = cc
+
+there_known : (place : ℕ) → IsThere place ≡ Unknown → ⊥
+there_known place is = cc
+
+taken_is : (e : EngineState) (report : Report) (place : ℕ) → IsGreeted e report (Taken place) → (name : List ℕ) × (report ≡ reported.Hello name) × (device_named name e.core ≡ Some place) × IsAlone e place
+taken_is e report place it =
+    let named = greeted_name e report (Taken place) (taken_known place) it in
+    let who = met e (device_named named.0 e.core) (Taken place) (taken_known place) named.2 in
+    (named.0, named.1, who.1 ∙ ap Some (sym who.2.0), subst (λ (d : ℕ). IsAlone e d) (sym who.2.0) who.2.1)
+
+replaces_is : (e : EngineState) (report : Report) (place old : ℕ) → IsGreeted e report (Replaces place old) → (name : List ℕ) × (report ≡ reported.Hello name) × (device_named name e.core ≡ Some place) × IsHeld true e place old
+replaces_is e report place old it =
+    let named = greeted_name e report (Replaces place old) (replaces_known place old) it in
+    let who = met e (device_named named.0 e.core) (Replaces place old) (replaces_known place old) named.2 in
+    (named.0, named.1, who.1 ∙ ap Some (sym who.2.0), subst (λ (d : ℕ). IsHeld true e d old) (sym who.2.0) who.2.1)
+
+there_is : (e : EngineState) (report : Report) (place : ℕ) → IsGreeted e report (IsThere place) → (name : List ℕ) × (report ≡ reported.Hello name) × (device_named name e.core ≡ Some place) × ((key : ℕ) × IsHeld false e place key)
+there_is e report place it =
+    let named = greeted_name e report (IsThere place) (there_known place) it in
+    let who = met e (device_named named.0 e.core) (IsThere place) (there_known place) named.2 in
+    (named.0, named.1, who.1 ∙ ap Some (sym who.2.0), subst (λ (d : ℕ). (key : ℕ) × IsHeld false e d key) (sym who.2.0) who.2.1)
+
+-- a device says its name, and this comes of it
+hears_named : {N : Type 0} (told : N → Note → N → Type 0) (n n' : N) (a b : EngineState) (mid slots : Slots) (moment key place : ℕ) (report : Report) (name : List ℕ)
+    → (on : OnSlot key (IsReported report) a.slots mid) → device_of on.before.talk ≡ None → report ≡ reported.Hello name → device_named name a.core ≡ Some place → slots ≡ changed_at key (is_named place) mid
+    → (Q : Rel) → Aside (alone told) Q n (with_slots slots a) n' b
+    → ((l : Ledger) (e : Entry) (given : List ReportRecord) → Fits l a → (hs : List Happening) (l' : Ledger) → Q (with_entry key (linked e given (Some place)) l) hs l' → Greets moment key e given name (Some place) l hs l')
+    → Heard (alone told) moment key n a n' b
+hears_named told n n' a b mid slots moment key place report name on none hello named is Q does greets =
     let h = on.changes in
     let t = h.before in
-    let unnamed : t.device ≡ None = sym (ap device_of h.talk) ∙ first.changes.unnamed in
-    let who = newcomer_is (with_slots mid a) report place new in
+    let unnamed : t.device ≡ None = sym (ap device_of h.talk) ∙ none in
     let same : is_named place on.after ≡ told_link on.before h.reader (Some place) false = ap (is_named place) h.is ∙ written on.before h.reader (Some place) h.counts in
     reports (alone told) n n' a b slots moment key on.before t h.reader (Some place) false on.there h.talk
     (changed_again a.slots mid slots key on.before on.after (is_named place) on.there on.slots is ∙ ap (λ (d : ConnectionState). slice_set a.slots key (Some d)) same)
-    h.counts (less_to_bring on.before t h.reader (Some place) h.talk h.counts h.falls false) (Unanswered moment (Is.Report place report)) does.does
+    h.counts (less_to_bring on.before t h.reader (Some place) h.talk h.counts h.falls false) Q does
     (λ l e given fits there f whole talk link.
-    let stands : Link.Stands e.read (given ++ report_of report ∷ []) h.reader = h.answers e.read given link.stands in
-    let e' : Entry = linked e (given ++ report_of report ∷ []) (Some place) in (
+    let stands : Link.Stands e.read (given ++ report_of report ∷ []) h.reader = h.answers e.read given link.stands in (
       linked e (given ++ report_of report ∷ []) (Some place),
       fits_linked e on.before (given ++ report_of report ∷ []) h.reader place f whole stands,
       λ hs l' it counts.
-          let known : device_named who.0 l.core ≡ Some place = ap (λ (s : State). device_named who.0 s) fits.core ∙ who.2 in
-          let absent : IsAbsent place l = device_absent l a place fits (λ k. sym (is_of_before a.slots mid key report on place k) ∙ who.3 k) in
-          let both_do : Then (Sets key (linked e (given ++ report_of report ∷ []) (Some place))) (Reports moment place (report_of report)) l hs l' = record { mid = with_entry key e' l; front = []; back = hs; whole = refl; first = (refl, refl); second = (report, refl, it) } in
-          let greets : Greets moment key e (given ++ report_of report ∷ []) (report_of report) (device_named who.0 l.core) l hs l' = subst (λ (o : Option ℕ). Greets moment key e (given ++ report_of report ∷ []) (report_of report) o l hs l') (sym known) (inl (absent, both_do)) in
-          let heard : HearsReport moment key e (given ++ report_of report ∷ []) None (report_of report) l hs l' = subst (λ (r : Report). Greets moment key e (given ++ report_of report ∷ []) (report_of report) (device_named who.0 l.core) l hs l' → HearsReport moment key e (given ++ report_of report ∷ []) None (report_of r) l hs l') (sym who.1) (λ g. subst (λ (r : Report). Greets moment key e (given ++ report_of report ∷ []) (report_of r) (device_named who.0 l.core) l hs l') who.1 g) greets in
+          let known : device_named name l.core ≡ Some place = ap (λ (s : State). device_named name s) fits.core ∙ named in
+          let greeted : Greets moment key e (given ++ report_of report ∷ []) name (device_named name l.core) l hs l' = subst (λ (o : Option ℕ). Greets moment key e (given ++ report_of report ∷ []) name o l hs l') (sym known) (greets l e (given ++ report_of report ∷ []) fits hs l' it) in
+          let heard : HearsReport moment key e (given ++ report_of report ∷ []) None (report_of report) l hs l' = subst (λ (r : Report). HearsReport moment key e (given ++ report_of report ∷ []) None (report_of r) l hs l') (sym hello) greeted in
           inr (inl (record {
             entry = e;
             reports = given;
@@ -245,6 +292,36 @@ hears_name told n n' a b mid slots moment key place report refused first new is 
             does = heard;
           })),
     ))
+
+taken_off : (key : ℕ) (report : Report) (xs ys : Slots) → OnSlot key (IsFirstReport report) xs ys → OnSlot key (IsReported report) xs ys
+taken_off key report xs ys first = record { before = first.before; after = first.after; there = first.there; changes = first.changes.reported; slots = first.slots }
+
+-- a device that has no connection
+pub hears_name : {N : Type 0} (told : N → Note → N → Type 0) (n n' : N) (a b : EngineState) (mid slots : Slots) (moment key place : ℕ) (report : Report) (refused : Bool)
+    → OnSlot key (IsFirstReport report) a.slots mid → IsGreeted (with_slots mid a) report (Taken place) → slots ≡ changed_at key (is_named place) mid
+    → Openly (alone told) (Unanswered moment (Is.Report place report)) n (with_slots slots a) n' b refused → Heard (alone told) moment key n a n' b
+hears_name told n n' a b mid slots moment key place report refused first new is does =
+    let on : OnSlot key (IsReported report) a.slots mid = taken_off key report a.slots mid first in
+    let who = taken_is (with_slots mid a) report place new in
+    hears_named told n n' a b mid slots moment key place report who.0 on first.changes.unnamed who.1 who.2 is (Unanswered moment (Is.Report place report)) does.does
+    (λ l e given fits hs l' it. inl (
+      device_absent l a place fits (λ k. sym (is_of_before a.slots mid key report on place k) ∙ who.3 k),
+      record { mid = with_entry key (linked e given (Some place)) l; front = []; back = hs; whole = refl; first = (refl, refl); second = (report, ap report_of who.1, it) },
+    ))
+
+-- a device whose connection has ended
+pub hears_again : {N : Type 0} (told : N → Note → N → Type 0) (n n' : N) (a b : EngineState) (mid slots : Slots) (moment key place old : ℕ) (report : Report)
+    → OnSlot key (IsFirstReport report) a.slots mid → IsGreeted (with_slots mid a) report (Replaces place old) → slots ≡ changed_at key (is_named place) mid
+    → Aside (alone told) (TakesOver moment old place (report_of report)) n (with_slots slots a) n' b → Heard (alone told) moment key n a n' b
+hears_again told n n' a b mid slots moment key place old report first new is does =
+    let on : OnSlot key (IsReported report) a.slots mid = taken_off key report a.slots mid first in
+    let who = replaces_is (with_slots mid a) report place old new in
+    hears_named told n n' a b mid slots moment key place report who.0 on first.changes.unnamed who.1 who.2 is (TakesOver moment old place (report_of report)) does
+    (λ l e given fits hs l' it. inr (inr (
+      old,
+      device_as_there l a place old true fits (sym (is_of_before a.slots mid key report on place old) ∙ who.3.0) (sym (ended_before a.slots mid key report on old) ∙ who.3.1),
+      record { mid = with_entry key (linked e given (Some place)) l; front = []; back = hs; whole = refl; first = (refl, refl); second = subst (λ (r : ReportRecord). TakesOver moment old place r (with_entry key (linked e given (Some place)) l) hs l') (ap report_of who.1) it },
+    )))
 
 -- what a connection is that is broken for what it brought
 fits_off : (e : Entry) (c : ConnectionState) (given : List ReportRecord) (t : LinkTalkState) (reader : LinkState) → FitsConnection e c → e.talk ≡ Ledger.Link given t.device → FitsConnection (broken e) (told_link c reader t.device true)
@@ -278,51 +355,98 @@ hello_first read r reader stands =
     let front = stands.leads.1 in
     first_is_hello (said (words_of (strip_carriage_return (take front.count read)))) r front.says
 
--- what the ledger does with a name that is turned away
-turned_away : (report : Report) (a : EngineState) (mid : Slots) (moment key : ℕ) (e : Entry) (given : List ReportRecord) (l : Ledger) → Fits l a → ((device k : ℕ) → is_of mid device k ≡ is_of a.slots device k) → IsHello (report_of report) → IsTurnedAway (with_slots mid a) report
-    → HearsReport moment key e given None (report_of report) l [] (with_entry key (broken e) l)
-turned_away (reported.Hello name) a mid moment key e given l fits same hello (inl none) =
-    subst (λ (o : Option ℕ). Greets moment key e given (SaysHello name) o l [] (with_entry key (broken e) l)) (sym (ap (λ (s : State). device_named name s) fits.core ∙ none)) (refl, refl)
-turned_away (reported.Hello name) a mid moment key e given l fits same hello (inr (device, is, (other, its))) =
-    subst (λ (o : Option ℕ). Greets moment key e given (SaysHello name) o l [] (with_entry key (broken e) l)) (sym (ap (λ (s : State). device_named name s) fits.core ∙ is)) (inr ((other, device_there l a device other fits (sym (same device other) ∙ its)), (refl, refl)))
-turned_away (reported.Media names) a mid moment key e given l fits same hello it = absurd hello
-turned_away reported.Ready a mid moment key e given l fits same hello it = absurd hello
-turned_away reported.Stop a mid moment key e given l fits same hello it = absurd hello
-turned_away (reported.Busy time) a mid moment key e given l fits same hello it = absurd hello
-turned_away (reported.Pages job printed) a mid moment key e given l fits same hello it = absurd hello
-turned_away (reported.Done job) a mid moment key e given l fits same hello it = absurd hello
-turned_away (reported.Fail job) a mid moment key e given l fits same hello it = absurd hello
-turned_away reported.Gone a mid moment key e given l fits same hello it = absurd hello
+same_one : {A : Type 0} (x : Option A) (c d : A) → x ≡ Some c → x ≡ Some d → c ≡ d
+same_one x c d p q = cc
 
--- a name is turned away
-pub hears_stranger : {S : Type 0} (moves : S → Happening → S → Type 0) (u : S) (a : EngineState) (mid slots : Slots) (moment key : ℕ) (report : Report)
-    → OnSlot key (IsFirstReport report) a.slots mid → IsTurnedAway (with_slots mid a) report → slots ≡ changed_at key is_broken mid → Heard moves moment key u a u (with_slots slots a)
-hears_stranger moves u a mid slots moment key report first away is =
-    let on : OnSlot key (IsReported report) a.slots mid = record { before = first.before; after = first.after; there = first.there; changes = first.changes.reported; slots = first.slots } in
+-- a connection is refused for what it brought
+refused_for : {N : Type 0} (told : N → Note → N → Type 0) (n n' : N) (a b : EngineState) (mid : Slots) (moment key : ℕ) (reason : DeviceRefusal) (c d : ConnectionState) (t : LinkTalkState) (reader : LinkState)
+    → slot_at a key ≡ Some c → c.talk ≡ of.Link t → (c.over || c.broken) ≡ false → mid ≡ slice_set a.slots key (Some d) → d ≡ talking (of.Link (record t { reader = reader })) c
+    → RefusesAt told key reason n (with_slots mid a) n' b
+    → ((l : Ledger) (e : Entry) (given : List ReportRecord) → Fits l a → l.entries key ≡ Some e → e.talk ≡ Ledger.Link given t.device → IsLinked e.read given t → (e.over || e.broken) ≡ false → ActsNext moment key l (Told (DeviceRefused e.id reason) ∷ []) (with_entry key (broken e) l))
+    → Heard (alone told) moment key n a n' b
+refused_for told n n' a b mid moment key reason c d t reader was speaks counts mid_is d_is (inr (none, same, still)) acts =
+    absurd (never_none (slice_index_or mid key None) d (ap (λ (vs : Slots). slice_index_or vs key None) mid_is ∙ set_there a.slots key c (Some d) was) none)
+refused_for told n n' a b mid moment key reason c d t reader was speaks counts mid_is d_is (inl (id, slots, off, after, tells')) acts =
+    let there : slice_index_or mid key None ≡ Some d = ap (λ (vs : Slots). slice_index_or vs key None) mid_is ∙ set_there a.slots key c (Some d) was in
+    let same : off.before ≡ d = same_one (slice_index_or mid key None) off.before d off.there there in
+    let now : off.after ≡ told_link c reader t.device true = off.changes.1 ∙ (ap is_broken same ∙ ap is_broken d_is) in
+    let is : slots ≡ slice_set a.slots key (Some (told_link c reader t.device true)) =
+    off.slots ∙ (ap (λ (vs : Slots). slice_set vs key (Some off.after)) mid_is ∙ (set_twice a.slots key (Some d) (Some off.after) ∙ ap (λ (x : ConnectionState). slice_set a.slots key (Some x)) now)) in
+    let its : c.id ≡ id = sym (ap (λ (x : ConnectionState). x.id) (same ∙ d_is)) ∙ off.changes.0 in
+    subst (λ (x : EngineState). Heard (alone told) moment key n a n' x) (sym after)
+    (reports (alone told) n n' a (with_slots slots a) slots moment key c t reader t.device true was speaks is counts (nothing_to_bring c reader t.device counts)
+    (Tells (DeviceRefused id reason)) (tells told n n' (with_slots slots a) (DeviceRefused id reason) tells')
+    (λ l e given fits there' f whole talk link. (
+      broken e,
+      fits_off e c given t reader f talk,
+      λ hs l' it counts'.
+          let heard : hs ≡ Told (DeviceRefused e.id reason) ∷ [] = it.0 ∙ ap (λ (i : ℕ). Told (DeviceRefused i reason) ∷ []) (sym its ∙ f.id) in
+          subst (λ (xs : List Happening). ActsNext moment key l xs l') (sym heard) (subst (λ (m : Ledger). ActsNext moment key l (Told (DeviceRefused e.id reason) ∷ []) m) (sym it.1) (acts l e given fits there' talk link counts')),
+    )))
+
+-- a name is refused, which the ledger has refused so
+hears_stranger : {N : Type 0} (told : N → Note → N → Type 0) (n n' : N) (a b : EngineState) (mid : Slots) (moment key : ℕ) (report : Report) (reason : DeviceRefusal)
+    → (on : OnSlot key (IsReported report) a.slots mid) → device_of on.before.talk ≡ None → RefusesAt told key reason n (with_slots mid a) n' b
+    → ((l : Ledger) (e : Entry) (given : List ReportRecord) → Fits l a → IsHello (report_of report) → HearsReport moment key e given None (report_of report) l (Told (DeviceRefused e.id reason) ∷ []) (with_entry key (broken e) l))
+    → Heard (alone told) moment key n a n' b
+hears_stranger told n n' a b mid moment key report reason on none refuses does =
     let h = on.changes in
     let t = h.before in
-    let unnamed : t.device ≡ None = sym (ap device_of h.talk) ∙ first.changes.unnamed in
-    reports moves u u a (with_slots slots a) slots moment key on.before t h.reader t.device true on.there h.talk
-    (changed_again a.slots mid slots key on.before on.after is_broken on.there on.slots is ∙ ap (λ (d : ConnectionState). slice_set a.slots key (Some (is_broken d))) h.is)
-    h.counts (nothing_to_bring on.before h.reader t.device h.counts) Nothing (aside_nothing moves u (with_slots slots a))
-    (λ l e given fits there f whole talk link.
+    let unnamed : t.device ≡ None = sym (ap device_of h.talk) ∙ none in
+    refused_for told n n' a b mid moment key reason on.before on.after t h.reader on.there h.talk h.counts on.slots h.is refuses
+    (λ l e given fits there talk link counts.
     let stands : Link.Stands e.read (given ++ report_of report ∷ []) h.reader = h.answers e.read given link.stands in
     let only : Link.Stands e.read (report_of report ∷ []) h.reader = subst (λ (rs : List ReportRecord). Link.Stands e.read (rs ++ report_of report ∷ []) h.reader) (link.unnamed unnamed) stands in
-    let done = turned_away report a mid moment key e (given ++ report_of report ∷ []) l fits (λ device k. is_of_before a.slots mid key report on device k) (hello_first e.read (report_of report) h.reader only) away in (
-      broken e,
-      fits_off e on.before given t h.reader f talk,
-      λ hs l' it counts. inr (inl (record {
-        entry = e;
-        reports = given;
-        device = None;
-        there = there;
-        talk = talk ∙ ap (λ (o : Option ℕ). Ledger.Link given o) unnamed;
-        counts = counts;
-        said = report_of report;
-        next = says_first e.read (given ++ report_of report ∷ []) h.reader stands;
-        does = subst (λ (xs : List Happening). HearsReport moment key e (given ++ report_of report ∷ []) None (report_of report) l xs l') (sym it.0) (subst (λ (m : Ledger). HearsReport moment key e (given ++ report_of report ∷ []) None (report_of report) l [] m) (sym it.1) done);
-      })),
-    ))
+    inr (inl (record {
+      entry = e;
+      reports = given;
+      device = None;
+      there = there;
+      talk = talk ∙ ap (λ (o : Option ℕ). Ledger.Link given o) unnamed;
+      counts = counts;
+      said = report_of report;
+      next = says_first e.read (given ++ report_of report ∷ []) h.reader stands;
+      does = does l e (given ++ report_of report ∷ []) fits (hello_first e.read (report_of report) h.reader only);
+    })))
+
+-- the device of the name has a connection
+pub hears_held : {N : Type 0} (told : N → Note → N → Type 0) (n n' : N) (a b : EngineState) (mid : Slots) (moment key place : ℕ) (report : Report)
+    → OnSlot key (IsFirstReport report) a.slots mid → IsGreeted (with_slots mid a) report (IsThere place) → RefusesAt told key (reason.Connected place) n (with_slots mid a) n' b → Heard (alone told) moment key n a n' b
+hears_held told n n' a b mid moment key place report first greeted refuses =
+    let on : OnSlot key (IsReported report) a.slots mid = taken_off key report a.slots mid first in
+    let who = there_is (with_slots mid a) report place greeted in
+    hears_stranger told n n' a b mid moment key report (reason.Connected place) on first.changes.unnamed refuses
+    (λ l e given fits hello.
+    let other = who.3.0 in
+    let is : device_named who.0 l.core ≡ Some place = ap (λ (s : State). device_named who.0 s) fits.core ∙ who.2 in
+    let held : IsDeviceAs false place (l.entries other) = device_as_there l a place other false fits (sym (is_of_before a.slots mid key report on place other) ∙ who.3.1.0) (sym (ended_before a.slots mid key report on other) ∙ who.3.1.1) in
+    subst (λ (r : Report). HearsReport moment key e given None (report_of r) l (Told (DeviceRefused e.id (reason.Connected place)) ∷ []) (with_entry key (broken e) l)) (sym who.1)
+    (subst (λ (o : Option ℕ). Greets moment key e given who.0 o l (Told (DeviceRefused e.id (reason.Connected place)) ∷ []) (with_entry key (broken e) l)) (sym is) (inr (inl ((other, held), (refl, refl))))))
+
+unknown_name : (e : EngineState) (o : Option ℕ) → IsNameGreeted e o Unknown → o ≡ None
+unknown_name e None it = refl
+unknown_name e (Some device) it = absurd it
+
+unknown_does : (report : Report) (a : EngineState) (mid : Slots) (moment key : ℕ) (e : Entry) (given : List ReportRecord) (l : Ledger) → Fits l a → IsHello (report_of report) → IsGreeted (with_slots mid a) report Unknown
+    → HearsReport moment key e given None (report_of report) l (Told (DeviceRefused e.id (unknown report)) ∷ []) (with_entry key (broken e) l)
+unknown_does (reported.Hello name) a mid moment key e given l fits hello it =
+    let none : device_named name l.core ≡ None = ap (λ (s : State). device_named name s) fits.core ∙ unknown_name (with_slots mid a) (device_named name a.core) it in
+    subst (λ (o : Option ℕ). Greets moment key e given name o l (Told (DeviceRefused e.id (reason.UnknownName name)) ∷ []) (with_entry key (broken e) l)) (sym none) (refl, refl)
+unknown_does (reported.Media names) a mid moment key e given l fits hello it = absurd hello
+unknown_does reported.Ready a mid moment key e given l fits hello it = absurd hello
+unknown_does reported.Stop a mid moment key e given l fits hello it = absurd hello
+unknown_does (reported.Busy time) a mid moment key e given l fits hello it = absurd hello
+unknown_does (reported.Pages job printed) a mid moment key e given l fits hello it = absurd hello
+unknown_does (reported.Done job) a mid moment key e given l fits hello it = absurd hello
+unknown_does (reported.Fail job) a mid moment key e given l fits hello it = absurd hello
+unknown_does reported.Gone a mid moment key e given l fits hello it = absurd hello
+
+-- no device has the name
+pub hears_unknown : {N : Type 0} (told : N → Note → N → Type 0) (n n' : N) (a b : EngineState) (mid : Slots) (moment key : ℕ) (report : Report)
+    → OnSlot key (IsFirstReport report) a.slots mid → IsGreeted (with_slots mid a) report Unknown → RefusesAt told key (unknown report) n (with_slots mid a) n' b → Heard (alone told) moment key n a n' b
+hears_unknown told n n' a b mid moment key report first greeted refuses =
+    hears_stranger told n n' a b mid moment key report (unknown report) (taken_off key report a.slots mid first) first.changes.unnamed refuses
+    (λ l e given fits hello. unknown_does report a mid moment key e given l fits hello greeted)
 
 -- ---- faults
 
@@ -369,32 +493,25 @@ off_from what c d end b (of.Link t) (of.Lpd u) p q = absurd (subst (λ (k : Talk
 fault_from : (c d : ConnectionState) → IsBrought (Some brings.Fault) c d → IsOff brings.Fault c d
 fault_from c d b = elim (off_from brings.Fault c d tt b c.talk d.talk refl refl) [ inl off ↦ off | inr cut ↦ absurd cut.next ]
 
-pub hears_fault : {S : Type 0} (moves : S → Happening → S → Type 0) (u : S) (a : EngineState) (mid slots : Slots) (moment key : ℕ)
-    → OnSlot key (IsBrought (Some brings.Fault)) a.slots mid → slots ≡ changed_at key is_broken mid → Heard moves moment key u a u (with_slots slots a)
-hears_fault moves u a mid slots moment key on is =
+pub hears_fault : {N : Type 0} (told : N → Note → N → Type 0) (n n' : N) (a b : EngineState) (mid : Slots) (moment key : ℕ)
+    → OnSlot key (IsBrought (Some brings.Fault)) a.slots mid → RefusesAt told key (reason.Fault (device_at mid key)) n (with_slots mid a) n' b → Heard (alone told) moment key n a n' b
+hears_fault told n n' a b mid moment key on refuses =
     let h = fault_from on.before on.after on.changes in
     let t = h.before in
-    reports moves u u a (with_slots slots a) slots moment key on.before t h.reader t.device true on.there h.talk
-    (changed_again a.slots mid slots key on.before on.after is_broken on.there on.slots is ∙ ap (λ (d : ConnectionState). slice_set a.slots key (Some (is_broken d))) h.is)
-    h.counts (nothing_to_bring on.before h.reader t.device h.counts) Nothing (aside_nothing moves u (with_slots slots a))
-    (λ l e given fits there f whole talk link. (
-      broken e,
-      fits_off e on.before given t h.reader f talk,
-      λ hs l' it counts. inr (inr (inr (inl (record {
-        entry = e;
-        reports = given;
-        device = t.device;
-        there = there;
-        talk = talk;
-        counts = counts;
-        fault = h.next.0;
-        faulty = (h.next.1.1 e.read given link.stands).0;
-        does = it;
-      })))),
-    ))
-
-same_one : {A : Type 0} (x : Option A) (c d : A) → x ≡ Some c → x ≡ Some d → c ≡ d
-same_one x c d p q = cc
+    let at : device_at mid key ≡ t.device = ap (λ (vs : Slots). device_at vs key) on.slots ∙ (ap (λ (o : Option ConnectionState). option_map_or (λ c. device_of c.talk) o None) (set_there a.slots key on.before (Some on.after) on.there) ∙ ap (λ (c : ConnectionState). device_of c.talk) h.is) in
+    refused_for told n n' a b mid moment key (reason.Fault t.device) on.before on.after t h.reader on.there h.talk h.counts on.slots h.is
+    (subst (λ (o : Option ℕ). RefusesAt told key (reason.Fault o) n (with_slots mid a) n' b) at refuses)
+    (λ l e given fits there talk link counts. inr (inr (inr (inl (record {
+      entry = e;
+      reports = given;
+      device = t.device;
+      there = there;
+      talk = talk;
+      counts = counts;
+      fault = h.next.0;
+      faulty = (h.next.1.1 e.read given link.stands).0;
+      does = (refl, refl);
+    })))))
 
 -- memory for a line of a device is refused
 loses_report : {N : Type 0} (told : N → Note → N → Type 0) (n n' : N) (a : EngineState) (mid slots : Slots) (moment key id : ℕ)

@@ -14,7 +14,7 @@ use Rattle.dispatcher.specs.declared.run.Outcome.TheVariants.{Undispatched}
 use Rattle.events.specs.Event.{is_query}
 use Rattle.dispatcher.specs.Run.{Comes}
 use Rattle.dispatcher.specs.Step.{Step}
-use Rattle.server.specs.Polls.{Note, Planned, Canceled, Refused, Happening, Polled, Told}
+use Rattle.server.specs.Polls.{Note, Planned, Canceled, DeviceRefused, Refused, Happening, Polled, Told}
 use Rattle.server.specs.Ledger.{Entry, Ledger, with_entry, job_bytes}
 use Rattle.server.specs.Rel.{Rel, Nothing, Tells, Then, If, Or, EachOf}
 use Rattle.server.specs.Keeping.{Sets, broken, BreaksAt, Breaks, Drops, DropsAt, DropsOne, owing, needs_memory, KeepsOpen, KeepsAt, KeepsWhere, Keeps, KeepsOn}
@@ -27,11 +27,12 @@ use Rattle.server.proofs.Steps.{refusals_append}
 
 -- ---- what is told
 
--- without the refusals
+-- without the growths that were refused
 abbrev pub core_notes : List Happening → List Note
 core_notes [] = []
 core_notes (Told (Planned plan started) ∷ hs) = Planned plan started ∷ core_notes hs
 core_notes (Told (Canceled cancel) ∷ hs) = Canceled cancel ∷ core_notes hs
+core_notes (Told (DeviceRefused id why) ∷ hs) = DeviceRefused id why ∷ core_notes hs
 core_notes (Told (Refused place id) ∷ hs) = core_notes hs
 core_notes (Polled poll ∷ hs) = core_notes hs
 
@@ -45,6 +46,7 @@ notes_append : (hs ks : List Happening) → core_notes (hs ++ ks) ≡ core_notes
 notes_append [] ks = refl
 notes_append (Told (Planned plan started) ∷ hs) ks = ap (λ (ns : List Note). Planned plan started ∷ ns) (notes_append hs ks)
 notes_append (Told (Canceled cancel) ∷ hs) ks = ap (λ (ns : List Note). Canceled cancel ∷ ns) (notes_append hs ks)
+notes_append (Told (DeviceRefused id why) ∷ hs) ks = ap (λ (ns : List Note). DeviceRefused id why ∷ ns) (notes_append hs ks)
 notes_append (Told (Refused place id) ∷ hs) ks = notes_append hs ks
 notes_append (Polled poll ∷ hs) ks = notes_append hs ks
 
@@ -58,6 +60,7 @@ pub told_whole : (hs : List Happening) → IsUnpolled hs → has_refusal hs ≡ 
 told_whole [] alone none = refl
 told_whole (Told (Planned plan started) ∷ hs) alone none = ap (λ (ks : List Happening). Told (Planned plan started) ∷ ks) (told_whole hs alone none)
 told_whole (Told (Canceled cancel) ∷ hs) alone none = ap (λ (ks : List Happening). Told (Canceled cancel) ∷ ks) (told_whole hs alone none)
+told_whole (Told (DeviceRefused id why) ∷ hs) alone none = ap (λ (ks : List Happening). Told (DeviceRefused id why) ∷ ks) (told_whole hs alone none)
 told_whole (Told (Refused place id) ∷ hs) alone none = let never : true ≡ false = none in cc
 told_whole (Polled poll ∷ hs) alone none = absurd alone
 
@@ -71,6 +74,7 @@ plans_in : (hs : List Happening) → plans_told hs ≡ plans_told (map Told (cor
 plans_in [] = refl
 plans_in (Told (Planned plan started) ∷ hs) = ap (λ (ds : List Dispatch). (plan, started) ∷ ds) (plans_in hs)
 plans_in (Told (Canceled cancel) ∷ hs) = plans_in hs
+plans_in (Told (DeviceRefused id why) ∷ hs) = plans_in hs
 plans_in (Told (Refused place id) ∷ hs) = plans_in hs
 plans_in (Polled poll ∷ hs) = plans_in hs
 
@@ -78,6 +82,7 @@ cancels_in : (hs : List Happening) → cancels_told hs ≡ cancels_told (map Tol
 cancels_in [] = refl
 cancels_in (Told (Planned plan started) ∷ hs) = cancels_in hs
 cancels_in (Told (Canceled cancel) ∷ hs) = ap (λ (cs : List Cancel). cancel ∷ cs) (cancels_in hs)
+cancels_in (Told (DeviceRefused id why) ∷ hs) = cancels_in hs
 cancels_in (Told (Refused place id) ∷ hs) = cancels_in hs
 cancels_in (Polled poll ∷ hs) = cancels_in hs
 

@@ -18,7 +18,7 @@ use Rattle.requests.specs.declared.asked.Asked.{Asked}
 use Rattle.requests.specs.declared.asked.Asked.TheVariants as asks
 use Rattle.requests.specs.Asked.{Asks}
 use Rattle.replies.specs.Reply.{refusal_bytes}
-use Rattle.server.specs.Polls.{Note, Planned, Canceled, Refused, Happening, Polled, Told}
+use Rattle.server.specs.Polls.{Note, Planned, Canceled, DeviceRefused, Refused, Happening, Polled, Told}
 use Rattle.server.specs.Ledger.{Entry, Ledger, Fate, waiting}
 use Rattle.server.specs.Keeping.{Sets, owing, Keeps}
 use Rattle.server.specs.Closing.{IsTaken}
@@ -35,6 +35,7 @@ abbrev pub plans_told : List Happening → List Dispatch
 plans_told [] = []
 plans_told (Told (Planned plan started) ∷ hs) = (plan, started) ∷ plans_told hs
 plans_told (Told (Canceled cancel) ∷ hs) = plans_told hs
+plans_told (Told (DeviceRefused id why) ∷ hs) = plans_told hs
 plans_told (Told (Refused place id) ∷ hs) = plans_told hs
 plans_told (Polled poll ∷ hs) = plans_told hs
 
@@ -43,6 +44,7 @@ abbrev pub cancels_told : List Happening → List Cancel
 cancels_told [] = []
 cancels_told (Told (Planned plan started) ∷ hs) = cancels_told hs
 cancels_told (Told (Canceled cancel) ∷ hs) = cancel ∷ cancels_told hs
+cancels_told (Told (DeviceRefused id why) ∷ hs) = cancels_told hs
 cancels_told (Told (Refused place id) ∷ hs) = cancels_told hs
 cancels_told (Polled poll ∷ hs) = cancels_told hs
 

@@ -3,7 +3,7 @@ use Rattle.std.specs.Prelude.{◌≡◌, ◌⊎◌, List, [], ◌∷◌, ◌++�
 use Rattle.prices.specs.Plan.{PlanRecord}
 use Rattle.prices.specs.declared.plan.PlannedClass.{PlannedClass}
 use Rattle.print_room.specs.declared.started.Started.{Started}
-use Rattle.server.specs.Polls.{Note, Planned, Canceled, Refused}
+use Rattle.server.specs.Polls.{Note, Planned, Canceled, DeviceRefused, Refused}
 use Rattle.server.specs.declared.note_log.Heard.{Heard}
 use Rattle.server.specs.declared.note_log.Heard.TheVariants as hear
 
@@ -22,6 +22,7 @@ dispatch_words plan started = plan_words plan ++ map hear.Began started
 abbrev pub words_of : Note → List Heard
 words_of (Planned plan started) = dispatch_words plan started
 words_of (Canceled cancel) = hear.Canceled cancel ∷ []
+words_of (DeviceRefused id why) = hear.DeviceRefused id why ∷ []
 words_of (Refused place id) = hear.Refused place id ∷ []
 
 -- all of it is kept after what was heard before, or memory for it was refused; after that nothing is kept

@@ -13,7 +13,7 @@ use crate::engine::Engine;
 use crate::notes::{Notes, Place};
 use base_types::Moment;
 use connections::Brought;
-use connections::table::{Whole, begin, break_off, finish, lose, next, take_body, take_part};
+use connections::table::{Whole, begin, finish, lose, next, take_body, take_part};
 use events::{Event, Status};
 use http_front::{HttpItem, Refusal, continue_head};
 use planners::Planner;
@@ -46,7 +46,7 @@ impl<P: Planner + Drop> Engine<P> {
             Brought::Said(item) => self.hear_said(moment, key, item, notes),
             Brought::Report(report) => self.hear_report(moment, key, report, notes),
             Brought::LpdFault => self.refuse_client(moment, key, notes),
-            Brought::Fault => break_off(&mut self.connections, key),
+            Brought::Fault => self.refuse_device(key, notes),
             Brought::OutOfMemory => {
                 if let Some(id) = lose(&mut self.connections, key) {
                     notes.refused(Place::Feed, Some(id));

@@ -28,5 +28,5 @@ mod turns;
 pub use engine::Engine;
 pub use law::{closed_were_given, deed_is_one_event, last_words_are_kept, trace_is_one_run};
 pub use note_log::{Heard, NoteLog};
-pub use notes::{Notes, Place};
+pub use notes::{DeviceRefusal, Notes, Place};
 pub use served::Served;

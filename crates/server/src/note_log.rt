@@ -4,7 +4,7 @@ ghost use Rattle.std.specs.Option.{option_copied};
 ghost use Rattle.dispatcher.specs.Dispatched.{plan_of, started_of};
 ghost use Rattle.server.specs.NoteLog.{plan_words, class_word, dispatch_words};
 
-use crate::notes::{Notes, Place};
+use crate::notes::{DeviceRefusal, Notes, Place};
 use base_types::{Priority, Stranded};
 use dispatcher::{Dispatched, Started};
 use events::Cancel;
@@ -16,7 +16,7 @@ use wires::WireId;
 
 /// What a listener hears, in order. A dispatch is several: its plan, if a job was ready, and then each
 /// job that begins.
-#[derive(Clone, Copy, Debug)]
+#[derive(Debug, Drop)]
 pub enum Heard {
     /// A plan was made. Its classes follow, from the highest priority down, and then by rising id the
     /// jobs that no device can print.
@@ -28,6 +28,8 @@ pub enum Heard {
     Began(Started),
     /// A cancel is sent.
     Canceled(Cancel),
+    /// The connection of this number, a device's, is refused.
+    DeviceRefused(WireId, DeviceRefusal),
     /// A growth was refused, for the connection of this number if for one.
     Refused(Place, Option<WireId>),
 }
@@ -63,6 +65,12 @@ impl Notes for NoteLog {
 
     fn canceled(&mut self, cancel: Cancel) {
         if self.keep(Heard::Canceled(cancel)).is_err() {
+            self.lose();
+        }
+    }
+
+    fn device_refused(&mut self, id: WireId, why: DeviceRefusal) {
+        if self.keep(Heard::DeviceRefused(id, why)).is_err() {
             self.lose();
         }
     }

@@ -162,6 +162,39 @@ fn one_connection_a_device(rt: HostRuntime) -> Result<(), Fail> {
     Ok(())
 }
 
+/// Whether a device whose input has ended while its job waits loses its name to one that says it: the job
+/// is given up, and the newcomer gets the next.
+fn comes_again(alloc: Global) -> Result<bool, AllocError> {
+    let mut wire = slow_device(alloc)?;
+    let mut notes = NoteLog::new(alloc);
+    let mut engine = engine(alloc)?;
+    engine.turn(&mut wire, &mut notes, Moment::start());
+    if let Some(device) = wire.peers.get_mut(1) {
+        device.ended = true;
+    }
+    let whole = (4096, 4096);
+    let lines = b"HELLO A\nREADY\n".as_slice();
+    wire.peers
+        .push(client(alloc, Door::Devices, lines, whole)?)?;
+    wire.peers
+        .push(client(alloc, Door::Ipp, PLAIN.sent, whole)?)?;
+    for _turn in 0..5 {
+        engine.turn(&mut wire, &mut notes, Moment::start());
+    }
+    Ok(
+        is_closed(&wire, 1)
+            && !is_closed(&wire, 2)
+            && got(&wire, 2, b"JOB 2 5 1 1 iso_a4_210x297mm\nhello"),
+    )
+}
+
+#[test]
+fn name_taken_over(rt: HostRuntime) -> Result<(), Fail> {
+    let again = comes_again(rt.alloc())?;
+    assert!(rt; again);
+    Ok(())
+}
+
 /// Whether the device that has a canceled job is told so.
 fn is_told_of_cancel(alloc: Global) -> Result<bool, AllocError> {
     let lines = b"HELLO A\nREADY\n".as_slice();

@@ -36,10 +36,13 @@ fn waits() -> io::Error {
 
 impl Link {
     /// The socket of a connection that has just come, and whether its peer is a device.
+    ///
+    /// A device is read once a wait has told of what it sent: then the end of the connection that it had
+    /// before, which came earlier, has been told of too, and is read first.
     pub(crate) fn new(alloc: Global, stream: TcpStream, moment: Moment, device: bool) -> Link {
         Link {
             stream,
-            readable: true,
+            readable: !device,
             writable: true,
             ends: false,
             much: false,

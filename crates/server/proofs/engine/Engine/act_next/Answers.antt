@@ -1,7 +1,7 @@
 use Rattle.std.proofs.Common.{◌∙◌, Some, None, sym, ap, subst}
 use Rattle.std.specs.Prelude.{slice_index_or}
 use Rattle.server.specs.Polls.{alone}
-use Rattle.connections.specs.Slots.{Slots, OnSlot, IsBrought, LosesAs, changed_at, is_broken}
+use Rattle.connections.specs.Slots.{Slots, OnSlot, IsBrought, LosesAs}
 use Rattle.server.specs.State.{EngineState, with_slots}
 use Rattle.server.specs.Stands.{Heard}
 use Rattle.connections.specs.declared.talk.Brought.{Brought}
@@ -34,9 +34,7 @@ returns-in-Report g c = λ before on.
 pub returns-in-Fault : goal.returns-in-Fault
 returns-in-Fault g c = λ before on.
     let brought = subst (λ (what : Brought). OnSlot c.args.key (IsBrought (Some what)) before c.args.self.now.slots) c.in-Fault.is on in
-    subst (λ (e : EngineState). Heard (alone g.N.Notes.told) c.args.moment c.args.key c.args.notes.now (with_slots before c.args.self.now) c.args.notes.now (with_slots c.break_off.new.connections.slots e)) (sym c.self.view_is)
-    (hears_fault (alone g.N.Notes.told) c.args.notes.now (with_slots before c.args.self.now) c.args.self.now.slots c.break_off.new.connections.slots c.args.moment c.args.key brought
-    (c.break_off.ensures ∙ ap (λ (e : EngineState). changed_at c.args.key is_broken e.slots) c.self.view_is))
+    hears_fault g.N.Notes.told _ _ (with_slots before c.args.self.now) _ c.args.self.now.slots c.args.moment c.args.key brought c.refuse_device.ensures
 
 pub returns-in-Some : goal.returns-in-Some
 returns-in-Some g c = λ before on.
