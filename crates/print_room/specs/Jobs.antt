@@ -32,10 +32,6 @@ with_job_taken now job incoming old = record old {
   spool = record { jobs = old.spool.jobs ++ spooled_of job old.spool.next incoming ∷ []; next = old.spool.next + 1 };
 }
 
--- with one job more, which is all in
-abbrev pub with_new_job : ℕ → Submission → State → State
-with_new_job now job old = with_job_taken now job false old
-
 -- a job that nothing stands against is taken under this id, the next one
 pub record Submits (now : ℕ) (old : State) (job : Submission) (incoming : Bool) (id : ℕ) (new : State) : Type 0 where
   pub free : new_refusal old.spool job.documents ≡ None
