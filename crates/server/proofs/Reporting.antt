@@ -16,8 +16,8 @@ use Rattle.events.specs.declared.event.Event.TheVariants as Is
 use Rattle.server.specs.Polls.{Note, DeviceRefused, Refused, Happening, Told, alone}
 use Rattle.server.specs.Ledger.{Entry, Ledger, with_entry}
 use Rattle.server.specs.Ledger as Ledger
-use Rattle.server.specs.Rel.{Rel, Tells, Then}
-use Rattle.server.specs.Keeping.{Sets, broken}
+use Rattle.server.specs.Rel.{Rel, Tells}
+use Rattle.server.specs.Keeping.{broken}
 use Rattle.server.specs.Happening.{Unanswered}
 use Rattle.server.specs.Devices.{device_named, linked, IsDeviceAs, Greets, HearsReport, TakesOver}
 use Rattle.server.specs.Polling.{ActsNext}
@@ -293,7 +293,7 @@ hears_named told n n' a b mid slots moment key place report name on none hello n
           })),
     ))
 
-taken_off : (key : ℕ) (report : Report) (xs ys : Slots) → OnSlot key (IsFirstReport report) xs ys → OnSlot key (IsReported report) xs ys
+abbrev taken_off : (key : ℕ) (report : Report) (xs ys : Slots) → OnSlot key (IsFirstReport report) xs ys → OnSlot key (IsReported report) xs ys
 taken_off key report xs ys first = record { before = first.before; after = first.after; there = first.there; changes = first.changes.reported; slots = first.slots }
 
 -- a device that has no connection

@@ -39,11 +39,11 @@ returns-in-Fault g c = λ before on.
 pub returns-in-Some : goal.returns-in-Some
 returns-in-Some g c = λ before on.
     let brought = subst (λ (what : Brought). OnSlot c.args.key (IsBrought (Some what)) before c.args.self.now.slots) c.in-OutOfMemory.is on in
-    subst (λ (e : EngineState). Heard (alone g.N.Notes.told) c.args.moment c.args.key c.args.notes.now (with_slots before c.args.self.now) c.refused.new.self (with_slots c.lose.new.connections.slots e)) (sym c.self-in-OutOfMemory.view_is)
+    subst (λ (e : EngineState). Heard (alone g.N.Notes.told) c.args.moment c.args.key c.args.notes.now (with_slots before c.args.self.now) c.refused.new.self (with_slots c.lose.new.connections.slots e)) (sym c.self.view_is)
     (hears_lost g.N.Notes.told c.args.notes.now c.refused.new.self (with_slots before c.args.self.now) c.args.self.now.slots c.lose.new.connections.slots c.args.moment c.args.key c.in-Some.id brought
-    (subst (λ (e : EngineState). LosesAs c.args.key (Some c.in-Some.id) e.slots c.lose.new.connections.slots) c.self-in-OutOfMemory.view_is c.in-Some.ensures) c.refused.ensures)
+    (subst (λ (e : EngineState). LosesAs c.args.key (Some c.in-Some.id) e.slots c.lose.new.connections.slots) c.self.view_is c.in-Some.ensures) c.refused.ensures)
 
 pub returns-in_default : goal.returns-in_default
 returns-in_default g c = λ before on.
-    let none : LosesAs c.args.key None c.args.self.now.slots c.lose.new.connections.slots = subst (λ (e : EngineState). LosesAs c.args.key None e.slots c.lose.new.connections.slots) c.self-in-OutOfMemory.view_is c.in_default.ensures in
+    let none : LosesAs c.args.key None c.args.self.now.slots c.lose.new.connections.slots = subst (λ (e : EngineState). LosesAs c.args.key None e.slots c.lose.new.connections.slots) c.self.view_is c.in_default.ensures in
     absurd (never_none (slice_index_or c.args.self.now.slots c.args.key None) on.after (ap (λ (xs : Slots). slice_index_or xs c.args.key None) on.slots ∙ set_there before c.args.key on.before (Some on.after) on.there) none.there)
