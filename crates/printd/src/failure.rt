@@ -19,6 +19,11 @@ fn reason(error: &io::Error) -> &'static str {
     }
 }
 
+/// The error that there is no memory.
+pub(crate) fn out_of_memory() -> io::Error {
+    io::Error::from(ErrorKind::OutOfMemory)
+}
+
 /// Says in a line of standard error what couldn't be done, and why, and gives the status. Where nobody
 /// reads the output any more, it ends quietly.
 pub(crate) fn cannot(rt: &HostRuntime, what: &str, error: io::Error) -> ExitStatus {
