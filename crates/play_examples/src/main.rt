@@ -27,7 +27,7 @@ fn play(rt: &HostRuntime, program: Program, input: &[u8]) -> (ExitStatus, Vec<u8
     let mut output = Vec::new(rt.alloc());
     let status = match program {
         Program::Replay => run_replay(rt.alloc(), &mut reader, &mut output, false),
-        Program::Check => run_check(rt.alloc(), &mut reader, &mut output, true),
+        Program::Check => run_check(rt.alloc(), &mut reader, &mut output, true).status,
     };
     (status, output)
 }

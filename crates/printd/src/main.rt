@@ -6,17 +6,18 @@
 
 mod attaching;
 mod failure;
+mod judging;
 mod log_output;
+mod noted;
 mod serving;
 mod settings;
 
 use crate::attaching::run_attach;
 use crate::failure::{cannot, out_of_memory};
+use crate::judging::{check, replay};
 use crate::serving::run_serve;
 use crate::settings::run_settings;
 use command_line::{Asked, WordsError, read_words};
-use plan_audit::run_check;
-use replay::run_replay;
 use std::alloc::AllocError;
 use std::io::{ErrorKind, Write};
 use std::process::ExitCode;
@@ -50,16 +51,6 @@ fn lent<'a>(rt: &HostRuntime, words: &'a [String]) -> Result<Vec<&'a str>, Alloc
         texts.push(word.as_str())?;
     }
     Ok(texts)
-}
-
-/// Plays a trace from standard input.
-fn replay(rt: &HostRuntime, plans: bool) -> ExitStatus {
-    run_replay(rt.alloc(), &mut rt.reader(), &mut io::writer(rt), plans)
-}
-
-/// Judges the text of a plan from standard input.
-fn check(rt: &HostRuntime, starts: bool) -> ExitStatus {
-    run_check(rt.alloc(), &mut rt.reader(), &mut io::writer(rt), starts)
 }
 
 /// Writes the text about words that ask for nothing to do, and gives the status: help and the version to
