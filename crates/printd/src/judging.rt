@@ -11,11 +11,14 @@ use streams::ExitStatus;
 pub(crate) fn replay(rt: &HostRuntime, plans: bool) -> ExitStatus {
     let mut input = NotedInput::new(rt.reader());
     let mut output = NotedOutput::new(io::writer(rt));
-    let status = run_replay(rt.alloc(), &mut input, &mut output, plans);
-    if status == ExitStatus::Failed {
+    let played = run_replay(rt.alloc(), &mut input, &mut output, plans);
+    if let Some(objection) = &played.objection {
+        say(rt, objection);
+    }
+    if played.status == ExitStatus::Failed {
         return failed(rt, "play the trace", input, output);
     }
-    status
+    played.status
 }
 
 /// Judges the text of a plan from standard input.
