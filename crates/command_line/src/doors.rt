@@ -1,28 +1,9 @@
 //! The addresses at which doors listen.
 
+use crate::words_error::WordsError;
 use clap::ArgMatches;
-use std::alloc::{AllocError, AllocFailed, Global};
+use std::alloc::Global;
 use std::net::{IpAddr, SocketAddr};
-
-/// Why words that `clap` takes make no sense.
-#[derive(Debug, Drop)]
-pub(crate) enum WordsError {
-    /// The text about them, for whoever wrote them.
-    Told(String),
-    OutOfMemory,
-}
-
-impl From<AllocError> for WordsError {
-    fn from(_error: AllocError) -> WordsError {
-        WordsError::OutOfMemory
-    }
-}
-
-impl<T: Drop> From<AllocFailed<T>> for WordsError {
-    fn from(_error: AllocFailed<T>) -> WordsError {
-        WordsError::OutOfMemory
-    }
-}
 
 /// The value of an option makes no sense, and what would.
 fn invalid(alloc: Global, value: &str, option: &str, wanted: &str) -> WordsError {
@@ -30,7 +11,7 @@ fn invalid(alloc: Global, value: &str, option: &str, wanted: &str) -> WordsError
         "error: invalid value '{value}' for '--{option}': {wanted}\n\nFor more information, try '--help'.\n"
     );
     match text {
-        Ok(text) => WordsError::Told(text),
+        Ok(text) => WordsError::Fault(text),
         Err(_) => WordsError::OutOfMemory,
     }
 }

@@ -1,7 +1,7 @@
 //! The words of the program's command line.
 //!
 //! It promises that what it does is safe and ends, and no more: which words are read, and the texts
-//! of `--help` and of what is wrong, are `clap`'s. It opens no file and looks at no port.
+//! of `--help` and of what is wrong, are `clap`'s. It opens no file, looks at no port and writes nothing.
 //!
 //! Tests stand in `reader_tests`.
 #![tactic(auto)]
@@ -10,7 +10,9 @@ mod asked;
 mod attach_words;
 mod doors;
 mod read;
+mod words_error;
 
 pub use asked::{AboutSettings, Asked, Log, Serving};
 pub use attach_words::Attaching;
 pub use read::read_words;
+pub use words_error::WordsError;

@@ -2,12 +2,11 @@
 
 use crate::asked::{AboutSettings, Asked, Log, Serving};
 use crate::attach_words::{attach_command, attach_words};
-use crate::doors::{WordsError, addresses, default_address};
+use crate::doors::{addresses, default_address};
+use crate::words_error::WordsError;
 use clap::error::ErrorKind;
 use clap::{Arg, ArgAction, ArgMatches, Command, Error};
 use std::alloc::{AllocError, Global};
-use std::io::Write;
-use streams::ExitStatus;
 
 /// The version of the program, which is that of the file VERSION.
 const VERSION: &str = "0.9.0";
@@ -200,61 +199,52 @@ fn settings_words<'a>(found: &ArgMatches<'a>) -> AboutSettings<'a> {
     }
 }
 
-fn meaning<'a>(alloc: Global, found: &ArgMatches<'a>) -> Result<Option<Asked<'a>>, WordsError> {
-    let Some((name, inner)) = found.subcommand() else {
-        return Ok(None);
-    };
-    Ok(match name {
-        "serve" => Some(Asked::Serve(serve_words(alloc, inner)?)),
-        "settings" => Some(Asked::Settings(settings_words(inner))),
-        "replay" => Some(Asked::Replay {
+/// Words that `clap` takes and that name no command, which it is asked to refuse.
+fn no_command(alloc: Global) -> WordsError {
+    match String::from_str(alloc, "error: the words name no command\n") {
+        Ok(text) => WordsError::Fault(text),
+        Err(_) => WordsError::OutOfMemory,
+    }
+}
+
+fn meaning<'a>(alloc: Global, found: &ArgMatches<'a>) -> Result<Asked<'a>, WordsError> {
+    match found.subcommand() {
+        Some(("serve", inner)) => Ok(Asked::Serve(serve_words(alloc, inner)?)),
+        Some(("settings", inner)) => Ok(Asked::Settings(settings_words(inner))),
+        Some(("replay", inner)) => Ok(Asked::Replay {
             plans: inner.get_flag("plans"),
         }),
-        "check" => Some(Asked::Check {
+        Some(("check", inner)) => Ok(Asked::Check {
             starts: inner.get_flag("starts"),
         }),
-        "attach" => attach_words(inner).map(|attaching| Asked::Attach(attaching)),
-        _ => None,
-    })
-}
-
-/// Writes a text and gives the status, unless the writer fails.
-fn ends<W: Write>(text: &str, writer: &mut W, status: ExitStatus) -> ExitStatus {
-    match writer.write_all(text.as_bytes()) {
-        Ok(()) => status,
-        Err(_) => ExitStatus::Failed,
+        Some(("attach", inner)) => match attach_words(inner) {
+            Some(attaching) => Ok(Asked::Attach(attaching)),
+            None => Err(no_command(alloc)),
+        },
+        _ => Err(no_command(alloc)),
     }
 }
 
-/// Writes what `clap` says of the words: help and the version to `out`, else what is wrong to `err`.
-fn told<O: Write, E: Write>(alloc: Global, error: &Error, out: &mut O, err: &mut E) -> ExitStatus {
+/// What `clap` says of the words: help or the version, or what is wrong.
+fn told(alloc: Global, error: &Error) -> WordsError {
     if error.kind() == ErrorKind::OutOfMemory {
-        return ExitStatus::Failed;
+        return WordsError::OutOfMemory;
     }
     match format!(in alloc; "{error}") {
-        Err(_) => ExitStatus::Failed,
-        Ok(text) if error.use_stderr() => ends(&text, err, ExitStatus::Refused),
-        Ok(text) => ends(&text, out, ExitStatus::Done),
+        Err(_) => WordsError::OutOfMemory,
+        Ok(text) if error.use_stderr() => WordsError::Fault(text),
+        Ok(text) => WordsError::Help(text),
     }
 }
 
-/// What the words ask for, or how to end once the text about them is written: done, where they ask for
-/// help or the version, which go to `out`; refused, with what is wrong in `err`; or failed, for lack of
-/// memory or a writer that fails.
-pub fn read_words<'a, O: Write, E: Write>(
-    alloc: Global,
-    words: &'a [&'a str],
-    out: &mut O,
-    err: &mut E,
-) -> Result<Asked<'a>, ExitStatus> {
-    let matches = match parse(alloc, words) {
-        Ok(matches) => matches,
-        Err(error) => return Err(told(alloc, &error, out, err)),
-    };
-    match meaning(alloc, &matches) {
-        Ok(Some(asked)) => Ok(asked),
-        Ok(None) => Err(ExitStatus::Refused),
-        Err(WordsError::Told(text)) => Err(ends(&text, err, ExitStatus::Refused)),
-        Err(WordsError::OutOfMemory) => Err(ExitStatus::Failed),
+/// What the words ask for.
+///
+/// # Errors
+///
+/// The text about the words, where they ask for help or the version or make no sense; or out of memory.
+pub fn read_words<'a>(alloc: Global, words: &'a [&'a str]) -> Result<Asked<'a>, WordsError> {
+    match parse(alloc, words) {
+        Ok(matches) => meaning(alloc, &matches),
+        Err(error) => Err(told(alloc, &error)),
     }
 }

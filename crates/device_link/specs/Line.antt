@@ -5,14 +5,19 @@ use Rattle.std.specs.List.{list_all}
 use Rattle.std.specs.Str.{bytes_eq}
 use Rattle.std.specs.Str.Lines.{strip_carriage_return}
 use Rattle.base_types.specs.declared.limits.TheConstants.Limits.{BUSY, LAST_JOB_ID, DEVICE_LINE_BYTES}
+use Rattle.device_link.specs.declared.number.TheConstants.{MOST_PRINTED}
 use Rattle.text.specs.Digits.{number_up_to}
 use Rattle.text.specs.Parts.{parts_at, words_of}
 use Rattle.base_types.specs.Forms.{is_name, is_media}
 use Rattle.base_types.specs.Report.{ReportRecord, SaysHello, SaysMedia, SaysReady, SaysStop, SaysBusy, SaysPages, SaysDone, SaysFail}
 
--- a number up to the last job id
-abbrev pub number_in : List ℕ → Option ℕ
-number_in word = number_up_to LAST_JOB_ID word
+-- the id of a job, or a number below those
+abbrev pub job_in : List ℕ → Option ℕ
+job_in word = number_up_to LAST_JOB_ID word
+
+-- so many impressions
+abbrev pub printed_in : List ℕ → Option ℕ
+printed_in word = number_up_to MOST_PRINTED word
 
 -- a time, in ms
 abbrev pub time_in : List ℕ → Option ℕ
@@ -39,14 +44,14 @@ said_of_one word operand =
     if bytes_eq word (codes "HELLO") then option_map SaysHello (name_in operand)
     else if bytes_eq word (codes "MEDIA") then option_map SaysMedia (media_in operand)
     else if bytes_eq word (codes "BUSY") then option_map SaysBusy (time_in operand)
-    else if bytes_eq word (codes "DONE") then option_map SaysDone (number_in operand)
-    else if bytes_eq word (codes "FAIL") then option_map SaysFail (number_in operand)
+    else if bytes_eq word (codes "DONE") then option_map SaysDone (job_in operand)
+    else if bytes_eq word (codes "FAIL") then option_map SaysFail (job_in operand)
     else None
 
 -- a word and its two operands
 unfoldable pub said_of_two : List ℕ → List ℕ → List ℕ → Option ReportRecord
 said_of_two word job printed =
-    if bytes_eq word (codes "PAGES") then option_and_then (λ id. option_map (SaysPages id) (number_in printed)) (number_in job)
+    if bytes_eq word (codes "PAGES") then option_and_then (λ id. option_map (SaysPages id) (printed_in printed)) (job_in job)
     else None
 
 abbrev pub said : List (List ℕ) → Option ReportRecord

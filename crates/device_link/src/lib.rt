@@ -19,5 +19,6 @@ mod reader;
 pub use fault::{LinkError, LinkFault};
 pub use law::given_first;
 pub use line::read_report;
+pub use number::MOST_PRINTED;
 pub use order::{write_cancel, write_job};
 pub use reader::LinkReader;

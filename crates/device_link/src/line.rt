@@ -8,7 +8,7 @@ ghost use Rattle.base_types.specs.Report.{report_of};
 ghost use Rattle.text.specs.Parts.{parts_at, words_of};
 ghost use Rattle.device_link.specs.Line.{media_in, name_in, said_alone, said_of_one, said_of_two, said, in_turn, report_in, reported_by};
 
-use crate::number::{number_in, time_in};
+use crate::number::{job_in, printed_in, time_in};
 use base_types::{Limits, Report, Text, is_media, is_name};
 use std::alloc::{AllocError, Global};
 use text::{cut_at, parts};
@@ -106,9 +106,9 @@ fn read_one(alloc: Global, word: &[u8], operand: &[u8]) -> Result<Option<Report>
     } else if word == b"BUSY".as_slice() {
         Ok(time_in(operand).map(|time| Report::Busy(time)))
     } else if word == b"DONE".as_slice() {
-        Ok(number_in(operand).map(|job| Report::Done { job }))
+        Ok(job_in(operand).map(|job| Report::Done { job }))
     } else if word == b"FAIL".as_slice() {
-        Ok(number_in(operand).map(|job| Report::Fail { job }))
+        Ok(job_in(operand).map(|job| Report::Fail { job }))
     } else {
         Ok(None)
     }
@@ -122,8 +122,8 @@ fn read_two(word: &[u8], first: &[u8], second: &[u8]) -> Option<Report>
     if word != b"PAGES".as_slice() {
         return None;
     }
-    let job = number_in(first)?;
-    let printed = number_in(second)?;
+    let job = job_in(first)?;
+    let printed = printed_in(second)?;
     Some(Report::Pages { job, printed })
 }
 

@@ -1,15 +1,27 @@
 //! The numbers of a device's line.
 ghost use Rattle.std.specs.Prelude.{◌≡◌};
-ghost use Rattle.device_link.specs.Line.{number_in, time_in};
+ghost use Rattle.device_link.specs.Line.{job_in, printed_in, time_in};
 
 use base_types::Limits;
 use text::number_up_to;
 
-/// The number that a word is in decimal digits, if it is one up to the last job id.
-pub(crate) fn number_in(word: &[u8]) -> Option<u32>
-    ensures { result ≡ number_in word.now }
+/// The most impressions that a device may say it has printed of a job: IPP's integers end there
+/// (RFC 8010, section 3.9).
+pub const MOST_PRINTED: u32 = 2_147_483_647;
+
+/// The id of a job that a word is in decimal digits, if it is a number up to the last one.
+pub(crate) fn job_in(word: &[u8]) -> Option<u32>
+    ensures { result ≡ job_in word.now }
 {
     let number = number_up_to(word, u64::from(Limits::LAST_JOB_ID))?;
+    Some(number as u32)
+}
+
+/// The printed impressions that a word is in decimal digits, if it is a number up to [`MOST_PRINTED`].
+pub(crate) fn printed_in(word: &[u8]) -> Option<u32>
+    ensures { result ≡ printed_in word.now }
+{
+    let number = number_up_to(word, u64::from(MOST_PRINTED))?;
     Some(number as u32)
 }
 

@@ -11,6 +11,7 @@ use Rattle.base_types.specs.Forms.{is_name, is_media, is_name_byte, is_media_byt
 use Rattle.base_types.specs.Report.{ReportRecord, SaysHello, SaysMedia, SaysReady, SaysStop, SaysBusy, SaysPages, SaysDone, SaysFail, IsGone}
 use Rattle.text.specs.Parts.{parts_at, words_of, Lacks}
 use Rattle.text.proofs.Cuts.{parts_cut, parts_uncut}
+use Rattle.device_link.specs.declared.number.TheConstants.{MOST_PRINTED}
 use Rattle.device_link.specs.Line.{media_in, name_in, said_alone, said_of_one, said_of_two, said}
 use Rattle.device_orders.specs.Reports.{listed, report_line, HasLine}
 use Rattle.device_orders.proofs.Written.{isnt, lacks_by, joined_lacks, decimal_lacks, number_back, word_then, word_alone, media_all, if_true}
@@ -133,15 +134,15 @@ fail_told job few = record {
   says = one_said (codes "FAIL") (decimal job) (lacks_by (isnt 32) 32 refl (codes "FAIL") refl) (number_space job few) ∙ ap (λ (n : Option ℕ). option_map SaysFail n) (number_back LAST_JOB_ID job few (omega (arith, few)));
 }
 
-pages_said : (job printed : ℕ) → job ≤ LAST_JOB_ID → printed ≤ LAST_JOB_ID → said_of_two (codes "PAGES") (decimal job) (decimal printed) ≡ Some (SaysPages job printed)
+pages_said : (job printed : ℕ) → job ≤ LAST_JOB_ID → printed ≤ MOST_PRINTED → said_of_two (codes "PAGES") (decimal job) (decimal printed) ≡ Some (SaysPages job printed)
 unfolding said_of_two
-pages_said job printed few also = rw (number_back LAST_JOB_ID job few (omega (arith, few)), number_back LAST_JOB_ID printed also (omega (arith, also))) refl
+pages_said job printed few also = rw (number_back LAST_JOB_ID job few (omega (arith, few)), number_back MOST_PRINTED printed also (omega (arith, also))) refl
 
-pages_told : (job printed : ℕ) → job ≤ LAST_JOB_ID → printed ≤ LAST_JOB_ID → Tells (report_line (SaysPages job printed)) (SaysPages job printed)
+pages_told : (job printed : ℕ) → job ≤ LAST_JOB_ID → printed ≤ MOST_PRINTED → Tells (report_line (SaysPages job printed)) (SaysPages job printed)
 pages_told job printed few also =
     let a = decimal job in
     let b = decimal printed in
-    let words : words_of (codes "PAGES" ++ (32 ∷ (a ++ (32 ∷ b)))) ≡ codes "PAGES" ∷ a ∷ b ∷ [] = word_then (codes "PAGES") (a ++ (32 ∷ b)) (lacks_by (isnt 32) 32 refl (codes "PAGES") refl) ∙ ap (λ (r : List (List ℕ)). codes "PAGES" ∷ r) (word_then a b (number_space job few) ∙ ap (λ (r : List (List ℕ)). a ∷ r) (word_alone b (number_space printed also))) in
+    let words : words_of (codes "PAGES" ++ (32 ∷ (a ++ (32 ∷ b)))) ≡ codes "PAGES" ∷ a ∷ b ∷ [] = word_then (codes "PAGES") (a ++ (32 ∷ b)) (lacks_by (isnt 32) 32 refl (codes "PAGES") refl) ∙ ap (λ (r : List (List ℕ)). codes "PAGES" ∷ r) (word_then a b (number_space job few) ∙ ap (λ (r : List (List ℕ)). a ∷ r) (word_alone b (number_space printed (omega (arith, also))))) in
     record {
       line = codes "PAGES" ++ (32 ∷ (a ++ (32 ∷ b)));
       spelled = ap (λ (r : List ℕ). codes "PAGES " ++ r) (sym (append_assoc a (32 ∷ b) (codes "\n"))) ∙ sym (append_assoc (codes "PAGES ") (a ++ (32 ∷ b)) (codes "\n"));

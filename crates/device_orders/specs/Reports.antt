@@ -4,6 +4,7 @@ use Rattle.std.specs.Fmt.{decimal}
 use Rattle.base_types.specs.declared.limits.TheConstants.Limits.{LAST_JOB_ID, BUSY}
 use Rattle.base_types.specs.Forms.{is_name, is_media}
 use Rattle.base_types.specs.Report.{ReportRecord, SaysHello, SaysMedia, SaysReady, SaysStop, SaysBusy, SaysPages, SaysDone, SaysFail, IsGone}
+use Rattle.device_link.specs.declared.number.TheConstants.{MOST_PRINTED}
 use Rattle.device_link.specs.Line.{said}
 use Rattle.text.specs.Parts.{words_of}
 
@@ -43,7 +44,7 @@ HasLine (SaysMedia names) = All (λ name. IsTrue (is_media name)) names
 HasLine SaysReady = Unit {0}
 HasLine SaysStop = Unit {0}
 HasLine (SaysBusy time) = time ≤ BUSY
-HasLine (SaysPages job printed) = (job ≤ LAST_JOB_ID) × (printed ≤ LAST_JOB_ID)
+HasLine (SaysPages job printed) = (job ≤ LAST_JOB_ID) × (printed ≤ MOST_PRINTED)
 HasLine (SaysDone job) = job ≤ LAST_JOB_ID
 HasLine (SaysFail job) = job ≤ LAST_JOB_ID
 HasLine IsGone = ⊥

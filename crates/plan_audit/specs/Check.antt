@@ -1,5 +1,5 @@
 -- What `printd check` writes, and its exit status, for each text of a plan.
-use Rattle.std.specs.Prelude.{◌≡◌, ◌==◌, ◌⊎◌, ℕ, Bool, List, [], ◌∷◌, ◌++◌, Option, MatchResult, codes, find, if◌then◌else◌, map, slice_index, slice_index_or, take}
+use Rattle.std.specs.Prelude.{◌≡◌, ◌==◌, ◌⊎◌, ℕ, Bool, List, [], ◌∷◌, ◌++◌, Option, Some, None, MatchResult, codes, find, if◌then◌else◌, map, slice_index, slice_index_or, take}
 use Rattle.std.specs.Fmt.{decimal}
 use Rattle.std.specs.Io.KnownBytes.{Appends}
 use Rattle.std.specs.Option.{option_map_or}
@@ -7,6 +7,10 @@ use Rattle.base_types.specs.declared.limits.TheConstants.Limits.{INPUT_BYTES}
 use Rattle.cost_table.specs.Class.{Class}
 use Rattle.prices.specs.declared.plan.PlannedClass.{PlannedClass}
 use Rattle.prices.specs.Timetable.{Slot, end_of, own_slots}
+use Rattle.plan_audit.specs.declared.check.Audit.{Audit}
+use Rattle.plan_audit.specs.declared.objection.Objection.{Objection}
+use Rattle.plan_audit.specs.declared.objection.Objection.TheVariants.{Size, Text, Plan}
+use Rattle.plan_audit.specs.Place.{IsFaultLine}
 use Rattle.plan_text.specs.declared.fault.TextFault.{TextFault}
 use Rattle.plan_text.specs.declared.fault.TextFault.TheVariants.{BadLine, OutOfRange, NoEnd}
 use Rattle.plan_checker.specs.declared.verdict.Fault.{Fault}
@@ -19,7 +23,7 @@ use Rattle.plan_text.specs.Whole.{plan_at}
 use Rattle.streams.specs.declared.exit_status.ExitStatus.{ExitStatus}
 use Rattle.streams.specs.declared.exit_status.ExitStatus.TheVariants as Ends
 use Rattle.streams.specs.Input.{IsWhole, GaveMore}
-use Rattle.streams.specs.Said.{Said, refused_as}
+use Rattle.streams.specs.Said.{refused_as}
 
 abbrev pub text_fault_name : TextFault → List ℕ
 text_fault_name BadLine = codes "BadLine"
@@ -58,25 +62,44 @@ plan_starts devices (class ∷ classes) = job_starts devices class class.problem
 abbrev pub priority_at : List PlannedClass → ℕ → ℕ
 priority_at classes place = slice_index (map (λ class. class.priority) classes) place
 
--- what is said of a plan with this verdict, where the starts are asked for or not
-abbrev pub said_of : Bool → NamedPlan → PlanVerdict → Said
-said_of starts named Yes = record { text = codes "yes\n" ++ (if starts then plan_starts named.devices named.plan.classes else []); status = Ends.Done }
-said_of starts named (No place fault) = record { text = codes "no " ++ (fault_name fault ++ (codes " class " ++ (decimal (priority_at named.plan.classes place) ++ codes "\n"))); status = Ends.No }
+-- what is written of an input, the exit status, and what is objected to
+pub record Judged : Type 0 where
+  pub text : List ℕ
+  pub status : ExitStatus
+  pub objection : Option Objection
 
--- what is said of a text: the verdict on the plan that it is, or its first fault
-abbrev pub IsSaidOf : Bool → List ℕ → Said → Type 0
-IsSaidOf starts text said = MatchResult (plan_at text)
-    (λ named. (verdict : PlanVerdict) × IsPlanVerdict named.plan verdict × (said ≡ said_of starts named verdict))
-    (λ fault. said ≡ refused_as (text_fault_name fault))
+-- what is said of a plan with this verdict, where the starts are asked for or not
+abbrev pub judged_of : Bool → NamedPlan → PlanVerdict → Judged
+judged_of starts named Yes = record { text = codes "yes\n" ++ (if starts then plan_starts named.devices named.plan.classes else []); status = Ends.Done; objection = None }
+judged_of starts named (No place fault) = record {
+  text = codes "no " ++ (fault_name fault ++ (codes " class " ++ (decimal (priority_at named.plan.classes place) ++ codes "\n")));
+  status = Ends.No;
+  objection = Some (Plan (priority_at named.plan.classes place) fault);
+}
+
+-- what is said of an input that is refused
+abbrev pub refused_for : List ℕ → Objection → Judged
+refused_for name objection = record { text = (refused_as name).text; status = (refused_as name).status; objection = Some objection }
+
+-- what is said of a text: the verdict on the plan that it is, or its first fault, and where it is found
+abbrev pub IsJudged : Bool → List ℕ → Judged → Type 0
+IsJudged starts text judged = MatchResult (plan_at text)
+    (λ named. (verdict : PlanVerdict) × IsPlanVerdict named.plan verdict × (judged ≡ judged_of starts named verdict))
+    (λ fault. (line : ℕ) × IsFaultLine text fault line × (judged ≡ refused_for (text_fault_name fault) (Text line fault)))
 
 -- what is said of an input: of the text that it is as a whole, or that it has too many bytes
-abbrev pub IsAnswer : Bool → Option (List ℕ) → Option (List ℕ) → Said → Type 0
-IsAnswer starts before after said =
-    ((text : List ℕ) × IsWhole INPUT_BYTES before after text × IsSaidOf starts text said)
-    ⊎ (GaveMore INPUT_BYTES before after × (said ≡ refused_as (codes "size")))
+abbrev pub IsAnswer : Bool → Option (List ℕ) → Option (List ℕ) → Judged → Type 0
+IsAnswer starts before after judged =
+    ((text : List ℕ) × IsWhole INPUT_BYTES before after text × IsJudged starts text judged)
+    ⊎ (GaveMore INPUT_BYTES before after × (judged ≡ refused_for (codes "size") Size))
+
+-- the audit ended so
+abbrev pub EndsAs : Judged → Audit → Type 0
+EndsAs judged audit = (audit.status ≡ judged.status) × (audit.objection ≡ judged.objection)
 
 -- the answer was written as a whole; or the program failed, and wrote nothing or a front of it
-abbrev pub Checks : Bool → Option (List ℕ) → Option (List ℕ) → Option (List ℕ) → Option (List ℕ) → ExitStatus → Type 0
-Checks starts before after held holds status =
-    ((said : Said) × IsAnswer starts before after said × Appends held holds said.text × (status ≡ said.status))
-    ⊎ ((status ≡ Ends.Failed) × (Appends held holds [] ⊎ ((said : Said) × IsAnswer starts before after said × (n : ℕ) × Appends held holds (take n said.text))))
+abbrev pub Checks : Bool → Option (List ℕ) → Option (List ℕ) → Option (List ℕ) → Option (List ℕ) → Audit → Type 0
+Checks starts before after held holds audit =
+    ((judged : Judged) × IsAnswer starts before after judged × Appends held holds judged.text × EndsAs judged audit)
+    ⊎ ((audit.status ≡ Ends.Failed) × (audit.objection ≡ None)
+    × (Appends held holds [] ⊎ ((judged : Judged) × IsAnswer starts before after judged × (n : ℕ) × Appends held holds (take n judged.text))))

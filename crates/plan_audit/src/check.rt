@@ -1,39 +1,52 @@
 //! The text of a plan, judged.
-ghost use Rattle.std.specs.Prelude.{◌≡◌, ◌++◌, ◌<◌, All, IfOk, IfSome, [], codes, if◌then◌else◌, length};
+ghost use Rattle.std.specs.Prelude.{ℕ, ◌≡◌, ◌++◌, ◌<◌, Err, None, All, IfOk, IfSome, [], codes, if◌then◌else◌, length};
 ghost use Rattle.std.specs.Fmt.{decimal};
 ghost use Rattle.prices.specs.Plan.{HasOneListEach};
 ghost use Rattle.prices.specs.Prices.{IsProved};
 ghost use Rattle.plan_checker.specs.Plan.{IsPlanVerdict};
-ghost use Rattle.streams.specs.Said.{refused_as};
-ghost use Rattle.plan_audit.specs.Check.{fault_name, plan_starts, priority_at, said_of, IsSaidOf, IsAnswer, Checks};
+ghost use Rattle.plan_text.specs.Whole.{plan_at};
+ghost use Rattle.plan_audit.specs.Check.{fault_name, text_fault_name, plan_starts, priority_at, refused_for, judged_of, IsJudged, IsAnswer, Checks};
+ghost use Rattle.plan_audit.specs.Place.{IsFaultLine};
 
 use crate::names::{fault_name, text_fault_name};
+use crate::objection::Objection;
+use crate::place::fault_line;
 use crate::starts::put_starts;
 use base_types::{Limits, Text};
 use plan_checker::{Fault, PlanVerdict, check_plan};
-use plan_text::{PlanText, ReadError, read_plan_text};
+use plan_text::{PlanText, ReadError, TextFault, read_plan_text};
 use prices::PlannedClass;
 use std::alloc::{AllocError, Global};
 use std::io::{Read, Write};
 use std::marker::Model;
 use streams::{ExitStatus, InputFault, read_whole, refused_line, write_front};
 
-/// What is written, and how the program ends.
+/// How an audit ends.
+#[derive(Clone, Copy, Debug, PartialEq, Eq)]
+pub struct Audit {
+    pub status: ExitStatus,
+    /// What is objected to, where the status is that of a refusal or a no; none with each other status.
+    pub objection: Option<Objection>,
+}
+
+/// What is written, how the program ends, and what is objected to.
 #[derive(Drop)]
 struct Answer {
     text: Vec<u8>,
     status: ExitStatus,
+    objection: Option<Objection>,
 }
 
 impl Model for Answer {
-    ghost use Rattle.streams.specs.Said.{Said};
+    ghost use Rattle.plan_audit.specs.Check.{Judged};
 
-    ghost Value = { Said };
+    ghost Value = { Judged };
 
-    ghost view = { λ a. record { text = a.text.items; status = a.status } };
+    ghost view = { λ a. record { text = a.text.items; status = a.status; objection = a.objection } };
 }
 
-/// Reads the text of a plan to its end, writes the verdict on it, and gives the exit status.
+/// Reads the text of a plan to its end, writes the verdict on it, and gives the exit status with what is
+/// objected to.
 ///
 /// It writes `yes`, and where the starts are asked for a line `start ID NAME S E` for each job, with
 /// the ms from now at which it starts and ends; or `no NAME class P`, the first fault and the
@@ -45,16 +58,29 @@ pub fn run_check<R: Read, W: Write>(
     reader: &mut R,
     writer: &mut W,
     starts: bool,
-) -> ExitStatus
+) -> Audit
     ensures { Checks starts (R.remaining reader.old) (R.remaining reader.new) (W.contents writer.old) (W.contents writer.new) result }
 {
     let Some(answer) = answer_input(alloc, reader, starts) else {
-        return ExitStatus::Failed;
+        return failed();
     };
     if write_front(writer, &answer.text) == answer.text.len() {
-        answer.status
+        Audit {
+            status: answer.status,
+            objection: answer.objection,
+        }
     } else {
-        ExitStatus::Failed
+        failed()
+    }
+}
+
+/// Memory or a stream failed.
+fn failed() -> Audit
+    ensures { result ≡ record { status = ExitStatus.Failed; objection = None } }
+{
+    Audit {
+        status: ExitStatus::Failed,
+        objection: None,
     }
 }
 
@@ -64,60 +90,72 @@ fn answer_input<R: Read>(alloc: Global, reader: &mut R, starts: bool) -> Option<
 {
     match read_whole(alloc, reader, Limits::INPUT_BYTES, Limits::INPUT_READS) {
         Ok(text) => answer_text(alloc, &text, starts).ok(),
-        Err(InputFault::Size) => refused(alloc, "size").ok(),
+        Err(InputFault::Size) => refused(alloc, "size", Objection::Size).ok(),
         Err(InputFault::Stream | InputFault::OutOfMemory) => None,
     }
 }
 
 /// The answer to a text.
 fn answer_text(alloc: Global, text: &[u8], starts: bool) -> Result<Answer, AllocError>
-    ensures { IfOk result (λ answer. IsSaidOf starts text.now answer) }
+    ensures { IfOk result (λ answer. IsJudged starts text.now answer) }
 {
     match read_plan_text(alloc, text) {
         Ok(named) => judge(alloc, &named, starts),
-        Err(ReadError::Fault(fault)) => refused(alloc, text_fault_name(fault)),
+        Err(ReadError::Fault(fault)) => refused_at(alloc, text, fault),
         Err(ReadError::OutOfMemory) => Err(AllocError),
     }
 }
 
-/// The answer to a text that is refused.
-fn refused(alloc: Global, name: &str) -> Result<Answer, AllocError>
-    ensures { IfOk result (λ answer. answer ≡ refused_as name.now) }
+/// The answer to a text that has this fault.
+fn refused_at(alloc: Global, text: &[u8], fault: TextFault) -> Result<Answer, AllocError>
+    requires { plan_at text.now ≡ Err fault }
+    ensures { IfOk result (λ answer. (line : ℕ) × IsFaultLine text.now fault line × (answer ≡ refused_for (text_fault_name fault) (Objection.Text line fault))) }
+{
+    let line = fault_line(alloc, text, fault)?;
+    refused(
+        alloc,
+        text_fault_name(fault),
+        Objection::Text { line, fault },
+    )
+}
+
+/// The answer to an input that is refused.
+fn refused(alloc: Global, name: &str, objection: Objection) -> Result<Answer, AllocError>
+    ensures { IfOk result (λ answer. answer ≡ refused_for name.now objection) }
 {
     Ok(Answer {
         text: refused_line(alloc, name.as_bytes())?,
         status: ExitStatus::Refused,
+        objection: Some(objection),
     })
 }
 
 /// The answer to a plan.
 fn judge(alloc: Global, named: &PlanText, starts: bool) -> Result<Answer, AllocError>
     requires { All HasOneListEach named.now.plan.classes }
-    ensures { IfOk result (λ answer. (verdict : PlanVerdict) × IsPlanVerdict named.now.plan verdict × (answer ≡ said_of starts named.now verdict)) }
+    ensures { IfOk result (λ answer. (verdict : PlanVerdict) × IsPlanVerdict named.now.plan verdict × (answer ≡ judged_of starts named.now verdict)) }
 {
     match check_plan(named.plan()) {
         PlanVerdict::Yes => Ok(Answer {
             text: yes_text(alloc, named.devices(), named.plan().classes(), starts)?,
             status: ExitStatus::Done,
+            objection: None,
         }),
-        PlanVerdict::No { place, fault } => Ok(Answer {
-            text: no_text(alloc, fault, named.plan().classes(), place)?,
-            status: ExitStatus::No,
-        }),
+        PlanVerdict::No { place, fault } => {
+            let priority = priority_at(named.plan().classes(), place);
+            Ok(Answer {
+                text: no_text(alloc, fault, priority)?,
+                status: ExitStatus::No,
+                objection: Some(Objection::Plan { priority, fault }),
+            })
+        }
     }
 }
 
-fn no_text(
-    alloc: Global,
-    fault: Fault,
-    classes: &[PlannedClass],
-    place: usize,
-) -> Result<Vec<u8>, AllocError>
-    requires { place < length classes.now }
-    ensures { IfOk result (λ text. text.items ≡ codes "no " ++ (fault_name fault ++ (codes " class " ++ (decimal (priority_at classes.now place) ++ codes "\n")))) }
+fn no_text(alloc: Global, fault: Fault, priority: u8) -> Result<Vec<u8>, AllocError>
+    ensures { IfOk result (λ text. text.items ≡ codes "no " ++ (fault_name fault ++ (codes " class " ++ (decimal priority ++ codes "\n")))) }
 {
     let name = fault_name(fault);
-    let priority = priority_at(classes, place);
     let line = format!(in alloc; "no {name} class {priority}\n")?;
     Vec::from_slice(alloc, line.as_bytes())
 }

@@ -1,7 +1,9 @@
-//! Tests of plans: the totals that the planners find, and texts that are no plan.
+//! Tests of plans: the totals that the planners find, texts that are no plan, and what is said of them.
 #![tactic(auto)]
 
 #[cfg(test)]
 mod best_ways;
+#[cfg(test)]
+mod plan_sentences;
 #[cfg(test)]
 mod plan_texts;

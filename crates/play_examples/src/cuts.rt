@@ -81,7 +81,7 @@ fn told(alloc: Global, output: &[u8]) -> Result<Vec<u8>, AllocError> {
 fn told_of(alloc: Global, trace: &[u8]) -> Result<Option<Vec<u8>>, AllocError> {
     let mut output = Vec::new(alloc);
     let mut input = trace;
-    match run_replay(alloc, &mut input, &mut output, false) {
+    match run_replay(alloc, &mut input, &mut output, false).status {
         ExitStatus::Done => Ok(Some(told(alloc, &output)?)),
         _ => Ok(None),
     }

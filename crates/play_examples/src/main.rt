@@ -26,8 +26,8 @@ fn play(rt: &HostRuntime, program: Program, input: &[u8]) -> (ExitStatus, Vec<u8
     let mut reader = input;
     let mut output = Vec::new(rt.alloc());
     let status = match program {
-        Program::Replay => run_replay(rt.alloc(), &mut reader, &mut output, false),
-        Program::Check => run_check(rt.alloc(), &mut reader, &mut output, true),
+        Program::Replay => run_replay(rt.alloc(), &mut reader, &mut output, false).status,
+        Program::Check => run_check(rt.alloc(), &mut reader, &mut output, true).status,
     };
     (status, output)
 }

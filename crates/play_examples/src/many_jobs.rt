@@ -55,7 +55,7 @@ fn lines_with(output: &[u8], front: &[u8]) -> usize {
 fn output_of(alloc: Global, trace: &str) -> Option<Vec<u8>> {
     let mut output = Vec::new(alloc);
     let mut input = trace.as_bytes();
-    match run_replay(alloc, &mut input, &mut output, false) {
+    match run_replay(alloc, &mut input, &mut output, false).status {
         ExitStatus::Done => Some(output),
         _ => None,
     }

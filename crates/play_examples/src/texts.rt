@@ -8,7 +8,10 @@ use std::alloc::{AllocError, Global};
 fn is_proved(alloc: Global, text: &[u8]) -> bool {
     let mut output = Vec::new(alloc);
     let mut input = text;
-    run_check(alloc, &mut input, &mut output, false).code() == 0
+    run_check(alloc, &mut input, &mut output, false)
+        .status
+        .code()
+        == 0
         && output.as_slice() == b"yes\n".as_slice()
 }
 

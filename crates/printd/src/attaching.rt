@@ -1,5 +1,5 @@
 //! `printd attach`.
-use crate::failure::cannot;
+use crate::failure::{cannot, out_of_memory};
 use attach::{PlanWords, WordFault, attach, read_plan};
 use command_line::Attaching;
 use std::io;
@@ -58,11 +58,6 @@ fn refuse(rt: &HostRuntime, fault: WordFault, words: PlanWords<'_>) -> ExitStatu
         Ok(()) => ExitStatus::Refused,
         Err(_) => ExitStatus::Failed,
     }
-}
-
-/// The error that there is no memory.
-fn out_of_memory() -> io::Error {
-    io::Error::from(io::ErrorKind::OutOfMemory)
 }
 
 /// Says that a word makes no sense, and what does.

@@ -1,4 +1,5 @@
 //! What is said where the program fails.
+use std::fmt::Display;
 use std::io;
 use std::io::ErrorKind;
 use streams::ExitStatus;
@@ -14,9 +15,20 @@ fn reason(error: &io::Error) -> &'static str {
         ErrorKind::NotADirectory => "a part of its path is no folder",
         ErrorKind::StorageFull => "no space is left",
         ErrorKind::OutOfMemory => "out of memory",
+        ErrorKind::WriteZero => "it takes no bytes",
         ErrorKind::Unsupported => "the system does not know such addresses",
         _ => "the system refuses it",
     }
+}
+
+/// The error that there is no memory.
+pub(crate) fn out_of_memory() -> io::Error {
+    io::Error::from(ErrorKind::OutOfMemory)
+}
+
+/// Says something in a line of standard error, if that can be written.
+pub(crate) fn say<T: Display>(rt: &HostRuntime, what: &T) {
+    let _said = eprintln!(rt; "printd: {what}");
 }
 
 /// Says in a line of standard error what couldn't be done, and why, and gives the status. Where nobody

@@ -6,19 +6,20 @@
 
 mod attaching;
 mod failure;
+mod judging;
 mod log_output;
+mod noted;
 mod serving;
 mod settings;
 
 use crate::attaching::run_attach;
-use crate::failure::cannot;
+use crate::failure::{cannot, out_of_memory};
+use crate::judging::{check, replay};
 use crate::serving::run_serve;
 use crate::settings::run_settings;
-use command_line::{Asked, read_words};
-use plan_audit::run_check;
-use replay::run_replay;
+use command_line::{Asked, WordsError, read_words};
 use std::alloc::AllocError;
-use std::io::ErrorKind;
+use std::io::{ErrorKind, Write};
 use std::process::ExitCode;
 use std::{env, io};
 use streams::ExitStatus;
@@ -52,14 +53,20 @@ fn lent<'a>(rt: &HostRuntime, words: &'a [String]) -> Result<Vec<&'a str>, Alloc
     Ok(texts)
 }
 
-/// Plays a trace from standard input.
-fn replay(rt: &HostRuntime, plans: bool) -> ExitStatus {
-    run_replay(rt.alloc(), &mut rt.reader(), &mut io::writer(rt), plans)
-}
-
-/// Judges the text of a plan from standard input.
-fn check(rt: &HostRuntime, starts: bool) -> ExitStatus {
-    run_check(rt.alloc(), &mut rt.reader(), &mut io::writer(rt), starts)
+/// Writes the text about words that ask for nothing to do, and gives the status: help and the version to
+/// standard output, else what is wrong to standard error.
+fn tell(rt: &HostRuntime, error: &WordsError) -> ExitStatus {
+    match error {
+        WordsError::Help(text) => match io::writer(rt).write_all(text.as_bytes()) {
+            Ok(()) => ExitStatus::Done,
+            Err(error) => cannot(rt, "write to standard output", error),
+        },
+        WordsError::Fault(text) => match rt.stderr().write_all(text.as_bytes()) {
+            Ok(()) => ExitStatus::Refused,
+            Err(_) => ExitStatus::Failed,
+        },
+        WordsError::OutOfMemory => cannot(rt, "read the command line", out_of_memory()),
+    }
 }
 
 /// Does what the words ask for, and gives the status; the error is one of what was said already.
@@ -82,8 +89,10 @@ fn run_words(rt: &HostRuntime) -> Result<ExitStatus, ExitStatus> {
         "read the command line",
         io::Error::from(error),
     ))?;
-    let asked = read_words(rt.alloc(), &texts, &mut io::writer(rt), &mut rt.stderr())?;
-    run(rt, asked)
+    match read_words(rt.alloc(), &texts) {
+        Ok(asked) => run(rt, asked),
+        Err(error) => Ok(tell(rt, &error)),
+    }
 }
 
 fn main(rt: HostRuntime) -> ExitCode {

@@ -1,5 +1,5 @@
 //! The words of the program's command line.
-use command_line::read_words;
+use command_line::{WordsError, read_words};
 use std::alloc::{AllocError, Global};
 use std::test::Fail;
 use streams::ExitStatus;
@@ -76,14 +76,23 @@ const REFUSED: [&str; 11] = [
 /// Lines of words that ask for a text.
 const TOLD: [&str; 3] = ["printd --version", "printd --help", "printd serve --help"];
 
+/// How the program ends where it tells this text.
+fn ends_with(text: &str, status: ExitStatus) -> ExitStatus {
+    if text.ends_with('\n') {
+        status
+    } else {
+        ExitStatus::Failed
+    }
+}
+
 /// What became of a line of words: what it asks for, as it is shown, or how the program ends.
 fn outcome(alloc: Global, line: &str) -> Result<Result<String, ExitStatus>, AllocError> {
     let words: Vec<&str> = line.split(' ').collect(alloc)?;
-    let (mut out, mut err) = (Vec::new(alloc), Vec::new(alloc));
-    match read_words(alloc, &words, &mut out, &mut err) {
+    match read_words(alloc, &words) {
         Ok(asked) => Ok(Ok(format!(in alloc; "{asked:?}")?)),
-        Err(status) if out.is_empty() == (status == ExitStatus::Refused) => Ok(Err(status)),
-        Err(_) => Ok(Err(ExitStatus::Failed)),
+        Err(WordsError::Help(text)) => Ok(Err(ends_with(&text, ExitStatus::Done))),
+        Err(WordsError::Fault(text)) => Ok(Err(ends_with(&text, ExitStatus::Refused))),
+        Err(WordsError::OutOfMemory) => Ok(Err(ExitStatus::Failed)),
     }
 }
 
@@ -95,7 +104,7 @@ fn is_read(alloc: Global, line: &str, wanted: &str) -> Result<bool, AllocError> 
     })
 }
 
-/// Whether a line of words ends so; a refusal leaves the standard output as it is.
+/// Whether a line of words ends so.
 fn ends(alloc: Global, line: &str, wanted: ExitStatus) -> Result<bool, AllocError> {
     Ok(match outcome(alloc, line)? {
         Ok(_) => false,

@@ -10,6 +10,7 @@ ghost use Rattle.replay.specs.Acting.{standing, IsReady, IsStart, Becomes, Does,
 ghost use Rattle.transcripts.specs.Printed.{reply_line};
 
 use crate::log::Log;
+use crate::objection::{LineFault, form_fault};
 use crate::wire::TraceWire;
 use assignment::Lazy;
 use base_types::{DeviceId, Moment, Report};
@@ -94,6 +95,16 @@ impl Play {
         let text = self.give(line)?;
         output.extend_from_slice(&text)?;
         Ok(true)
+    }
+
+    /// What is wrong with bytes that are no line of a trace, or one that may not come now.
+    pub(crate) fn line_fault(&self, bytes: &[u8]) -> LineFault {
+        match read_line(self.alloc, bytes, self.log.names()) {
+            Ok(None) => form_fault(bytes),
+            Ok(Some(Line::Open(_))) => LineFault::Given,
+            Ok(Some(_)) => LineFault::NotOpen,
+            Err(_) => LineFault::Unknown,
+        }
     }
 
     /// Whether a line may come now.

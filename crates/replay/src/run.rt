@@ -14,6 +14,7 @@ ghost use Rattle.traces.specs.Lines.{lines_of};
 ghost use Rattle.replay.specs.Acting.{IsReady, IsStart, PlaysAll, PlaysFirst};
 ghost use Rattle.replay.specs.Replay.{SettingsGive, SettingsLeave, TraceGives, TraceLeaves, InputGives, InputLeaves, Replays};
 
+use crate::objection::{LineFault, Objection, about_settings};
 use crate::play::Play;
 use base_types::Limits;
 use settings_file::{SettingsFault, read_settings_bytes};
@@ -23,7 +24,16 @@ use std::io::{Read, Write};
 use streams::{ExitStatus, InputFault, read_whole, write_front};
 use traces::{next_line, split_settings};
 
-/// Reads a trace to its end, runs it, writes what the server does, and gives the exit status.
+/// How a replay ends.
+#[derive(Debug, Drop)]
+pub struct Replayed {
+    pub status: ExitStatus,
+    /// Why the trace is refused, where the status says so; none with each other status.
+    pub objection: Option<Objection>,
+}
+
+/// Reads a trace to its end, runs it, writes what the server does, and gives the exit status, with the reason
+/// where the trace is refused.
 ///
 /// It writes what the lines give, in order: the replies, the cancels, the plans, with their texts
 /// where these are asked for, and the jobs that start; or why the settings, a line or the size is
@@ -34,17 +44,28 @@ pub fn run_replay<R: Read, W: Write>(
     reader: &mut R,
     writer: &mut W,
     texts: bool,
-) -> ExitStatus
-    ensures { Replays texts (R.remaining reader.old) (R.remaining reader.new) (W.contents writer.old) (W.contents writer.new) result }
+) -> Replayed
+    ensures { Replays texts (R.remaining reader.old) (R.remaining reader.new) (W.contents writer.old) (W.contents writer.new) result.status }
 {
     let mut output = Vec::new(alloc);
-    let due = answer_input(alloc, reader, texts, &mut output);
+    let mut objection = None;
+    let due = answer_input(alloc, reader, texts, &mut output, &mut objection);
     if write_front(writer, &output) < output.len() {
-        return ExitStatus::Failed;
+        return failed();
     }
     match due {
-        Some(status) => status,
-        None => ExitStatus::Failed,
+        Some(status) => Replayed { status, objection },
+        None => failed(),
+    }
+}
+
+/// Memory or a stream failed.
+fn failed() -> Replayed
+    ensures { result.status ≡ Ends.Failed }
+{
+    Replayed {
+        status: ExitStatus::Failed,
+        objection: None,
     }
 }
 
@@ -54,14 +75,18 @@ fn answer_input<R: Read>(
     reader: &mut R,
     texts: bool,
     output: &mut Vec<u8>,
+    objection: &mut Option<Objection>,
 ) -> Option<ExitStatus>
     requires { output.old.items ≡ [] }
     ensures some { IfSome result (λ status. InputGives texts (R.remaining reader.old) (R.remaining reader.new) (record { text = output.new.items; status = status })) }
     ensures none { IsNone result → InputLeaves texts (R.remaining reader.old) (R.remaining reader.new) output.new.items }
 {
     match read_whole(alloc, reader, Limits::INPUT_BYTES, Limits::INPUT_READS) {
-        Ok(trace) => replay(alloc, &trace, texts, output).ok(),
-        Err(InputFault::Size) => refuse(output, b"refused size\n").ok(),
+        Ok(trace) => replay(alloc, &trace, texts, output, objection).ok(),
+        Err(InputFault::Size) => {
+            *objection = Some(Objection::Size);
+            refuse(output, b"refused size\n").ok()
+        }
         Err(InputFault::Stream | InputFault::OutOfMemory) => None,
     }
 }
@@ -81,6 +106,7 @@ fn replay(
     trace: &[u8],
     texts: bool,
     output: &mut Vec<u8>,
+    objection: &mut Option<Objection>,
 ) -> Result<ExitStatus, AllocError>
     requires empty { output.old.items ≡ [] }
     requires short { length trace.now ≤ INPUT_BYTES }
@@ -88,9 +114,18 @@ fn replay(
     ensures err { OnErr result (TraceLeaves texts trace.now output.new.items) }
 {
     let Some(cut) = split_settings(trace) else {
+        *objection = Some(Objection::NoPoint);
         return refuse_settings(alloc, &SettingsFault::NotToml, output);
     };
-    run_lines(alloc, cut.settings, cut.lines, cut.stop, texts, output)
+    run_lines(
+        alloc,
+        cut.settings,
+        cut.lines,
+        cut.stop,
+        texts,
+        output,
+        objection,
+    )
 }
 
 /// Runs the lines after the settings, appends what they give, and gives the status.
@@ -101,6 +136,7 @@ fn run_lines(
     before: usize,
     texts: bool,
     output: &mut Vec<u8>,
+    objection: &mut Option<Objection>,
 ) -> Result<ExitStatus, AllocError>
     requires empty { output.old.items ≡ [] }
     requires short { before + length lines.now ≤ INPUT_BYTES }
@@ -108,8 +144,11 @@ fn run_lines(
     ensures err { OnErr result (SettingsLeave texts settings.now lines.now before output.new.items) }
 {
     match read_start(alloc, settings, texts) {
-        Ok(mut play) => play_lines(alloc, &mut play, lines, before, output),
-        Err(fault) => refuse_settings(alloc, &fault, output),
+        Ok(mut play) => play_lines(alloc, &mut play, lines, before, output, objection),
+        Err(fault) => {
+            *objection = Some(about_settings(alloc, settings));
+            refuse_settings(alloc, &fault, output)
+        }
     }
 }
 
@@ -121,6 +160,7 @@ fn play_lines(
     lines: &[u8],
     before: usize,
     output: &mut Vec<u8>,
+    objection: &mut Option<Objection>,
 ) -> Result<ExitStatus, AllocError>
     requires ready { IsReady play.old }
     requires short { before + length lines.now ≤ INPUT_BYTES }
@@ -132,7 +172,8 @@ fn play_lines(
     while let Some(cut) = next_line(rest) {
         number += 1;
         if !play.act(cut.line, output)? {
-            return refuse_line(alloc, number, output);
+            let fault = play.line_fault(cut.line);
+            return refuse_line(alloc, number, fault, output, objection);
         }
         rest = cut.later;
     }
@@ -162,11 +203,19 @@ fn read_start(alloc: Global, settings: &[u8], texts: bool) -> Result<Play, Setti
     Play::new(alloc, settings, texts).map_err(|_| SettingsFault::OutOfMemory)
 }
 
-/// Appends the line of refused bytes that aren't a line of a trace, and gives its status.
-fn refuse_line(alloc: Global, number: usize, output: &mut Vec<u8>) -> Result<ExitStatus, AllocError>
+/// Appends the line of refused bytes that aren't a line of a trace, notes what is wrong with them, and
+/// gives the status.
+fn refuse_line(
+    alloc: Global,
+    number: usize,
+    fault: LineFault,
+    output: &mut Vec<u8>,
+    objection: &mut Option<Objection>,
+) -> Result<ExitStatus, AllocError>
     ensures ok { IfOk result (λ status. (status ≡ Ends.Refused) × (output.new.items ≡ output.old.items ++ (refused_as (codes "line " ++ decimal number)).text)) }
     ensures err { OnErr result (output.new.items ≡ output.old.items) }
 {
     let line = format!(in alloc; "refused line {number}\n")?;
+    *objection = Some(Objection::Line { number, fault });
     refuse(output, line.as_bytes())
 }

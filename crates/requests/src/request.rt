@@ -12,6 +12,9 @@ use ipp_codec::{AttributeView, GroupTag, GroupView, MessageView, ValueTag};
 use job_template::RequestAttributes;
 use std::alloc::{AllocError, Global};
 
+/// The greatest request-id: its syntax is `integer(1:MAX)` (RFC 8011, section 4.1.2).
+pub(crate) const LAST_REQUEST_ID: u32 = 2_147_483_647;
+
 /// The operation group of a request, which is its first group; none where the message is no request.
 pub(crate) fn operation_group<'a>(message: &MessageView<'a>) -> Option<GroupView<'a>>
     ensures { option_map group_shown result ≡ operation_group (message_shown message.now) }
@@ -31,7 +34,7 @@ pub(crate) fn operation_group<'a>(message: &MessageView<'a>) -> Option<GroupView
 fn is_request_id(id: u32) -> bool
     ensures { result ≡ is_request_id id }
 {
-    1 <= id && id <= 2_147_483_647
+    1 <= id && id <= LAST_REQUEST_ID
 }
 
 /// Whether a group is the operation group of a request.

@@ -1,0 +1,66 @@
+//! What is wrong with an input, in a sentence for whoever wrote it.
+
+use plan_checker::Fault;
+use plan_text::TextFault;
+use std::fmt;
+
+/// What the sentences name as the file of the text.
+const INPUT: &str = "<standard input>";
+
+/// Why an input is no plan that is proved best. Shown, it is a sentence without a line feed, which begins
+/// with the name of standard input.
+#[derive(Clone, Copy, Debug, PartialEq, Eq)]
+pub enum Objection {
+    /// It has more bytes than [`base_types::Limits::INPUT_BYTES`].
+    Size,
+    /// It is no plan: this fault is found at this line, counted from 1.
+    Text { line: usize, fault: TextFault },
+    /// The plan isn't proved best: this is the first fault, of the class of this priority.
+    Plan { priority: u8, fault: Fault },
+}
+
+impl fmt::Display for Objection {
+    fn fmt<W: fmt::Write>(&self, f: &mut fmt::Formatter<W>) -> fmt::Result {
+        match self {
+            Objection::Size => write!(f, "{INPUT}: this has more than 67,108,864 bytes"),
+            Objection::Text { line, fault } => write!(
+                f,
+                "{INPUT}: line {line}: {}",
+                text_meaning(*fault)
+            ),
+            Objection::Plan { priority, fault } => {
+                write!(f, "{INPUT}: class {priority}: {}", plan_meaning(*fault))
+            }
+        }
+    }
+}
+
+/// What a fault of a text means.
+fn text_meaning(fault: TextFault) -> &'static str {
+    match fault {
+        TextFault::BadLine => "this is no line of a plan, or none that may come here",
+        TextFault::OutOfRange => {
+            "a number is out of its range, a line is one too many, or a priority doesn't fall or an id doesn't rise"
+        }
+        TextFault::NoEnd => "the text ends here, before the line \"end\" and its line feed",
+    }
+}
+
+/// What a fault of a plan means.
+fn plan_meaning(fault: Fault) -> &'static str {
+    match fault {
+        Fault::UnknownName => "a way names a job that is not of the class",
+        Fault::Twice => "a job stands twice in the plan",
+        Fault::Missing =>
+            "a job stands in no way, or the prices are not as many as the jobs or the places",
+        Fault::NotAble => "a job is on a device that cannot print it",
+        Fault::WrongWait => "the waits are not those that the class above leaves",
+        Fault::PositivePlacePrice => "the price of a place is above 0",
+        Fault::PriceTooHigh => {
+            "a job's price and a place's together are more than the job would add at that place"
+        }
+        Fault::TotalsDiffer => {
+            "the total stated, the total of the ways and the sum of the prices are not one number"
+        }
+    }
+}

@@ -1,0 +1,58 @@
+//! `printd replay` and `printd check`: what comes on standard input, played or judged.
+use crate::failure::{cannot, out_of_memory, say};
+use crate::noted::{NotedInput, NotedOutput};
+use plan_audit::run_check;
+use replay::run_replay;
+use std::io;
+use std::io::{Input, Read, Write};
+use streams::ExitStatus;
+
+/// Plays a trace from standard input.
+pub(crate) fn replay(rt: &HostRuntime, plans: bool) -> ExitStatus {
+    let mut input = NotedInput::new(rt.reader());
+    let mut output = NotedOutput::new(io::writer(rt));
+    let played = run_replay(rt.alloc(), &mut input, &mut output, plans);
+    if let Some(objection) = &played.objection {
+        say(rt, objection);
+    }
+    if played.status == ExitStatus::Failed {
+        return failed(rt, "play the trace", input, output);
+    }
+    played.status
+}
+
+/// Judges the text of a plan from standard input.
+pub(crate) fn check(rt: &HostRuntime, starts: bool) -> ExitStatus {
+    let mut input = NotedInput::new(rt.reader());
+    let mut output = NotedOutput::new(io::writer(rt));
+    let audit = run_check(rt.alloc(), &mut input, &mut output, starts);
+    if let Some(objection) = &audit.objection {
+        say(rt, objection);
+    }
+    if audit.status == ExitStatus::Failed {
+        return failed(rt, "judge the plan", input, output);
+    }
+    audit.status
+}
+
+/// Says why it failed: the output couldn't be written, the input couldn't be read, or memory was refused.
+fn failed<R: Read + Drop, W: Write + Drop>(
+    rt: &HostRuntime,
+    what: &str,
+    input: NotedInput<R>,
+    output: NotedOutput<W>,
+) -> ExitStatus {
+    if let Some(error) = output.into_error() {
+        return cannot(rt, "write to standard output", error);
+    }
+    if input.takes_too_many_reads() {
+        let _said = eprintln!(rt;
+            "printd: cannot read standard input: it takes more than 1,048,576 reads"
+        );
+        return ExitStatus::Failed;
+    }
+    match input.into_error() {
+        Some(error) => cannot(rt, "read standard input", error),
+        None => cannot(rt, what, out_of_memory()),
+    }
+}

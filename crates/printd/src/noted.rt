@@ -1,0 +1,90 @@
+//! Standard input and standard output, of which is kept why they fail.
+use base_types::Limits;
+use std::io;
+use std::io::{ErrorKind, Read, Write};
+
+/// What is read, with the error at which it failed.
+#[derive(Drop)]
+pub(crate) struct NotedInput<R> {
+    reader: R,
+    /// The reads that are left of those that an input may take.
+    left: u32,
+    ended: bool,
+    error: Option<io::Error>,
+}
+
+/// What is written to, with the error at which it failed.
+#[derive(Drop)]
+pub(crate) struct NotedOutput<W> {
+    writer: W,
+    error: Option<io::Error>,
+}
+
+impl<R: Read + Drop> NotedInput<R> {
+    pub(crate) fn new(reader: R) -> NotedInput<R> {
+        NotedInput {
+            reader,
+            left: Limits::INPUT_READS,
+            ended: false,
+            error: None,
+        }
+    }
+
+    /// Whether it took as many reads as an input may take, and had not ended by then.
+    pub(crate) fn takes_too_many_reads(&self) -> bool {
+        self.left == 0 && !self.ended
+    }
+
+    /// The error at which it failed, if it did.
+    pub(crate) fn into_error(self) -> Option<io::Error> {
+        self.error
+    }
+}
+
+impl<W: Write + Drop> NotedOutput<W> {
+    pub(crate) fn new(writer: W) -> NotedOutput<W> {
+        NotedOutput {
+            writer,
+            error: None,
+        }
+    }
+
+    /// The error at which it failed, if it did.
+    pub(crate) fn into_error(self) -> Option<io::Error> {
+        self.error
+    }
+}
+
+/// Keeps an error, and gives one of its kind.
+fn keep(kept: &mut Option<io::Error>, error: io::Error) -> io::Error {
+    let kind = error.kind();
+    *kept = Some(error);
+    io::Error::from(kind)
+}
+
+impl<R: Read> Read for NotedInput<R> {
+    fn read(&mut self, buffer: &mut [u8]) -> io::Result<usize> {
+        self.left = self.left.saturating_sub(1);
+        match self.reader.read(buffer) {
+            Ok(count) => {
+                self.ended = count == 0;
+                Ok(count)
+            }
+            Err(error) => Err(keep(&mut self.error, error)),
+        }
+    }
+}
+
+impl<W: Write> Write for NotedOutput<W> {
+    fn write(&mut self, bytes: &[u8]) -> io::Result<usize> {
+        match self.writer.write(bytes) {
+            Ok(0) => Err(keep(&mut self.error, io::Error::from(ErrorKind::WriteZero))),
+            Ok(count) => Ok(count),
+            Err(error) => Err(keep(&mut self.error, error)),
+        }
+    }
+
+    fn flush(&mut self) -> io::Result<()> {
+        self.writer.flush()
+    }
+}
