@@ -1,5 +1,5 @@
 //! Devices over a wire in memory: what they write, and what they get.
-use crate::exchanges::{CANCEL, PLAIN};
+use crate::exchanges::PLAIN;
 use crate::in_memory::{CUTS, TURNS, client, engine, got, is_closed, serve};
 use base_types::Moment;
 use server::NoteLog;
@@ -141,27 +141,6 @@ fn early_done(rt: HostRuntime) -> Result<(), Fail> {
     Ok(())
 }
 
-/// Whether of two that say the same name the second is turned away, and the first gets the job.
-fn is_one_of_two(alloc: Global) -> Result<bool, AllocError> {
-    let lines = b"HELLO A\nREADY\n".as_slice();
-    let mut wire = print_room(alloc, PLAIN.sent, &[lines, lines], (4096, 4096))?;
-    let mut notes = NoteLog::new(alloc);
-    Ok(
-        serve(alloc, &mut wire, &mut notes, TURNS)
-            && got(&wire, 1, JOB)
-            && !is_closed(&wire, 1)
-            && got(&wire, 2, b"")
-            && is_closed(&wire, 2),
-    )
-}
-
-#[test]
-fn one_connection_a_device(rt: HostRuntime) -> Result<(), Fail> {
-    let one = is_one_of_two(rt.alloc())?;
-    assert!(rt; one);
-    Ok(())
-}
-
 /// Whether a device whose input has ended while its job waits loses its name to one that says it: the job
 /// is given up, and the newcomer gets the next.
 fn comes_again(alloc: Global) -> Result<bool, AllocError> {
@@ -192,46 +171,6 @@ fn comes_again(alloc: Global) -> Result<bool, AllocError> {
 fn name_taken_over(rt: HostRuntime) -> Result<(), Fail> {
     let again = comes_again(rt.alloc())?;
     assert!(rt; again);
-    Ok(())
-}
-
-/// Whether the device that has a canceled job is told so.
-fn is_told_of_cancel(alloc: Global) -> Result<bool, AllocError> {
-    let lines = b"HELLO A\nREADY\n".as_slice();
-    let mut wire = print_room(alloc, PLAIN.sent, &[lines], (4096, 4096))?;
-    wire.peers
-        .push(client(alloc, Door::Ipp, CANCEL, (1, 4096))?)?;
-    let mut notes = NoteLog::new(alloc);
-    Ok(
-        serve(alloc, &mut wire, &mut notes, TURNS)
-            && got(&wire, 1, b"JOB 1 5 1 1 iso_a4_210x297mm\nhelloCANCEL 1\n"),
-    )
-}
-
-#[test]
-fn cancel_of_a_job_on_a_device(rt: HostRuntime) -> Result<(), Fail> {
-    let told = is_told_of_cancel(rt.alloc())?;
-    assert!(rt; told);
-    Ok(())
-}
-
-/// Whether a line that doesn't end closes the connection.
-fn is_too_long(alloc: Global, length: usize) -> Result<bool, AllocError> {
-    let mut line = Vec::new(alloc);
-    for _byte in 0..length {
-        line.push(b'A')?;
-    }
-    let mut wire = print_room(alloc, PLAIN.sent, &[&line], (4096, 4096))?;
-    let mut notes = NoteLog::new(alloc);
-    Ok(serve(alloc, &mut wire, &mut notes, TURNS) && is_closed(&wire, 1))
-}
-
-#[test]
-fn line_without_end(rt: HostRuntime) -> Result<(), Fail> {
-    let within = is_too_long(rt.alloc(), 1023)?;
-    assert!(rt; !within);
-    let beyond = is_too_long(rt.alloc(), 1024)?;
-    assert!(rt; beyond);
     Ok(())
 }
 

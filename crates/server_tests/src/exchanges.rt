@@ -69,11 +69,3 @@ pub const BODY: &[u8] =
 /// Its reply.
 pub const REPLY: &[u8] =
     b"\x01\x01\x00\x00\x00\x00\x00\x01\x01\x47\x00\x12attributes-charset\x00\x05utf-8\x48\x00\x1battributes-natural-language\x00\x02en\x02\x45\x00\x07job-uri\x00\x1aipp://localhost:631/jobs/1\x21\x00\x06job-id\x00\x04\x00\x00\x00\x01\x23\x00\x09job-state\x00\x04\x00\x00\x00\x03\x44\x00\x11job-state-reasons\x00\x04none\x03";
-
-/// What the client that asks for no more gets where another's job was taken before its own.
-pub const LAST_AS_SECOND: &[u8] =
-    b"HTTP/1.1 200 OK\r\nContent-Type: application/ipp\r\nContent-Length: 170\r\nConnection: close\r\n\r\n\x01\x01\x00\x00\x00\x00\x00\x01\x01\x47\x00\x12attributes-charset\x00\x05utf-8\x48\x00\x1battributes-natural-language\x00\x02en\x02\x45\x00\x07job-uri\x00\x1aipp://localhost:631/jobs/2\x21\x00\x06job-id\x00\x04\x00\x00\x00\x02\x23\x00\x09job-state\x00\x04\x00\x00\x00\x03\x44\x00\x11job-state-reasons\x00\x04none\x03";
-
-/// A Cancel-Job of the first job.
-pub const CANCEL: &[u8] =
-    b"POST /jobs/1 HTTP/1.1\r\nHost: localhost\r\nContent-Type: application/ipp\r\nContent-Length: 110\r\n\r\n\x01\x01\x00\x08\x00\x00\x00\x02\x01G\x00\x12attributes-charset\x00\x05utf-8H\x00\x1battributes-natural-language\x00\x02enE\x00\x07job-uri\x00\x1aipp://localhost:631/jobs/1\x03";

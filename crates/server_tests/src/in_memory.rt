@@ -1,11 +1,10 @@
 //! Clients over a wire in memory.
 use crate::exchanges::{
-    BOTH_FRAMINGS, CHUNKED, Exchange, LAST, LAST_AS_SECOND, NOT_POST, PLAIN, SETTINGS, SHORT_BODY,
-    TWO,
+    BOTH_FRAMINGS, CHUNKED, Exchange, LAST, NOT_POST, PLAIN, SETTINGS, SHORT_BODY, TWO,
 };
 use assignment::Lazy;
-use base_types::{DeviceId, Moment, Report};
-use server::{Engine, Heard, NoteLog};
+use base_types::Moment;
+use server::{Engine, NoteLog};
 use settings_file::read_settings;
 use std::alloc::{AllocError, Global};
 use std::test::Fail;
@@ -44,18 +43,6 @@ pub(crate) fn serve(alloc: Global, wire: &mut Memory, notes: &mut NoteLog, turns
         engine.turn(wire, notes, Moment::start());
     }
     true
-}
-
-/// The same of a server whose device runs.
-fn serve_running(alloc: Global, wire: &mut Memory, notes: &mut NoteLog, turns: usize) -> bool {
-    let Ok(mut engine) = engine(alloc) else {
-        return false;
-    };
-    let runs = engine.report(DeviceId::new(0), Report::Ready, notes, Moment::start());
-    for _turn in 0..turns {
-        engine.turn(wire, notes, Moment::start());
-    }
-    runs.is_ok()
 }
 
 /// A client that sends this at a door, and whose input stays open.
@@ -170,90 +157,6 @@ fn others_at_a_fault(rt: HostRuntime) -> Result<(), Fail> {
         let whole = others_are_whole(rt.alloc(), fault_at)?;
         assert!(rt; whole);
     }
-    Ok(())
-}
-
-/// Whether two clients that send a byte at a time in turns, the first of which has more to send, get
-/// the second and the first job.
-fn are_interleaved(alloc: Global) -> Result<bool, AllocError> {
-    let mut wire = clients(alloc, &[LAST.sent, PLAIN.sent], (1, 1))?;
-    let mut notes = NoteLog::new(alloc);
-    Ok(
-        serve(alloc, &mut wire, &mut notes, TURNS)
-            && got(&wire, 0, LAST_AS_SECOND)
-            && got(&wire, 1, PLAIN.answered),
-    )
-}
-
-/// The job whose last byte came first has the first id.
-#[test]
-fn ids_by_last_bytes(rt: HostRuntime) -> Result<(), Fail> {
-    let interleaved = are_interleaved(rt.alloc())?;
-    assert!(rt; interleaved);
-    Ok(())
-}
-
-/// What is heard of a Print-Job on a device that doesn't run.
-fn heard_of_one(alloc: Global) -> Result<Vec<Heard>, AllocError> {
-    let mut wire = clients(alloc, &[PLAIN.sent], (4096, 4096))?;
-    let mut notes = NoteLog::new(alloc);
-    serve(alloc, &mut wire, &mut notes, 1);
-    notes.take()
-}
-
-/// The tick's dispatch finds no job, and the job's plan has it stranded.
-#[test]
-fn listener_hears_the_plan(rt: HostRuntime) -> Result<(), Fail> {
-    let heard = heard_of_one(rt.alloc())?;
-    assert_eq!(rt; heard.len(), 2);
-    assert!(rt; matches!(heard.first(), Some(Heard::Planned)));
-    assert!(rt; matches!(heard.last(), Some(Heard::Stranded(_))));
-    Ok(())
-}
-
-/// What is heard of two requests in one piece, on a device that runs.
-fn heard_of_two(alloc: Global) -> Result<Vec<Heard>, AllocError> {
-    let mut wire = clients(alloc, &[TWO.sent], (4096, 4096))?;
-    let mut notes = NoteLog::new(alloc);
-    serve_running(alloc, &mut wire, &mut notes, 1);
-    notes.take()
-}
-
-/// The first job begins, and the second is planned behind it: it ends after 20 ms.
-#[test]
-fn plan_after_each_request(rt: HostRuntime) -> Result<(), Fail> {
-    let heard = heard_of_two(rt.alloc())?;
-    assert_eq!(rt; heard.len(), 5);
-    assert!(rt; matches!(heard.get(1), Some(Heard::Class { total: 10, .. })));
-    assert!(rt; matches!(heard.get(2), Some(Heard::Began(_))));
-    assert!(rt; matches!(heard.get(3), Some(Heard::Planned)));
-    assert!(rt; matches!(heard.get(4), Some(Heard::Class { total: 20, .. })));
-    Ok(())
-}
-
-/// 65 clients that say nothing, the first of which has gone away or not.
-fn crowd(alloc: Global, first_gone: bool) -> Result<Memory, AllocError> {
-    let mut wire = clients(alloc, &[b"".as_slice(); 65], (1, 1))?;
-    if let Some(first) = wire.peers.first_mut() {
-        first.ended = first_gone;
-    }
-    Ok(wire)
-}
-
-/// How many clients of a crowd are accepted.
-fn accepted(alloc: Global, first_gone: bool) -> Result<usize, AllocError> {
-    let mut wire = crowd(alloc, first_gone)?;
-    let mut notes = NoteLog::new(alloc);
-    serve(alloc, &mut wire, &mut notes, 70);
-    Ok(wire.peers.iter().filter(|peer| peer.accepted).count())
-}
-
-#[test]
-fn one_client_too_many(rt: HostRuntime) -> Result<(), Fail> {
-    let all_stay = accepted(rt.alloc(), false)?;
-    assert_eq!(rt; all_stay, 64);
-    let one_goes = accepted(rt.alloc(), true)?;
-    assert_eq!(rt; one_goes, 65);
     Ok(())
 }
 

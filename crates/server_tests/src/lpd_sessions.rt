@@ -110,45 +110,6 @@ fn lpd_sessions_in_pieces(rt: HostRuntime) -> Result<(), Fail> {
     Ok(())
 }
 
-/// A device that runs, the client of a job, and clients that list its queue and remove it, one after
-/// the other: at most one is accepted at a door in a turn.
-fn queue_of_one(alloc: Global) -> Result<Memory, AllocError> {
-    let whole = (4096, 4096);
-    let mut peers = Vec::new(alloc);
-    peers.push(client(alloc, Door::Devices, b"HELLO A\nREADY\n", whole)?)?;
-    for sent in [
-        ONE_JOB.sent,
-        b"\x03lab\n".as_slice(),
-        b"\x04lab bob\n".as_slice(),
-        b"\x05lab ann 1\n".as_slice(),
-    ] {
-        peers.push(client(alloc, Door::Lpd, sent, whole)?)?;
-    }
-    Ok(Memory::new(peers))
-}
-
-/// Whether the device gets the job and its end, and each client its answer.
-fn is_queue_served(alloc: Global) -> Result<bool, AllocError> {
-    let mut wire = queue_of_one(alloc)?;
-    let mut notes = NoteLog::new(alloc);
-    Ok(
-        serve(alloc, &mut wire, &mut notes, 20)
-            && got(&wire, 0, b"JOB 1 5 1 1 iso_a4_210x297mm\nhelloCANCEL 1\n")
-            && got(&wire, 1, ONE_JOB.answered)
-            && got(&wire, 2, b"lab processing\n1 processing ann 5 untitled\n")
-            && got(&wire, 3, b"lab processing\nno entries\n")
-            && got(&wire, 4, b"")
-            && is_closed(&wire, 4),
-    )
-}
-
-#[test]
-fn queue_listed_and_emptied(rt: HostRuntime) -> Result<(), Fail> {
-    let served = is_queue_served(rt.alloc())?;
-    assert!(rt; served);
-    Ok(())
-}
-
 /// Whether a client got a front of its answers where a poll faults.
 fn is_cut_off(alloc: Global, fault_at: u64) -> Result<bool, AllocError> {
     let mut peers = Vec::new(alloc);
