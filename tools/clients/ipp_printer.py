@@ -87,7 +87,7 @@ class Printer:
         """A job's group."""
         came, octets = self.jobs[job - 1]
         fault, passed = self.fault(job), time.time() - came - (3 if self.fault(job) == "stopped" else 0)
-        state = 9 if passed > octets / 40960 and fault != "stuck" else 5
+        state = 9 if passed >= octets // 4096 / 10 and fault != "stuck" else 5
         state = self.ended.get(job, 8 if fault == "aborted" and passed > 1 else state)
         pages = attribute(INTEGER, b"job-impressions-completed", max(0, min(int(passed * 10), octets // 4096)))
         return b"\x02" + attribute(INTEGER, b"job-id", job) + attribute(ENUM, b"job-state", state) + pages
