@@ -135,12 +135,22 @@ impl AppSocket {
 
 /// Sends some of what is due. Where nothing is, the printer isn't waited for.
 pub(crate) fn send_due(session: &mut Session, attachment: &mut Attachment, now: u64) -> Moved {
-    let due = attachment.due();
-    if due.is_empty() {
+    if attachment.due().is_empty() {
         session.rest(now);
         return Moved::Nothing;
     }
-    match session.write(due, now) {
+    send_some(session, attachment, usize::MAX, now)
+}
+
+/// Sends some of what is due, so many octets at most.
+pub(crate) fn send_some(
+    session: &mut Session,
+    attachment: &mut Attachment,
+    most: usize,
+    now: u64,
+) -> Moved {
+    let due = attachment.due();
+    match session.write(&due[..due.len().min(most)], now) {
         Moved::Bytes(count) => {
             attachment.send(count);
             Moved::Bytes(count)

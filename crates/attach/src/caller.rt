@@ -33,6 +33,8 @@ pub(crate) struct Caller {
     retry: Retry,
     /// How many tries failed since there was a connection.
     failures: u32,
+    /// Which of its addresses is tried: the next after each failure.
+    choice: usize,
     link: Option<Link>,
     open: bool,
     /// When the connection began.
@@ -48,6 +50,7 @@ impl Caller {
             token,
             retry: Retry::new(),
             failures: 0,
+            choice: 0,
             link: None,
             open: false,
             since: 0,
@@ -105,7 +108,7 @@ impl Caller {
         if addresses.is_empty() {
             return Err(io::Error::from(io::ErrorKind::NotFound));
         }
-        let place = self.failures as usize % addresses.len();
+        let place = self.choice % addresses.len();
         Link::begin(net, poll, addresses[place], self.token)
     }
 
@@ -114,6 +117,7 @@ impl Caller {
         self.link = None;
         self.retry.failed(now);
         self.failures = self.failures.saturating_add(1);
+        self.choice = self.choice.wrapping_add(1);
         if self.failures == 1 {
             Reached::Away
         } else {

@@ -5,7 +5,7 @@ use crate::line::{Came, ServerLine};
 use crate::log::{Log, Note};
 use crate::plan::Plan;
 use crate::printer::{Manner, Printer};
-use attachment::{Attachment, PrinterState};
+use attachment::{Attachment, LoadedMedia, PrinterState};
 use base_types::{JobId, Report, Text};
 use device_orders::{JobOrder, Order, OrderError, OrderItem};
 use mio::event::Event;
@@ -33,6 +33,7 @@ pub(crate) struct Desk {
     alloc: Global,
     name: String,
     attachment: Attachment,
+    media: LoadedMedia,
     line: ServerLine,
     printer: Printer,
     log: Log,
@@ -69,6 +70,7 @@ impl Desk {
             alloc,
             name,
             attachment: Attachment::new(alloc),
+            media: LoadedMedia::new(alloc),
             line: ServerLine::new(alloc, Caller::new(alloc, plan.server, SERVER))?,
             printer: Printer::new(alloc, plan.target, manner, PRINTER),
             log: Log::new(alloc, logs),
@@ -132,6 +134,7 @@ impl Desk {
             Reached::Away => self.log.note(Note::ServerAway),
             Reached::Now => {
                 self.attachment.link();
+                self.media.link();
                 let name = Text::copy_of(self.alloc, self.name.as_bytes())?;
                 self.line.say(&Report::Hello(name))?;
                 self.log.note(Note::Linked);
@@ -235,6 +238,8 @@ impl Desk {
             Heard::Stops => Ok(self.stop(Note::PrinterStopped)),
             Heard::Back => Ok(self.run(Note::PrinterBack)),
             Heard::Runs => Ok(self.run(Note::PrinterRuns)),
+            Heard::LeftOut(left_out) => Ok(self.log.note(Note::LeftOut(left_out))),
+            Heard::Unread(breach) => Ok(self.log.note(Note::Unread(breach))),
             Heard::Pages(printed) => self.tell_pages(printed),
             Heard::Printed => self.finish(rt),
             Heard::Failed(breach) => self.fail(rt, breach),
@@ -289,10 +294,16 @@ impl Desk {
         Ok(self.line.say(&report)?)
     }
 
-    /// Tells the server of the printer's state, where it doesn't know it.
+    /// Tells the server of the printer's media and state, where it doesn't know them.
     fn tell_state(&mut self) -> Result<(), Stop> {
+        if let Some(names) = self.printer.take_media() {
+            self.media.load(names);
+        }
         if !self.line.is_linked() {
             return Ok(());
+        }
+        if let Some(report) = self.media.tell()? {
+            self.line.say(&report)?;
         }
         if let Some(report) = self.attachment.tell() {
             self.line.say(&report)?;

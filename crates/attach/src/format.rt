@@ -70,6 +70,16 @@ impl Format {
         Format::Octets
     }
 
+    /// Its media type.
+    pub fn media_type(self) -> &'static str {
+        for (format, name, _) in NAMES {
+            if format == self {
+                return name;
+            }
+        }
+        "application/octet-stream"
+    }
+
     /// The ending of its files.
     pub fn ending(self) -> &'static str {
         for (format, _, ending) in NAMES {

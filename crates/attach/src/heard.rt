@@ -1,5 +1,7 @@
+use ipp_printer::{LeftOut, ReplyBreach};
+
 /// Why a job can't be printed.
-#[derive(Clone, Copy, Debug, PartialEq, Eq)]
+#[derive(Clone, Copy, Debug)]
 pub(crate) enum Breach {
     /// The server canceled it.
     Canceled,
@@ -13,12 +15,14 @@ pub(crate) enum Breach {
     Silent,
     /// A file can't be written.
     Unwritten,
+    /// The printer's reply is of no use.
+    Reply(ReplyBreach),
     /// There is no memory for its octets.
     OutOfMemory,
 }
 
 /// What a printer came to in a turn.
-#[derive(Clone, Copy, Debug, PartialEq, Eq)]
+#[derive(Clone, Copy, Debug)]
 pub(crate) enum Heard {
     Nothing,
     /// It can't be reached, for the first time since it was.
@@ -31,6 +35,10 @@ pub(crate) enum Heard {
     Runs,
     /// So many pages of the job are printed.
     Pages(u32),
+    /// This of the job isn't asked of it, since it doesn't say that it supports it.
+    LeftOut(LeftOut),
+    /// Its state can't be asked.
+    Unread(ReplyBreach),
     /// It has printed the job.
     Printed,
     /// It can't print the job.

@@ -3,7 +3,7 @@
 //! [`attach`] connects to the devices' port and to its printer, and again where either went away, and
 //! takes turns by the clock: what the server orders goes to an `attachment`, and what that allows to the
 //! printer, which is a folder, or speaks AppSocket, with PJL or without,
-//! or LPD. What is proved of what it says and sends stands in
+//! LPD or IPP. What is proved of what it says and sends stands in
 //! `attachment` and `device_orders`; here are the sockets, the files, the clock and the log around them.
 //!
 //! It is tested by the program.
@@ -16,6 +16,7 @@ mod desk;
 mod folder;
 mod format;
 mod heard;
+mod ipp;
 mod line;
 mod link;
 mod log;

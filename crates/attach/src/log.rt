@@ -1,6 +1,7 @@
 //! The lines of a log.
 use crate::heard::Breach;
 use device_orders::OrderFault;
+use ipp_printer::{LeftOut, ReplyBreach};
 use std::alloc::{AllocError, Global};
 use std::fmt;
 
@@ -21,6 +22,10 @@ pub(crate) enum Note {
     PrinterBack,
     PrinterStopped,
     PrinterRuns,
+    /// The printer's state can't be asked.
+    Unread(ReplyBreach),
+    /// This of the job isn't asked of the printer.
+    LeftOut(LeftOut),
     Began { job: u32, octets: u32, copies: u32 },
     Done(u32),
     Failed(u32, Breach),
@@ -29,6 +34,7 @@ pub(crate) enum Note {
 impl fmt::Display for Breach {
     fn fmt<W: fmt::Write>(&self, f: &mut fmt::Formatter<W>) -> fmt::Result {
         f.write_str(match self {
+            Breach::Reply(breach) => return write!(f, "{breach}"),
             Breach::Canceled => "canceled",
             Breach::Unlinked => "unlinked",
             Breach::Broken => "broken",
@@ -52,6 +58,8 @@ impl fmt::Display for Note {
             Note::PrinterBack => f.write_str("printer back"),
             Note::PrinterStopped => f.write_str("printer stopped"),
             Note::PrinterRuns => f.write_str("printer runs"),
+            Note::Unread(breach) => write!(f, "printer unread {breach}"),
+            Note::LeftOut(left_out) => write!(f, "left out{left_out}"),
             Note::Began {
                 job,
                 octets,

@@ -246,7 +246,7 @@ fn read_front(
     for (place, byte) in input.iter().enumerate() {
         if let Some(status) = reader.take(*byte)? {
             let heard = heard_of(status, part, stopped);
-            if heard != Heard::Nothing {
+            if !matches!(heard, Heard::Nothing) {
                 return Ok((place + 1, heard));
             }
         }

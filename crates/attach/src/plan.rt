@@ -2,6 +2,7 @@
 use crate::format::Format;
 use crate::place::Place;
 use base_types::is_name;
+use ipp_printer::IppAddress;
 use std::alloc::{AllocError, Global};
 use url::{ParseError, Url};
 
@@ -10,6 +11,9 @@ const APP_SOCKET: u16 = 9100;
 
 /// The port of LPD (RFC 1179, section 3.1).
 const LPD: u16 = 515;
+
+/// The port of IPP (RFC 8010, section 4).
+const IPP: u16 = 631;
 
 /// What prints.
 #[derive(Debug, Drop)]
@@ -20,6 +24,8 @@ pub enum Target {
     AppSocket(Place),
     /// A queue of a printer that speaks LPD.
     Lpd(Place, String),
+    /// A printer that speaks IPP.
+    Ipp(Place, IppAddress),
 }
 
 /// What an adapter is to do.
@@ -136,8 +142,27 @@ fn read_url(alloc: Global, url: &Url) -> Result<Target, WordFault> {
             let queue = String::from_str(alloc, path)?;
             Ok(Target::Lpd(Place::new(alloc, host, port)?, queue))
         }
+        "ipp" => {
+            let port = url.port().unwrap_or(IPP);
+            let address = read_address(alloc, host, port, path)?;
+            Ok(Target::Ipp(Place::new(alloc, host, port)?, address))
+        }
         _ => Err(WordFault::To),
     }
+}
+
+/// Where a printer of IPP is, by its host, port, and path without the first slash.
+fn read_address(
+    alloc: Global,
+    host: &str,
+    port: u16,
+    path: &str,
+) -> Result<IppAddress, AllocError> {
+    Ok(IppAddress {
+        uri: format!(in alloc; "ipp://{host}:{port}/{path}")?,
+        host: format!(in alloc; "{host}:{port}")?,
+        path: format!(in alloc; "/{path}")?,
+    })
 }
 
 /// Whether a URL has more than a scheme, a host, a port and a path.

@@ -4,12 +4,15 @@ use crate::caller::Caller;
 use crate::folder::Folder;
 use crate::format::Format;
 use crate::heard::Heard;
+use crate::ipp::Ipp;
 use crate::lpd::Lpd;
 use crate::pjl::Pjl;
 use crate::plan::Target;
 use crate::session::Session;
 use attachment::Attachment;
+use base_types::Text;
 use device_orders::JobOrder;
+use ipp_printer::IppPrinter;
 use mio::event::Event;
 use mio::{Poll, Token};
 use std::alloc::Global;
@@ -23,6 +26,7 @@ pub(crate) enum Printer {
     AppSocket(AppSocket),
     Lpd(Lpd),
     Pjl(Pjl),
+    Ipp(Ipp),
 }
 
 /// How a printer does its work.
@@ -61,6 +65,11 @@ impl Printer {
                 queue,
                 manner.name,
             )),
+            Target::Ipp(place, address) => Printer::Ipp(Ipp::new(
+                Session::new(Caller::new(alloc, place, token), manner.timeout),
+                IppPrinter::new(alloc, address),
+                manner.format,
+            )),
         }
     }
 
@@ -71,13 +80,14 @@ impl Printer {
             Printer::AppSocket(printer) => printer.told(event),
             Printer::Lpd(printer) => printer.told(event),
             Printer::Pjl(printer) => printer.told(event),
+            Printer::Ipp(printer) => printer.told(event),
         }
     }
 
     /// How often it is sent the octets of a job.
     pub(crate) fn times(&self, order: &JobOrder) -> u32 {
         match self {
-            Printer::Folder(_) | Printer::Lpd(_) | Printer::Pjl(_) => 1,
+            Printer::Folder(_) | Printer::Lpd(_) | Printer::Pjl(_) | Printer::Ipp(_) => 1,
             Printer::AppSocket(_) => order.copies.max(1),
         }
     }
@@ -89,6 +99,7 @@ impl Printer {
             Printer::AppSocket(_) => {}
             Printer::Lpd(printer) => printer.begin(order),
             Printer::Pjl(printer) => printer.begin(order),
+            Printer::Ipp(printer) => printer.begin(order),
         }
     }
 
@@ -105,6 +116,15 @@ impl Printer {
             Printer::AppSocket(printer) => printer.turn(rt, poll, attachment, now),
             Printer::Lpd(printer) => printer.turn(rt, poll, attachment, now),
             Printer::Pjl(printer) => printer.turn(rt, poll, attachment, now),
+            Printer::Ipp(printer) => printer.turn(rt, poll, attachment, now),
+        }
+    }
+
+    /// The media that are loaded, where the printer told them anew.
+    pub(crate) fn take_media(&mut self) -> Option<Vec<Text>> {
+        match self {
+            Printer::Ipp(printer) => printer.take_media(),
+            _ => None,
         }
     }
 
@@ -115,6 +135,7 @@ impl Printer {
             Printer::AppSocket(printer) => printer.drop_job(),
             Printer::Lpd(printer) => printer.drop_job(),
             Printer::Pjl(printer) => printer.drop_job(),
+            Printer::Ipp(printer) => printer.drop_job(),
         }
     }
 
@@ -125,6 +146,7 @@ impl Printer {
             Printer::AppSocket(printer) => printer.has_worked(),
             Printer::Lpd(printer) => printer.has_worked(),
             Printer::Pjl(printer) => printer.has_worked(),
+            Printer::Ipp(printer) => printer.has_worked(),
         }
     }
 
@@ -135,6 +157,7 @@ impl Printer {
             Printer::AppSocket(printer) => printer.pause(now, has_job),
             Printer::Lpd(printer) => printer.pause(now, has_job),
             Printer::Pjl(printer) => printer.pause(now, has_job),
+            Printer::Ipp(printer) => printer.pause(now),
         }
     }
 }

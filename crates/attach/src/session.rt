@@ -9,7 +9,7 @@ use mio::event::Event;
 use std::net::Net;
 
 /// How far a printer is reached.
-#[derive(Clone, Copy, Debug, PartialEq, Eq)]
+#[derive(Clone, Copy, Debug)]
 pub(crate) enum Stage {
     /// There is no connection now.
     Waits(Heard),

@@ -1,3 +1,4 @@
 pub mod Life
+pub mod Media
 pub mod Promises
 pub mod State

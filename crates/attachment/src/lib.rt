@@ -8,12 +8,16 @@
 //! them where DONE was said; after a cancel none is sent; READY and STOP are said as the printer's
 //! state is, and not twice. `specs/Promises.antt` has the four in a line or two for each event.
 //!
+//! What its printer has loaded is a [`LoadedMedia`], which is said where the server was told otherwise.
+//!
 //! Tests stand in `reader_tests`.
 #![tactic(auto)]
 
 mod attachment;
+mod media;
 mod state;
 mod work;
 
 pub use attachment::Attachment;
+pub use media::LoadedMedia;
 pub use state::PrinterState;

@@ -60,7 +60,7 @@ fn to<'a>(alloc: Global) -> Arg<'a> {
         alloc,
         "to",
         "ADDRESS",
-        "What prints: file:DIR, socket://HOST[:PORT] or lpd://HOST[:PORT]/QUEUE",
+        "What prints: file:DIR, socket://HOST[:PORT], lpd://HOST[:PORT]/QUEUE or ipp://HOST[:PORT]/PATH",
     )
     .required(true)
 }

@@ -49,7 +49,7 @@ fn refuse(rt: &HostRuntime, fault: WordFault, words: PlanWords<'_>) -> ExitStatu
             rt,
             "--to",
             words.to,
-            "file:DIR, socket://HOST[:PORT] or lpd://HOST[:PORT]/QUEUE",
+            "file:DIR, socket://HOST[:PORT], lpd://HOST[:PORT]/QUEUE or ipp://HOST[:PORT]/PATH",
         ),
         WordFault::Pjl => say(rt, "--to", words.to, "with --pjl, socket://HOST[:PORT]"),
         WordFault::OutOfMemory => return cannot(rt, "attach a printer", out_of_memory()),

@@ -10,6 +10,8 @@ mod command_words;
 #[cfg(test)]
 mod ipp_messages;
 #[cfg(test)]
+mod ipp_replies;
+#[cfg(test)]
 mod settings_sentences;
 #[cfg(test)]
 mod text_bytes;

@@ -1,0 +1,4 @@
+pub mod Field
+pub mod Line
+pub mod Reply
+pub mod Size

@@ -1,0 +1,45 @@
+//! Where a printer is, for its requests.
+use std::alloc::{AllocError, Global};
+
+/// Where a printer is, as its requests say it.
+#[derive(Debug, Drop)]
+pub struct IppAddress {
+    /// The printer's URI, as `ipp://host/ipp/print`.
+    pub uri: String,
+    /// The host, and the port if it isn't 80.
+    pub host: String,
+    /// The path, which begins with a slash.
+    pub path: String,
+}
+
+impl IppAddress {
+    /// The head of a request, without the fields that tell the length of its body.
+    fn head(&self, alloc: Global) -> Result<String, AllocError> {
+        let host = self.host.as_str();
+        let path = self.path.as_str();
+        format!(in alloc;
+            "POST {path} HTTP/1.1\r\nHost: {host}\r\nUser-Agent: printd\r\nContent-Type: application/ipp\r\nConnection: close\r\n"
+        )
+    }
+
+    /// A request with this body.
+    pub(crate) fn request(&self, alloc: Global, body: &[u8]) -> Result<Vec<u8>, AllocError> {
+        let head = self.head(alloc)?;
+        let length = body.len();
+        let text = format!(in alloc; "{head}Content-Length: {length}\r\n\r\n")?;
+        let mut bytes = Vec::from_slice(alloc, text.as_bytes())?;
+        bytes.extend_from_slice(body)?;
+        Ok(bytes)
+    }
+
+    /// The front of a request whose body comes in chunks (RFC 9112, section 7.1), and the first of them.
+    pub(crate) fn front(&self, alloc: Global, body: &[u8]) -> Result<Vec<u8>, AllocError> {
+        let head = self.head(alloc)?;
+        let length = body.len();
+        let text = format!(in alloc; "{head}Transfer-Encoding: chunked\r\n\r\n{length:x}\r\n")?;
+        let mut bytes = Vec::from_slice(alloc, text.as_bytes())?;
+        bytes.extend_from_slice(body)?;
+        bytes.extend_from_slice(b"\r\n")?;
+        Ok(bytes)
+    }
+}

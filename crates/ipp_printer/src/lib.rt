@@ -1,0 +1,21 @@
+//! A printer that speaks IPP, without sockets: what is written to it, and what its replies do to a job
+//! (RFC 8010, RFC 8011).
+//!
+//! An [`IppPrinter`] does one task after the other, each on a connection of its own: it asks for the
+//! printer's state every ten seconds, sends a job, asks for the job every second until it has ended, and
+//! cancels a job that was given up. It keeps the printer's last reply, and asks of a job only what that
+//! says is supported. The octets of a job stay with its attachment.
+//!
+//! It is tested by the program.
+#![tactic(auto)]
+
+mod address;
+mod answer;
+mod job;
+mod printer;
+mod task;
+mod told;
+
+pub use address::IppAddress;
+pub use printer::IppPrinter;
+pub use told::{LeftOut, ReplyBreach, Told};
