@@ -12,11 +12,11 @@ pub(crate) fn replay(rt: &HostRuntime, plans: bool) -> ExitStatus {
     let mut input = NotedInput::new(rt.reader());
     let mut output = NotedOutput::new(io::writer(rt));
     let played = run_replay(rt.alloc(), &mut input, &mut output, plans);
-    if let Some(objection) = &played.objection {
-        say(rt, objection);
-    }
     if played.status == ExitStatus::Failed {
         return failed(rt, "play the trace", input, output);
+    }
+    if let Some(objection) = &played.objection {
+        say(rt, objection);
     }
     played.status
 }

@@ -28,7 +28,7 @@ use traces::{next_line, split_settings};
 #[derive(Debug, Drop)]
 pub struct Replayed {
     pub status: ExitStatus,
-    /// Why the trace is refused, where the status says so; none with each other status.
+    /// Why the trace is refused, where the status says that it is.
     pub objection: Option<Objection>,
 }
 
@@ -47,25 +47,29 @@ pub fn run_replay<R: Read, W: Write>(
 ) -> Replayed
     ensures { Replays texts (R.remaining reader.old) (R.remaining reader.new) (W.contents writer.old) (W.contents writer.new) result.status }
 {
-    let mut output = Vec::new(alloc);
     let mut objection = None;
-    let due = answer_input(alloc, reader, texts, &mut output, &mut objection);
-    if write_front(writer, &output) < output.len() {
-        return failed();
-    }
-    match due {
-        Some(status) => Replayed { status, objection },
-        None => failed(),
-    }
+    let status = play_input(alloc, reader, writer, texts, &mut objection);
+    Replayed { status, objection }
 }
 
-/// Memory or a stream failed.
-fn failed() -> Replayed
-    ensures { result.status ≡ Ends.Failed }
+/// Reads a trace to its end, runs it, writes what the server does, and gives the exit status.
+fn play_input<R: Read, W: Write>(
+    alloc: Global,
+    reader: &mut R,
+    writer: &mut W,
+    texts: bool,
+    objection: &mut Option<Objection>,
+) -> ExitStatus
+    ensures { Replays texts (R.remaining reader.old) (R.remaining reader.new) (W.contents writer.old) (W.contents writer.new) result }
 {
-    Replayed {
-        status: ExitStatus::Failed,
-        objection: None,
+    let mut output = Vec::new(alloc);
+    let due = answer_input(alloc, reader, texts, &mut output, objection);
+    if write_front(writer, &output) < output.len() {
+        return ExitStatus::Failed;
+    }
+    match due {
+        Some(status) => status,
+        None => ExitStatus::Failed,
     }
 }
 

@@ -1,0 +1,21 @@
+use Rattle.std.proofs.Common.{◌≡◌, ℕ, Bool, List, take, Option, Some, None, IfSome, IsNone, inl, inr, refl, subst}
+use Rattle.std.specs.Io.KnownBytes.{Appends}
+use Rattle.streams.specs.declared.exit_status.ExitStatus.{ExitStatus}
+use Rattle.replay.specs.Replay.{InputGives, InputLeaves}
+use Rattle.replay.proofs.run.play_input.Goals as goal
+
+-- what there is to write where the output can't be written whole
+left_to_write : (texts : Bool) (before after : Option (List ℕ)) (due : List ℕ) (answer : Option ExitStatus) → IfSome answer (λ status. InputGives texts before after (record { text = due; status = status })) → (IsNone answer → InputLeaves texts before after due) → InputLeaves texts before after due
+left_to_write texts before after due None gives leaves = leaves refl
+left_to_write texts before after due (Some status) gives leaves = inr (inr (record { text = due; status = status }, gives, refl))
+
+pub returns-then-write_front-len : goal.returns-then-write_front-len
+returns-then-write_front-len g c =
+    let due : List ℕ = c.answer_input-due.new.output.items in
+    inr (
+      refl,
+      due,
+      c.write_front.result,
+      left_to_write c.args.texts (g.R.Read.remaining c.args.reader.now) (g.R.Read.remaining c.answer_input-due.new.reader) due c.answer_input-due.result c.answer_input-due.ensures.some c.answer_input-due.ensures.none,
+      subst (λ (bytes : List ℕ). Appends (g.W.Write.contents c.args.writer.now) (g.W.Write.contents c.write_front.new.writer) (take c.write_front.result bytes)) c.deref.ensures.value c.write_front.ensures.front,
+    )
