@@ -19,4 +19,6 @@ pub mod RemoveJobs
 pub mod Step
 pub mod OneStep
 pub mod Keeping
+pub mod Notes
+pub mod Plans
 pub mod Run

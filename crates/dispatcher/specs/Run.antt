@@ -1,36 +1,54 @@
--- A run: events with their moments, each a step, and after each that is no query a dispatch.
-use Rattle.std.specs.Prelude.{◌≡◌, ◌≢◌, max, true, false, List, [], ◌∷◌, Option}
+-- An event at the core: a step, the cancels that it sends, and a dispatch unless it is a query. A run: events one after the other.
+use Rattle.std.specs.Prelude.{ℕ, ◌≡◌, ◌≢◌, max, true, false, List, [], ◌∷◌, ◌++◌, map, Option, Some, None}
 use Rattle.prices.specs.Plan.{PlanRecord}
+use Rattle.events.specs.declared.event.Event.{Event}
+use Rattle.events.specs.declared.reply.Reply.{Reply}
 use Rattle.events.specs.Event.{is_query}
+use Rattle.dispatcher.specs.declared.listener.Place.TheVariants as At
+use Rattle.dispatcher.specs.declared.outcome.Outcome.{Outcome}
+use Rattle.dispatcher.specs.declared.outcome.Outcome.TheVariants.{Dropped, Queried, Undispatched, Idle, Dispatched}
 use Rattle.dispatcher.specs.declared.run.Timed.{Timed}
-use Rattle.dispatcher.specs.declared.run.Outcome.{Outcome}
-use Rattle.dispatcher.specs.declared.run.Outcome.TheVariants.{Dropped, Queried, Undispatched, Dispatched}
-use Rattle.print_room.specs.declared.started.Started.{Started}
 use Rattle.print_room.specs.State.{State}
 use Rattle.print_room.specs.Ready.{ready_of}
-use Rattle.dispatcher.specs.Step.{Step, TakesNoMemory}
 use Rattle.print_room.specs.Dispatch.{Dispatches}
+use Rattle.dispatcher.specs.Notes.{Note, Planned, Canceled, Refused, Tells}
+use Rattle.dispatcher.specs.Step.{Step, TakesNoMemory}
 
--- what a listener hears of a dispatch: how its plan and what began change it
-abbrev pub Hearing : Type 0 → Type 1
-Hearing L = L → Option PlanRecord → List Started → L → Type 0
+-- the reply, unless the event was dropped
+abbrev pub reply_of : Outcome → Option Reply
+reply_of Dropped = None
+reply_of (Queried reply) = Some reply
+reply_of (Undispatched reply) = Some reply
+reply_of (Idle reply) = Some reply
+reply_of (Dispatched reply) = Some reply
 
--- What becomes of an event. None that takes no memory is dropped. A dispatch may choose
--- any good plan, which the listener hears; one that is refused memory changes nothing, and none
--- is refused where no job is ready.
-abbrev pub Comes : {L : Type 0} → Hearing L → State → L → Timed → Outcome → State → L → Type 0
-Comes hears old listener timed Dropped new listener' = (new ≡ old) × (listener' ≡ listener) × (TakesNoMemory timed.event timed.moment old → ⊥)
-Comes hears old listener timed (Queried reply) new listener' = (is_query timed.event ≡ true) × Step old timed.event timed.moment reply new × (listener' ≡ listener)
-Comes hears old listener timed (Undispatched reply) new listener' =
-    (is_query timed.event ≡ false) × Step old timed.event timed.moment reply new × (ready_of new ≢ []) × (listener' ≡ listener)
-Comes hears old listener timed (Dispatched reply) new listener' =
-    (is_query timed.event ≡ false) × (mid : State) × Step old timed.event timed.moment reply mid
-    × (plan : Option PlanRecord) × (started : List Started) × Dispatches (max timed.moment mid.last) mid plan started new × hears listener plan started listener'
+-- the cancels of a reply, as they are told
+abbrev pub cancels_told : Reply → List Note
+cancels_told reply = map Canceled reply.cancels.items
+
+-- What becomes of an event, and what is told of it: the cancels of its reply, and then the dispatch. None
+-- that takes no memory is dropped. A dispatch may choose any good plan; one that is refused memory changes
+-- nothing, and none is refused where no job is ready.
+abbrev pub Handles : ℕ → Event → State → Outcome → List Note → State → Type 0
+Handles moment event old Dropped notes new = (new ≡ old) × (notes ≡ []) × (TakesNoMemory event moment old → ⊥)
+Handles moment event old (Queried reply) notes new = (is_query event ≡ true) × Step old event moment reply new × (notes ≡ cancels_told reply)
+Handles moment event old (Undispatched reply) notes new =
+    (is_query event ≡ false) × Step old event moment reply new × (ready_of new ≢ []) × (notes ≡ cancels_told reply ++ Refused At.Dispatch None ∷ [])
+Handles moment event old (Idle reply) notes new =
+    (is_query event ≡ false) × (mid : State) × Step old event moment reply mid
+    × Dispatches (max moment mid.last) mid None [] new × (notes ≡ cancels_told reply ++ Planned None [] ∷ [])
+Handles moment event old (Dispatched reply) notes new =
+    (is_query event ≡ false) × (mid : State) × Step old event moment reply mid
+    × (plan : PlanRecord) × Dispatches (max moment mid.last) mid (Some plan) new.begun new × (notes ≡ cancels_told reply ++ Planned (Some plan) new.begun ∷ [])
+
+-- an event comes, and a listener is told
+abbrev pub Comes : {L : Type 0} → (L → Note → L → Type 0) → State → L → Timed → Outcome → State → L → Type 0
+Comes told old listener timed outcome new listener' = (notes : List Note) × Handles timed.moment timed.event old outcome notes new × Tells told listener notes listener'
 
 -- each event in turn
-abbrev pub Run : {L : Type 0} → Hearing L → State → L → List Timed → List Outcome → State → L → Type 0
-Run hears old listener [] [] new listener' = (new ≡ old) × (listener' ≡ listener)
-Run {L} hears old listener (timed ∷ events) (outcome ∷ outcomes) new listener' =
-    (mid : State) × (heard : L) × Comes hears old listener timed outcome mid heard × Run hears mid heard events outcomes new listener'
-Run hears old listener [] (outcome ∷ outcomes) new listener' = ⊥
-Run hears old listener (timed ∷ events) [] new listener' = ⊥
+abbrev pub Run : {L : Type 0} → (L → Note → L → Type 0) → State → L → List Timed → List Outcome → State → L → Type 0
+Run told old listener [] [] new listener' = (new ≡ old) × (listener' ≡ listener)
+Run {L} told old listener (timed ∷ events) (outcome ∷ outcomes) new listener' =
+    (mid : State) × (heard : L) × Comes told old listener timed outcome mid heard × Run told mid heard events outcomes new listener'
+Run told old listener [] (outcome ∷ outcomes) new listener' = ⊥
+Run told old listener (timed ∷ events) [] new listener' = ⊥

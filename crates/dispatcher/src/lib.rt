@@ -25,6 +25,8 @@ mod get_jobs;
 mod hold_job;
 mod law;
 mod list_queue;
+mod listener;
+mod outcome;
 mod pause_printer;
 mod print_job;
 mod remove_jobs;
@@ -37,6 +39,8 @@ mod validate_job;
 
 pub use dispatch::Dispatched;
 pub use law::one_step;
+pub use listener::{DeviceRefusal, Listener, Place};
+pub use outcome::Outcome;
 pub use print_room::Started;
-pub use run::{Listener, Outcome, Timed};
+pub use run::Timed;
 pub use server_core::Core;

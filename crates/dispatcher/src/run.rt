@@ -1,14 +1,14 @@
-//! Runs: events one after the other, each followed by a dispatch unless it is a query.
-ghost use Rattle.std.specs.Prelude.{◌≡◌, List, Option, IfOk, OnErr};
-ghost use Rattle.prices.specs.Plan.{PlanRecord};
-ghost use Rattle.print_room.specs.declared.started.Started.{Started};
-ghost use Rattle.dispatcher.specs.Dispatched.{plan_of, started_of};
+//! Events, one after the other: each a step, the cancels that it sends, and a dispatch unless it is a query.
+ghost use Rattle.std.specs.Prelude.{◌≡◌, max, IfOk, OnErr, map};
+ghost use Rattle.dispatcher.specs.Notes.{Canceled, Tells};
 ghost use Rattle.dispatcher.specs.Run.{Comes, Run};
+ghost use Rattle.dispatcher.specs.Plans.{PlansAs};
 
-use crate::dispatch::Dispatched;
+use crate::listener::{Listener, Place};
+use crate::outcome::Outcome;
 use crate::server_core::Core;
 use base_types::Moment;
-use events::{Event, Reply};
+use events::{Cancel, Event};
 use planners::Planner;
 use std::alloc::{AllocError, Global};
 
@@ -19,53 +19,67 @@ pub struct Timed {
     pub moment: Moment,
 }
 
-/// What becomes of an event.
-#[derive(Drop)]
-pub enum Outcome {
-    /// It was dropped, out of memory, and nothing changed: never a tick, a device's report, or a
-    /// request that is refused.
-    Dropped,
-    /// It was a query, and answered.
-    Queried(Reply),
-    /// It was answered; the dispatch that follows was refused memory and changed nothing.
-    Undispatched(Reply),
-    /// It was answered, and a dispatch followed, which may have found no job ready.
-    Dispatched(Reply),
-}
-
-/// Who hears of dispatches. What each changes of the listener is the listener's own relation.
-pub trait Listener {
-    ghost hears: { Self → Option PlanRecord → List Started → Self → Type 0 };
-
-    /// A dispatch was made: its plan, where a job was ready, and the jobs that began.
-    fn dispatched(&mut self, made: &Dispatched<'_>)
-        ensures { hears self.old (plan_of made.now) (started_of made.now) self.new };
+/// What a dispatch comes to.
+#[derive(Clone, Copy, Debug, PartialEq, Eq)]
+enum Made {
+    /// Memory was refused.
+    Refused,
+    /// No job is ready.
+    Idle,
+    /// A plan was made, and jobs may have begun.
+    Planned,
 }
 
 impl<P: Planner + Drop> Core<P> {
-    /// Acts on an event, and dispatches unless it is a query; the listener hears of the dispatch.
+    /// Acts on an event, and dispatches unless it is a query; the listener is told of the cancels and of
+    /// the dispatch.
+    ///
+    /// Whenever a plan is made, each priority class, from the highest down and given when the classes
+    /// above leave each device free, has the least total of estimated completion times among all ways to
+    /// assign its ready jobs to capable devices and order them; its prices prove this to the checker
+    /// alone, and every job without a capable device is named.
     pub fn handle<L: Listener>(&mut self, timed: Timed, listener: &mut L) -> Outcome
-        ensures { Comes L.hears self.old listener.old timed result self.new listener.new }
+        ensures { Comes L.told self.old listener.old timed result self.new listener.new }
     {
         let Timed { event, moment } = timed;
         let is_query = event.is_query();
         let Ok(reply) = self.apply(event, moment) else {
             return Outcome::Dropped;
         };
+        tell_cancels(&reply.cancels, listener);
         if is_query {
             return Outcome::Queried(reply);
         }
+        match self.plan(moment, listener) {
+            Made::Refused => Outcome::Undispatched(reply),
+            Made::Idle => Outcome::Idle(reply),
+            Made::Planned => Outcome::Dispatched(reply),
+        }
+    }
+
+    /// Dispatches, and tells of it.
+    fn plan<L: Listener>(&mut self, moment: Moment, listener: &mut L) -> Made
+        ensures { PlansAs L.told (max moment self.old.last) self.old listener.old result self.new listener.new }
+    {
         match self.dispatch(moment) {
-            Ok(planned) => {
-                listener.dispatched(&self.dispatched(planned));
-                Outcome::Dispatched(reply)
+            Ok(true) => {
+                listener.dispatched(&self.dispatched(true));
+                Made::Planned
             }
-            Err(_) => Outcome::Undispatched(reply),
+            Ok(false) => {
+                listener.dispatched(&self.dispatched(false));
+                Made::Idle
+            }
+            Err(_) => {
+                listener.refused(Place::Dispatch, None);
+                Made::Refused
+            }
         }
     }
 
     /// Acts on events, one after the other, each followed by a dispatch unless it is a query. It
-    /// answers what becomes of each; the listener hears each plan, and what begins with it.
+    /// answers what becomes of each; the listener is told of the cancels and of each plan, with what
+    /// begins.
     ///
     /// For every list of requests, moments and device reports, whenever a plan is made, each priority
     /// class, from the highest down and given when the classes above leave each device free, has the
@@ -80,7 +94,7 @@ impl<P: Planner + Drop> Core<P> {
         events: Vec<Timed>,
         listener: &mut L,
     ) -> Result<Vec<Outcome>, AllocError>
-        ensures ok { IfOk result (λ outcomes. Run L.hears self.old listener.old events.items outcomes.items self.new listener.new) }
+        ensures ok { IfOk result (λ outcomes. Run L.told self.old listener.old events.items outcomes.items self.new listener.new) }
         ensures err { OnErr result ((self.new ≡ self.old) × (listener.new ≡ listener.old)) }
     {
         let mut outcomes = Vec::with_capacity(alloc, events.len())?;
@@ -88,5 +102,14 @@ impl<P: Planner + Drop> Core<P> {
             outcomes.push_reserved(self.handle(timed, listener));
         }
         Ok(outcomes)
+    }
+}
+
+/// The listener is told of these cancels.
+fn tell_cancels<L: Listener>(cancels: &[Cancel], listener: &mut L)
+    ensures { Tells L.told listener.old (map Canceled cancels.now) listener.new }
+{
+    for cancel in cancels {
+        listener.canceled(*cancel);
     }
 }

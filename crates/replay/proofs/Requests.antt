@@ -35,7 +35,11 @@ use Rattle.requests.specs.declared.asked.Asked.TheVariants as Body
 use Rattle.requests.specs.Asked.{Asks, AsksUnder, Requests, answered, header_of, operation_of}
 use Rattle.requests.specs.Event.{event_of, asked_in, event_in, are_tagged, is_complete}
 use Rattle.requests.specs.Request.{operation_group, job_attributes, is_utf8}
-use Rattle.server.specs.Law.{Dispatch, IsAnswered}
+use Rattle.dispatcher.specs.declared.outcome.Outcome.{Outcome}
+use Rattle.dispatcher.specs.declared.outcome.Outcome.TheVariants.{Dropped, Queried, Undispatched, Idle, Dispatched}
+use Rattle.dispatcher.specs.Notes.{Note}
+use Rattle.dispatcher.specs.Run.{reply_of, Handles}
+use Rattle.std.proofs.lemmas.Option.{none-some}
 use Rattle.server.specs.Turn.{IsBytes}
 use Rattle.replay.specs.OneRun.{IsReplyOf}
 
@@ -120,10 +124,17 @@ stepped_answer (Is.RemoveJobs request) now old reply new is step = absurd is
 stepped_answer (Is.Report device report) now old reply new is step = absurd is
 stepped_answer Is.Tick now old reply new is step = absurd is
 
+-- the reply that was given
+is_given : (given reply : Reply) → Some given ≡ Some reply → IsOfIpp given.answer → IsOfIpp reply.answer
+is_given given reply same is = let one : given ≡ reply = cc same in subst (λ (r : Reply). IsOfIpp r.answer) one is
+
 -- a request that is answered is answered by a message
-request_is_answered : (moment : ℕ) (event : Event) (reply : Reply) (old new : State) (dispatches : List Dispatch) → IsRequest event → IsAnswered (record { event = event; moment = moment }) reply old dispatches new → IsOfIpp reply.answer
-request_is_answered moment event reply old new dispatches is (inl queried) = stepped_answer event (max moment old.last) old reply _ is queried.1
-request_is_answered moment event reply old new dispatches is (inr dispatched) = stepped_answer event (max moment old.last) old reply _ is dispatched.2
+request_is_answered : (moment : ℕ) (event : Event) (outcome : Outcome) (reply : Reply) (old : State) (notes : List Note) (new : State) → IsRequest event → reply_of outcome ≡ Some reply → Handles moment event old outcome notes new → IsOfIpp reply.answer
+request_is_answered moment event Dropped reply old notes new is answered handled = absurd (none-some reply answered)
+request_is_answered moment event (Queried given) reply old notes new is answered (query, step, told) = is_given given reply answered (stepped_answer event (max moment old.last) old given new is step)
+request_is_answered moment event (Undispatched given) reply old notes new is answered (query, step, ready, told) = is_given given reply answered (stepped_answer event (max moment old.last) old given new is step)
+request_is_answered moment event (Idle given) reply old notes new is answered (query, mid, step, made, told) = is_given given reply answered (stepped_answer event (max moment old.last) old given mid is step)
+request_is_answered moment event (Dispatched given) reply old notes new is answered (query, mid, step, plan, made, told) = is_given given reply answered (stepped_answer event (max moment old.last) old given mid is step)
 
 -- ---- the event of a body
 
@@ -195,6 +206,6 @@ are_of_reply request (Says.Ipp answer) bytes is are = are
 are_of_reply request (Says.Lpd answer) bytes is are = absurd is
 are_of_reply request Says.Nothing bytes is are = absurd is
 
-pub body_replied : (body : List ℕ) (moment request : ℕ) (event : Event) (reply : Reply) (bytes : List ℕ) (old new : State) (dispatches : List Dispatch) → Asks body (Body.Event request event) → IsAnswered (record { event = event; moment = moment }) reply old dispatches new → IsBytes request reply.answer bytes → IsReplyOf reply.answer request bytes
-body_replied body moment request event reply bytes old new dispatches asks answered are =
-    are_of_reply request reply.answer bytes (request_is_answered moment event reply old new dispatches (body_is_request body request event asks) answered) are
+pub body_replied : (body : List ℕ) (moment request : ℕ) (event : Event) (outcome : Outcome) (reply : Reply) (bytes : List ℕ) (old : State) (notes : List Note) (new : State) → Asks body (Body.Event request event) → reply_of outcome ≡ Some reply → Handles moment event old outcome notes new → IsBytes request reply.answer bytes → IsReplyOf reply.answer request bytes
+body_replied body moment request event outcome reply bytes old notes new asks answered handled are =
+    are_of_reply request reply.answer bytes (request_is_answered moment event outcome reply old notes new (body_is_request body request event asks) answered handled) are

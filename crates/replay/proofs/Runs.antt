@@ -11,40 +11,47 @@ use Rattle.print_room.specs.Opening.{opening}
 use Rattle.print_room.specs.State.{State}
 use Rattle.events.specs.declared.event.Event.{Event}
 use Rattle.events.specs.declared.event.Event.TheVariants as Is
-use Rattle.events.specs.declared.reply.Cancel.{Cancel}
 use Rattle.events.specs.declared.reply.Reply.{Reply}
 use Rattle.dispatcher.specs.declared.run.Timed.{Timed}
-use Rattle.dispatcher.specs.declared.run.Outcome.{Outcome}
-use Rattle.dispatcher.specs.declared.run.Outcome.TheVariants.{Dropped, Queried, Undispatched, Dispatched}
+use Rattle.dispatcher.specs.declared.outcome.Outcome.{Outcome}
 use Rattle.dispatcher.specs.Run.{Comes, Run}
 use Rattle.requests.specs.declared.asked.Asked.{Asked}
 use Rattle.requests.specs.declared.asked.Asked.TheVariants as Body
 use Rattle.requests.specs.Asked.{Asks}
 use Rattle.replies.specs.Reply.{refusal_bytes}
 use Rattle.server.specs.Ledger.{Ledger, opening_ledger}
-use Rattle.server.specs.Law.{Dispatch, IsAnswered, planned, IsOneEvent, IsNoEvent, IsServed, IsAtMostOne}
-use Rattle.server.specs.Polls.{Happening, Told, Canceled}
+use Rattle.server.specs.Law.{IsOneEvent, IsNoEvent, IsServed, IsAtMostOne}
+use Rattle.dispatcher.specs.Notes.{Note, Tells}
+use Rattle.server.specs.Polls.{Happening, Told}
 use Rattle.server.specs.Turn.{Outcome as Given, Replied, BadRequest, OutOfMemory, Deed, DoesDeed, Served_body, Reported, Ticked, Trace, Runs}
 use Rattle.server.proofs.Laws.{at_most_one}
 use Rattle.streams.specs.Said.{Said, said_after}
 use Rattle.traces.specs.declared.line.Line.{Line}
 use Rattle.traces.specs.declared.line.Line.TheVariants as Form
-use Rattle.replay.specs.Log.{happenings_text}
-use Rattle.replay.specs.OneRun.{IsOfNoConnection, SpeaksOfNoConnection, PrintsEach, Part, nothing, then_part, IsOne, cancel_lines, BodyMeans, Means, moment_after, IsNoLine, LinesMean, IsOneRun}
+use Rattle.replay.specs.Log.{note_text, happenings_text}
+use Rattle.replay.specs.OneRun.{IsOfNoConnection, SpeaksOfNoConnection, PrintsEach, Part, nothing, then_part, IsOne, BodyMeans, Means, moment_after, IsNoLine, LinesMean, IsOneRun}
 use Rattle.replay.specs.Playing.{Standing, IsReplyLine, Plays, may_come, IsBad, LinesPlay}
-use Rattle.transcripts.specs.Printed.{dispatch_lines, reply_line, cancel_line}
+use Rattle.transcripts.specs.Printed.{reply_line}
 use Rattle.replay.specs.Replay.{LinesGive, start}
 use Rattle.traces.specs.TraceLine.{IsDeviceIn, IsLine}
 use Rattle.replay.proofs.Requests.{body_replied}
 
 -- ---- a run hears the same after whatever was heard before
 
+printed_after : (texts : Bool) (names : List (List ℕ)) (first before after : List (List ℕ)) (notes : List Note) → Tells (PrintsEach texts names) before notes after → Tells (PrintsEach texts names) (first ++ before) notes (first ++ after)
+printed_after texts names first before after [] same = ap (λ h. first ++ h) same
+printed_after texts names first before after (note ∷ notes) (mid, prints, rest) =
+    (first ++ mid, ap (λ h. first ++ h) prints ∙ sym (append_assoc first before (note_text texts names note ∷ [])), printed_after texts names first mid after notes rest)
+
 heard_after : (texts : Bool) (names : List (List ℕ)) (first : List (List ℕ)) (old new : State) (timed : Timed) (outcome : Outcome) (before after : List (List ℕ)) → Comes (PrintsEach texts names) old before timed outcome new after → Comes (PrintsEach texts names) old (first ++ before) timed outcome new (first ++ after)
-heard_after texts names first old new timed Dropped before after (same, silent, allowed) = (same, ap (λ h. first ++ h) silent, allowed)
-heard_after texts names first old new timed (Queried reply) before after (query, step, silent) = (query, step, ap (λ h. first ++ h) silent)
-heard_after texts names first old new timed (Undispatched reply) before after (query, step, some, silent) = (query, step, some, ap (λ h. first ++ h) silent)
-heard_after texts names first old new timed (Dispatched reply) before after (query, mid, step, plan, started, made, prints) =
-    (query, mid, step, plan, started, made, ap (λ h. first ++ h) prints ∙ sym (append_assoc first before _))
+heard_after texts names first old new timed outcome before after (notes, handled, told) = (notes, handled, printed_after texts names first before after notes told)
+
+-- the texts of notes are kept
+prints : (texts : Bool) (names : List (List ℕ)) (before : List (List ℕ)) (notes : List Note) → Tells (PrintsEach texts names) before notes (before ++ map (note_text texts names) notes)
+prints texts names before [] = append-nil before
+prints texts names before (note ∷ notes) =
+    let text = note_text texts names note in
+    (before ++ text ∷ [], refl, subst (λ h. Tells (PrintsEach texts names) (before ++ text ∷ []) notes h) (append_assoc before (text ∷ []) (map (note_text texts names) notes)) (prints texts names (before ++ text ∷ []) notes))
 
 run_after : (texts : Bool) (names : List (List ℕ)) (first : List (List ℕ)) (old new : State) (events : List Timed) (outcomes : List Outcome) (before after : List (List ℕ)) → Run (PrintsEach texts names) old before events outcomes new after → Run (PrintsEach texts names) old (first ++ before) events outcomes new (first ++ after)
 run_after texts names first old new [] [] before after (same, silent) = (same, ap (λ h. first ++ h) silent)
@@ -79,42 +86,25 @@ one_deed deed old new (mid, does, same) = subst (DoesDeed deed old) (sym same) d
 
 -- ---- what is printed of an event
 
--- the text of a dispatch
-abbrev text_of : Bool → List (List ℕ) → Dispatch → List ℕ
-text_of texts names dispatch = dispatch_lines texts names dispatch.0 dispatch.1
-
-plans_text : (texts : Bool) (names : List (List ℕ)) (dispatches : List Dispatch) → happenings_text texts names (map Told (map planned dispatches)) ≡ concat (map (text_of texts names) dispatches)
-plans_text texts names [] = refl
-plans_text texts names (dispatch ∷ dispatches) = ap (λ t. text_of texts names dispatch ++ t) (plans_text texts names dispatches)
-
-told_text : (texts : Bool) (names : List (List ℕ)) (cancels : List Cancel) (dispatches : List Dispatch) → happenings_text texts names (map Told (map Canceled cancels ++ map planned dispatches)) ≡ cancel_lines names cancels ++ concat (map (text_of texts names) dispatches)
-told_text texts names [] dispatches = plans_text texts names dispatches
-told_text texts names (cancel ∷ cancels) dispatches = ap (λ t. cancel_line names cancel ++ t) (told_text texts names cancels dispatches) ∙ sym (append_assoc (cancel_line names cancel) _ _)
+notes_text : (texts : Bool) (names : List (List ℕ)) (notes : List Note) → happenings_text texts names (map Told notes) ≡ concat (map (note_text texts names) notes)
+notes_text texts names [] = refl
+notes_text texts names (note ∷ notes) = ap (λ t. note_text texts names note ++ t) (notes_text texts names notes)
 
 -- an event, what it does, and what is printed after its reply
 record Happened (texts : Bool) (names : List (List ℕ)) (event : Event) (moment : ℕ) (reply : Reply) (old : State) (text : List ℕ) (new : State) : Type 0 where
   part : Part
   is_one : IsOne event moment reply part
   does : Does texts names part old new
-  printed : text ≡ cancel_lines names reply.cancels.items ++ concat part.heard
-
-happened : (texts : Bool) (names : List (List ℕ)) (event : Event) (moment : ℕ) (reply : Reply) (old : State) (text : List ℕ) (new : State) (dispatches : List Dispatch) → text ≡ cancel_lines names reply.cancels.items ++ concat (map (text_of texts names) dispatches) → IsAnswered (record { event = event; moment = moment }) reply old dispatches new → Happened texts names event moment reply old text new
-happened texts names event moment reply old text new dispatches printed (inl (query, step, silent)) = record {
-  part = record { events = record { event = event; moment = moment } ∷ []; outcomes = Queried reply ∷ []; heard = [] };
-  is_one = inl refl;
-  does = (new, [], (query, step, refl), (refl, refl));
-  printed = printed ∙ ap (λ (ds : List Dispatch). cancel_lines names reply.cancels.items ++ concat (map (text_of texts names) ds)) silent;
-}
-happened texts names event moment reply old text new dispatches printed (inr (query, mid, step, plan, started, made, is)) = record {
-  part = record { events = record { event = event; moment = moment } ∷ []; outcomes = Dispatched reply ∷ []; heard = dispatch_lines texts names plan started ∷ [] };
-  is_one = inr (dispatch_lines texts names plan started, refl);
-  does = (new, dispatch_lines texts names plan started ∷ [], (query, mid, step, plan, started, made, refl), (refl, refl));
-  printed = printed ∙ ap (λ (ds : List Dispatch). cancel_lines names reply.cancels.items ++ concat (map (text_of texts names) ds)) is;
-}
+  printed : text ≡ concat part.heard
 
 one_event : (texts : Bool) (names : List (List ℕ)) (event : Event) (moment : ℕ) (reply : Reply) (old : State) (hs : List Happening) (new : State) → IsOneEvent moment event reply old hs new → Happened texts names event moment reply old (happenings_text texts names hs) new
 one_event texts names event moment reply old hs new it =
-    happened texts names event moment reply old (happenings_text texts names hs) new it.dispatches (ap (happenings_text texts names) it.told ∙ told_text texts names reply.cancels.items it.dispatches) it.answered
+    let heard = map (note_text texts names) it.notes in record {
+      part = record { events = record { event = event; moment = moment } ∷ []; outcomes = it.outcome ∷ []; heard = heard };
+      is_one = record { outcome = it.outcome; heard = heard; answered = it.answered; whole = it.whole; is = refl };
+      does = (new, heard, (it.notes, it.handled, prints texts names [] it.notes), (refl, refl));
+      printed = ap (happenings_text texts names) it.told ∙ notes_text texts names it.notes;
+    }
 
 -- ---- a body
 
@@ -122,12 +112,12 @@ one_event texts names event moment reply old hs new it =
 record BodyMeant (texts : Bool) (names : List (List ℕ)) (asked : Asked) (moment : ℕ) (old : State) (text : List ℕ) (new : State) : Type 0 where
   part : Part
   answer : List ℕ
-  means : BodyMeans names asked moment part answer
+  means : BodyMeans asked moment part answer
   does : Does texts names part old new
   printed : text ≡ answer ++ concat part.heard
 
 -- a body that is no event changes nothing
-silent : (texts : Bool) (names : List (List ℕ)) (asked : Asked) (moment : ℕ) (line : List ℕ) (old : State) (hs : List Happening) (new : State) → BodyMeans names asked moment nothing line → IsNoEvent old hs new → BodyMeant texts names asked moment old (line ++ happenings_text texts names hs) new
+silent : (texts : Bool) (names : List (List ℕ)) (asked : Asked) (moment : ℕ) (line : List ℕ) (old : State) (hs : List Happening) (new : State) → BodyMeans asked moment nothing line → IsNoEvent old hs new → BodyMeant texts names asked moment old (line ++ happenings_text texts names hs) new
 silent texts names asked moment line old hs new means (none, same) = record { part = nothing; answer = line; means = means; does = (same, refl); printed = ap (λ h. line ++ happenings_text texts names h) none }
 
 line_of : (line : List ℕ) (answer given : Given) → answer ≡ given → IsReplyLine answer line → IsReplyLine given line
@@ -141,10 +131,10 @@ body_meant texts names body (Body.Event request event) moment answer line old hs
     let written : line ≡ reply_line bytes = line_of line answer (Replied bytes) is replies in
     record {
       part = done.part;
-      answer = reply_line bytes ++ cancel_lines names reply.cancels.items;
-      means = (reply, bytes, done.is_one, body_replied body moment request event reply bytes old new one.dispatches asks one.answered are, refl);
+      answer = reply_line bytes;
+      means = (reply, bytes, done.is_one, body_replied body moment request event one.outcome reply bytes old one.notes new asks one.answered one.handled are, refl);
       does = done.does;
-      printed = ap (λ t. t ++ happenings_text texts names hs) written ∙ (ap (λ t. reply_line bytes ++ t) done.printed ∙ sym (append_assoc (reply_line bytes) _ _));
+      printed = ap (λ t. t ++ happenings_text texts names hs) written ∙ ap (λ t. reply_line bytes ++ t) done.printed;
     }
 
 -- a reply that is printed wasn't refused memory
@@ -159,16 +149,16 @@ record IsMeant (texts : Bool) (names : List (List ℕ)) (bytes : List ℕ) (old 
   is : IsLine names bytes line
   part : Part
   answer : List ℕ
-  means : Means names line old.moment part answer
+  means : Means line old.moment part answer
   does : Does texts names part before after
   moment : new.moment ≡ moment_after line old.moment
   printed : text ≡ answer ++ concat part.heard
 
 -- an event that isn't answered
-unanswered : (texts : Bool) (names : List (List ℕ)) (bytes : List ℕ) (event : Event) (line : Line) (reply : Reply) (old new : Standing) (before : State) (hs : List Happening) (after : State) (text : List ℕ) → IsLine names bytes line → text ≡ happenings_text texts names hs → IsOneEvent old.moment event reply before hs after → ((part : Part) → IsOne event old.moment reply part → Means names line old.moment part (cancel_lines names reply.cancels.items)) → new.moment ≡ moment_after line old.moment → IsMeant texts names bytes old before text new after
+unanswered : (texts : Bool) (names : List (List ℕ)) (bytes : List ℕ) (event : Event) (line : Line) (reply : Reply) (old new : Standing) (before : State) (hs : List Happening) (after : State) (text : List ℕ) → IsLine names bytes line → text ≡ happenings_text texts names hs → IsOneEvent old.moment event reply before hs after → ((part : Part) → IsOne event old.moment reply part → Means line old.moment part []) → new.moment ≡ moment_after line old.moment → IsMeant texts names bytes old before text new after
 unanswered texts names bytes event line reply old new before hs after text is printed one means moment =
     let done = one_event texts names event old.moment reply before hs after one in
-    record { line = line; is = is; part = done.part; answer = cancel_lines names reply.cancels.items; means = means done.part done.is_one; does = done.does; moment = moment; printed = printed ∙ done.printed }
+    record { line = line; is = is; part = done.part; answer = []; means = means done.part done.is_one; does = done.does; moment = moment; printed = printed ∙ done.printed }
 
 -- a line is as well one of any other report that says the same
 says_same : (names : List (List ℕ)) (text : List ℕ) (place : ℕ) (one other : Report) → report_of other ≡ report_of one → IsDeviceIn names text place one → IsDeviceIn names text place other

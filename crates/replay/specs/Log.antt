@@ -1,6 +1,7 @@
 -- A log: what was printed of what an engine tells.
 use Rattle.std.specs.Prelude.{ℕ, ◌≡◌, ◌⊎◌, Bool, List, [], ◌∷◌, ◌++◌, Option, None, option_map}
-use Rattle.server.specs.Polls.{Note, Planned, Canceled, DeviceRefused, Refused, Happening, Polled, Told}
+use Rattle.dispatcher.specs.Notes.{Note, Planned, Canceled, DeviceRefused, Refused}
+use Rattle.server.specs.Polls.{Happening, Polled, Told}
 use Rattle.transcripts.specs.Printed.{dispatch_lines, cancel_line}
 
 -- whether the texts of plans are asked for, the names of the devices, and what was heard, unless memory was refused

@@ -1,22 +1,19 @@
 -- That what the lines of a trace without connections give is given by one run of the core over their events.
-use Rattle.std.specs.Prelude.{ℕ, suc, ◌≡◌, ◌⊎◌, Bool, All, List, [], ◌∷◌, ◌++◌, Option, codes}
+use Rattle.std.specs.Prelude.{ℕ, suc, ◌≡◌, ◌⊎◌, Bool, All, List, [], ◌∷◌, ◌++◌, Some, codes}
 use Rattle.std.specs.List.{concat}
 use Rattle.std.specs.Fmt.{decimal}
 use Rattle.settings_file.specs.Settings.{ServerSettings, device_names}
-use Rattle.prices.specs.Plan.{PlanRecord}
 use Rattle.print_room.specs.Opening.{opening}
 use Rattle.print_room.specs.State.{State}
-use Rattle.print_room.specs.declared.started.Started.{Started}
 use Rattle.events.specs.declared.event.Event.{Event}
 use Rattle.events.specs.declared.event.Event.TheVariants as Is
 use Rattle.events.specs.declared.reply.Answer.{Answer}
 use Rattle.events.specs.declared.reply.Answer.TheVariants as Says
-use Rattle.events.specs.declared.reply.Cancel.{Cancel}
 use Rattle.events.specs.declared.reply.Reply.{Reply}
 use Rattle.dispatcher.specs.declared.run.Timed.{Timed}
-use Rattle.dispatcher.specs.declared.run.Outcome.{Outcome}
-use Rattle.dispatcher.specs.declared.run.Outcome.TheVariants.{Queried, Dispatched}
-use Rattle.dispatcher.specs.Run.{Run}
+use Rattle.dispatcher.specs.declared.outcome.Outcome.{Outcome}
+use Rattle.dispatcher.specs.Notes.{Note}
+use Rattle.dispatcher.specs.Run.{reply_of, Run}
 use Rattle.requests.specs.declared.asked.Asked.{Asked}
 use Rattle.requests.specs.declared.asked.Asked.TheVariants as Body
 use Rattle.requests.specs.Asked.{Asks}
@@ -26,7 +23,9 @@ use Rattle.streams.specs.Said.{Said, refused_as, said_after}
 use Rattle.traces.specs.declared.line.Line.{Line}
 use Rattle.traces.specs.declared.line.Line.TheVariants as Form
 use Rattle.traces.specs.TraceLine.{IsLine}
-use Rattle.transcripts.specs.Printed.{dispatch_lines, reply_line, cancel_line}
+use Rattle.server.specs.Law.{IsWhole}
+use Rattle.transcripts.specs.Printed.{reply_line}
+use Rattle.replay.specs.Log.{note_text}
 
 -- ---- lines without connections
 
@@ -45,11 +44,11 @@ SpeaksOfNoConnection names lines = All (λ bytes. (line : Line) → IsLine names
 
 -- ---- a run, and what is heard of it
 
--- a listener that keeps the lines of each dispatch, one text a dispatch
-abbrev pub PrintsEach : Bool → List (List ℕ) → List (List ℕ) → Option PlanRecord → List Started → List (List ℕ) → Type 0
-PrintsEach texts names before plan started after = after ≡ before ++ dispatch_lines texts names plan started ∷ []
+-- a listener that keeps the lines of each note, one text a note
+abbrev pub PrintsEach : Bool → List (List ℕ) → List (List ℕ) → Note → List (List ℕ) → Type 0
+PrintsEach texts names before note after = after ≡ before ++ note_text texts names note ∷ []
 
--- a part of a run: events, what became of each, and the text of each dispatch
+-- a part of a run: events, what became of each, and the text of each note
 pub record Part : Type 0 where
   pub events : List Timed
   pub outcomes : List Outcome
@@ -62,17 +61,15 @@ nothing = record { events = []; outcomes = []; heard = [] }
 abbrev pub then_part : Part → Part → Part
 then_part first later = record { events = first.events ++ later.events; outcomes = first.outcomes ++ later.outcomes; heard = first.heard ++ later.heard }
 
--- an event was asked and answered, or a dispatch followed; no memory was refused
-abbrev pub IsOne : Event → ℕ → Reply → Part → Type 0
-IsOne event moment reply part =
-    (part ≡ record { events = record { event = event; moment = moment } ∷ []; outcomes = Queried reply ∷ []; heard = [] })
-    ⊎ ((dispatch : List ℕ) × (part ≡ record { events = record { event = event; moment = moment } ∷ []; outcomes = Dispatched reply ∷ []; heard = dispatch ∷ [] }))
+-- one event came, and was answered this; no memory was refused
+pub record IsOne (event : Event) (moment : ℕ) (reply : Reply) (part : Part) : Type 0 where
+  pub outcome : Outcome
+  pub heard : List (List ℕ)
+  pub answered : reply_of outcome ≡ Some reply
+  pub whole : IsWhole outcome
+  pub is : part ≡ record { events = record { event = event; moment = moment } ∷ []; outcomes = outcome ∷ []; heard = heard }
 
 -- ---- what a line is to the core
-
-abbrev pub cancel_lines : List (List ℕ) → List Cancel → List ℕ
-cancel_lines names [] = []
-cancel_lines names (cancel ∷ cancels) = cancel_line names cancel ++ cancel_lines names cancels
 
 -- the bytes that answer the request of this id
 abbrev pub IsReplyOf : Answer → ℕ → List ℕ → Type 0
@@ -81,21 +78,21 @@ IsReplyOf (Says.Lpd answer) request_id bytes = ⊥
 IsReplyOf Says.Nothing request_id bytes = ⊥
 
 -- what a body is to the core, and what is printed of its reply
-abbrev pub BodyMeans : List (List ℕ) → Asked → ℕ → Part → List ℕ → Type 0
-BodyMeans names Body.TooShort moment part text = (part ≡ nothing) × (text ≡ codes "http 400\n")
-BodyMeans names (Body.Refused status request_id) moment part text = (part ≡ nothing) × (text ≡ reply_line (refusal_bytes status request_id))
-BodyMeans names (Body.Event request_id event) moment part text =
-    (reply : Reply) × (bytes : List ℕ) × IsOne event moment reply part × IsReplyOf reply.answer request_id bytes × (text ≡ reply_line bytes ++ cancel_lines names reply.cancels.items)
+abbrev pub BodyMeans : Asked → ℕ → Part → List ℕ → Type 0
+BodyMeans Body.TooShort moment part text = (part ≡ nothing) × (text ≡ codes "http 400\n")
+BodyMeans (Body.Refused status request_id) moment part text = (part ≡ nothing) × (text ≡ reply_line (refusal_bytes status request_id))
+BodyMeans (Body.Event request_id event) moment part text =
+    (reply : Reply) × (bytes : List ℕ) × IsOne event moment reply part × IsReplyOf reply.answer request_id bytes × (text ≡ reply_line bytes)
 
 -- what a line is to the core at the moment that the trace told last, and what is printed of its reply
-abbrev pub Means : List (List ℕ) → Line → ℕ → Part → List ℕ → Type 0
-Means names (Form.At later) moment part text = (part ≡ nothing) × (text ≡ [])
-Means names (Form.Ipp body) moment part text = (asked : Asked) × Asks body.items asked × BodyMeans names asked moment part text
-Means names (Form.Device device report) moment part text = (reply : Reply) × IsOne (Is.Report device report) moment reply part × (text ≡ cancel_lines names reply.cancels.items)
-Means names Form.Tick moment part text = (reply : Reply) × IsOne Is.Tick moment reply part × (text ≡ cancel_lines names reply.cancels.items)
-Means names (Form.Open connection) moment part text = ⊥
-Means names (Form.In input) moment part text = ⊥
-Means names (Form.End number) moment part text = ⊥
+abbrev pub Means : Line → ℕ → Part → List ℕ → Type 0
+Means (Form.At later) moment part text = (part ≡ nothing) × (text ≡ [])
+Means (Form.Ipp body) moment part text = (asked : Asked) × Asks body.items asked × BodyMeans asked moment part text
+Means (Form.Device device report) moment part text = (reply : Reply) × IsOne (Is.Report device report) moment reply part × (text ≡ [])
+Means Form.Tick moment part text = (reply : Reply) × IsOne Is.Tick moment reply part × (text ≡ [])
+Means (Form.Open connection) moment part text = ⊥
+Means (Form.In input) moment part text = ⊥
+Means (Form.End number) moment part text = ⊥
 
 -- the moment that the trace told last, after a line
 abbrev pub moment_after : Line → ℕ → ℕ
@@ -109,13 +106,13 @@ abbrev pub IsNoLine : List (List ℕ) → List ℕ → Type 0
 IsNoLine names bytes = (line : Line) → ¬ (IsLine names bytes line)
 
 -- Each line in turn, up to one that is no line of a trace: what it is to the core; and of each what is
--- printed of its reply, followed by what was heard of its dispatch.
+-- printed of its reply, followed by what was heard of its event.
 abbrev pub LinesMean : List (List ℕ) → ℕ → List (List ℕ) → ℕ → Part → Said → Type 0
 LinesMean names number [] moment all said = (all ≡ nothing) × (said ≡ record { text = []; status = Ends.Done })
 LinesMean names number (bytes ∷ more) moment all said =
     (IsNoLine names bytes × (all ≡ nothing) × (said ≡ refused_as (codes "line " ++ decimal number)))
     ⊎ ((line : Line) × (part : Part) × (text : List ℕ) × (later : Part) × (rest : Said)
-    × IsLine names bytes line × Means names line moment part text × LinesMean names (suc number) more (moment_after line moment) later rest
+    × IsLine names bytes line × Means line moment part text × LinesMean names (suc number) more (moment_after line moment) later rest
     × (all ≡ then_part part later) × (said ≡ said_after (text ++ concat part.heard) rest))
 
 -- one run of the core over the events of the lines, from the start of a server with these settings, and what is printed of it

@@ -7,8 +7,8 @@ ghost use Rattle.streams.specs.Said.{Said};
 
 /// What the lines of a trace without connections give is given by one run of the core: their events, in
 /// order and each at the moment that the trace told last, lead the core on from the start of a server
-/// with these settings, and what is printed is the replies of that run's outcomes with their cancels,
-/// each followed by what its listener heard of the dispatch.
+/// with these settings, and what is printed is the replies of that run's outcomes, each followed by what
+/// the run tells of its event: its cancels, and the dispatch.
 pub fn lines_are_one_run()
     ensures { (texts : Bool) (settings : ServerSettings) (number : ℕ) (lines : List (List ℕ)) (said : Said) → SpeaksOfNoConnection (device_names settings) lines → LinesGive texts settings number lines said → IsOneRun texts settings number lines said }
 {}

@@ -1,13 +1,12 @@
 //! What was printed of what an engine tells.
 ghost use Rattle.std.specs.Prelude.{◌≡◌, ◌++◌, [], None, Some, IfOk, OnOk, OnErr, option_map};
 ghost use Rattle.dispatcher.specs.Dispatched.{plan_of, started_of};
-ghost use Rattle.server.specs.Polls.{Planned, Canceled};
+ghost use Rattle.dispatcher.specs.Notes.{Planned, Canceled};
 ghost use Rattle.replay.specs.Log.{note_text};
 
 use base_types::Text;
-use dispatcher::Dispatched;
+use dispatcher::{DeviceRefusal, Dispatched, Listener, Place};
 use events::Cancel;
-use server::{DeviceRefusal, Notes, Place};
 use std::alloc::{AllocError, Global};
 use std::marker::Model;
 use std::mem;
@@ -35,7 +34,7 @@ impl Model for Log {
     ghost view = { λ l. record { texts = l.texts; names = l.names.items; heard = if l.lost then None else Some l.heard.items } };
 }
 
-impl Notes for Log {
+impl Listener for Log {
     ghost use Rattle.replay.specs.Log.{Hears};
 
     ghost told = { Hears };

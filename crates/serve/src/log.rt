@@ -1,9 +1,10 @@
 //! The lines of a log.
 use crate::ends::Ended;
 use base_types::{DeviceId, JobId, Moment, Text};
+use dispatcher::{DeviceRefusal, Place};
 use job_objects::JobState;
 use plan_text::{cause_word, name_of};
-use server::{DeviceRefusal, Heard, Place};
+use server::Heard;
 use sockets::{Leave, Visit};
 use std::alloc::{AllocError, Global};
 use std::net::SocketAddr;

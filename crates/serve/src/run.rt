@@ -7,9 +7,9 @@ use crate::log::Lines;
 use crate::log_writer::LogWriter;
 use assignment::Lazy;
 use base_types::{Moment, Text};
-use dispatcher::Dispatched;
+use dispatcher::{DeviceRefusal, Dispatched, Listener, Place};
 use events::Cancel;
-use server::{DeviceRefusal, Engine, Heard, NoteLog, Notes, Place};
+use server::{Engine, Heard, NoteLog};
 use settings_file::Settings;
 use sockets::{Listening, Sockets, Visit, Visits};
 use std::alloc::{AllocError, Global};
@@ -174,7 +174,7 @@ fn put_lines<W: Write>(heard: Result<Vec<u8>, AllocError>, log: &mut LogWriter<'
 #[derive(Drop)]
 struct Untold;
 
-impl Notes for Untold {
+impl Listener for Untold {
     ghost told = { λ old note new. Unit {0} };
 
     fn dispatched(&mut self, _made: &Dispatched<'_>) {}

@@ -1,36 +1,31 @@
 -- The laws of traces.
-use Rattle.std.proofs.Common.{◌≡◌, ◌≢◌, ℕ, Bool, true, false, List, [], ◌∷◌, ◌++◌, refl, sym, ◌∙◌, ap, subst, None, inl, inr}
-use Rattle.std.specs.Prelude.{◌⊎◌, ◌||◌, if◌then◌else◌, All, map}
-use Rattle.std.specs.List.{flat_map}
+use Rattle.std.proofs.Common.{◌≡◌, ◌≢◌, ℕ, Bool, true, false, List, [], ◌∷◌, ◌++◌, refl, sym, ◌∙◌, ap, subst, Option, Some, None, inl, inr}
+use Rattle.std.specs.Prelude.{if◌then◌else◌, All}
 use Rattle.std.proofs.lemmas.List.{append-nil, append_assoc}
-use Rattle.std.proofs.lemmas.List.Concat.{flat_map-append}
 use Rattle.std.proofs.lemmas.List.Elements.{All-append, All-cons, All-nil}
 use Rattle.print_room.specs.State.{State}
 use Rattle.events.specs.declared.event.Event.{Event}
 use Rattle.events.specs.declared.event.Event.TheVariants as Is
 use Rattle.events.specs.declared.reply.Reply.{Reply}
-use Rattle.events.specs.declared.reply.Answer.{Answer}
-use Rattle.events.specs.declared.reply.Cancel.{Cancel}
 use Rattle.dispatcher.specs.declared.run.Timed.{Timed}
-use Rattle.dispatcher.specs.declared.run.Outcome.{Outcome}
-use Rattle.dispatcher.specs.declared.run.Outcome.TheVariants.{Dropped, Queried, Undispatched, Dispatched}
-use Rattle.dispatcher.specs.Run.{Comes, Run}
+use Rattle.dispatcher.specs.declared.outcome.Outcome.{Outcome}
+use Rattle.dispatcher.specs.declared.outcome.Outcome.TheVariants.{Dropped, Queried, Undispatched, Idle, Dispatched}
+use Rattle.dispatcher.specs.Run.{reply_of, Comes, Run}
+use Rattle.dispatcher.specs.Step.{TakesNoMemory}
 use Rattle.requests.specs.declared.asked.Asked.{Asked}
 use Rattle.requests.specs.declared.asked.Asked.TheVariants as asks
 use Rattle.requests.specs.Asked.{Asks}
-use Rattle.server.specs.Polls.{Note, Happening, Polled, Told, Planned, Canceled, DeviceRefused, Refused}
+use Rattle.dispatcher.specs.Notes.{Note, Tells}
+use Rattle.server.specs.Polls.{Happening}
 use Rattle.server.specs.Ledger.{Entry, Ledger, Fate, opening_ledger}
-use Rattle.server.specs.Rel.{Rel, Nothing, Or}
-use Rattle.server.specs.Happening.{now_at, IsDropped}
+use Rattle.server.specs.Rel.{Rel}
 use Rattle.server.specs.Closing.{IsTaken}
 use Rattle.server.specs.Turn as Between
-use Rattle.server.specs.Turn.{Notes, has_refusal, Outcome as Given, Replied, OutOfMemory, IsBytes, Answers, BodyAsks, BodyComes, Deed, Turned, Served_body, Reported, Ticked, DoesDeed, Trace, Runs}
-use Rattle.server.specs.Law.{Dispatch, plans_told, cancels_told, Collects, cancels_of, moment_of, happenings_of, happenings_in, AreAt, IsWhole, IsOneRun, IsAnswered, IsOneEvent, IsServed, IsAtMostOne, AllTaken}
-use Rattle.server.specs.declared.notes.Place.TheVariants as At
-use Rattle.server.proofs.Steps.{refusals_append}
-use Rattle.server.proofs.Reporting.{right_false}
-use Rattle.server.proofs.Speaking.{calm_nothing, told_whole, never, no_refusal_told, Happened, happens, between_nothing}
-use Rattle.server.proofs.Parts.{calm_notes, calm_answers, Holds, deed_in}
+use Rattle.server.specs.Turn.{has_refusal, Outcome as Given, Replied, OutOfMemory, IsBytes, Answers, BodyAsks, BodyComes, Deed, Turned, Served_body, Reported, Ticked, DoesDeed, Trace, Runs}
+use Rattle.server.specs.Law.{core_notes, Collects, moment_of, happenings_of, happenings_in, AreAt, IsWhole, IsOneRun, IsOneEvent, IsServed, IsAtMostOne, AllTaken}
+use Rattle.dispatcher.specs.declared.listener.Place.TheVariants as At
+use Rattle.server.proofs.Speaking.{notes_append, no_refusal_told, none_before, none_after, Happened, happened_whole, happened, happened_then, whole_light, whole_told}
+use Rattle.server.proofs.Parts.{calm_answers, ticked, Holds, deed_in}
 
 -- ---- what closed connections were given
 
@@ -61,106 +56,77 @@ all_taken opening trace ledger runs = taken_on trace (opening_ledger opening) le
 
 -- ---- one run of the core
 
-comes_after : (first before after : List Dispatch) (old new : State) (timed : Timed) (outcome : Outcome) → Comes Collects old before timed outcome new after → Comes Collects old (first ++ before) timed outcome new (first ++ after)
-comes_after first before after old new timed Dropped (same, silent, heavy) = (same, ap (λ (ds : List Dispatch). first ++ ds) silent, heavy)
-comes_after first before after old new timed (Queried reply) (query, step, silent) = (query, step, ap (λ (ds : List Dispatch). first ++ ds) silent)
-comes_after first before after old new timed (Undispatched reply) (query, step, some, silent) = (query, step, some, ap (λ (ds : List Dispatch). first ++ ds) silent)
-comes_after first before after old new timed (Dispatched reply) (query, mid, step, plan, started, made, is) =
-    (query, mid, step, plan, started, made, ap (λ (ds : List Dispatch). first ++ ds) is ∙ sym (append_assoc first before ((plan, started) ∷ [])))
+tells_after : (first before after notes : List Note) → Tells Collects before notes after → Tells Collects (first ++ before) notes (first ++ after)
+tells_after first before after [] same = ap (λ (ns : List Note). first ++ ns) same
+tells_after first before after (note ∷ notes) (mid, is, rest) =
+    (first ++ mid, ap (λ (ns : List Note). first ++ ns) is ∙ sym (append_assoc first before (note ∷ [])), tells_after first mid after notes rest)
 
-run_after : (first before after : List Dispatch) (old new : State) (events : List Timed) (outcomes : List Outcome) → Run Collects old before events outcomes new after → Run Collects old (first ++ before) events outcomes new (first ++ after)
-run_after first before after old new [] [] (same, silent) = (same, ap (λ (ds : List Dispatch). first ++ ds) silent)
+comes_after : (first before after : List Note) (old new : State) (timed : Timed) (outcome : Outcome) → Comes Collects old before timed outcome new after → Comes Collects old (first ++ before) timed outcome new (first ++ after)
+comes_after first before after old new timed outcome (notes, handled, told) = (notes, handled, tells_after first before after notes told)
+
+-- what is told is kept
+collected : (before notes : List Note) → Tells Collects before notes (before ++ notes)
+collected before [] = append-nil before
+collected before (note ∷ notes) = (before ++ note ∷ [], refl, subst (λ (ns : List Note). Tells Collects (before ++ note ∷ []) notes ns) (append_assoc before (note ∷ []) notes) (collected (before ++ note ∷ []) notes))
+
+run_after : (first before after : List Note) (old new : State) (events : List Timed) (outcomes : List Outcome) → Run Collects old before events outcomes new after → Run Collects old (first ++ before) events outcomes new (first ++ after)
+run_after first before after old new [] [] (same, silent) = (same, ap (λ (ns : List Note). first ++ ns) silent)
 run_after first before after old new (timed ∷ events) (outcome ∷ outcomes) (mid, heard, comes, later) =
     (mid, first ++ heard, comes_after first before heard old mid timed outcome comes, run_after first heard after mid new events outcomes later)
 run_after first before after old new [] (outcome ∷ outcomes) none = absurd none
 run_after first before after old new (timed ∷ events) [] none = absurd none
 
-run_then : (before heard more : List Dispatch) (old mid new : State) (events later : List Timed) (outcomes others : List Outcome) → Run Collects old before events outcomes mid heard → Run Collects mid [] later others new more → Run Collects old before (events ++ later) (outcomes ++ others) new (heard ++ more)
+run_then : (before heard more : List Note) (old mid new : State) (events later : List Timed) (outcomes others : List Outcome) → Run Collects old before events outcomes mid heard → Run Collects mid [] later others new more → Run Collects old before (events ++ later) (outcomes ++ others) new (heard ++ more)
 run_then before heard more old mid new [] later [] others (same, silent) runs =
     subst (λ (s : State). Run Collects s before later others new (heard ++ more)) same
-    (subst (λ (ds : List Dispatch). Run Collects mid ds later others new (heard ++ more)) (append-nil heard ∙ silent)
+    (subst (λ (ns : List Note). Run Collects mid ns later others new (heard ++ more)) (append-nil heard ∙ silent)
     (run_after heard [] more mid new later others runs))
 run_then before heard more old mid new (timed ∷ events) later (outcome ∷ outcomes) others (next, told, comes, rest) runs =
     (next, told, comes, run_then told heard more next mid new events later outcomes others rest runs)
 run_then before heard more old mid new [] later (outcome ∷ outcomes) others none runs = absurd none
 run_then before heard more old mid new (timed ∷ events) later [] others none runs = absurd none
 
-plans_append : (hs ks : List Happening) → plans_told (hs ++ ks) ≡ plans_told hs ++ plans_told ks
-plans_append [] ks = refl
-plans_append (Told (Planned plan started) ∷ hs) ks = ap (λ (ds : List Dispatch). (plan, started) ∷ ds) (plans_append hs ks)
-plans_append (Told (Canceled cancel) ∷ hs) ks = plans_append hs ks
-plans_append (Told (DeviceRefused id why) ∷ hs) ks = plans_append hs ks
-plans_append (Told (Refused place id) ∷ hs) ks = plans_append hs ks
-plans_append (Polled poll ∷ hs) ks = plans_append hs ks
-
-cancels_append : (hs ks : List Happening) → cancels_told (hs ++ ks) ≡ cancels_told hs ++ cancels_told ks
-cancels_append [] ks = refl
-cancels_append (Told (Planned plan started) ∷ hs) ks = cancels_append hs ks
-cancels_append (Told (Canceled cancel) ∷ hs) ks = ap (λ (cs : List Cancel). cancel ∷ cs) (cancels_append hs ks)
-cancels_append (Told (DeviceRefused id why) ∷ hs) ks = cancels_append hs ks
-cancels_append (Told (Refused place id) ∷ hs) ks = cancels_append hs ks
-cancels_append (Polled poll ∷ hs) ks = cancels_append hs ks
-
 -- what happens is a run of events at one moment
 record IsRunAt (moment : ℕ) (l : Ledger) (hs : List Happening) (l' : Ledger) : Type 0 where
   events : List Timed
   outcomes : List Outcome
   timed : AreAt moment events
-  run : Run Collects l.core [] events outcomes l'.core (plans_told hs)
-  canceled : cancels_told hs ≡ flat_map cancels_of outcomes
+  run : Run Collects l.core [] events outcomes l'.core (core_notes hs)
   whole : has_refusal hs ≡ false → All IsWhole outcomes
-
--- its cancels, and those of what comes later
-canceled_then : (hs ks : List Happening) (outcomes others : List Outcome) → cancels_told hs ≡ flat_map cancels_of outcomes → cancels_told ks ≡ flat_map cancels_of others → cancels_told (hs ++ ks) ≡ flat_map cancels_of (outcomes ++ others)
-canceled_then hs ks outcomes others p q =
-    cancels_append hs ks ∙ (ap (λ (cs : List Cancel). cs ++ cancels_told ks) p ∙ (ap (λ (cs : List Cancel). flat_map cancels_of outcomes ++ cs) q ∙ sym (flat_map-append cancels_of outcomes others)))
-
-left_false : (x y : Bool) → x || y ≡ false → x ≡ false
-left_false true y is = is
-left_false false y is = refl
-
--- what wasn't refused in all wasn't in a part
-none_before : (hs front back : List Happening) → hs ≡ front ++ back → has_refusal hs ≡ false → has_refusal front ≡ false
-none_before hs front back whole none = left_false (has_refusal front) (has_refusal back) (sym (ap has_refusal whole ∙ refusals_append front back) ∙ none)
-
-none_after : (hs front back : List Happening) → hs ≡ front ++ back → has_refusal hs ≡ false → has_refusal back ≡ false
-none_after hs front back whole none = right_false (has_refusal front) (has_refusal back) (sym (ap has_refusal whole ∙ refusals_append front back) ∙ none)
 
 -- each was answered, and so was each that comes later
 whole_then : (hs ks : List Happening) (outcomes others : List Outcome) → (has_refusal hs ≡ false → All IsWhole outcomes) → (has_refusal ks ≡ false → All IsWhole others) → has_refusal (hs ++ ks) ≡ false → All IsWhole (outcomes ++ others)
 whole_then hs ks outcomes others p q none = All-append IsWhole outcomes others (p (none_before (hs ++ ks) hs ks refl none)) (q (none_after (hs ++ ks) hs ks refl none))
 
-no_event : (moment : ℕ) (l : Ledger) (hs : List Happening) (l' : Ledger) → l'.core ≡ l.core → plans_told hs ≡ [] → cancels_told hs ≡ [] → IsRunAt moment l hs l'
-no_event moment l hs l' same plans cancels = record { events = []; outcomes = []; timed = All-nil (λ (timed : Timed). timed.moment ≡ moment); run = (same, plans); canceled = cancels; whole = λ none. All-nil IsWhole }
+no_event : (moment : ℕ) (l : Ledger) (hs : List Happening) (l' : Ledger) → l'.core ≡ l.core → core_notes hs ≡ [] → IsRunAt moment l hs l'
+no_event moment l hs l' same notes = record { events = []; outcomes = []; timed = All-nil (λ (timed : Timed). timed.moment ≡ moment); run = (same, notes); whole = λ none. All-nil IsWhole }
 
 is_run : (moment : ℕ) → Holds moment (IsRunAt moment)
 is_run moment = record {
-  calm = λ l hs l' it. no_event moment l hs l' it.core it.plans it.cancels;
+  calm = λ l hs l' it. no_event moment l hs l' it.core it.notes;
   event = λ l hs l' it.
       let timed : Timed = record { event = it.event; moment = moment } in
       record {
         events = timed ∷ [];
         outcomes = it.outcome ∷ [];
         timed = All-cons (λ (t : Timed). t.moment ≡ moment) timed [] refl (All-nil (λ (t : Timed). t.moment ≡ moment));
-        run = (l'.core, plans_told hs, it.comes, (refl, refl));
-        canceled = it.cancels ∙ sym (append-nil (cancels_of it.outcome));
+        run = (l'.core, core_notes hs, (core_notes hs, it.handled, collected [] (core_notes hs)), (refl, refl));
         whole = λ none. All-cons IsWhole it.outcome [] (it.whole none) (All-nil IsWhole);
       };
-  leaves = λ fate key e l hs l' it. no_event moment l hs l' (ap (λ (x : Ledger). x.core) it.2) (ap plans_told it.0) (ap cancels_told it.0);
+  leaves = λ fate key e l hs l' it. no_event moment l hs l' (ap (λ (x : Ledger). x.core) it.2) (ap core_notes it.0);
   chain = λ l front mid back l' p q.
       record {
         events = p.events ++ q.events;
         outcomes = p.outcomes ++ q.outcomes;
         timed = All-append (λ (t : Timed). t.moment ≡ moment) p.events q.events p.timed q.timed;
-        run = subst (λ (ds : List Dispatch). Run Collects l.core [] (p.events ++ q.events) (p.outcomes ++ q.outcomes) l'.core ds) (sym (plans_append front back))
-            (run_then [] (plans_told front) (plans_told back) l.core mid.core l'.core p.events q.events p.outcomes q.outcomes p.run q.run);
-        canceled = canceled_then front back p.outcomes q.outcomes p.canceled q.canceled;
+        run = subst (λ (ns : List Note). Run Collects l.core [] (p.events ++ q.events) (p.outcomes ++ q.outcomes) l'.core ns) (sym (notes_append front back))
+            (run_then [] (core_notes front) (core_notes back) l.core mid.core l'.core p.events q.events p.outcomes q.outcomes p.run q.run);
         whole = λ none. whole_then front back p.outcomes q.outcomes p.whole q.whole none;
       };
 }
 
 pub one_run : (trace : Trace) (old new : Ledger) → Runs trace old new → IsOneRun trace old.core new.core
-one_run [] old new same = record { events = []; outcomes = []; timed = refl; run = (ap (λ (x : Ledger). x.core) same, refl); canceled = refl; whole = λ none. All-nil IsWhole }
+one_run [] old new same = record { events = []; outcomes = []; timed = refl; run = (ap (λ (x : Ledger). x.core) same, refl); whole = λ none. All-nil IsWhole }
 one_run (deed ∷ deeds) old new (mid, does, runs) =
     let first = deed_in (IsRunAt (moment_of deed)) deed (is_run (moment_of deed)) old mid does in
     let later = one_run deeds mid new runs in
@@ -168,41 +134,44 @@ one_run (deed ∷ deeds) old new (mid, does, runs) =
       events = first.events ++ later.events;
       outcomes = first.outcomes ++ later.outcomes;
       timed = (first.events, later.events, refl, first.timed, later.timed);
-      run = subst (λ (ds : List Dispatch). Run Collects old.core [] (first.events ++ later.events) (first.outcomes ++ later.outcomes) new.core ds) (sym (plans_append (happenings_of deed) (happenings_in deeds)))
-          (run_then [] (plans_told (happenings_of deed)) (plans_told (happenings_in deeds)) old.core mid.core new.core first.events later.events first.outcomes later.outcomes first.run later.run);
-      canceled = canceled_then (happenings_of deed) (happenings_in deeds) first.outcomes later.outcomes first.canceled later.canceled;
+      run = subst (λ (ns : List Note). Run Collects old.core [] (first.events ++ later.events) (first.outcomes ++ later.outcomes) new.core ns) (sym (notes_append (happenings_of deed) (happenings_in deeds)))
+          (run_then [] (core_notes (happenings_of deed)) (core_notes (happenings_in deeds)) old.core mid.core new.core first.events later.events first.outcomes later.outcomes first.run later.run);
       whole = λ none. whole_then (happenings_of deed) (happenings_in deeds) first.outcomes later.outcomes first.whole later.whole none;
     }
 
 -- ---- one event a deed
 
-answered : (timed : Timed) (reply : Reply) (old new : State) (dispatches : List Dispatch) (refused : Bool) → refused ≡ false → IsAnswered timed reply old dispatches new ⊎ (Comes Collects old [] timed (Undispatched reply) new dispatches × (refused ≡ true)) → IsAnswered timed reply old dispatches new
-answered timed reply old new dispatches refused none (inl it) = it
-answered timed reply old new dispatches refused none (inr (it, is)) = never refused is none
+one_event : (moment : ℕ) (event : Event) (outcome : Outcome) (reply : Reply) (l : Ledger) (hs : List Happening) (l' : Ledger) → has_refusal hs ≡ false → IsWhole outcome → reply_of outcome ≡ Some reply → Happened moment event outcome l hs l' → IsOneEvent moment event reply l.core hs l'.core
+one_event moment event outcome reply l hs l' none whole is it =
+    record { outcome = outcome; notes = it.notes; answered = is; whole = whole; handled = it.handled; told = happened_whole moment event outcome l hs l' it none }
 
-one_event : (moment : ℕ) (event : Event) (reply : Reply) (l : Ledger) (hs : List Happening) (l' : Ledger) → has_refusal hs ≡ false → Happened moment event reply l hs l' → IsOneEvent moment event reply l.core hs l'.core
-one_event moment event reply l hs l' none it = record {
-  dispatches = it.dispatches;
-  answered = answered (record { event = event; moment = moment }) reply l.core l'.core it.dispatches (has_refusal hs) none it.comes;
-  told = told_whole hs it.unpolled none ∙ ap (λ (notes : List Note). map Told notes) it.notes;
-}
+-- an event that was answered has a reply
+reply_there : (outcome : Outcome) → IsWhole outcome → (reply : Reply) × (reply_of outcome ≡ Some reply)
+reply_there Dropped whole = absurd whole
+reply_there (Queried reply) whole = (reply, refl)
+reply_there (Undispatched reply) whole = absurd whole
+reply_there (Idle reply) whole = (reply, refl)
+reply_there (Dispatched reply) whole = (reply, refl)
+
+-- an event that takes no memory is one event
+light_event : (moment : ℕ) (event : Event) (outcome : Outcome) (l : Ledger) (hs : List Happening) (l' : Ledger) → TakesNoMemory event moment l.core → has_refusal hs ≡ false → Happened moment event outcome l hs l' → (reply : Reply) × IsOneEvent moment event reply l.core hs l'.core
+light_event moment event outcome l hs l' light none it =
+    let whole = whole_light moment event outcome l hs l' it light none in
+    let there = reply_there outcome whole in
+    (there.0, one_event moment event outcome there.0 l hs l' none whole there.1 it)
 
 -- the bytes of an answer, where memory for them wasn't refused
-are_bytes : (request : ℕ) (answer : Answer) (bytes : List ℕ) (l : Ledger) (hs : List Happening) (l' : Ledger) → has_refusal hs ≡ false → Answers request answer bytes l hs l' → IsBytes request answer bytes
-are_bytes request answer bytes l hs l' none (inl (are, it)) = are
-are_bytes request answer bytes l hs l' none (inr it) = no_refusal_told hs At.Reply None none it.0
+are_bytes : (request : ℕ) (reply : Option Reply) (bytes : List ℕ) (l : Ledger) (hs : List Happening) (l' : Ledger) → has_refusal hs ≡ false → Answers request reply bytes l hs l' → (it : Reply) × (reply ≡ Some it) × IsBytes request it.answer bytes
+are_bytes request (Some reply) bytes l hs l' none (inl (are, it)) = (reply, refl, are)
+are_bytes request (Some reply) bytes l hs l' none (inr it) = no_refusal_told hs At.Reply None none it.0
+are_bytes request None bytes l hs l' none it = no_refusal_told hs At.Event None none it.0
 
-event_served : (moment request : ℕ) (event : Event) (bytes : List ℕ) (answer : Given) (l : Ledger) (hs : List Happening) (l' : Ledger) → has_refusal hs ≡ false → answer ≡ Replied bytes → Or (Between.IsAnswered moment request event bytes) (IsDropped moment event None) l hs l' → IsServed moment (asks.Event request event) answer l.core hs l'.core
-event_served moment request event bytes answer l hs l' none is (inr it) = no_refusal_told hs At.Event None none it.told
-event_served moment request event bytes answer l hs l' none is (inl (reply, it)) =
-    let rest = it.second in
-    let none_then = none_after hs it.front it.back it.whole none in (
-      reply,
-      bytes,
-      is,
-      are_bytes request reply.answer bytes it.mid rest.front rest.mid (none_before it.back rest.front rest.back rest.whole none_then) rest.first,
-      one_event moment event reply l hs l' none (happens moment event reply (Answers request reply.answer bytes) (calm_answers request reply.answer bytes) l hs l' it),
-    )
+event_served : (moment request : ℕ) (event : Event) (bytes : List ℕ) (answer : Given) (l : Ledger) (hs : List Happening) (l' : Ledger) → has_refusal hs ≡ false → answer ≡ Replied bytes → Between.IsAnswered moment request event bytes l hs l' → IsServed moment (asks.Event request event) answer l.core hs l'.core
+event_served moment request event bytes answer l hs l' none is (outcome, it) =
+    let came = happened_then moment event outcome (Answers request (reply_of outcome) bytes) (calm_answers request (reply_of outcome) bytes) l hs l' it in
+    let whole = whole_told moment event outcome (λ reply. Answers request reply bytes) (λ a ks b told. ap has_refusal told.0) l hs l' it came none in
+    let are = are_bytes request (reply_of outcome) bytes it.mid it.back l' (none_after hs it.front it.back it.whole none) it.second in
+    (are.0, bytes, is, are.2, one_event moment event outcome are.0 l hs l' none whole are.1 came)
 
 is_served : (moment : ℕ) (asked : Asked) (served answer : Given) (l : Ledger) (hs : List Happening) (l' : Ledger) → has_refusal hs ≡ false → answer ≡ served → BodyAsks moment asked served l hs l' → IsServed moment asked answer l.core hs l'.core
 is_served moment asks.TooShort served answer l hs l' none same (is, it) = (same ∙ is, (it.0, ap (λ (x : Ledger). x.core) it.1))
@@ -223,6 +192,6 @@ pub at_most_one : (deed : Deed) (old new : Ledger) → DoesDeed deed old new →
 at_most_one (Turned moment hs) old new it = tt
 at_most_one (Served_body moment body answer hs) old new (served, is, it) =
     λ some. let known = not_refused (has_refusal hs) served answer is some in body_served moment body served answer old hs new known.0 known.1 it
-at_most_one (Reported moment device said hs) old new (report, is, (reply, it)) =
-    λ none. (report, is, reply, one_event moment (Is.Report device report) reply old hs new none (happens moment (Is.Report device report) reply Nothing calm_nothing old hs new (between_nothing moment (Is.Report device report) reply false old hs new it)))
-at_most_one (Ticked moment hs) old new (reply, it) = λ none. (reply, one_event moment Is.Tick reply old hs new none (happens moment Is.Tick reply (Notes (now_at moment old)) (calm_notes (now_at moment old)) old hs new it))
+at_most_one (Reported moment device said hs) old new (report, is, (outcome, it)) =
+    λ none. let one = light_event moment (Is.Report device report) outcome old hs new tt none (happened moment (Is.Report device report) outcome old hs new it) in (report, is, one.0, one.1)
+at_most_one (Ticked moment hs) old new it = λ none. let tick = ticked moment old hs new it in light_event moment Is.Tick tick.0 old hs new tt none tick.1

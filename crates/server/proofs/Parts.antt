@@ -1,6 +1,6 @@
 -- What deeds are made of: events, closings, and what concerns neither the core nor what was closed.
 use Rattle.std.proofs.Common.{◌≡◌, ℕ, zero, suc, Bool, true, false, List, [], ◌∷◌, ◌++◌, refl, sym, ◌∙◌, ap, subst, Option, Some, None, inl, inr}
-use Rattle.std.specs.Prelude.{◌⊎◌, nat_lt, length, take}
+use Rattle.std.specs.Prelude.{nat_lt, length, take}
 use Rattle.base_types.specs.declared.limits.TheConstants.Limits.{CONNECTIONS}
 use Rattle.base_types.specs.declared.report.Report.{Report}
 use Rattle.base_types.specs.declared.report.Report.TheVariants as reported
@@ -12,6 +12,7 @@ use Rattle.http_front.specs.declared.item.HttpItem.{HttpItem}
 use Rattle.http_front.specs.declared.item.HttpItem.TheVariants as item
 use Rattle.lpd_reader.specs.Session.{CommandRecord, ItemRecord, Says, Aborts, Announces, HasFile}
 use Rattle.lpd_session.specs.Session.{SessionState, SentRecord}
+use Rattle.print_room.specs.State.{State}
 use Rattle.events.specs.declared.event.Event.{Event}
 use Rattle.events.specs.declared.event.Event.TheVariants as Is
 use Rattle.events.specs.declared.reply.Answer.{Answer}
@@ -19,20 +20,20 @@ use Rattle.events.specs.declared.reply.Answer.TheVariants as answered
 use Rattle.events.specs.declared.reply.LpdAnswer.{LpdAnswer}
 use Rattle.events.specs.declared.reply.LpdAnswer.TheVariants as shown
 use Rattle.events.specs.declared.reply.Reply.{Reply}
-use Rattle.dispatcher.specs.declared.run.Outcome.{Outcome}
-use Rattle.dispatcher.specs.declared.run.Outcome.TheVariants.{Dropped, Queried, Undispatched, Dispatched}
+use Rattle.dispatcher.specs.declared.outcome.Outcome.{Outcome}
 use Rattle.events.specs.declared.status.Status.TheVariants.{TemporaryError}
 use Rattle.events.specs.Event.{is_query}
-use Rattle.dispatcher.specs.Run.{Comes}
+use Rattle.dispatcher.specs.Run.{reply_of, Handles}
 use Rattle.requests.specs.declared.asked.Asked.{Asked}
 use Rattle.requests.specs.declared.asked.Asked.TheVariants as asks
 use Rattle.replies.specs.QueueText.{ack_of, text_of}
 use Rattle.wires.specs.Poll.{Poll, Accepts, Reads, Writes, Closes}
-use Rattle.server.specs.Polls.{DeviceRefused, Refused, Happening, Polled, Told}
+use Rattle.dispatcher.specs.Notes.{Note, DeviceRefused, Refused}
+use Rattle.server.specs.Polls.{Happening, Polled, Told}
 use Rattle.server.specs.Ledger.{Entry, Ledger, Fate, Drained, Broken, opening_entry, with_entry, with_new, device_of, waiting}
-use Rattle.server.specs.Rel.{Rel, Nothing, Polls, Then, If, Or, Times, Many, Each}
+use Rattle.server.specs.Rel.{Rel, Nothing, Polls, Tells, Then, If, Or, Times, Many, Each}
 use Rattle.server.specs.Keeping.{Sets, broken, Breaks, Drops, Keeps}
-use Rattle.server.specs.Happening.{now_at, Steps, IsDropped, Follows, Unanswered}
+use Rattle.server.specs.Happening.{Happens, Unanswered}
 use Rattle.server.specs.Closing as Closing
 use Rattle.server.specs.Closing.{Leaves, ClosesAs, ClosesFirst, Settles}
 use Rattle.server.specs.Exchange as Http
@@ -42,31 +43,29 @@ use Rattle.server.specs.Queues as Queues
 use Rattle.connections.specs.Session.{Hearing, Goes, Stops, Submits, Commands, heard, nack, file_lost, is_queue}
 use Rattle.server.specs.Polling.{Opens, AcceptsAs, AcceptsOne, AcceptsAt, ActsNext, Acts, Serves, Feeds, FeedsAt, FeedsOne, Fails, ReadsAs, ReadsOpen, ReadsAt, is_read, ReadsOne, WritesAs, WritesOpen, WritesAt, WritesOne, is_done, EndsAt, EndsOne}
 use Rattle.server.specs.Turn as Between
-use Rattle.server.specs.Turn.{Notes, Ticks, is_tick_due, TicksIfDue, Covers, Round, Turn, has_refusal, Deed, Turned, Served_body, Reported, Ticked, DoesDeed}
-use Rattle.server.specs.Law.{Dispatch, plans_told, cancels_told, Collects, cancels_of, IsWhole, moment_of, happenings_of, IsAnswered}
+use Rattle.server.specs.Turn.{Ticks, is_tick_due, TicksIfDue, Covers, Round, Turn, has_refusal, Deed, Turned, Served_body, Reported, Ticked, DoesDeed}
+use Rattle.server.specs.Law.{core_notes, IsWhole, moment_of, happenings_of}
 use Rattle.wires.specs.declared.wire.Answer.TheVariants as wire
 use Rattle.wires.specs.declared.wire.Answer.{Answer as WireAnswer}
 use Rattle.wires.specs.declared.wire.Door.{Door}
 use Rattle.wires.specs.declared.wire.Door.TheVariants.{Ipp, Lpd, Devices}
-use Rattle.server.specs.declared.notes.DeviceRefusal.{DeviceRefusal}
-use Rattle.server.specs.declared.notes.DeviceRefusal.TheVariants as why
-use Rattle.server.specs.declared.notes.Place.{Place}
-use Rattle.server.specs.declared.notes.Place.TheVariants as At
-use Rattle.server.proofs.Speaking.{plans_of, cancels_are, Calmly, calm_nothing, calm_then, calm_if, calm_or, calm_refusal, calm_sets, calm_drops, calm_drops_one, calm_breaks, calm_keeps, core_notes, IsUnpolled, never, no_refusal_told, Happened, happens, between_nothing}
+use Rattle.dispatcher.specs.declared.listener.DeviceRefusal.{DeviceRefusal}
+use Rattle.dispatcher.specs.declared.listener.DeviceRefusal.TheVariants as why
+use Rattle.dispatcher.specs.declared.listener.Place.{Place}
+use Rattle.dispatcher.specs.declared.listener.Place.TheVariants as At
+use Rattle.server.proofs.Speaking.{only_notes, Calmly, calm_nothing, calm_then, calm_if, calm_or, calm_refusal, calm_sets, calm_drops, calm_feed, calm_breaks, calm_keeps, IsOther, Happened, happened_notes, happened, happened_then, whole_light, whole_told}
 
--- the core stays, and so does what was closed; neither plan nor cancel is told
+-- the core stays, and so does what was closed; the core tells nothing
 pub record IsCalm (l : Ledger) (hs : List Happening) (l' : Ledger) : Type 0 where
   pub core : l'.core ≡ l.core
   pub closed : l'.closed ≡ l.closed
-  pub plans : plans_told hs ≡ []
-  pub cancels : cancels_told hs ≡ []
+  pub notes : core_notes hs ≡ []
 
 -- one event comes
 pub record IsEvent (moment : ℕ) (l : Ledger) (hs : List Happening) (l' : Ledger) : Type 0 where
   pub event : Event
   pub outcome : Outcome
-  pub comes : Comes Collects l.core [] (record { event = event; moment = moment }) outcome l'.core (plans_told hs)
-  pub cancels : cancels_told hs ≡ cancels_of outcome
+  pub handled : Handles moment event l.core outcome (core_notes hs) l'.core
   pub closed : l'.closed ≡ l.closed
   pub whole : has_refusal hs ≡ false → IsWhole outcome
 
@@ -81,51 +80,50 @@ abbrev pub Within : Rel → Rel → Type 0
 Within P R = (l : Ledger) (hs : List Happening) (l' : Ledger) → R l hs l' → P l hs l'
 
 calmly : (R : Rel) → Calmly R → Within IsCalm R
-calmly R calm l hs l' it = let said = calm l hs l' it in record { core = said.core; closed = said.closed; plans = plans_of hs [] [] said.notes; cancels = cancels_are hs [] [] said.notes }
+calmly R calm l hs l' it = let stays = calm l hs l' it in record { core = stays.core; closed = stays.closed; notes = only_notes hs stays.only }
 
-calm_as : (ks : List Happening) (m l : Ledger) (hs : List Happening) (l' : Ledger) → plans_told ks ≡ [] → cancels_told ks ≡ [] → m.core ≡ l.core → m.closed ≡ l.closed → (hs ≡ ks) × (l' ≡ m) → IsCalm l hs l'
-calm_as ks m l hs l' plans cancels core closed (is, after) = record {
+calm_as : (ks : List Happening) (m l : Ledger) (hs : List Happening) (l' : Ledger) → core_notes ks ≡ [] → m.core ≡ l.core → m.closed ≡ l.closed → (hs ≡ ks) × (l' ≡ m) → IsCalm l hs l'
+calm_as ks m l hs l' notes core closed (is, after) = record {
   core = ap (λ (x : Ledger). x.core) after ∙ core;
   closed = ap (λ (x : Ledger). x.closed) after ∙ closed;
-  plans = ap plans_told is ∙ plans;
-  cancels = ap cancels_told is ∙ cancels;
+  notes = ap core_notes is ∙ notes;
 }
 
-event_by : (moment : ℕ) (event : Event) (reply : Reply) (dispatches : List Dispatch) (l : Ledger) (hs : List Happening) (l' : Ledger) → plans_told hs ≡ dispatches → cancels_told hs ≡ reply.cancels.items → l'.closed ≡ l.closed
-    → IsAnswered (record { event = event; moment = moment }) reply l.core dispatches l'.core ⊎ (Comes Collects l.core [] (record { event = event; moment = moment }) (Undispatched reply) l'.core dispatches × (has_refusal hs ≡ true)) → IsEvent moment l hs l'
-event_by moment event reply dispatches l hs l' plans cancels closed (inl (inl it)) =
-    record { event = event; outcome = Queried reply; comes = subst (λ (ds : List Dispatch). Comes Collects l.core [] (record { event = event; moment = moment }) (Queried reply) l'.core ds) (sym plans) it; cancels = cancels; closed = closed; whole = λ none. tt }
-event_by moment event reply dispatches l hs l' plans cancels closed (inl (inr it)) =
-    record { event = event; outcome = Dispatched reply; comes = subst (λ (ds : List Dispatch). Comes Collects l.core [] (record { event = event; moment = moment }) (Dispatched reply) l'.core ds) (sym plans) it; cancels = cancels; closed = closed; whole = λ none. tt }
-event_by moment event reply dispatches l hs l' plans cancels closed (inr (it, refused)) =
-    record { event = event; outcome = Undispatched reply; comes = subst (λ (ds : List Dispatch). Comes Collects l.core [] (record { event = event; moment = moment }) (Undispatched reply) l'.core ds) (sym plans) it; cancels = cancels; closed = closed; whole = λ none. never (has_refusal hs) refused none }
-
-event_as : (moment : ℕ) (event : Event) (reply : Reply) → Within (IsEvent moment) (Happened moment event reply)
-event_as moment event reply l hs l' it =
-    event_by moment event reply it.dispatches l hs l' (plans_of hs reply.cancels.items it.dispatches it.notes) (cancels_are hs reply.cancels.items it.dispatches it.notes) it.closed it.comes
-
-dropped_as : (moment : ℕ) (event : Event) (id : Option ℕ) → Within (IsEvent moment) (IsDropped moment event id)
-dropped_as moment event id l hs l' it = record {
+event_as : (moment : ℕ) (event : Event) (outcome : Outcome) (l : Ledger) (hs : List Happening) (l' : Ledger) → (has_refusal hs ≡ false → IsWhole outcome) → Happened moment event outcome l hs l' → IsEvent moment l hs l'
+event_as moment event outcome l hs l' whole it = record {
   event = event;
-  outcome = Dropped;
-  comes = (ap (λ (x : Ledger). x.core) it.after, ap plans_told it.told, it.heavy);
-  cancels = ap cancels_told it.told;
-  closed = ap (λ (x : Ledger). x.closed) it.after;
-  whole = λ none. no_refusal_told hs At.Event id none it.told;
+  outcome = outcome;
+  handled = subst (λ (notes : List Note). Handles moment event l.core outcome notes l'.core) (sym (happened_notes moment event outcome l hs l' it)) it.handled;
+  closed = it.closed;
+  whole = whole;
 }
 
--- ---- what lies between a step and what follows it
+-- a tick: time goes on, and then it comes
+pub ticked : (moment : ℕ) (l : Ledger) (hs : List Happening) (l' : Ledger) → Ticks moment l hs l' → (outcome : Outcome) × Happened moment Is.Tick outcome l hs l'
+ticked moment l hs l' it =
+    let came = happened moment Is.Tick it.second.0 it.mid it.back l' it.second.1 in
+    let core : it.mid.core ≡ l.core = ap (λ (x : Ledger). x.core) it.first.1 in (
+      it.second.0,
+      record {
+        notes = came.notes;
+        later = came.later;
+        handled = subst (λ (s : State). Handles moment Is.Tick s it.second.0 came.notes l'.core) core came.handled;
+        closed = came.closed ∙ ap (λ (x : Ledger). x.closed) it.first.1;
+        whole = it.whole ∙ (ap (λ (ks : List Happening). ks ++ it.back) it.first.0 ∙ came.whole);
+        only = came.only;
+      },
+    )
 
-pub calm_notes : (now : ℕ) → Calmly (Notes now)
-calm_notes now l hs l' (none, after) = record { core = ap (λ (x : Ledger). x.core) after; closed = ap (λ (x : Ledger). x.closed) after; unpolled = subst IsUnpolled (sym none) tt; notes = ap core_notes none }
+-- ---- answers
 
-pub calm_answers : (request : ℕ) (answer : Answer) (bytes : List ℕ) → Calmly (Between.Answers request answer bytes)
-calm_answers request answer bytes l hs l' (inl (are, it)) = calm_nothing l hs l' it
-calm_answers request answer bytes l hs l' (inr it) = calm_refusal At.Reply None l hs l' it
+pub calm_answers : (request : ℕ) (reply : Option Reply) (bytes : List ℕ) → Calmly (Between.Answers request reply bytes)
+calm_answers request (Some reply) bytes l hs l' (inl (are, it)) = calm_nothing l hs l' it
+calm_answers request (Some reply) bytes l hs l' (inr it) = calm_refusal At.Reply None refl l hs l' it
+calm_answers request None bytes l hs l' it = calm_refusal At.Event None refl l hs l' it
 
 calm_lost : (key id : ℕ) (closes : Bool) (request : ℕ) (query : Bool) → Calmly (Http.LosesReply key id closes request query)
 calm_lost key id closes request query =
-    calm_then (calm_refusal At.Reply (Some id))
+    calm_then (calm_refusal At.Reply (Some id) refl)
     (calm_if query (Keeps key (Http.http_status closes TemporaryError request)) (Breaks key) (calm_keeps key (Http.http_status closes TemporaryError request)) (calm_breaks key))
 
 calm_replies : (key id : ℕ) (closes : Bool) (request : ℕ) (query : Bool) (answer : Answer) → Calmly (Http.RepliesWith key id closes request query answer)
@@ -134,8 +132,12 @@ calm_replies key id closes request query (answered.Ipp answer) l hs l' (inr it) 
 calm_replies key id closes request query (answered.Lpd answer) l hs l' it = calm_nothing l hs l' it
 calm_replies key id closes request query answered.Nothing l hs l' it = calm_nothing l hs l' it
 
+calm_answer : (key id : ℕ) (closes : Bool) (request : ℕ) (query : Bool) (reply : Option Reply) → Calmly (Http.Replies key id closes request query reply)
+calm_answer key id closes request query (Some reply) = calm_replies key id closes request query reply.answer
+calm_answer key id closes request query None = calm_then (calm_refusal At.Event (Some id) refl) (calm_keeps key (Http.http_status closes TemporaryError request))
+
 calm_shows : (key id : ℕ) (text : List ℕ) → Calmly (Queues.Shows key id text)
-calm_shows key id text = calm_or (calm_keeps key text) (calm_then (calm_refusal At.Reply (Some id)) (calm_breaks key))
+calm_shows key id text = calm_or (calm_keeps key text) (calm_then (calm_refusal At.Reply (Some id) refl) (calm_breaks key))
 
 calm_told : (key id : ℕ) (answer : LpdAnswer) → Calmly (Queues.IsTold key id answer)
 calm_told key id (shown.Taken taken) = calm_keeps key (ack_of (shown.Taken taken) ∷ [])
@@ -151,8 +153,22 @@ calm_byte : (key : ℕ) (byte : Option ℕ) → Calmly (Queues.Answers key byte)
 calm_byte key None = calm_nothing
 calm_byte key (Some byte) = calm_keeps key (byte ∷ [])
 
-calm_declines : (place : Place) (key id : ℕ) → Calmly (Queues.Declines place key id)
-calm_declines place key id = calm_then (calm_refusal place (Some id)) (calm_byte key nack)
+calm_declines : (place : Place) (key id : ℕ) → IsOther place (Some id) → Calmly (Queues.Declines place key id)
+calm_declines place key id other = calm_then (calm_refusal place (Some id) other) (calm_byte key nack)
+
+calm_acknowledges : (key id : ℕ) (reply : Option Reply) → Calmly (Queues.Acknowledges key id reply)
+calm_acknowledges key id (Some reply) = calm_answered key id reply.answer
+calm_acknowledges key id None = calm_declines At.Event key id refl
+
+calm_responds : (key id : ℕ) (reply : Option Reply) → Calmly (Queues.Responds key id reply)
+calm_responds key id (Some reply) = calm_answered key id reply.answer
+calm_responds key id None = calm_then (calm_refusal At.Event (Some id) refl) (calm_breaks key)
+
+-- ---- where an event was dropped, its caller tells
+
+-- a refusal is told, and then something else
+refused_first : (place : Place) (id : Option ℕ) (Q : Rel) (l : Ledger) (hs : List Happening) (l' : Ledger) → Then (Tells (Refused place id)) Q l hs l' → has_refusal hs ≡ true
+refused_first place id Q l hs l' it = ap has_refusal (it.whole ∙ ap (λ (ks : List Happening). ks ++ it.back) it.first.0)
 
 -- ---- deeds
 
@@ -186,11 +202,11 @@ module _ (moment : ℕ) (P : Rel) (k : Holds moment P) where
   each_in (suc n) R f = then_in (each_in n R f) (f n)
 
   -- what happens and changes nothing that is known
-  same_in : (ks : List Happening) → plans_told ks ≡ [] → cancels_told ks ≡ [] → (l : Ledger) (hs : List Happening) (l' : Ledger) → (hs ≡ ks) × (l' ≡ l) → P l hs l'
-  same_in ks plans cancels l hs l' it = k.calm l hs l' (calm_as ks l l hs l' plans cancels refl refl it)
+  same_in : (ks : List Happening) → core_notes ks ≡ [] → (l : Ledger) (hs : List Happening) (l' : Ledger) → (hs ≡ ks) × (l' ≡ l) → P l hs l'
+  same_in ks notes l hs l' it = k.calm l hs l' (calm_as ks l l hs l' notes refl refl it)
 
   polls_in : (poll : Poll) → Within P (Polls poll)
-  polls_in poll = same_in (Polled poll ∷ []) refl refl
+  polls_in poll = same_in (Polled poll ∷ []) refl
 
   sets_in : (key : ℕ) (e : Entry) → Within P (Sets key e)
   sets_in key e = calmly_in (calm_sets key e)
@@ -200,18 +216,22 @@ module _ (moment : ℕ) (P : Rel) (k : Holds moment P) where
 
   -- ---- events
 
-  happens_in : (event : Event) (reply : Reply) (Q : Rel) → Calmly Q → Within P (Then (Steps moment event reply) (Then Q (Follows moment (is_query event) reply.cancels.items)))
-  happens_in event reply Q calm l hs l' it = k.event l hs l' (event_as moment event reply l hs l' (happens moment event reply Q calm l hs l' it))
-
-  dropped_in : (event : Event) (id : Option ℕ) → Within P (IsDropped moment event id)
-  dropped_in event id l hs l' it = k.event l hs l' (dropped_as moment event id l hs l' it)
+  -- an event, and its answer, which tells where the event was dropped
+  answered_in : (event : Event) (Q : Option Reply → Rel) → ((reply : Option Reply) → Calmly (Q reply)) → ((l : Ledger) (hs : List Happening) (l' : Ledger) → Q None l hs l' → has_refusal hs ≡ true)
+      → (outcome : Outcome) → Within P (Then (Happens moment event outcome) (Q (reply_of outcome)))
+  answered_in event Q calm told outcome l hs l' it =
+      let came = happened_then moment event outcome (Q (reply_of outcome)) (calm (reply_of outcome)) l hs l' it in
+      k.event l hs l' (event_as moment event outcome l hs l' (λ none. whole_told moment event outcome Q told l hs l' it came none) came)
 
   reported_in : (device : ℕ) (report : Report) → Within P (Unanswered moment (Is.Report device report))
-  reported_in device report l hs l' (reply, it) =
-      happens_in (Is.Report device report) reply Nothing calm_nothing l hs l' (between_nothing moment (Is.Report device report) reply false l hs l' it)
+  reported_in device report l hs l' (outcome, it) =
+      let came = happened moment (Is.Report device report) outcome l hs l' it in
+      k.event l hs l' (event_as moment (Is.Report device report) outcome l hs l' (λ none. whole_light moment (Is.Report device report) outcome l hs l' came tt none) came)
 
   ticks_in : Within P (Ticks moment)
-  ticks_in l hs l' (reply, it) = happens_in Is.Tick reply (Notes (now_at moment l)) (calm_notes (now_at moment l)) l hs l' it
+  ticks_in l hs l' it =
+      let tick = ticked moment l hs l' it in
+      k.event l hs l' (event_as moment Is.Tick tick.0 l hs l' (λ none. whole_light moment Is.Tick tick.0 l hs l' tick.1 tt none) tick.1)
 
   -- ---- closings
 
@@ -233,26 +253,25 @@ module _ (moment : ℕ) (P : Rel) (k : Holds moment P) where
 
   -- ---- an IPP client's connection
 
-  http_happens_in : (key id : ℕ) (closes : Bool) (request : ℕ) (event : Event) → Within P (Http.Happens moment key id closes request event)
-  http_happens_in key id closes request event l hs l' (inl (reply, it)) =
-      happens_in event reply (Http.RepliesWith key id closes request (is_query event) reply.answer) (calm_replies key id closes request (is_query event) reply.answer) l hs l' it
-  http_happens_in key id closes request event l hs l' (inr it) = then_in (dropped_in event (Some id)) (keeps_in key (Http.http_status closes TemporaryError request)) l hs l' it
+  http_answered_in : (key id : ℕ) (closes : Bool) (request : ℕ) (event : Event) → Within P (Http.IsAnswered moment key id closes request event)
+  http_answered_in key id closes request event l hs l' (outcome, it) =
+      answered_in event (Http.Replies key id closes request (is_query event)) (calm_answer key id closes request (is_query event)) (refused_first At.Event (Some id) (Keeps key (Http.http_status closes TemporaryError request))) outcome l hs l' it
 
   asks_in : (key id : ℕ) (closes : Bool) (asked : Asked) → Within P (Http.AsksFor moment key id closes asked)
   asks_in key id closes asks.TooShort = keeps_in key (refusal_head BadRequest)
   asks_in key id closes (asks.Refused status request) = keeps_in key (Http.http_status closes status request)
-  asks_in key id closes (asks.Event request event) = http_happens_in key id closes request event
+  asks_in key id closes (asks.Event request event) = http_answered_in key id closes request event
 
   whole_in : (key : ℕ) (e : Entry) (said : List Said) (closes : Bool) (body : List ℕ) → Within P (Http.IsWhole moment key e said closes body)
   whole_in key e said closes body l hs l' (inl (asked, are, it)) = then_in (sets_in key (Http.heard e said closes [] (Http.closes_with closes asked))) (asks_in key e.id closes asked) l hs l' it
   whole_in key e said closes body l hs l' (inr (request, is, it)) =
-      then_in (sets_in key (Http.heard e said closes [] closes)) (then_in (calmly_in (calm_refusal At.Event (Some e.id))) (keeps_in key (Http.http_status closes TemporaryError request))) l hs l' it
+      then_in (sets_in key (Http.heard e said closes [] closes)) (then_in (calmly_in (calm_refusal At.Event (Some e.id) refl)) (keeps_in key (Http.http_status closes TemporaryError request))) l hs l' it
 
   item_in : (key : ℕ) (e : Entry) (said : List Said) (closes : Bool) (body : List ℕ) (what : HttpItem) (part : List ℕ) → Within P (Http.Hears moment key e said closes body what part)
   item_in key e said closes body (item.Head next) part = sets_in key (Http.heard e said next [] false)
   item_in key e said closes body item.Continue part = then_in (sets_in key (Http.heard e said closes body false)) (keeps_in key continue_head)
   item_in key e said closes body item.BodyPart part =
-      or_in (sets_in key (Http.heard e said closes (body ++ part) false)) (then_in (sets_in key (Http.heard e said closes body false)) (calmly_in (calm_drops_one At.Feed key)))
+      or_in (sets_in key (Http.heard e said closes (body ++ part) false)) (then_in (sets_in key (Http.heard e said closes body false)) (calmly_in (calm_feed key)))
   item_in key e said closes body item.BodyEnd part = whole_in key e said closes body
   item_in key e said closes body (item.Refuse refusal) part = then_in (sets_in key (Http.heard e said closes body true)) (keeps_in key (refusal_head refusal))
 
@@ -269,7 +288,7 @@ module _ (moment : ℕ) (P : Rel) (k : Holds moment P) where
   gives_way_in key l hs l' it = gives_way_at_in key (l.entries key) l hs l' it
 
   turns_away_in : (key : ℕ) (e : Entry) (why : DeviceRefusal) → Within P (Links.TurnsAway key e why)
-  turns_away_in key e why l hs l' it = k.calm l hs l' (calm_as (Told (DeviceRefused e.id why) ∷ []) (with_entry key (broken e) l) l hs l' refl refl refl refl it)
+  turns_away_in key e why l hs l' it = k.calm l hs l' (calm_as (Told (DeviceRefused e.id why) ∷ []) (with_entry key (broken e) l) l hs l' refl refl refl it)
 
   greets_in : (key : ℕ) (e : Entry) (reports : List ReportRecord) (name : List ℕ) (device : Option ℕ) → Within P (Links.Greets moment key e reports name device)
   greets_in key e reports name None l hs l' it = turns_away_in key e (why.UnknownName name) l hs l' it
@@ -292,15 +311,14 @@ module _ (moment : ℕ) (P : Rel) (k : Holds moment P) where
 
   -- ---- an LPD client's connection
 
-  queue_happens_in : (key id : ℕ) (event : Event) → Within P (Queues.Happens moment key id event)
-  queue_happens_in key id event l hs l' (reply, it) = happens_in event reply (Queues.IsAnswered key id reply.answer) (calm_answered key id reply.answer) l hs l' it
-
   submitted_in : (key id : ℕ) (job : SentRecord) → Within P (Queues.IsSubmitted moment key id job)
-  submitted_in key id job l hs l' (inl (event, is, it)) = queue_happens_in key id event l hs l' it
-  submitted_in key id job l hs l' (inr it) = calmly_in (calm_declines At.Event key id) l hs l' it
+  submitted_in key id job l hs l' (inl (event, is, (outcome, it))) =
+      answered_in event (Queues.Acknowledges key id) (calm_acknowledges key id) (refused_first At.Event (Some id) (Queues.Answers key nack)) outcome l hs l' it
+  submitted_in key id job l hs l' (inr it) = calmly_in (calm_declines At.Event key id refl) l hs l' it
 
   commanded_in : (key id : ℕ) (command : CommandRecord) → Within P (Queues.IsCommanded moment key id command)
-  commanded_in key id command l hs l' (event, is, it) = or_in (queue_happens_in key id event) (then_in (dropped_in event (Some id)) (calmly_in (calm_breaks key))) l hs l' it
+  commanded_in key id command l hs l' (event, is, (outcome, it)) =
+      answered_in event (Queues.Responds key id) (calm_responds key id) (refused_first At.Event (Some id) (Breaks key)) outcome l hs l' it
 
   does_in : (key : ℕ) (e : Entry) (items : List ItemRecord) (hearing : Hearing) → Within P (Queues.Does moment key e items hearing)
   does_in key e items (Goes answer next) = then_in (sets_in key (Queues.talks e items next false)) (calmly_in (calm_byte key answer))
@@ -309,7 +327,7 @@ module _ (moment : ℕ) (P : Rel) (k : Holds moment P) where
   does_in key e items (Commands command) = then_in (sets_in key (Queues.talks e items None true)) (commanded_in key e.id command)
 
   loses_in : (key : ℕ) (e : Entry) (items : List ItemRecord) (session : Option SessionState) (said : ItemRecord) → Within P (Queues.Loses key e items session said)
-  loses_in key e items session (HasFile contents) l hs l' it = then_in (sets_in key (Queues.talks e items (file_lost session) false)) (calmly_in (calm_declines At.File key e.id)) l hs l' it
+  loses_in key e items session (HasFile contents) l hs l' it = then_in (sets_in key (Queues.talks e items (file_lost session) false)) (calmly_in (calm_declines At.File key e.id refl)) l hs l' it
   loses_in key e items session (Says command) l hs l' it = absurd it
   loses_in key e items session Aborts l hs l' it = absurd it
   loses_in key e items session (Announces head) l hs l' it = absurd it
@@ -324,10 +342,10 @@ module _ (moment : ℕ) (P : Rel) (k : Holds moment P) where
   acts_next_in key =
       or_in {R = Http.HearsNext moment key} (λ l hs l' it. item_in key it.entry _ it.closes it.body it.what it.part l hs l' it.does)
       (or_in {R = Links.ReportsNext moment key} (λ l hs l' it. report_in key it.entry _ it.device it.said l hs l' it.does)
-      (or_in {R = Links.LosesLine key} (λ l hs l' it. calmly_in (calm_drops At.Feed key it.entry) l hs l' it.does)
+      (or_in {R = Links.LosesLine key} (λ l hs l' it. calmly_in (calm_drops At.Feed key it.entry refl) l hs l' it.does)
       (or_in {R = Links.LinkBreaks key} (λ l hs l' it. turns_away_in key it.entry (why.Fault it.device) l hs l' it.does)
       (or_in (lpd_in key)
-      (or_in {R = Queues.LosesLine key} {S = Queues.IsFaulty key} (λ l hs l' it. calmly_in (calm_drops At.Feed key it.entry) l hs l' it.does)
+      (or_in {R = Queues.LosesLine key} {S = Queues.IsFaulty key} (λ l hs l' it. calmly_in (calm_drops At.Feed key it.entry refl) l hs l' it.does)
       (λ l hs l' it. then_in (sets_in key (Queues.talks it.entry it.items it.session true)) (calmly_in (calm_byte key nack)) l hs l' it.does))))))
 
   serves_in : (key : ℕ) → Within P (Serves moment key)
@@ -336,7 +354,7 @@ module _ (moment : ℕ) (P : Rel) (k : Holds moment P) where
   feeds_in : (key : ℕ) (e : Entry) (bytes : List ℕ) → Within P (Feeds moment key e bytes)
   feeds_in key e bytes =
       if_in e.over Nothing (Or (Then (Sets key (record e { read = e.read ++ bytes })) (Serves moment key)) (Then (Drops At.Feed key e) (Settles moment))) nothing_in
-      (or_in (then_in (sets_in key (record e { read = e.read ++ bytes })) (serves_in key)) (then_in (calmly_in (calm_drops At.Feed key e)) settles_in))
+      (or_in (then_in (sets_in key (record e { read = e.read ++ bytes })) (serves_in key)) (then_in (calmly_in (calm_drops At.Feed key e refl)) settles_in))
 
   feeds_at_in : (key : ℕ) (bytes : List ℕ) (o : Option Entry) → Within P (FeedsAt moment key bytes o)
   feeds_at_in key bytes None = nothing_in
@@ -383,8 +401,8 @@ module _ (moment : ℕ) (P : Rel) (k : Holds moment P) where
   ends_one_in key l hs l' it = ends_at_in key (l.entries key) l hs l' it
 
   opens_in : (door : Door) (id : ℕ) → Within P (Opens door id)
-  opens_in door id l hs l' (inl (key, free, none, after)) = k.calm l hs l' (calm_as [] (with_new key (opening_entry door id) l) l hs l' refl refl refl refl (none, after))
-  opens_in door id l hs l' (inr it) = same_in (Told (Refused At.Accept (Some id)) ∷ Polled (Closes id) ∷ []) refl refl l hs l' it
+  opens_in door id l hs l' (inl (key, free, none, after)) = k.calm l hs l' (calm_as [] (with_new key (opening_entry door id) l) l hs l' refl refl refl (none, after))
+  opens_in door id l hs l' (inr it) = same_in (Told (Refused At.Accept (Some id)) ∷ Polled (Closes id) ∷ []) refl l hs l' it
 
   accepts_as_in : (door : Door) (answer : WireAnswer ℕ) → Within P (AcceptsAs door answer)
   accepts_as_in door (wire.Done id) = then_in (polls_in (Accepts door (wire.Done id))) (opens_in door id)
@@ -409,18 +427,18 @@ module _ (moment : ℕ) (P : Rel) (k : Holds moment P) where
 
   -- ---- calls between turns
 
-  body_event_in : (request : ℕ) (event : Event) (bytes : List ℕ) → Within P (Or (Between.IsAnswered moment request event bytes) (IsDropped moment event None))
-  body_event_in request event bytes l hs l' (inl (reply, it)) = happens_in event reply (Between.Answers request reply.answer bytes) (calm_answers request reply.answer bytes) l hs l' it
-  body_event_in request event bytes l hs l' (inr it) = dropped_in event None l hs l' it
+  body_event_in : (request : ℕ) (event : Event) (bytes : List ℕ) → Within P (Between.IsAnswered moment request event bytes)
+  body_event_in request event bytes l hs l' (outcome, it) =
+      answered_in event (λ reply. Between.Answers request reply bytes) (λ reply. calm_answers request reply bytes) (λ a ks b told. ap has_refusal told.0) outcome l hs l' it
 
   asked_in : (asked : Asked) (served : Between.Outcome) → Within P (Between.BodyAsks moment asked served)
   asked_in asks.TooShort served l hs l' (is, it) = nothing_in l hs l' it
-  asked_in (asks.Refused status request) served l hs l' (is, it) = or_in nothing_in (calmly_in (calm_refusal At.Reply None)) l hs l' it
+  asked_in (asks.Refused status request) served l hs l' (is, it) = or_in nothing_in (calmly_in (calm_refusal At.Reply None refl)) l hs l' it
   asked_in (asks.Event request event) served l hs l' (bytes, is, it) = body_event_in request event bytes l hs l' it
 
   body_in : (body : List ℕ) (served : Between.Outcome) → Within P (Between.BodyComes moment body served)
   body_in body served l hs l' (inl (asked, is, it)) = asked_in asked served l hs l' it
-  body_in body served l hs l' (inr it) = calmly_in (calm_refusal At.Event None) l hs l' it
+  body_in body served l hs l' (inr it) = calmly_in (calm_refusal At.Event None refl) l hs l' it
 
   serves_body_in : (body : List ℕ) (answer : Between.Outcome) → Within P (Between.Serves moment body answer)
   serves_body_in body answer l hs l' (served, is, it) = body_in body served l hs l' it

@@ -13,7 +13,8 @@ use Rattle.device_link.specs.Line.{in_turn, said}
 use Rattle.device_link.specs.Stream.{LinkState, SaysFirst}
 use Rattle.device_link.specs.Stream as Link
 use Rattle.events.specs.declared.event.Event.TheVariants as Is
-use Rattle.server.specs.Polls.{Note, DeviceRefused, Refused, Happening, Told, alone}
+use Rattle.dispatcher.specs.Notes.{Note, DeviceRefused, Refused}
+use Rattle.server.specs.Polls.{Happening, Told, alone}
 use Rattle.server.specs.Ledger.{Entry, Ledger, with_entry}
 use Rattle.server.specs.Ledger as Ledger
 use Rattle.server.specs.Rel.{Rel, Tells}
@@ -26,17 +27,17 @@ use Rattle.connections.specs.Hearing.{Brings, NextItem, NextReport, work, device
 use Rattle.server.specs.Newcomers.{IsAlone, IsHeld, IsMet, IsNameGreeted, IsGreeted, RefusesAt, unknown}
 use Rattle.server.specs.declared.devices.Greeting.{Greeting}
 use Rattle.server.specs.declared.devices.Greeting.TheVariants.{Taken, Replaces, IsThere, Unknown}
-use Rattle.server.specs.declared.notes.DeviceRefusal.{DeviceRefusal}
-use Rattle.server.specs.declared.notes.DeviceRefusal.TheVariants as reason
+use Rattle.dispatcher.specs.declared.listener.DeviceRefusal.{DeviceRefusal}
+use Rattle.dispatcher.specs.declared.listener.DeviceRefusal.TheVariants as reason
 use Rattle.connections.specs.declared.talk.Brought.{Brought}
 use Rattle.connections.specs.declared.talk.Brought.TheVariants as brings
 use Rattle.connections.specs.declared.talk.Talk.{Talk}
 use Rattle.connections.specs.declared.talk.Talk.TheVariants as of
-use Rattle.server.specs.declared.notes.Place.TheVariants as At
+use Rattle.dispatcher.specs.declared.listener.Place.TheVariants as At
 use Rattle.connections.specs.Slots.{ConnectionState, Slots, work_at, load, OnSlot, IsBrought, IsReported, IsFirstReport, changed_at, talking, is_named, is_broken, is_of, device_at, ended_at}
 use Rattle.server.specs.State.{EngineState, slot_at, with_slots}
 use Rattle.server.specs.Stands.{FitsTalk, FitsLink, IsLinked, FitsConnection, Fits, Aside, Openly, Heard}
-use Rattle.server.proofs.Steps.{quiet_then}
+use Rattle.server.proofs.Steps.{quiet_then, right_false}
 use Rattle.server.proofs.Slots.{set_there, set_twice, changed_again, quiet_at, work_there}
 use Rattle.server.proofs.Places.{found, fits_set}
 use Rattle.server.proofs.Keeping.{load_within, load_counts}
@@ -72,10 +73,6 @@ report_taken key what xs ys on = record { before = on.before; after = on.after; 
 -- what a device's connection is after a report
 abbrev pub told_link : ConnectionState → LinkState → Option ℕ → Bool → ConnectionState
 told_link c reader device off = record c { talk = of.Link (record { reader = reader; device = device }); broken = off }
-
-pub right_false : (x y : Bool) → (x || y) ≡ false → y ≡ false
-right_false true y is = cc
-right_false false y is = is
 
 -- the connection is written, and then comes what the report does
 pub reports : {S : Type 0} (moves : S → Happening → S → Type 0) (u v : S) (a b : EngineState) (slots : Slots) (moment key : ℕ) (c : ConnectionState) (t : LinkTalkState) (reader : LinkState) (device : Option ℕ) (off : Bool)

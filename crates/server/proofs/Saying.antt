@@ -6,7 +6,8 @@ use Rattle.lpd_reader.specs.Session.{ItemRecord, Says, Aborts, Announces, HasFil
 use Rattle.lpd_reader.specs.Stream.{LpdState, SaysFirst}
 use Rattle.lpd_reader.specs.Stream as Lpd
 use Rattle.lpd_session.specs.Session.{SessionState}
-use Rattle.server.specs.Polls.{Note, Refused, Happening, Told, alone}
+use Rattle.dispatcher.specs.Notes.{Note, Refused}
+use Rattle.server.specs.Polls.{Happening, Told, alone}
 use Rattle.connections.specs.Session.{Hearing, Goes, Stops, Submits, Commands, heard, nack, is_queue, file_lost}
 use Rattle.connections.specs.LpdAsks.{AsksAs, AsksForItem, is_last}
 use Rattle.server.specs.Granting.{Grants}
@@ -24,7 +25,7 @@ use Rattle.connections.specs.declared.talk.Brought.{Brought}
 use Rattle.connections.specs.declared.talk.Brought.TheVariants as brings
 use Rattle.connections.specs.declared.talk.Talk.{Talk}
 use Rattle.connections.specs.declared.talk.Talk.TheVariants as of
-use Rattle.server.specs.declared.notes.Place.TheVariants as At
+use Rattle.dispatcher.specs.declared.listener.Place.TheVariants as At
 use Rattle.connections.specs.Slots.{ConnectionState, Slots, work_at, load, OnSlot, IsBrought, IsSaid, IsWished, changed_at, talking, is_over, is_broken}
 use Rattle.server.specs.State.{EngineState, slot_at, with_slots}
 use Rattle.server.specs.Stands.{FitsTalk, FitsLpd, FitsConnection, Fits, Aside, Heard}
@@ -112,7 +113,7 @@ does_of moment key l e items (Stops answer) (asks.Stops byte) after hs l' (same,
     (subst (λ (n : Option SessionState). Answers key answer (with_entry key (talks e items n true) l) hs l') is (subst (λ (b : Option ℕ). Answers key b (with_entry key (talks e items after true) l) hs l') same it))
 does_of moment key l e items (Submits job next) (asks.Submits event) after hs l' (job_is, is) it =
     sets_then key (talks e items (Some next) false) (IsSubmitted moment key e.id job) l hs l'
-    (subst (λ (n : Option SessionState). IsSubmitted moment key e.id job (with_entry key (talks e items n false) l) hs l') is (elim it [ inl happens ↦ inl (event, job_is, happens) | inr declines ↦ inr declines ]))
+    (subst (λ (n : Option SessionState). IsSubmitted moment key e.id job (with_entry key (talks e items n false) l) hs l') is (inl (event, job_is, it)))
 does_of moment key l e items (Submits job next) asks.JobLost after hs l' is it =
     sets_then key (talks e items (Some next) false) (IsSubmitted moment key e.id job) l hs l'
     (subst (λ (n : Option SessionState). IsSubmitted moment key e.id job (with_entry key (talks e items n false) l) hs l') is (inr it))

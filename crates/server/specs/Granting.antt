@@ -1,19 +1,10 @@
 -- What comes of what an LPD client asks, by the events that the engine has made of it.
-use Rattle.std.specs.Prelude.{ℕ, Some}
-use Rattle.events.specs.declared.event.Event.{Event}
+use Rattle.std.specs.Prelude.{ℕ}
 use Rattle.connections.specs.declared.lpd_talk.LpdAsks.{LpdAsks}
 use Rattle.connections.specs.declared.lpd_talk.LpdAsks.TheVariants as asks
-use Rattle.server.specs.declared.notes.Place.TheVariants as At
-use Rattle.server.specs.Rel.{Rel, Then, Or}
-use Rattle.server.specs.Keeping.{Breaks}
-use Rattle.server.specs.Happening.{IsDropped}
-use Rattle.server.specs.Queues.{Answers, Declines, Happens}
-
-abbrev pub Submitted : ℕ → ℕ → ℕ → Event → Rel
-Submitted moment key id event = Or (Happens moment key id event) (Declines At.Event key id)
-
-abbrev pub Commanded : ℕ → ℕ → ℕ → Event → Rel
-Commanded moment key id event = Or (Happens moment key id event) (Then (IsDropped moment event (Some id)) (Breaks key))
+use Rattle.dispatcher.specs.declared.listener.Place.TheVariants as At
+use Rattle.server.specs.Rel.{Rel}
+use Rattle.server.specs.Queues.{Answers, Declines, Submitted, Commanded}
 
 abbrev pub Grants : ℕ → ℕ → ℕ → LpdAsks → Rel
 Grants moment key id (asks.Goes byte) = Answers key byte

@@ -1,65 +1,51 @@
 -- What a trace is to the core, and what was taken of its closed connections; in words that say nothing of turns and their polls. Of what is short, that it needs no memory.
-use Rattle.std.specs.Prelude.{ℕ, ◌≡◌, ◌≢◌, ◌⊎◌, false, List, [], ◌∷◌, ◌++◌, All, map, Option, Some}
+use Rattle.std.specs.Prelude.{ℕ, ◌≡◌, ◌≢◌, false, List, [], ◌∷◌, ◌++◌, All, map, Option, Some}
 use Rattle.std.specs.List.{flat_map}
-use Rattle.prices.specs.Plan.{PlanRecord}
 use Rattle.base_types.specs.declared.report.Report.{Report}
 use Rattle.base_types.specs.Report.{report_of}
-use Rattle.print_room.specs.declared.started.Started.{Started}
 use Rattle.print_room.specs.State.{State}
 use Rattle.events.specs.declared.event.Event.{Event}
 use Rattle.events.specs.declared.event.Event.TheVariants as Is
 use Rattle.events.specs.declared.reply.Reply.{Reply}
-use Rattle.events.specs.declared.reply.Cancel.{Cancel}
+use Rattle.dispatcher.specs.declared.listener.Place.{Place}
+use Rattle.dispatcher.specs.declared.listener.Place.TheVariants as At
 use Rattle.dispatcher.specs.declared.run.Timed.{Timed}
-use Rattle.dispatcher.specs.declared.run.Outcome.{Outcome}
-use Rattle.dispatcher.specs.declared.run.Outcome.TheVariants.{Dropped, Queried, Undispatched, Dispatched}
-use Rattle.dispatcher.specs.Run.{Comes, Run}
+use Rattle.dispatcher.specs.declared.outcome.Outcome.{Outcome}
+use Rattle.dispatcher.specs.declared.outcome.Outcome.TheVariants.{Dropped, Queried, Undispatched, Idle, Dispatched}
+use Rattle.dispatcher.specs.Run.{reply_of, Handles, Run}
 use Rattle.requests.specs.declared.asked.Asked.{Asked}
 use Rattle.requests.specs.declared.asked.Asked.TheVariants as asks
 use Rattle.requests.specs.Asked.{Asks}
 use Rattle.replies.specs.Reply.{refusal_bytes}
-use Rattle.server.specs.Polls.{Note, Planned, Canceled, DeviceRefused, Refused, Happening, Polled, Told}
+use Rattle.dispatcher.specs.Notes.{Note, Planned, Canceled, DeviceRefused, Refused}
+use Rattle.server.specs.Polls.{Happening, Polled, Told}
 use Rattle.server.specs.Ledger.{Entry, Ledger, Fate, waiting}
 use Rattle.server.specs.Keeping.{Sets, owing, Keeps}
 use Rattle.server.specs.Closing.{IsTaken}
 use Rattle.server.specs.Turn.{Outcome as Answer, Replied, BadRequest, OutOfMemory, IsBytes, has_refusal, Deed, Turned, Served_body, Reported, Ticked, Trace}
 
--- ---- what the listener is told of the core
-
--- a dispatch: its plan, where a job was ready, and what began
-abbrev pub Dispatch : Type 0
-Dispatch = Option PlanRecord × List Started
-
--- the dispatches, in order
-abbrev pub plans_told : List Happening → List Dispatch
-plans_told [] = []
-plans_told (Told (Planned plan started) ∷ hs) = (plan, started) ∷ plans_told hs
-plans_told (Told (Canceled cancel) ∷ hs) = plans_told hs
-plans_told (Told (DeviceRefused id why) ∷ hs) = plans_told hs
-plans_told (Told (Refused place id) ∷ hs) = plans_told hs
-plans_told (Polled poll ∷ hs) = plans_told hs
-
--- the cancels that are sent, in order
-abbrev pub cancels_told : List Happening → List Cancel
-cancels_told [] = []
-cancels_told (Told (Planned plan started) ∷ hs) = cancels_told hs
-cancels_told (Told (Canceled cancel) ∷ hs) = cancel ∷ cancels_told hs
-cancels_told (Told (DeviceRefused id why) ∷ hs) = cancels_told hs
-cancels_told (Told (Refused place id) ∷ hs) = cancels_told hs
-cancels_told (Polled poll ∷ hs) = cancels_told hs
-
 -- ---- a run of the core
 
--- a listener that keeps each dispatch
-abbrev pub Collects : List Dispatch → Option PlanRecord → List Started → List Dispatch → Type 0
-Collects before plan started after = after ≡ before ++ (plan, started) ∷ []
+-- what the core tells of a growth that was refused: it is its own where it is a dispatch's
+abbrev pub refusal_note : Place → Option ℕ → List Note
+refusal_note At.Dispatch id = Refused At.Dispatch id ∷ []
+refusal_note place id = []
 
--- the cancels in what became of an event
-abbrev pub cancels_of : Outcome → List Cancel
-cancels_of Dropped = []
-cancels_of (Queried reply) = reply.cancels.items
-cancels_of (Undispatched reply) = reply.cancels.items
-cancels_of (Dispatched reply) = reply.cancels.items
+-- what of a happening the core tells: a dispatch, one that was refused memory, or a cancel
+abbrev pub core_note : Happening → List Note
+core_note (Told (Planned plan started)) = Planned plan started ∷ []
+core_note (Told (Canceled cancel)) = Canceled cancel ∷ []
+core_note (Told (DeviceRefused id why)) = []
+core_note (Told (Refused place id)) = refusal_note place id
+core_note (Polled poll) = []
+
+-- all that the core tells, in order
+abbrev pub core_notes : List Happening → List Note
+core_notes hs = flat_map core_note hs
+
+-- a listener that keeps each note
+abbrev pub Collects : List Note → Note → List Note → Type 0
+Collects before note after = after ≡ before ++ note ∷ []
 
 abbrev pub moment_of : Deed → ℕ
 moment_of (Turned moment hs) = moment
@@ -91,38 +77,29 @@ abbrev pub IsWhole : Outcome → Type 0
 IsWhole Dropped = ⊥
 IsWhole (Queried reply) = Unit {0}
 IsWhole (Undispatched reply) = ⊥
+IsWhole (Idle reply) = Unit {0}
 IsWhole (Dispatched reply) = Unit {0}
 
--- One run of the core, whose plans are all those that the listener was told of in the trace, in order,
--- and whose replies have all the cancels that it was told of.
+-- One run of the core, which tells just what the listener was told of it in the trace, in order: its
+-- cancels, its dispatches with their plans, and those that were refused memory.
 pub record IsOneRun (trace : Trace) (old new : State) : Type 0 where
   pub events : List Timed
   pub outcomes : List Outcome
   pub timed : AreEventsOf trace events
-  pub run : Run Collects old [] events outcomes new (plans_told (happenings_in trace))
-  pub canceled : cancels_told (happenings_in trace) ≡ flat_map cancels_of outcomes
+  pub run : Run Collects old [] events outcomes new (core_notes (happenings_in trace))
   pub whole : has_refusal (happenings_in trace) ≡ false → All IsWhole outcomes
 
 -- ---- a deed between turns
 
--- an event is answered, and unless it is a query a dispatch follows; no memory is refused
-abbrev pub IsAnswered : Timed → Reply → State → List Dispatch → State → Type 0
-IsAnswered timed reply old dispatches new =
-    Comes Collects old [] timed (Queried reply) new dispatches ⊎ Comes Collects old [] timed (Dispatched reply) new dispatches
-
-abbrev pub planned : Dispatch → Note
-planned dispatch = Planned dispatch.0 dispatch.1
-
--- what the listener is told of an event: its cancels, and then the dispatch, if one follows
-abbrev pub told_of : Reply → List Dispatch → List Happening
-told_of reply dispatches = map Told (map Canceled reply.cancels.items ++ map planned dispatches)
-
--- one event came, and nothing else happened
+-- One event came, was answered this, and nothing else happened: the listener is told its cancels, and then
+-- the dispatch, unless it is a query. No memory was refused.
 pub record IsOneEvent (moment : ℕ) (event : Event) (reply : Reply) (old : State) (hs : List Happening) (new : State) : Type 0 where
-  -- one, or none after a query
-  pub dispatches : List Dispatch
-  pub answered : IsAnswered (record { event = event; moment = moment }) reply old dispatches new
-  pub told : hs ≡ told_of reply dispatches
+  pub outcome : Outcome
+  pub notes : List Note
+  pub answered : reply_of outcome ≡ Some reply
+  pub whole : IsWhole outcome
+  pub handled : Handles moment event old outcome notes new
+  pub told : hs ≡ map Told notes
 
 -- no event came, and nothing happened
 abbrev pub IsNoEvent : State → List Happening → State → Type 0

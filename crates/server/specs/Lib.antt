@@ -14,5 +14,4 @@ pub mod Law
 pub mod State
 pub mod Newcomers
 pub mod Stands
-pub mod CoreStep
 pub mod NoteLog

@@ -3,12 +3,12 @@ use Rattle.std.specs.Prelude.{ℕ, ◌≡◌, ◌⊎◌, Bool, true, false, if�
 use Rattle.base_types.specs.declared.report.Report.{Report}
 use Rattle.base_types.specs.declared.report.Report.TheVariants.{Hello}
 use Rattle.connections.specs.Slots.{Slots, OnSlot, ended_at, is_broken, is_of}
-use Rattle.server.specs.declared.notes.DeviceRefusal.{DeviceRefusal}
-use Rattle.server.specs.declared.notes.DeviceRefusal.TheVariants as why
+use Rattle.dispatcher.specs.declared.listener.DeviceRefusal.{DeviceRefusal}
+use Rattle.dispatcher.specs.declared.listener.DeviceRefusal.TheVariants as why
 use Rattle.server.specs.declared.devices.Greeting.{Greeting}
 use Rattle.server.specs.declared.devices.Greeting.TheVariants.{Taken, Replaces, IsThere, Unknown}
 use Rattle.server.specs.Devices.{device_named}
-use Rattle.server.specs.Polls.{Note, DeviceRefused}
+use Rattle.dispatcher.specs.Notes.{Note, DeviceRefused}
 use Rattle.server.specs.State.{EngineState, slot_at, with_slots}
 
 -- no connection is this device's

@@ -3,7 +3,7 @@ use Rattle.std.specs.Prelude.{◌≡◌, ◌⊎◌, List, [], ◌∷◌, ◌++�
 use Rattle.prices.specs.Plan.{PlanRecord}
 use Rattle.prices.specs.declared.plan.PlannedClass.{PlannedClass}
 use Rattle.print_room.specs.declared.started.Started.{Started}
-use Rattle.server.specs.Polls.{Note, Planned, Canceled, DeviceRefused, Refused}
+use Rattle.dispatcher.specs.Notes.{Note, Planned, Canceled, DeviceRefused, Refused}
 use Rattle.server.specs.declared.note_log.Heard.{Heard}
 use Rattle.server.specs.declared.note_log.Heard.TheVariants as hear
 

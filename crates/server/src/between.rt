@@ -3,12 +3,12 @@ ghost use Rattle.base_types.specs.Report.{report_of};
 ghost use Rattle.server.specs.Polls.{alone};
 ghost use Rattle.server.specs.Happening.{Unanswered};
 ghost use Rattle.server.specs.Turn.{Ticked, Reported, BodyAsks, BodyComes};
-ghost use Rattle.server.specs.Stands.{Openly, Calls, Answered, ServesBody, BytesAs, RefusalAs, said_of};
+ghost use Rattle.server.specs.Stands.{Openly, Calls, Answered, ServesBody, AnswerAs, BytesAs, RefusalAs, said_of};
 
 use crate::engine::Engine;
-use crate::notes::{Notes, Place};
 use crate::served::{Served, answered};
 use base_types::{DeviceId, Moment, Report};
+use dispatcher::{Listener, Place};
 use events::{Answer as Says, Event, Reply, Status};
 use planners::Planner;
 use replies::{ipp_refusal, ipp_reply};
@@ -19,7 +19,7 @@ use std::alloc::AllocError;
 impl<P: Planner + Drop> Engine<P> {
     /// One IPP body, between turns, without HTTP. The error is that a growth was refused, which the
     /// listener is told of.
-    pub fn serve_body<N: Notes>(
+    pub fn serve_body<N: Listener>(
         &mut self,
         body: &[u8],
         notes: &mut N,
@@ -31,7 +31,7 @@ impl<P: Planner + Drop> Engine<P> {
     }
 
     /// What a body comes to.
-    fn serve_now<N: Notes>(
+    fn serve_now<N: Listener>(
         &mut self,
         moment: Moment,
         body: &[u8],
@@ -49,7 +49,7 @@ impl<P: Planner + Drop> Engine<P> {
     }
 
     /// What comes of what a body asks.
-    fn serve_asked<N: Notes>(
+    fn serve_asked<N: Listener>(
         &mut self,
         moment: Moment,
         asked: Asked,
@@ -65,7 +65,7 @@ impl<P: Planner + Drop> Engine<P> {
     }
 
     /// A status alone.
-    fn serve_refusal<N: Notes>(
+    fn serve_refusal<N: Listener>(
         &self,
         status: Status,
         request: u32,
@@ -83,7 +83,7 @@ impl<P: Planner + Drop> Engine<P> {
     }
 
     /// An event of a body.
-    fn serve_event<N: Notes>(
+    fn serve_event<N: Listener>(
         &mut self,
         moment: Moment,
         request: u32,
@@ -92,19 +92,24 @@ impl<P: Planner + Drop> Engine<P> {
     ) -> Result<Served, AllocError>
         ensures { Answered (alone N.told) (BodyAsks moment (Asked.Event request event)) notes.old self.old notes.new self.new (said_of result) }
     {
-        let query = event.is_query();
-        match self.core.apply(event, moment) {
-            Ok(reply) => {
-                let Reply {
-                    answer,
-                    cancels,
-                    ..
-                } = reply;
-                let bytes = self.bytes_of(answer, request, notes);
-                let refused = self.follow(moment, query, &cancels, notes);
-                answered(bytes, refused)
-            }
-            Err(_) => {
+        let handled = self.handle(moment, event, notes);
+        let bytes = self.bytes_of(handled.outcome.into_reply(), request, notes);
+        answered(bytes, handled.refused)
+    }
+
+    /// The bytes of a reply. The error is out of memory, for the event or for these, which the listener is
+    /// told of.
+    fn bytes_of<N: Listener>(
+        &self,
+        reply: Option<Reply>,
+        request: u32,
+        notes: &mut N,
+    ) -> Result<Vec<u8>, AllocError>
+        ensures { BytesAs N.told request reply notes.old result notes.new }
+    {
+        match reply {
+            Some(reply) => self.answer_bytes(reply.answer, request, notes),
+            None => {
                 notes.refused(Place::Event, None);
                 Err(AllocError)
             }
@@ -112,13 +117,13 @@ impl<P: Planner + Drop> Engine<P> {
     }
 
     /// The bytes of an answer. The error is out of memory, which the listener is told of.
-    fn bytes_of<N: Notes>(
+    fn answer_bytes<N: Listener>(
         &self,
         answer: Says,
         request: u32,
         notes: &mut N,
     ) -> Result<Vec<u8>, AllocError>
-        ensures { BytesAs N.told request answer notes.old result notes.new }
+        ensures { AnswerAs N.told request answer notes.old result notes.new }
     {
         match answer {
             Says::Lpd(_) => Ok(Vec::new(self.alloc)),
@@ -135,7 +140,7 @@ impl<P: Planner + Drop> Engine<P> {
 
     /// One report of a device, between turns, without a connection. The error is that a growth was
     /// refused, which the listener is told of.
-    pub fn report<N: Notes>(
+    pub fn report<N: Listener>(
         &mut self,
         device: DeviceId,
         report: Report,
@@ -152,7 +157,7 @@ impl<P: Planner + Drop> Engine<P> {
     }
 
     /// One report of a device. Whether a growth was refused.
-    pub(crate) fn report_now<N: Notes>(
+    pub(crate) fn report_now<N: Listener>(
         &mut self,
         moment: Moment,
         device: DeviceId,
@@ -161,14 +166,12 @@ impl<P: Planner + Drop> Engine<P> {
     ) -> bool
         ensures { Openly (alone N.told) (Unanswered moment (Event.Report device report)) notes.old self.old notes.new self.new result }
     {
-        let Ok(reply) = self.core.apply(Event::Report(device, report), moment) else {
-            return false;
-        };
-        self.follow(moment, false, &reply.cancels, notes)
+        self.handle(moment, Event::Report(device, report), notes)
+            .refused
     }
 
     /// One tick, between turns. The error is that a growth was refused, which the listener is told of.
-    pub fn tick<N: Notes>(&mut self, notes: &mut N, moment: Moment) -> Result<(), AllocError>
+    pub fn tick<N: Listener>(&mut self, notes: &mut N, moment: Moment) -> Result<(), AllocError>
         ensures { Calls (alone N.told) (Ticked moment) notes.old self.old notes.new self.new result }
     {
         if self.tick_now(moment, notes) {

@@ -11,9 +11,9 @@ ghost use Rattle.server.specs.State.{slot_at};
 ghost use Rattle.server.specs.Stands.{Does, Aside, Closed};
 
 use crate::engine::Engine;
-use crate::notes::Notes;
 use base_types::{Moment, Report};
 use connections::table::{break_off, close, is_broken, is_done};
+use dispatcher::Listener;
 use planners::Planner;
 use wires::Wire;
 
@@ -33,7 +33,13 @@ impl<P: Planner + Drop> Engine<P> {
     }
 
     /// Closes the connection under a key. Where a device said its name on it, the device is gone.
-    fn close<W: Wire, N: Notes>(&mut self, moment: Moment, key: usize, wire: &mut W, notes: &mut N)
+    fn close<W: Wire, N: Listener>(
+        &mut self,
+        moment: Moment,
+        key: usize,
+        wire: &mut W,
+        notes: &mut N,
+    )
         ensures { (fate : Fate) (c : ConnectionState) → slot_at self.old key ≡ Some c → (fate ≡ Drained → c.output ≡ []) → Closed (both W.polled N.told) moment fate key (wire.old, notes.old) self.old (wire.new, notes.new) self.new }
     {
         if let Some(device) = close(&mut self.connections, key, wire) {
@@ -42,7 +48,12 @@ impl<P: Planner + Drop> Engine<P> {
     }
 
     /// Closes the broken connections, by rising key.
-    pub(crate) fn settle<W: Wire, N: Notes>(&mut self, moment: Moment, wire: &mut W, notes: &mut N)
+    pub(crate) fn settle<W: Wire, N: Listener>(
+        &mut self,
+        moment: Moment,
+        wire: &mut W,
+        notes: &mut N,
+    )
         ensures { Aside (both W.polled N.told) (Settles moment) (wire.old, notes.old) self.old (wire.new, notes.new) self.new }
     {
         while let Some(key) = self.first_broken() {
@@ -51,7 +62,7 @@ impl<P: Planner + Drop> Engine<P> {
     }
 
     /// The connection under a key breaks, and is closed.
-    pub(crate) fn fail<W: Wire, N: Notes>(
+    pub(crate) fn fail<W: Wire, N: Listener>(
         &mut self,
         moment: Moment,
         key: usize,
@@ -65,7 +76,7 @@ impl<P: Planner + Drop> Engine<P> {
     }
 
     /// The connection under a key is closed, if it is done.
-    pub(crate) fn end_one<W: Wire, N: Notes>(
+    pub(crate) fn end_one<W: Wire, N: Listener>(
         &mut self,
         moment: Moment,
         key: usize,

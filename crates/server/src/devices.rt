@@ -9,9 +9,9 @@ ghost use Rattle.server.specs.Newcomers.{IsGreeted, IsMet, RefusesAt, held, unkn
 ghost use Rattle.server.specs.Stands.{Aside, Heard};
 
 use crate::engine::Engine;
-use crate::notes::{DeviceRefusal, Notes};
 use base_types::{DeviceId, Moment, Report, Text};
 use connections::table::{device_at, give_way, has_ended, key_of, lose, name};
+use dispatcher::{DeviceRefusal, Listener};
 use planners::Planner;
 use settings_file::Settings;
 
@@ -31,7 +31,7 @@ pub(crate) enum Greeting {
 /// Reports of devices, acted on one at a time.
 impl<P: Planner + Drop> Engine<P> {
     /// Acts on a report that was just taken off.
-    pub(crate) fn hear_report<N: Notes>(
+    pub(crate) fn hear_report<N: Listener>(
         &mut self,
         moment: Moment,
         key: usize,
@@ -50,7 +50,7 @@ impl<P: Planner + Drop> Engine<P> {
 
     /// Acts on the first report of a connection: it is the name of a device that has no connection, or
     /// one whose input has ended, or the connection breaks.
-    fn greet<N: Notes>(&mut self, moment: Moment, key: usize, report: Report, notes: &mut N)
+    fn greet<N: Listener>(&mut self, moment: Moment, key: usize, report: Report, notes: &mut N)
         ensures { (before : Slots) → OnSlot key (IsFirstReport report) before self.old.slots → Heard (alone N.told) moment key notes.old (with_slots before self.old) notes.new self.new }
     {
         match self.greeting(&report) {
@@ -70,7 +70,7 @@ impl<P: Planner + Drop> Engine<P> {
     }
 
     /// The connection under a key is refused: it breaks, and the listener is told why.
-    pub(crate) fn turn_away<N: Notes>(&mut self, key: usize, why: DeviceRefusal, notes: &mut N)
+    pub(crate) fn turn_away<N: Listener>(&mut self, key: usize, why: DeviceRefusal, notes: &mut N)
         ensures { RefusesAt N.told key why notes.old self.old notes.new self.new }
     {
         if let Some(id) = lose(&mut self.connections, key) {
@@ -79,7 +79,7 @@ impl<P: Planner + Drop> Engine<P> {
     }
 
     /// A fault in what a device says, which said its name or didn't.
-    pub(crate) fn refuse_device<N: Notes>(&mut self, key: usize, notes: &mut N)
+    pub(crate) fn refuse_device<N: Listener>(&mut self, key: usize, notes: &mut N)
         ensures { RefusesAt N.told key (DeviceRefusal.Fault (device_at self.old.slots key)) notes.old self.old notes.new self.new }
     {
         let device = device_at(&self.connections, key);
@@ -88,7 +88,7 @@ impl<P: Planner + Drop> Engine<P> {
 
     /// A device comes again, whose connection under a key has ended: that one gives way, the device is
     /// gone, and says its name.
-    fn take_over<N: Notes>(
+    fn take_over<N: Listener>(
         &mut self,
         moment: Moment,
         old: usize,

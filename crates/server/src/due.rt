@@ -7,8 +7,8 @@ ghost use Rattle.server.specs.Exchange.{http_status};
 ghost use Rattle.server.specs.Stands.{Aside, ToldOf, is_refused};
 
 use crate::engine::Engine;
-use crate::notes::{Notes, Place};
 use connections::table::{Kept, keep, keep_refusal, keep_reply};
+use dispatcher::{Listener, Place};
 use events::Status;
 use http_front::Refusal;
 use planners::Planner;
@@ -18,7 +18,7 @@ use replies::ipp_refusal;
 /// breaks.
 impl<P: Planner + Drop> Engine<P> {
     /// Bytes become due on the connection under a key.
-    pub(crate) fn keep<N: Notes>(&mut self, key: usize, bytes: &[u8], notes: &mut N)
+    pub(crate) fn keep<N: Listener>(&mut self, key: usize, bytes: &[u8], notes: &mut N)
         ensures { Aside (alone N.told) (Keeps key bytes.now) notes.old self.old notes.new self.new }
     {
         let kept = keep(&mut self.connections, key, bytes);
@@ -26,7 +26,7 @@ impl<P: Planner + Drop> Engine<P> {
     }
 
     /// A reply of IPP becomes due on the connection under a key.
-    pub(crate) fn keep_reply<N: Notes>(
+    pub(crate) fn keep_reply<N: Listener>(
         &mut self,
         key: usize,
         closes: bool,
@@ -41,7 +41,7 @@ impl<P: Planner + Drop> Engine<P> {
 
     /// The reply of a status alone becomes due on the connection under a key.
     #[tactic(auto, unfolding(crate::specs::Exchange::http_status))]
-    pub(crate) fn keep_status<N: Notes>(
+    pub(crate) fn keep_status<N: Listener>(
         &mut self,
         key: usize,
         closes: bool,
@@ -56,7 +56,7 @@ impl<P: Planner + Drop> Engine<P> {
     }
 
     /// The reply to a request that is refused becomes due on the connection under a key.
-    pub(crate) fn keep_refusal<N: Notes>(&mut self, key: usize, refusal: Refusal, notes: &mut N)
+    pub(crate) fn keep_refusal<N: Listener>(&mut self, key: usize, refusal: Refusal, notes: &mut N)
         ensures { Aside (alone N.told) (Keeps key (refusal_head refusal)) notes.old self.old notes.new self.new }
     {
         let kept = keep_refusal(&mut self.connections, key, refusal);
@@ -65,7 +65,7 @@ impl<P: Planner + Drop> Engine<P> {
 }
 
 /// Tells of a growth of due bytes that was refused. Whether one was.
-pub(crate) fn tell<N: Notes>(kept: Kept, notes: &mut N) -> bool
+pub(crate) fn tell<N: Listener>(kept: Kept, notes: &mut N) -> bool
     ensures told { ToldOf N.told kept notes.old notes.new }
     ensures refused { result ≡ is_refused kept }
 {

@@ -8,10 +8,9 @@ ghost use Rattle.server.specs.Polls.{both};
 ghost use Rattle.server.specs.State.{EngineState};
 ghost use Rattle.server.specs.Stands.{StandsAt, Turns};
 
-use crate::notes::Notes;
 use base_types::{DeviceId, DeviceNow, JobId, Limits, Moment};
 use connections::Connection;
-use dispatcher::Core;
+use dispatcher::{Core, Listener};
 use job_objects::Job;
 use planners::Planner;
 use settings_file::Settings;
@@ -62,7 +61,7 @@ impl<P: Planner + Drop> Engine<P> {
     ///
     /// Whatever the wire answers: at whatever trace the engine stood, it stands at that trace followed
     /// by this turn.
-    pub fn turn<W: Wire, N: Notes>(&mut self, wire: &mut W, notes: &mut N, moment: Moment)
+    pub fn turn<W: Wire, N: Listener>(&mut self, wire: &mut W, notes: &mut N, moment: Moment)
         ensures { Turns (both W.polled N.told) moment (wire.old, notes.old) self.old (wire.new, notes.new) self.new }
     {
         self.turn_once(wire, notes, moment);

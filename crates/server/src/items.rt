@@ -8,12 +8,12 @@ ghost use Rattle.connections.specs.Slots.{Slots, OnSlot, IsBrought, IsHeard, IsW
 ghost use Rattle.server.specs.State.{HearsNothing, with_slots};
 ghost use Rattle.server.specs.Stands.{Aside, Heard};
 
-use crate::effects::Asker;
+use crate::answering::Asker;
 use crate::engine::Engine;
-use crate::notes::{Notes, Place};
 use base_types::Moment;
 use connections::Brought;
 use connections::table::{Whole, begin, finish, lose, next, take_body, take_part};
+use dispatcher::{Listener, Place};
 use events::{Event, Status};
 use http_front::{HttpItem, Refusal, continue_head};
 use planners::Planner;
@@ -23,7 +23,7 @@ use wires::WireId;
 /// What connections bring, acted on one at a time.
 impl<P: Planner + Drop> Engine<P> {
     /// Acts on what the connection under a key brings next: whether there was something.
-    pub(crate) fn hear<N: Notes>(&mut self, moment: Moment, key: usize, notes: &mut N) -> bool
+    pub(crate) fn hear<N: Listener>(&mut self, moment: Moment, key: usize, notes: &mut N) -> bool
         ensures heard { IsTrue result → Heard (alone N.told) moment key notes.old self.old notes.new self.new }
         ensures none { IsFalse result → HearsNothing key self.old self.new }
         ensures still { IsFalse result → notes.new ≡ notes.old }
@@ -38,7 +38,7 @@ impl<P: Planner + Drop> Engine<P> {
     }
 
     /// What comes of what was just taken off.
-    fn act_next<N: Notes>(&mut self, moment: Moment, key: usize, what: Brought, notes: &mut N)
+    fn act_next<N: Listener>(&mut self, moment: Moment, key: usize, what: Brought, notes: &mut N)
         ensures { (before : Slots) → OnSlot key (IsBrought (Some what)) before self.old.slots → Heard (alone N.told) moment key notes.old (with_slots before self.old) notes.new self.new }
     {
         match what {
@@ -56,7 +56,7 @@ impl<P: Planner + Drop> Engine<P> {
     }
 
     /// What an item does that was just taken off.
-    fn hear_item<N: Notes>(&mut self, moment: Moment, key: usize, item: HttpItem, notes: &mut N)
+    fn hear_item<N: Listener>(&mut self, moment: Moment, key: usize, item: HttpItem, notes: &mut N)
         ensures { (before : Slots) → OnSlot key (IsHeard item) before self.old.slots → Heard (alone N.told) moment key notes.old (with_slots before self.old) notes.new self.new }
     {
         match item {
@@ -76,7 +76,7 @@ impl<P: Planner + Drop> Engine<P> {
     }
 
     /// Acts on the body that is whole now.
-    fn end_body<N: Notes>(&mut self, moment: Moment, key: usize, notes: &mut N)
+    fn end_body<N: Listener>(&mut self, moment: Moment, key: usize, notes: &mut N)
         ensures { (before : Slots) → OnSlot key (IsHeard HttpItem.BodyEnd) before self.old.slots → Heard (alone N.told) moment key notes.old (with_slots before self.old) notes.new self.new }
     {
         if let Some(mut whole) = take_body(&mut self.connections, key) {
@@ -85,7 +85,7 @@ impl<P: Planner + Drop> Engine<P> {
     }
 
     /// Acts on a body.
-    fn act_on<N: Notes>(&mut self, moment: Moment, key: usize, whole: &mut Whole, notes: &mut N)
+    fn act_on<N: Listener>(&mut self, moment: Moment, key: usize, whole: &mut Whole, notes: &mut N)
         ensures { (before : Slots) → OnSlot key (IsWholeOf whole.old) before self.old.slots → Heard (alone N.told) moment key notes.old (with_slots before self.old) notes.new self.new }
     {
         let Some(request) = whole.body.request_id() else {
@@ -103,7 +103,7 @@ impl<P: Planner + Drop> Engine<P> {
     }
 
     /// A body under 8 bytes is answered 400, and the connection closes.
-    fn refuse_short<N: Notes>(&mut self, key: usize, notes: &mut N)
+    fn refuse_short<N: Listener>(&mut self, key: usize, notes: &mut N)
         ensures { Aside (alone N.told) (Keeps key (refusal_head Refusal.BadRequest)) notes.old (with_slots (changed_at key (is_over true) self.old.slots) self.old) notes.new self.new }
     {
         finish(&mut self.connections, key, true);
@@ -111,7 +111,7 @@ impl<P: Planner + Drop> Engine<P> {
     }
 
     /// Acts on what a body asks.
-    fn act_on_asked<N: Notes>(
+    fn act_on_asked<N: Listener>(
         &mut self,
         moment: Moment,
         key: usize,

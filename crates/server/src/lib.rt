@@ -7,17 +7,16 @@
 //! Tests stand in `server_tests`.
 #![tactic(auto)]
 
+mod answering;
 mod between;
 mod closings;
-mod core_step;
 mod devices;
 mod due;
-mod effects;
 mod engine;
+mod handling;
 mod items;
 mod law;
 mod note_log;
-mod notes;
 mod polls;
 mod said;
 mod served;
@@ -28,5 +27,4 @@ mod turns;
 pub use engine::Engine;
 pub use law::{closed_were_given, deed_is_one_event, last_words_are_kept, trace_is_one_run};
 pub use note_log::{Heard, NoteLog};
-pub use notes::{DeviceRefusal, Notes, Place};
 pub use served::Served;

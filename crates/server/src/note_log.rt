@@ -4,9 +4,8 @@ ghost use Rattle.std.specs.Option.{option_copied};
 ghost use Rattle.dispatcher.specs.Dispatched.{plan_of, started_of};
 ghost use Rattle.server.specs.NoteLog.{plan_words, class_word, dispatch_words};
 
-use crate::notes::{DeviceRefusal, Notes, Place};
 use base_types::{Priority, Stranded};
-use dispatcher::{Dispatched, Started};
+use dispatcher::{DeviceRefusal, Dispatched, Listener, Place, Started};
 use events::Cancel;
 use prices::{Plan, PlannedClass};
 use std::alloc::{AllocError, Global};
@@ -52,7 +51,7 @@ impl Model for NoteLog {
     ghost view = { λ l. if l.lost then None else Some l.heard.items };
 }
 
-impl Notes for NoteLog {
+impl Listener for NoteLog {
     ghost use Rattle.server.specs.NoteLog.{Hears};
 
     ghost told = { Hears };

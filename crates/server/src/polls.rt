@@ -5,10 +5,10 @@ ghost use Rattle.server.specs.Polling.{AcceptsAt, AcceptsOne, Opens, Serves, Fee
 ghost use Rattle.server.specs.Stands.{Does};
 
 use crate::engine::Engine;
-use crate::notes::{Notes, Place};
 use base_types::{Limits, Moment};
 use connections::Talk;
 use connections::table::{Fed, end, feed, insert, offer, to_read};
+use dispatcher::{Listener, Place};
 use outputs::Offered;
 use planners::Planner;
 use wires::{Answer, Door, Wire, WireId};
@@ -19,7 +19,12 @@ const PIECE: usize = 4096;
 /// One accept, one read or one write, with all that it brings.
 impl<P: Planner + Drop> Engine<P> {
     /// At most one connection is accepted at a door.
-    pub(crate) fn accept_at<W: Wire, N: Notes>(&mut self, door: Door, wire: &mut W, notes: &mut N)
+    pub(crate) fn accept_at<W: Wire, N: Listener>(
+        &mut self,
+        door: Door,
+        wire: &mut W,
+        notes: &mut N,
+    )
         ensures { Does (both W.polled N.told) (AcceptsAt door) (wire.old, notes.old) self.old (wire.new, notes.new) self.new }
     {
         if self.connections.len() < Limits::CONNECTIONS {
@@ -28,7 +33,7 @@ impl<P: Planner + Drop> Engine<P> {
     }
 
     /// One accept at a door.
-    fn accept<W: Wire, N: Notes>(&mut self, door: Door, wire: &mut W, notes: &mut N)
+    fn accept<W: Wire, N: Listener>(&mut self, door: Door, wire: &mut W, notes: &mut N)
         ensures { Does (both W.polled N.told) (AcceptsOne door) (wire.old, notes.old) self.old (wire.new, notes.new) self.new }
     {
         if let Answer::Done(id) = wire.poll_accept(door) {
@@ -38,7 +43,7 @@ impl<P: Planner + Drop> Engine<P> {
     }
 
     /// A connection has come.
-    fn open<W: Wire, N: Notes>(&mut self, id: WireId, talk: Talk, wire: &mut W, notes: &mut N)
+    fn open<W: Wire, N: Listener>(&mut self, id: WireId, talk: Talk, wire: &mut W, notes: &mut N)
         ensures { (door : Door) → IsNewTalk door talk → Does (both W.polled N.told) (Opens door id) (wire.old, notes.old) self.old (wire.new, notes.new) self.new }
     {
         if insert(&mut self.connections, self.alloc, id, talk) {
@@ -49,7 +54,7 @@ impl<P: Planner + Drop> Engine<P> {
     }
 
     /// One read of the connection under a key, if it is read, and what it brings.
-    pub(crate) fn read_one<W: Wire, N: Notes>(
+    pub(crate) fn read_one<W: Wire, N: Listener>(
         &mut self,
         moment: Moment,
         key: usize,
@@ -71,7 +76,7 @@ impl<P: Planner + Drop> Engine<P> {
     }
 
     /// Takes a piece that was read of the connection under a key.
-    fn take<W: Wire, N: Notes>(
+    fn take<W: Wire, N: Listener>(
         &mut self,
         moment: Moment,
         key: usize,
@@ -93,7 +98,13 @@ impl<P: Planner + Drop> Engine<P> {
     }
 
     /// Acts on each item of the connection under a key.
-    fn serve<W: Wire, N: Notes>(&mut self, moment: Moment, key: usize, wire: &mut W, notes: &mut N)
+    fn serve<W: Wire, N: Listener>(
+        &mut self,
+        moment: Moment,
+        key: usize,
+        wire: &mut W,
+        notes: &mut N,
+    )
         ensures { Does (both W.polled N.told) (Serves moment key) (wire.old, notes.old) self.old (wire.new, notes.new) self.new }
     {
         while self.hear(moment, key, notes) {
@@ -102,7 +113,7 @@ impl<P: Planner + Drop> Engine<P> {
     }
 
     /// One write of what waits on the connection under a key, if something does.
-    pub(crate) fn write_one<W: Wire, N: Notes>(
+    pub(crate) fn write_one<W: Wire, N: Listener>(
         &mut self,
         moment: Moment,
         key: usize,

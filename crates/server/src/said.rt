@@ -1,20 +1,18 @@
 //! What comes of what LPD clients say.
 ghost use Rattle.std.specs.Prelude.{Some};
 ghost use Rattle.server.specs.Polls.{alone};
-ghost use Rattle.server.specs.Rel.{Then};
-ghost use Rattle.server.specs.Happening.{Follows};
 ghost use Rattle.replies.specs.QueueText.{text_of};
-ghost use Rattle.server.specs.Queues.{Answers, Declines, IsAnswered, IsTold, Shows};
-ghost use Rattle.server.specs.Granting.{Grants, Submitted, Commanded};
+ghost use Rattle.server.specs.Queues.{Answers, Declines, Submitted, Commanded, Acknowledges, Responds, IsAnswered, IsTold, Shows};
+ghost use Rattle.server.specs.Granting.{Grants};
 ghost use Rattle.connections.specs.Slots.{Slots, OnSlot, IsBrought, IsSaid};
 ghost use Rattle.server.specs.State.{with_slots};
 ghost use Rattle.server.specs.Stands.{Aside, Heard};
 
 use crate::engine::Engine;
-use crate::notes::{Notes, Place};
 use base_types::Moment;
 use connections::table::{break_off, finish, hear_said};
 use connections::{Brought, LpdAsks, REFUSED};
+use dispatcher::{Listener, Place};
 use events::{Answer as Says, Event, LpdAnswer, Reply};
 use lpd_reader::LpdItem;
 use planners::Planner;
@@ -24,7 +22,7 @@ use wires::WireId;
 /// What LPD clients say, acted on one thing at a time.
 impl<P: Planner + Drop> Engine<P> {
     /// Acts on what an LPD client said that was just taken off.
-    pub(crate) fn hear_said<N: Notes>(
+    pub(crate) fn hear_said<N: Listener>(
         &mut self,
         moment: Moment,
         key: usize,
@@ -39,7 +37,7 @@ impl<P: Planner + Drop> Engine<P> {
     }
 
     /// A fault of an LPD client's stream is refused, and the connection closes.
-    pub(crate) fn refuse_client<N: Notes>(&mut self, moment: Moment, key: usize, notes: &mut N)
+    pub(crate) fn refuse_client<N: Listener>(&mut self, moment: Moment, key: usize, notes: &mut N)
         ensures { (before : Slots) → OnSlot key (IsBrought (Some Brought.LpdFault)) before self.old.slots → Heard (alone N.told) moment key notes.old (with_slots before self.old) notes.new self.new }
     {
         finish(&mut self.connections, key, true);
@@ -47,7 +45,7 @@ impl<P: Planner + Drop> Engine<P> {
     }
 
     /// What an LPD client asks comes about.
-    fn grant<N: Notes>(
+    fn grant<N: Listener>(
         &mut self,
         moment: Moment,
         key: usize,
@@ -68,7 +66,7 @@ impl<P: Planner + Drop> Engine<P> {
     }
 
     /// A byte becomes due on the connection under a key, if there is one.
-    fn acknowledge<N: Notes>(&mut self, key: usize, byte: Option<u8>, notes: &mut N)
+    fn acknowledge<N: Listener>(&mut self, key: usize, byte: Option<u8>, notes: &mut N)
         ensures { Aside (alone N.told) (Answers key byte) notes.old self.old notes.new self.new }
     {
         if let Some(byte) = byte {
@@ -77,7 +75,7 @@ impl<P: Planner + Drop> Engine<P> {
     }
 
     /// Memory for a file or for its job was refused.
-    fn decline<N: Notes>(&mut self, place: Place, key: usize, id: WireId, notes: &mut N)
+    fn decline<N: Listener>(&mut self, place: Place, key: usize, id: WireId, notes: &mut N)
         ensures { Aside (alone N.told) (Declines place key id) notes.old self.old notes.new self.new }
     {
         notes.refused(place, Some(id));
@@ -85,7 +83,7 @@ impl<P: Planner + Drop> Engine<P> {
     }
 
     /// A job of files is submitted.
-    fn submit<N: Notes>(
+    fn submit<N: Listener>(
         &mut self,
         moment: Moment,
         key: usize,
@@ -95,15 +93,28 @@ impl<P: Planner + Drop> Engine<P> {
     )
         ensures { Aside (alone N.told) (Submitted moment key id event) notes.old self.old notes.new self.new }
     {
-        let query = event.is_query();
-        match self.core.apply(event, moment) {
-            Ok(reply) => self.answer_client(moment, key, id, query, reply, notes),
-            Err(_) => self.decline(Place::Event, key, id, notes),
+        let handled = self.handle(moment, event, notes);
+        self.answer_job(key, id, handled.outcome.into_reply(), notes);
+    }
+
+    /// The answer to a job becomes due, or that memory for it was refused.
+    fn answer_job<N: Listener>(
+        &mut self,
+        key: usize,
+        id: WireId,
+        reply: Option<Reply>,
+        notes: &mut N,
+    )
+        ensures { Aside (alone N.told) (Acknowledges key id reply) notes.old self.old notes.new self.new }
+    {
+        match reply {
+            Some(reply) => self.tell_answer(key, id, &reply.answer, notes),
+            None => self.decline(Place::Event, key, id, notes),
         }
     }
 
     /// A queue is listed, or jobs are removed.
-    fn command<N: Notes>(
+    fn command<N: Listener>(
         &mut self,
         moment: Moment,
         key: usize,
@@ -113,39 +124,31 @@ impl<P: Planner + Drop> Engine<P> {
     )
         ensures { Aside (alone N.told) (Commanded moment key id event) notes.old self.old notes.new self.new }
     {
-        let query = event.is_query();
-        match self.core.apply(event, moment) {
-            Ok(reply) => self.answer_client(moment, key, id, query, reply, notes),
-            Err(_) => {
+        let handled = self.handle(moment, event, notes);
+        self.answer_command(key, id, handled.outcome.into_reply(), notes);
+    }
+
+    /// The answer to a command becomes due; where memory for it was refused the connection breaks.
+    fn answer_command<N: Listener>(
+        &mut self,
+        key: usize,
+        id: WireId,
+        reply: Option<Reply>,
+        notes: &mut N,
+    )
+        ensures { Aside (alone N.told) (Responds key id reply) notes.old self.old notes.new self.new }
+    {
+        match reply {
+            Some(reply) => self.tell_answer(key, id, &reply.answer, notes),
+            None => {
                 notes.refused(Place::Event, Some(id));
                 break_off(&mut self.connections, key);
             }
         }
     }
 
-    /// A reply of the core is kept, and what follows comes.
-    fn answer_client<N: Notes>(
-        &mut self,
-        moment: Moment,
-        key: usize,
-        id: WireId,
-        query: bool,
-        reply: Reply,
-        notes: &mut N,
-    )
-        ensures { Aside (alone N.told) (Then (IsAnswered key id reply.answer) (Follows moment query reply.cancels.items)) notes.old self.old notes.new self.new }
-    {
-        let Reply {
-            answer,
-            cancels,
-            ..
-        } = reply;
-        self.tell_answer(key, id, &answer, notes);
-        self.follow(moment, query, &cancels, notes);
-    }
-
     /// The bytes of an answer to an LPD client become due, if it is one.
-    fn tell_answer<N: Notes>(&mut self, key: usize, id: WireId, answer: &Says, notes: &mut N)
+    fn tell_answer<N: Listener>(&mut self, key: usize, id: WireId, answer: &Says, notes: &mut N)
         ensures { Aside (alone N.told) (IsAnswered key id answer.now) notes.old self.old notes.new self.new }
     {
         match answer {
@@ -156,7 +159,13 @@ impl<P: Planner + Drop> Engine<P> {
     }
 
     /// The bytes of an answer to an LPD client become due.
-    fn tell_client<N: Notes>(&mut self, key: usize, id: WireId, answer: &LpdAnswer, notes: &mut N)
+    fn tell_client<N: Listener>(
+        &mut self,
+        key: usize,
+        id: WireId,
+        answer: &LpdAnswer,
+        notes: &mut N,
+    )
         ensures { Aside (alone N.told) (IsTold key id answer.now) notes.old self.old notes.new self.new }
     {
         match answer {
@@ -167,7 +176,7 @@ impl<P: Planner + Drop> Engine<P> {
     }
 
     /// The text of a queue becomes due; where memory for it is refused, the connection breaks.
-    fn show<N: Notes>(&mut self, key: usize, id: WireId, answer: &LpdAnswer, notes: &mut N)
+    fn show<N: Listener>(&mut self, key: usize, id: WireId, answer: &LpdAnswer, notes: &mut N)
         ensures { Aside (alone N.told) (Shows key id (text_of answer.now)) notes.old self.old notes.new self.new }
     {
         match lpd_queue_text(self.alloc, answer) {

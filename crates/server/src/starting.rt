@@ -9,16 +9,15 @@ ghost use Rattle.server.specs.State.{EngineState, with_slots};
 ghost use Rattle.server.specs.Stands.{Openly};
 
 use crate::due::tell;
-use crate::notes::Notes;
 use base_types::JobId;
 use connections::Connection;
 use connections::table::{Kept, keep, keep_job, key_of};
-use dispatcher::{Core, Started};
+use dispatcher::{Core, Listener, Started};
 use planners::Planner;
 use slab::Slab;
 
 /// The bytes of what began with the last plan become due, by device. Whether a growth was refused.
-pub(crate) fn start_all<P: Planner + Drop, N: Notes>(
+pub(crate) fn start_all<P: Planner + Drop, N: Listener>(
     core: &Core<P>,
     connections: &mut Slab<Connection>,
     notes: &mut N,
@@ -34,7 +33,7 @@ pub(crate) fn start_all<P: Planner + Drop, N: Notes>(
 
 /// The bytes of a job that begins become due on the device's connection, if it has one. Whether a growth
 /// was refused.
-fn start<P: Planner + Drop, N: Notes>(
+fn start<P: Planner + Drop, N: Listener>(
     core: &Core<P>,
     connections: &mut Slab<Connection>,
     started: Started,

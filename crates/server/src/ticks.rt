@@ -5,8 +5,8 @@ ghost use Rattle.server.specs.Turn.{Ticks, TicksIfDue, is_due};
 ghost use Rattle.server.specs.Stands.{Does, Openly};
 
 use crate::engine::Engine;
-use crate::notes::Notes;
 use base_types::Moment;
+use dispatcher::Listener;
 use events::Event;
 use planners::Planner;
 use wires::Wire;
@@ -17,7 +17,7 @@ const TICK_TIME: u64 = 1000;
 /// Ticks, by which jobs whose documents don't come are aborted and a dispatch is tried again.
 impl<P: Planner + Drop> Engine<P> {
     /// A tick, if one is due.
-    pub(crate) fn tick_if_due<W: Wire, N: Notes>(
+    pub(crate) fn tick_if_due<W: Wire, N: Listener>(
         &mut self,
         moment: Moment,
         wire: &mut W,
@@ -40,15 +40,11 @@ impl<P: Planner + Drop> Engine<P> {
     }
 
     /// A tick. Whether a growth was refused.
-    pub(crate) fn tick_now<N: Notes>(&mut self, moment: Moment, notes: &mut N) -> bool
+    pub(crate) fn tick_now<N: Listener>(&mut self, moment: Moment, notes: &mut N) -> bool
         ensures { Openly (alone N.told) (Ticks moment) notes.old self.old notes.new self.new result }
     {
-        let now = moment.later(self.core.last());
-        let Ok(reply) = self.core.apply(Event::Tick, moment) else {
-            return false;
-        };
-        self.ticked = Some(now);
-        self.follow(moment, false, &reply.cancels, notes)
+        self.ticked = Some(moment.later(self.core.last()));
+        self.handle(moment, Event::Tick, notes).refused
     }
 }
 

@@ -8,15 +8,15 @@ ghost use Rattle.server.specs.State.{slot_at};
 ghost use Rattle.server.specs.Stands.{Does};
 
 use crate::engine::Engine;
-use crate::notes::Notes;
 use base_types::Moment;
+use dispatcher::Listener;
 use planners::Planner;
 use wires::{Door, Wire};
 
 /// The parts of a turn.
 impl<P: Planner + Drop> Engine<P> {
     /// A turn, step by step.
-    pub(crate) fn turn_once<W: Wire, N: Notes>(
+    pub(crate) fn turn_once<W: Wire, N: Listener>(
         &mut self,
         wire: &mut W,
         notes: &mut N,
@@ -33,7 +33,7 @@ impl<P: Planner + Drop> Engine<P> {
     }
 
     /// The connections that are open now are read and written, and closed where they are done.
-    fn round<W: Wire, N: Notes>(&mut self, moment: Moment, wire: &mut W, notes: &mut N)
+    fn round<W: Wire, N: Listener>(&mut self, moment: Moment, wire: &mut W, notes: &mut N)
         ensures { Does (both W.polled N.told) (Round moment) (wire.old, notes.old) self.old (wire.new, notes.new) self.new }
     {
         let keys = self.keys();
@@ -50,7 +50,7 @@ impl<P: Planner + Drop> Engine<P> {
     }
 
     /// Each connection is read.
-    fn read_all<W: Wire, N: Notes>(
+    fn read_all<W: Wire, N: Listener>(
         &mut self,
         moment: Moment,
         keys: usize,
@@ -65,7 +65,7 @@ impl<P: Planner + Drop> Engine<P> {
     }
 
     /// What waits is written.
-    fn write_all<W: Wire, N: Notes>(
+    fn write_all<W: Wire, N: Listener>(
         &mut self,
         moment: Moment,
         keys: usize,
@@ -80,7 +80,7 @@ impl<P: Planner + Drop> Engine<P> {
     }
 
     /// The connections that are done are closed.
-    fn end_all<W: Wire, N: Notes>(
+    fn end_all<W: Wire, N: Listener>(
         &mut self,
         moment: Moment,
         keys: usize,

@@ -1,12 +1,13 @@
 //! Lists of events, and who hears of their plans.
 use assignment::Lazy;
 use base_types::{DeviceId, Moment, Report};
-use dispatcher::{Core, Dispatched, Listener, Outcome, Timed};
-use events::Event;
+use dispatcher::{Core, DeviceRefusal, Dispatched, Listener, Outcome, Place, Timed};
+use events::{Cancel, Event};
 use requests::{Asked, ipp_event};
 use settings_file::read_settings;
 use std::alloc::Global;
 use std::test::Fail;
+use wires::WireId;
 
 const ONE_DEVICE: &str = "version = 1\n\
 uri_base = \"ipp://localhost:631\"\n\
@@ -33,7 +34,7 @@ struct Counts {
 }
 
 impl Listener for Counts {
-    ghost hears = { λ old plan started new. Unit {0} };
+    ghost told = { λ old note new. Unit {0} };
 
     fn dispatched(&mut self, made: &Dispatched<'_>) {
         if made.plan().is_some() {
@@ -41,6 +42,12 @@ impl Listener for Counts {
         }
         self.starts = self.starts.wrapping_add(made.started().len() as u64);
     }
+
+    fn canceled(&mut self, _cancel: Cancel) {}
+
+    fn device_refused(&mut self, _id: WireId, _why: DeviceRefusal) {}
+
+    fn refused(&mut self, _place: Place, _id: Option<WireId>) {}
 }
 
 /// The device runs, a job comes, and time goes on.
@@ -67,7 +74,7 @@ fn heard(alloc: Global) -> Result<(usize, u64, u64), Fail> {
     let outcomes = core.run(alloc, day(alloc)?, &mut counts)?;
     let dispatched = outcomes
         .iter()
-        .filter(|outcome| matches!(outcome, Outcome::Dispatched(_)))
+        .filter(|outcome| matches!(outcome, Outcome::Idle(_) | Outcome::Dispatched(_)))
         .count();
     Ok((dispatched, counts.plans, counts.starts))
 }

@@ -1,7 +1,7 @@
 use Rattle.std.proofs.Common.{◌≡◌, ◌≤◌, ◌+◌, ◌++◌, ◌∷◌, [], List, length, sym, ap, subst, arith, rules, length-append}
 use Rattle.std.specs.Vec.Iter.{into_iter_items}
 use Rattle.dispatcher.specs.declared.run.Timed.{Timed}
-use Rattle.dispatcher.specs.declared.run.Outcome.{Outcome}
+use Rattle.dispatcher.specs.declared.outcome.Outcome.{Outcome}
 use Rattle.dispatcher.specs.Run.{Run}
 use Rattle.dispatcher.proofs.Runs.{run_more}
 use Rattle.dispatcher.proofs.server_core.Core.run.Goals as goal
@@ -13,6 +13,6 @@ loop-timed-preserved g c =
     let room : length c.push_reserved.new.self.items + length (into_iter_items c.next.new.self) ≤ c.push_reserved.new.self.cap = omega (arith, ap (λ (os : List Outcome). length os) pushed, length-append c.loop-timed.outcomes.items (c.handle.result ∷ []), ap (λ (ts : List Timed). length ts) rest, c.loop-timed.invariant.3, c.push_reserved.ensures.capacity) in (
       tt,
       tt,
-      subst (λ (os : List Outcome). Run g.L.Listener.hears c.args.self.now c.args.listener.now (c.loop-timed.yielded ++ c.in-Some.timed ∷ []) os c.handle.new.self c.handle.new.listener) (sym pushed) (run_more g.L.Listener.hears c.args.self.now c.args.listener.now c.loop-timed.yielded c.loop-timed.outcomes.items c.loop-timed.self c.loop-timed.listener c.in-Some.timed c.handle.result c.handle.new.self c.handle.new.listener c.loop-timed.invariant.2 c.handle.ensures),
+      subst (λ (os : List Outcome). Run g.L.Listener.told c.args.self.now c.args.listener.now (c.loop-timed.yielded ++ c.in-Some.timed ∷ []) os c.handle.new.self c.handle.new.listener) (sym pushed) (run_more g.L.Listener.told c.args.self.now c.args.listener.now c.loop-timed.yielded c.loop-timed.outcomes.items c.loop-timed.self c.loop-timed.listener c.in-Some.timed c.handle.result c.handle.new.self c.handle.new.listener c.loop-timed.invariant.2 c.handle.ensures),
       room,
     )

@@ -34,13 +34,13 @@ returns-in-Report g c = λ before on.
 pub returns-in-Fault : goal.returns-in-Fault
 returns-in-Fault g c = λ before on.
     let brought = subst (λ (what : Brought). OnSlot c.args.key (IsBrought (Some what)) before c.args.self.now.slots) c.in-Fault.is on in
-    hears_fault g.N.Notes.told _ _ (with_slots before c.args.self.now) _ c.args.self.now.slots c.args.moment c.args.key brought c.refuse_device.ensures
+    hears_fault g.N.Listener.told _ _ (with_slots before c.args.self.now) _ c.args.self.now.slots c.args.moment c.args.key brought c.refuse_device.ensures
 
 pub returns-in-Some : goal.returns-in-Some
 returns-in-Some g c = λ before on.
     let brought = subst (λ (what : Brought). OnSlot c.args.key (IsBrought (Some what)) before c.args.self.now.slots) c.in-OutOfMemory.is on in
-    subst (λ (e : EngineState). Heard (alone g.N.Notes.told) c.args.moment c.args.key c.args.notes.now (with_slots before c.args.self.now) c.refused.new.self (with_slots c.lose.new.connections.slots e)) (sym c.self.view_is)
-    (hears_lost g.N.Notes.told c.args.notes.now c.refused.new.self (with_slots before c.args.self.now) c.args.self.now.slots c.lose.new.connections.slots c.args.moment c.args.key c.in-Some.id brought
+    subst (λ (e : EngineState). Heard (alone g.N.Listener.told) c.args.moment c.args.key c.args.notes.now (with_slots before c.args.self.now) c.refused.new.self (with_slots c.lose.new.connections.slots e)) (sym c.self.view_is)
+    (hears_lost g.N.Listener.told c.args.notes.now c.refused.new.self (with_slots before c.args.self.now) c.args.self.now.slots c.lose.new.connections.slots c.args.moment c.args.key c.in-Some.id brought
     (subst (λ (e : EngineState). LosesAs c.args.key (Some c.in-Some.id) e.slots c.lose.new.connections.slots) c.self.view_is c.in-Some.ensures) c.refused.ensures)
 
 pub returns-in_default : goal.returns-in_default

@@ -6,7 +6,7 @@ use Rattle.server.proofs.engine.Engine.hear_report.Goals as goal
 
 pub returns-in-Some : goal.returns-in-Some
 returns-in-Some g c = λ before on.
-    hears_report g.N.Notes.told _ _ (with_slots before c.args.self.now) _ c.args.self.now.slots c.args.moment c.args.key c.in-Some.device c.args.report _ on
+    hears_report g.N.Listener.told _ _ (with_slots before c.args.self.now) _ c.args.self.now.slots c.args.moment c.args.key c.in-Some.device c.args.report _ on
     (ap (λ (e : EngineState). device_at e.slots c.args.key) (sym c.self.view_is) ∙ sym c.in-Some.ensures) c.report_now.ensures
 
 pub returns-in-None : goal.returns-in-None

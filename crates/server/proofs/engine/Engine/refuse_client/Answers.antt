@@ -8,6 +8,6 @@ use Rattle.server.proofs.engine.Engine.refuse_client.Goals as goal
 
 pub returns : goal.returns
 returns g c = λ before on.
-    hears_faulty (alone g.N.Notes.told) _ _ (with_slots before c.args.self.now) _ c.args.self.now.slots c.finish.new.connections.slots c.args.moment c.args.key on
+    hears_faulty (alone g.N.Listener.told) _ _ (with_slots before c.args.self.now) _ c.args.self.now.slots c.finish.new.connections.slots c.args.moment c.args.key on
     (c.finish.ensures ∙ ap (λ (e : EngineState). changed_at c.args.key (is_over true) e.slots) c.self.view_is)
     (aside_from _ _ _ _ _ _ _ _ (ap (λ (e : EngineState). with_slots c.finish.new.connections.slots e) c.self.view_is) refl c.acknowledge.ensures)

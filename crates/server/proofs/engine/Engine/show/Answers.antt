@@ -6,9 +6,9 @@ use Rattle.server.proofs.Happening.{tells, breaks}
 use Rattle.server.proofs.engine.Engine.show.Goals as goal
 
 pub returns-in-Ok : goal.returns-in-Ok
-returns-in-Ok g c = aside_as (alone g.N.Notes.told) _ _ _ _ _ _ (λ l hs l' fits fits' it. inl (subst (λ (bytes : List ℕ). Keeps c.args.key bytes l hs l') (c.deref.ensures.value ∙ c.in-Ok.ensures) it)) c.keep.ensures
+returns-in-Ok g c = aside_as (alone g.N.Listener.told) _ _ _ _ _ _ (λ l hs l' fits fits' it. inl (subst (λ (bytes : List ℕ). Keeps c.args.key bytes l hs l') (c.deref.ensures.value ∙ c.in-Ok.ensures) it)) c.keep.ensures
 
 pub returns-in-Err : goal.returns-in-Err
 returns-in-Err g c =
-    aside_as (alone g.N.Notes.told) _ _ _ _ _ _ (λ l hs l' fits fits' it. inr it)
-    (aside_then (alone g.N.Notes.told) _ _ _ _ _ _ _ _ (tells g.N.Notes.told _ _ _ _ c.refused.ensures) (aside_from _ _ _ _ _ _ _ _ c.self.view_is refl (breaks (alone g.N.Notes.told) _ _ _ _ c.break_off.ensures)))
+    aside_as (alone g.N.Listener.told) _ _ _ _ _ _ (λ l hs l' fits fits' it. inr it)
+    (aside_then (alone g.N.Listener.told) _ _ _ _ _ _ _ _ (tells g.N.Listener.told _ _ _ _ c.refused.ensures) (aside_from _ _ _ _ _ _ _ _ c.self.view_is refl (breaks (alone g.N.Listener.told) _ _ _ _ c.break_off.ensures)))

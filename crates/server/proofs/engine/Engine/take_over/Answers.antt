@@ -15,9 +15,9 @@ use Rattle.server.proofs.engine.Engine.take_over.Goals as goal
 pub returns : goal.returns
 returns g c =
     let slots = c.give_way.new.connections.slots in
-    let gone : Openly (alone g.N.Notes.told) (Unanswered c.args.moment (Is.Report c.args.device reported.Gone)) c.args.notes.now (with_slots slots c.args.self.now) c.report_now.new.notes c.report_now.new.self c.report_now.result =
-    subst (λ (e : EngineState). Openly (alone g.N.Notes.told) (Unanswered c.args.moment (Is.Report c.args.device reported.Gone)) c.args.notes.now (with_slots slots e) c.report_now.new.notes c.report_now.new.self c.report_now.result) c.self.view_is c.report_now.ensures in
-    aside_then (alone g.N.Notes.told) (GivesWay c.args.old) _ _ _ _ _ _ _
-    (gives_way_to (alone g.N.Notes.told) _ c.args.self.now slots c.args.old (c.give_way.ensures ∙ ap (λ (e : EngineState). changed_at c.args.old gives_way e.slots) c.self.view_is))
-    (aside_then (alone g.N.Notes.told) (Unanswered c.args.moment (Is.Report c.args.device reported.Gone)) (Tells c.args.moment c.args.device (report_of c.args.report)) _ _ _ _ _ _ gone.does
-    (aside_as (alone g.N.Notes.told) (Unanswered c.args.moment (Is.Report c.args.device c.args.report)) (Tells c.args.moment c.args.device (report_of c.args.report)) _ _ _ _ (λ l hs l' fits fits' it. (c.args.report, refl, it)) c.report_now-2.ensures.does))
+    let gone : Openly (alone g.N.Listener.told) (Unanswered c.args.moment (Is.Report c.args.device reported.Gone)) c.args.notes.now (with_slots slots c.args.self.now) c.report_now.new.notes c.report_now.new.self c.report_now.result =
+    subst (λ (e : EngineState). Openly (alone g.N.Listener.told) (Unanswered c.args.moment (Is.Report c.args.device reported.Gone)) c.args.notes.now (with_slots slots e) c.report_now.new.notes c.report_now.new.self c.report_now.result) c.self.view_is c.report_now.ensures in
+    aside_then (alone g.N.Listener.told) (GivesWay c.args.old) _ _ _ _ _ _ _
+    (gives_way_to (alone g.N.Listener.told) _ c.args.self.now slots c.args.old (c.give_way.ensures ∙ ap (λ (e : EngineState). changed_at c.args.old gives_way e.slots) c.self.view_is))
+    (aside_then (alone g.N.Listener.told) (Unanswered c.args.moment (Is.Report c.args.device reported.Gone)) (Tells c.args.moment c.args.device (report_of c.args.report)) _ _ _ _ _ _ gone.does
+    (aside_as (alone g.N.Listener.told) (Unanswered c.args.moment (Is.Report c.args.device c.args.report)) (Tells c.args.moment c.args.device (report_of c.args.report)) _ _ _ _ (λ l hs l' fits fits' it. (c.args.report, refl, it)) c.report_now-2.ensures.does))

@@ -1,0 +1,36 @@
+//! What becomes of an event.
+ghost use Rattle.std.specs.Prelude.{◌≡◌};
+ghost use Rattle.dispatcher.specs.Run.{reply_of};
+
+use events::Reply;
+
+/// What becomes of an event.
+#[derive(Drop)]
+pub enum Outcome {
+    /// It was dropped, out of memory, and nothing changed: never a tick, a device's report, or a
+    /// request that is refused.
+    Dropped,
+    /// It was a query, and answered.
+    Queried(Reply),
+    /// It was answered; the dispatch that follows was refused memory and changed nothing.
+    Undispatched(Reply),
+    /// It was answered, and no job is ready: no plan was made.
+    Idle(Reply),
+    /// It was answered, and a plan was made; [`crate::Core::begun`] has what began with it.
+    Dispatched(Reply),
+}
+
+impl Outcome {
+    /// The reply, unless the event was dropped.
+    pub fn into_reply(self) -> Option<Reply>
+        ensures { result ≡ reply_of self }
+    {
+        match self {
+            Outcome::Dropped => None,
+            Outcome::Queried(reply) => Some(reply),
+            Outcome::Undispatched(reply) => Some(reply),
+            Outcome::Idle(reply) => Some(reply),
+            Outcome::Dispatched(reply) => Some(reply),
+        }
+    }
+}

@@ -1,0 +1,122 @@
+//! What an event does: the core handles it, and what its devices are told becomes due.
+ghost use Rattle.std.specs.Prelude.{◌≡◌};
+ghost use Rattle.server.specs.Polls.{alone};
+ghost use Rattle.server.specs.Rel.{Then, EachOf};
+ghost use Rattle.server.specs.Happening.{Decides, Happens, Orders, Sends, StartsAll, is_undispatched, undispatched_after};
+ghost use Rattle.server.specs.Stands.{Openly};
+
+use crate::due::tell;
+use crate::engine::Engine;
+use crate::starting::start_all;
+use base_types::Moment;
+use connections::table::{keep_cancel, key_of};
+use dispatcher::{Listener, Outcome, Timed};
+use events::{Cancel, Event};
+use planners::Planner;
+
+/// What came of an event.
+#[derive(Drop)]
+pub(crate) struct Handled {
+    pub(crate) outcome: Outcome,
+    /// Whether a growth was refused after the event was taken.
+    pub(crate) refused: bool,
+}
+
+impl<P: Planner + Drop> Engine<P> {
+    /// An event: the core handles it, the listener is told, and the lines of its cancels and the bytes of
+    /// the jobs that begin become due on the connections of their devices. Its reply is the caller's.
+    pub(crate) fn handle<N: Listener>(
+        &mut self,
+        moment: Moment,
+        event: Event,
+        notes: &mut N,
+    ) -> Handled
+        ensures { Openly (alone N.told) (Happens moment event result.outcome) notes.old self.old notes.new self.new result.refused }
+    {
+        let outcome = self.decide(moment, event, notes);
+        let undispatched = is_undispatched(&outcome);
+        let unsent = self.order(&outcome, notes);
+        Handled {
+            outcome,
+            refused: undispatched | unsent,
+        }
+    }
+
+    /// The core handles an event.
+    fn decide<N: Listener>(&mut self, moment: Moment, event: Event, notes: &mut N) -> Outcome
+        ensures { Openly (alone N.told) (Decides moment event result) notes.old self.old notes.new self.new (is_undispatched result) }
+    {
+        let outcome = self.core.handle(Timed { event, moment }, notes);
+        self.undispatched = undispatched_after(&outcome, self.undispatched);
+        outcome
+    }
+
+    /// What an event comes to becomes due on the connections of devices: the lines of its cancels, and the
+    /// bytes of the jobs that begin. Whether a growth was refused.
+    fn order<N: Listener>(&mut self, outcome: &Outcome, notes: &mut N) -> bool
+        ensures { Openly (alone N.told) (Orders outcome.now) notes.old self.old notes.new self.new result }
+    {
+        match outcome {
+            Outcome::Dropped => false,
+            Outcome::Queried(reply) => self.send_all(&reply.cancels, notes),
+            Outcome::Undispatched(reply) => self.send_all(&reply.cancels, notes),
+            Outcome::Idle(reply) => self.send_all(&reply.cancels, notes),
+            Outcome::Dispatched(reply) => self.send_and_start(&reply.cancels, notes),
+        }
+    }
+
+    /// The lines of these cancels, and the bytes of the jobs that began, become due. Whether a growth was
+    /// refused.
+    fn send_and_start<N: Listener>(&mut self, cancels: &[Cancel], notes: &mut N) -> bool
+        ensures { Openly (alone N.told) (Then (EachOf cancels.now Sends) StartsAll) notes.old self.old notes.new self.new result }
+    {
+        let unsent = self.send_all(cancels, notes);
+        let unstarted = start_all(&self.core, &mut self.connections, notes);
+        unsent | unstarted
+    }
+
+    /// The lines of these cancels become due. Whether a growth was refused.
+    fn send_all<N: Listener>(&mut self, cancels: &[Cancel], notes: &mut N) -> bool
+        ensures { Openly (alone N.told) (EachOf cancels.now Sends) notes.old self.old notes.new self.new result }
+    {
+        let mut refused = false;
+        for cancel in cancels {
+            refused |= self.send(*cancel, notes);
+        }
+        refused
+    }
+
+    /// The line of a cancel becomes due on the device's connection, if it has one. Whether a growth was
+    /// refused.
+    fn send<N: Listener>(&mut self, cancel: Cancel, notes: &mut N) -> bool
+        ensures { Openly (alone N.told) (Sends cancel) notes.old self.old notes.new self.new result }
+    {
+        let Cancel { job, device } = cancel;
+        let Some(key) = key_of(&self.connections, device) else {
+            return false;
+        };
+        let kept = keep_cancel(&mut self.connections, key, job);
+        tell(kept, notes)
+    }
+}
+
+/// Whether the dispatch was refused memory.
+fn is_undispatched(outcome: &Outcome) -> bool
+    ensures { result ≡ is_undispatched outcome.now }
+{
+    match outcome {
+        Outcome::Undispatched(_) => true,
+        Outcome::Dropped | Outcome::Queried(_) | Outcome::Idle(_) | Outcome::Dispatched(_) => false,
+    }
+}
+
+/// Whether the last dispatch was refused memory, after one more event.
+fn undispatched_after(outcome: &Outcome, before: bool) -> bool
+    ensures { result ≡ undispatched_after outcome.now before }
+{
+    match outcome {
+        Outcome::Dropped | Outcome::Queried(_) => before,
+        Outcome::Undispatched(_) => true,
+        Outcome::Idle(_) | Outcome::Dispatched(_) => false,
+    }
+}
