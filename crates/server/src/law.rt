@@ -11,10 +11,10 @@ ghost use Rattle.server.specs.Law.{IsOneRun, IsAtMostOne, AllTaken, AreKept};
 ghost use Rattle.server.specs.Turn.{Deed, DoesDeed, Trace, Runs};
 
 /// What happens in a trace is one run of the core: the events of its deeds, in order and each at its
-/// deed's moment, lead the core from where the trace found it to where it leaves it. The plans of that
-/// run, with what began, are just those that the listener is told of, in order, and the cancels that it
-/// is told of just those of the run's replies. Where no growth is refused, each event is answered, and
-/// each that is no query is followed by a dispatch.
+/// deed's moment, lead the core from where the trace found it to where it leaves it. What that run tells
+/// is just what the listener is told of the core, in the same order: the cancels of its replies, its plans
+/// with what began, and the dispatches that were refused memory. Where no growth is refused, each event is
+/// answered, and each that is no query is followed by a dispatch.
 pub fn trace_is_one_run()
     ensures { (trace : Trace) (old new : Ledger) → Runs trace old new → IsOneRun trace old.core new.core }
 {}
