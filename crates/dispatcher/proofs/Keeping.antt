@@ -5,6 +5,7 @@ use Rattle.text.specs.Steps.{◌>>=◌}
 use Rattle.base_types.specs.declared.report.Report.{Report}
 use Rattle.job_objects.specs.declared.job_change.JobChange.{JobChange}
 use Rattle.job_objects.specs.declared.job_change.JobChange.TheVariants as Change
+use Rattle.job_objects.specs.Job.{JobRecord}
 use Rattle.spool.specs.Document.{DocumentRecord}
 use Rattle.spool.specs.Submission.{Submission}
 use Rattle.spool.specs.declared.refusal.SpoolRefusal.{SpoolRefusal}
@@ -57,27 +58,42 @@ pub record RoomKeeps (old : State) : Type 0 where
 
 -- ---- a document is sent only where nothing stands against it
 
--- what comes of a first and a second check is what comes of the second
-behind : {A B : Type 0} (first : Result A Refusal) (second : A → Result B Refusal) (made : B) → (first >>= second) ≡ Ok made → (a : A) × (second a ≡ Ok made)
-behind (Ok a) second made is = (a, is)
+-- what comes of a first and a second check is what comes of the second, of what the first gives
+behind : {A B : Type 0} (first : Result A Refusal) (second : A → Result B Refusal) (made : B) → (first >>= second) ≡ Ok made → (a : A) × (first ≡ Ok a) × (second a ≡ Ok made)
+behind (Ok a) second made is = (a, refl, is)
 behind (Err refusal) second made is = absurd (cc)
 
-abbrev job_in : ℕ → Result Sent Refusal → ℕ
-job_in default (Ok sent) = sent.job
-job_in default (Err refusal) = default
+at_last : {A : Type 0} (cause : Option SpoolRefusal) (one made : A) → (unrefused cause >>= (λ _. Ok one)) ≡ Ok made → (cause ≡ None) × (one ≡ made)
+at_last None one made is = (refl, cc is)
+at_last (Some why) one made is = absurd (cc)
 
-at_last : (cause : Option SpoolRefusal) (one sent : Sent) → (unrefused cause >>= (λ _. Ok one)) ≡ Ok sent → (cause ≡ None) × (one.job ≡ sent.job)
-at_last None one sent is = (refl, ap (λ (r : Result Sent Refusal). job_in one.job r) is)
-at_last (Some why) one sent is = absurd (cc)
+-- the job that a Send-Document names, which takes its document, and what is answered of it
+pub record IsSent (request : SendDocument) (old : State) (sent : Sent) : Type 0 where
+  pub job : JobRecord
+  pub named : named_job request.job.target old ≡ Ok job
+  pub free : sending_refusal job.id request.job.user (length request.octets) request.last old ≡ None
+  pub id_is : job.id ≡ sent.job
+  pub groups_are : sent_group old job request.last ∷ [] ≡ sent.groups
+
+pub is_sent : (request : SendDocument) (old : State) (sent : Sent) → sent_of request old ≡ Ok sent → IsSent request old sent
+is_sent request old sent is =
+    let job = behind (named_job request.job.target old) (sent_to_job request old) sent is in
+    let printer = behind (printer_of_job job.0 old) (sent_to_printer request old job.0) sent job.2 in
+    let format = behind (format_asked request.form printer.0.offer) (sent_in_format request old job.0) sent printer.2 in
+    let one : Sent = record { job = job.0.id; format = format.0; groups = sent_group old job.0 request.last ∷ [] } in
+    let last = at_last (sending_refusal job.0.id request.job.user (length request.octets) request.last old) one sent format.2 in
+    record {
+      job = job.0;
+      named = job.1;
+      free = last.0;
+      id_is = ap (λ (s : Sent). s.job) last.1;
+      groups_are = ap (λ (s : Sent). s.groups) last.1;
+    }
 
 sent_free : (request : SendDocument) (old : State) (sent : Sent) → sent_of request old ≡ Ok sent → sending_refusal sent.job request.job.user (length request.octets) request.last old ≡ None
 sent_free request old sent is =
-    let job = behind (named_job request.job.target old) (sent_to_job request old) sent is in
-    let printer = behind (printer_of_job job.0 old) (sent_to_printer request old job.0) sent job.1 in
-    let format = behind (format_asked request.form printer.0.offer) (sent_in_format request old job.0) sent printer.1 in
-    let one : Sent = record { job = job.0.id; format = format.0; groups = sent_group old job.0 request.last ∷ [] } in
-    let free = at_last (sending_refusal job.0.id request.job.user (length request.octets) request.last old) one sent format.1 in
-    subst (λ (id : ℕ). sending_refusal id request.job.user (length request.octets) request.last old ≡ None) free.1 free.0
+    let found = is_sent request old sent is in
+    subst (λ (id : ℕ). sending_refusal id request.job.user (length request.octets) request.last old ≡ None) found.id_is found.free
 
 -- ---- each step
 

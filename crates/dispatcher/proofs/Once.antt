@@ -4,7 +4,6 @@ use Rattle.std.specs.Prelude.{MatchOption, MatchResult}
 use Rattle.ipp_codec.specs.Message.{IppAttribute, IppGroup}
 use Rattle.base_types.specs.declared.report.Report.{Report}
 use Rattle.spool.specs.Document.{DocumentRecord}
-use Rattle.spool.specs.declared.document.Document.{Document}
 use Rattle.job_objects.specs.declared.job_change.JobChange.{JobChange}
 use Rattle.job_objects.specs.declared.job_change.JobChange.TheVariants as Change
 use Rattle.events.specs.declared.status.Status.{Status}
@@ -35,9 +34,9 @@ use Rattle.dispatcher.specs.HoldJob.{changed_of, ChangesIt, ChangesJob, HoldsUnt
 use Rattle.dispatcher.specs.PausePrinter.{paused_of, PausesIt}
 use Rattle.dispatcher.specs.GetJobs.{wanted_of}
 use Rattle.dispatcher.specs.SubmitFiles.{filed_of, FilesJob, FilesNothing}
-use Rattle.dispatcher.specs.ListQueue.{IsListing, IsListed, ListsIt, ListsNothing}
+use Rattle.dispatcher.specs.ListQueue.{IsListed, ListsIt, ListsNothing}
 use Rattle.dispatcher.specs.Step.{Step, StepAt}
-use Rattle.dispatcher.specs.OneStep.{SameListing, SameLpdAnswer, SameIppAnswer, SameAnswer, SameReply, SameEnd}
+use Rattle.dispatcher.specs.OneStep.{SameLpdAnswer, SameAnswer, SameReply, SameEnd}
 
 -- ---- what is answered
 

@@ -1,13 +1,14 @@
 -- What a Send-Document request comes to (RFC 8011, section 4.3.1): a document more for a job whose documents
 -- are still to come; with the last one the job is all in.
-use Rattle.std.specs.Prelude.{ℕ, ◌≡◌, not, Bool, List, [], ◌∷◌, length, Result, Ok, MatchResult}
+use Rattle.std.specs.Prelude.{ℕ, ◌≡◌, not, Bool, List, [], ◌∷◌, length, Some, Result, Ok, MatchResult}
 use Rattle.text.specs.Steps.{◌>>=◌}
 use Rattle.ipp_codec.specs.Message.{IppGroup}
 use Rattle.job_objects.specs.Job.{JobRecord}
 use Rattle.job_objects.specs.JobState.{waiting_state}
 use Rattle.job_objects.specs.Reasons.{waiting_reasons}
-use Rattle.printer_objects.specs.Created.{created_attributes}
+use Rattle.printer_objects.specs.Created.{created_attributes, created_group}
 use Rattle.spool.specs.Calls.{paused_at}
+use Rattle.spool.specs.Jobs.{job_at}
 use Rattle.events.specs.declared.event.SendDocument.{SendDocument}
 use Rattle.events.specs.declared.reply.Reply.{Reply}
 use Rattle.dispatcher.specs.declared.send_document.Sent.{Sent}
@@ -20,7 +21,8 @@ use Rattle.dispatcher.specs.Checks.{named_job, printer_of_job, format_asked, unr
 use Rattle.print_room.specs.State.{State}
 use Rattle.print_room.specs.Jobs.{sending_refusal, sending}
 
--- the group that shows the job after it: its documents are still to come, unless that was the last
+-- the group that shows the job after it: its documents are still to come, unless that was the last (that it
+-- shows the job as it is then: `Core::sent_is_shown`)
 abbrev pub sent_group : State → JobRecord → Bool → IppGroup
 sent_group old job last =
     created_attributes old.settings.uri_base job.id (waiting_state (not last) job.held) (waiting_reasons (not last) job.held job.stranded (paused_at old.paused job.needs.printer))
@@ -52,3 +54,7 @@ pub record SendsIt (now : ℕ) (old : State) (request : SendDocument) (sent : Se
 abbrev pub SendsDocument : ℕ → SendDocument → State → Reply → State → Type 0
 SendsDocument now request old reply new =
     MatchResult (sent_of request old) (λ sent. SendsIt now old request sent reply new) (λ refusal. Refuses now old refusal reply new)
+
+-- these groups are that of the job of an id, as it is now
+abbrev pub IsShown : ℕ → List IppGroup → State → Type 0
+IsShown id groups now = (job : JobRecord) × (job_at id now.spool.jobs ≡ Some job) × (groups ≡ created_group now.settings.uri_base job (paused_at now.paused job.needs.printer) ∷ [])

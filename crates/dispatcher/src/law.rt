@@ -1,6 +1,7 @@
 //! What holds of every state, and what every state after this one keeps, however it comes about; that an
-//! event leads to one state. The functions do nothing: their contracts are what they are for.
-ghost use Rattle.std.specs.Prelude.{ℕ, List, Option};
+//! event leads to one state; that a Send-Document is answered its job as it is then. The functions do
+//! nothing: their contracts are what they are for.
+ghost use Rattle.std.specs.Prelude.{ℕ, ◌≡◌, [], List, Ok, Option};
 ghost use Rattle.prices.specs.Plan.{PlanRecord};
 ghost use Rattle.print_room.specs.declared.started.Started.{Started};
 ghost use Rattle.print_room.specs.State.{State};
@@ -8,7 +9,13 @@ ghost use Rattle.print_room.specs.Dispatch.{Dispatches};
 ghost use Rattle.print_room.specs.DeviceJobs.{AllKeep, IsRoom};
 ghost use Rattle.spool.specs.Spool.{IsSpool};
 ghost use Rattle.events.specs.declared.event.Event.{Event};
+ghost use Rattle.events.specs.declared.event.Event.TheVariants as Is;
+ghost use Rattle.events.specs.declared.event.SendDocument.{SendDocument};
 ghost use Rattle.events.specs.declared.reply.Reply.{Reply};
+ghost use Rattle.events.specs.declared.status.Status.TheVariants as Went;
+ghost use Rattle.events.specs.Reply.{Replies};
+ghost use Rattle.dispatcher.specs.declared.send_document.Sent.{Sent};
+ghost use Rattle.dispatcher.specs.SendDocument.{IsShown, sent_of};
 ghost use Rattle.dispatcher.specs.Step.{Step};
 ghost use Rattle.dispatcher.specs.Keeping.{StepKeeps};
 ghost use Rattle.dispatcher.specs.OneStep.{SameEnd};
@@ -34,6 +41,15 @@ impl<P: Planner + Drop> Core<P> {
         ensures dispatches { (now : ℕ) (plan : Option PlanRecord) (started : List Started) (new : State) → Dispatches now self.now plan started new → AllKeep self.now new }
     {
         self.room.documents_stay();
+    }
+
+    /// What a Send-Document is answered is the group of its job as the room has it after it: the state of its
+    /// documents, still to come or all in, and the reasons (RFC 8011, sections 4.3.1 and 5.3.8).
+    pub fn sent_is_shown(&self)
+        ensures { (request : SendDocument) (moment : ℕ) (reply : Reply) (new : State) (sent : Sent) → Step self.now (Is.SendDocument request) moment reply new → sent_of request self.now ≡ Ok sent → Replies Went.Ok [] sent.groups reply × IsShown sent.job sent.groups new }
+    {
+        // Reading the jobs makes known what holds of each.
+        let _jobs = self.room.spool().jobs();
     }
 }
 
