@@ -1,5 +1,5 @@
 -- What the settings of a trace give.
-use Rattle.std.proofs.Common.{◌≡◌, ℕ, suc, Bool, List, [], ◌++◌, Option, Some, MatchResult, Ok, refl, sym, ap, subst, ◌∙◌, inl, inr}
+use Rattle.std.proofs.Common.{◌≡◌, ℕ, suc, Bool, List, [], ◌++◌, Option, Some, MatchResult, Ok, sym, ap, subst, ◌∙◌, inl, inr}
 use Rattle.std.specs.Option.{ForSome}
 use Rattle.settings_file.specs.declared.fault.SettingsFault.TheVariants as code
 use Rattle.settings_file.specs.Fault.{Fault, not_toml, fault_of}
