@@ -1,23 +1,15 @@
 //! What an adapter does in a turn.
-use crate::caller::{Caller, Reached};
-use crate::heard::{Breach, Heard};
 use crate::line::{Came, ServerLine};
 use crate::log::{Log, Note};
-use crate::plan::Plan;
-use crate::printer::{Manner, Printer};
 use attachment::{Attachment, LoadedMedia, PrinterState};
 use base_types::{JobId, Report, Text};
 use device_orders::{JobOrder, Order, OrderError, OrderItem};
+use mio::Poll;
 use mio::event::Event;
-use mio::{Poll, Token};
+use printers::{Breach, Heard, Printer, Reached};
 use std::alloc::{AllocError, Global};
 use std::net::Net;
 use std::rt::Files;
-
-/// What waits tell of the server and of the printer under.
-const SERVER: Token = Token(0);
-
-const PRINTER: Token = Token(1);
 
 /// How many pieces of the server a turn reads at most, and how many items of one piece.
 const PIECES: u32 = 64;
@@ -29,13 +21,13 @@ const LONGEST_PAUSE: u64 = 60_000;
 
 /// An adapter: its attachment between the server and the printer.
 #[derive(Drop)]
-pub(crate) struct Desk {
+pub(crate) struct Desk<P: Printer> {
     alloc: Global,
     name: String,
     attachment: Attachment,
     media: LoadedMedia,
     line: ServerLine,
-    printer: Printer,
+    printer: P,
     log: Log,
     worked: bool,
 }
@@ -54,28 +46,25 @@ impl From<AllocError> for Stop {
     }
 }
 
-impl Desk {
-    /// An adapter that has done nothing yet, and keeps a log or not.
-    pub(crate) fn new(alloc: Global, plan: Plan, logs: bool) -> Result<Desk, AllocError> {
-        let name = plan.name.clone()?;
-        let manner = Manner {
-            name: plan.name,
-            format: plan.format,
-            ms_per_page: plan.ms_per_page,
-            linger: plan.linger,
-            timeout: plan.timeout,
-            pjl: plan.pjl,
-        };
-        Ok(Desk {
+impl<P: Printer> Desk<P> {
+    /// The adapter of a device and its printer, that has done nothing yet.
+    pub(crate) fn new(
+        alloc: Global,
+        name: String,
+        line: ServerLine,
+        printer: P,
+        log: Log,
+    ) -> Desk<P> {
+        Desk {
             alloc,
             name,
             attachment: Attachment::new(alloc),
             media: LoadedMedia::new(alloc),
-            line: ServerLine::new(alloc, Caller::new(alloc, plan.server, SERVER))?,
-            printer: Printer::new(alloc, plan.target, manner, PRINTER),
-            log: Log::new(alloc, logs),
+            line,
+            printer,
+            log,
             worked: false,
-        })
+        }
     }
 
     /// Takes what a wait told.

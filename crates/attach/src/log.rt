@@ -1,7 +1,7 @@
 //! The lines of a log.
-use crate::heard::Breach;
 use device_orders::OrderFault;
 use ipp_printer::{LeftOut, ReplyBreach};
+use printers::Breach;
 use std::alloc::{AllocError, Global};
 use std::fmt;
 
@@ -29,21 +29,6 @@ pub(crate) enum Note {
     Began { job: u32, octets: u32, copies: u32 },
     Done(u32),
     Failed(u32, Breach),
-}
-
-impl fmt::Display for Breach {
-    fn fmt<W: fmt::Write>(&self, f: &mut fmt::Formatter<W>) -> fmt::Result {
-        f.write_str(match self {
-            Breach::Reply(breach) => return write!(f, "{breach}"),
-            Breach::Canceled => "canceled",
-            Breach::Unlinked => "unlinked",
-            Breach::Broken => "broken",
-            Breach::Refused => "refused",
-            Breach::Silent => "silent",
-            Breach::Unwritten => "unwritten",
-            Breach::OutOfMemory => "no memory",
-        })
-    }
 }
 
 impl fmt::Display for Note {

@@ -1,8 +1,7 @@
 //! What an adapter is to do.
-use crate::format::Format;
-use crate::place::Place;
 use base_types::is_name;
 use ipp_printer::IppAddress;
+use printers::{Format, Place};
 use std::alloc::{AllocError, Global};
 use url::{ParseError, Url};
 

@@ -1,8 +1,12 @@
 //! An adapter that runs.
 use crate::clock::millis_since;
 use crate::desk::Desk;
-use crate::plan::Plan;
-use mio::{Events, Poll};
+use crate::line::ServerLine;
+use crate::log::Log;
+use crate::plan::{Plan, Target};
+use ipp_printer::IppPrinter;
+use mio::{Events, Poll, Token};
+use printers::{AppSocket, Caller, Folder, Ipp, Lpd, Pjl, Place, Printer, Session};
 use std::alloc::Global;
 use std::io;
 use std::io::Write;
@@ -10,8 +14,22 @@ use std::net::Net;
 use std::rt::Files;
 use std::time::{Clock, Duration, Instant};
 
+/// What waits tell of the server and of the printer under.
+const SERVER: Token = Token(0);
+
+const PRINTER: Token = Token(1);
+
 /// How many sockets a wait tells of at most.
 const EVENTS: usize = 8;
+
+/// Which device an adapter is, where its server is, how many turns it takes, and whether it keeps a log.
+#[derive(Drop)]
+struct Device {
+    name: String,
+    server: Place,
+    turns: u64,
+    logs: bool,
+}
 
 /// Does what a plan says for so many turns, and writes a line of each thing that happens where that is
 /// wanted. A log that can't be written stops nothing. The error is the clock's or the system's, or out of
@@ -24,7 +42,75 @@ pub fn attach<R: Net + Files + Clock, W: Write>(
     logs: bool,
     log: &mut W,
 ) -> io::Result<()> {
-    let mut desk = Desk::new(alloc, plan, logs)?;
+    let printer_name = plan.name.clone()?;
+    let Plan {
+        name,
+        server,
+        target,
+        format,
+        ms_per_page,
+        linger,
+        timeout,
+        pjl,
+    } = plan;
+    let device = Device {
+        name,
+        server,
+        turns,
+        logs,
+    };
+    match target {
+        Target::Folder(path) => {
+            let printer = Folder::new(alloc, path, printer_name, format, ms_per_page);
+            run(alloc, rt, device, printer, log)
+        }
+        Target::AppSocket(place) if pjl => {
+            let printer = Pjl::new(alloc, session(alloc, place, timeout));
+            run(alloc, rt, device, printer, log)
+        }
+        Target::AppSocket(place) => {
+            let printer = AppSocket::new(session(alloc, place, timeout), linger);
+            run(alloc, rt, device, printer, log)
+        }
+        Target::Lpd(place, queue) => {
+            let printer = Lpd::new(alloc, session(alloc, place, timeout), queue, printer_name);
+            run(alloc, rt, device, printer, log)
+        }
+        Target::Ipp(place, address) => {
+            let ipp = IppPrinter::new(alloc, address);
+            let printer = Ipp::new(session(alloc, place, timeout), ipp, format);
+            run(alloc, rt, device, printer, log)
+        }
+    }
+}
+
+/// The connection to a printer at this place.
+fn session(alloc: Global, place: Place, timeout: u64) -> Session {
+    Session::new(Caller::new(alloc, place, PRINTER), timeout)
+}
+
+/// Makes the adapter of a device and its printer, and has it take its turns.
+fn run<P: Printer, R: Net + Files + Clock, W: Write>(
+    alloc: Global,
+    rt: &R,
+    device: Device,
+    printer: P,
+    log: &mut W,
+) -> io::Result<()> {
+    let line = ServerLine::new(alloc, Caller::new(alloc, device.server, SERVER))?;
+    let logs = Log::new(alloc, device.logs);
+    let mut desk = Desk::new(alloc, device.name, line, printer, logs);
+    take_turns(alloc, rt, &mut desk, device.turns, log)
+}
+
+/// Takes so many turns, with waits between them.
+fn take_turns<P: Printer, R: Net + Files + Clock, W: Write>(
+    alloc: Global,
+    rt: &R,
+    desk: &mut Desk<P>,
+    turns: u64,
+    log: &mut W,
+) -> io::Result<()> {
     let mut poll = Poll::new(rt)?;
     let mut events = Events::with_capacity(alloc, EVENTS)?;
     let start = Instant::now(rt)?;

@@ -1,10 +1,14 @@
 //! A printer that is a folder of files.
 use crate::format::Format;
 use crate::heard::{Breach, Heard};
+use crate::printer::Printer;
 use attachment::Attachment;
 use base_types::Limits;
 use device_orders::JobOrder;
+use mio::Poll;
+use mio::event::Event;
 use std::alloc::{AllocError, Global};
+use std::net::Net;
 use std::rt::Files;
 use std::{fs, io};
 
@@ -19,7 +23,7 @@ struct Sheet {
 
 /// A printer that keeps each job as a file, after the time that its pages take.
 #[derive(Drop)]
-pub(crate) struct Folder {
+pub struct Folder {
     alloc: Global,
     path: String,
     name: String,
@@ -31,8 +35,9 @@ pub(crate) struct Folder {
 }
 
 impl Folder {
-    /// A folder in which the jobs of a device of this name become files.
-    pub(crate) fn new(
+    /// A folder in which the jobs of a device of this name become files of this format, where it is said.
+    /// A page takes so many ms.
+    pub fn new(
         alloc: Global,
         path: String,
         name: String,
@@ -47,32 +52,6 @@ impl Folder {
             ms_per_page,
             copies: 1,
             sheet: None,
-        }
-    }
-
-    /// Begins a job.
-    pub(crate) fn begin(&mut self, order: &JobOrder) {
-        self.copies = order.copies;
-    }
-
-    /// Writes the job once its octets are there, and has it printed once its time has passed.
-    pub(crate) fn turn(
-        &mut self,
-        files: &impl Files,
-        attachment: &mut Attachment,
-        now: u64,
-    ) -> Heard {
-        match &self.sheet {
-            None => self.write_job(files, attachment, now),
-            Some(sheet) if now < sheet.end => Heard::Nothing,
-            Some(sheet) => {
-                let renamed = fs::rename(files, sheet.beside.as_str(), sheet.whole.as_str());
-                take_all(attachment);
-                match renamed {
-                    Ok(()) => Heard::Printed,
-                    Err(_) => Heard::Failed(Breach::Unwritten),
-                }
-            }
         }
     }
 
@@ -121,17 +100,50 @@ impl Folder {
             .saturating_mul(u64::from(self.copies))
             .saturating_mul(u64::from(self.ms_per_page))
     }
+}
 
-    /// Forgets the job. What was written beside is removed.
-    pub(crate) fn drop_job(&mut self, files: &impl Files) {
+impl Printer for Folder {
+    fn begin(&mut self, order: &JobOrder) {
+        self.copies = order.copies;
+    }
+
+    /// Writes the job once its octets are there, and has it printed once its time has passed.
+    fn turn<R: Net + Files>(
+        &mut self,
+        rt: &R,
+        _poll: &Poll,
+        attachment: &mut Attachment,
+        now: u64,
+    ) -> Heard {
+        match &self.sheet {
+            None => self.write_job(rt, attachment, now),
+            Some(sheet) if now < sheet.end => Heard::Nothing,
+            Some(sheet) => {
+                let renamed = fs::rename(rt, sheet.beside.as_str(), sheet.whole.as_str());
+                take_all(attachment);
+                match renamed {
+                    Ok(()) => Heard::Printed,
+                    Err(_) => Heard::Failed(Breach::Unwritten),
+                }
+            }
+        }
+    }
+
+    fn told(&mut self, _event: &Event) {}
+
+    /// What was written beside is removed.
+    fn drop_job<F: Files>(&mut self, files: &F) {
         if let Some(sheet) = &self.sheet {
             let _removed = fs::remove_file(files, sheet.beside.as_str());
         }
         self.sheet = None;
     }
 
-    /// The ms until it has something to do by itself.
-    pub(crate) fn pause(&self, now: u64) -> Option<u64> {
+    fn has_worked(&self) -> bool {
+        false
+    }
+
+    fn pause(&self, now: u64, _has_job: bool) -> Option<u64> {
         match &self.sheet {
             Some(sheet) => Some(sheet.end.saturating_sub(now)),
             None => None,

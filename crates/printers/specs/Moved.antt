@@ -1,7 +1,7 @@
 -- How much a call on a connection moved.
 use Rattle.std.specs.Prelude.{ℕ, ◌<◌, ◌≤◌, List, length}
-use Rattle.attach.specs.declared.session.Moved.{Moved}
-use Rattle.attach.specs.declared.session.Moved.TheVariants.{Nothing, Bytes, End, Broken}
+use Rattle.printers.specs.declared.session.Moved.{Moved}
+use Rattle.printers.specs.declared.session.Moved.TheVariants.{Nothing, Bytes, End, Broken}
 
 -- one byte at least, and no more than there are
 abbrev pub MovesAtMost : Moved → List ℕ → Type 0

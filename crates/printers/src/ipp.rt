@@ -1,7 +1,7 @@
 //! A printer that speaks IPP: the connections of its tasks.
-use crate::app_socket::send_some;
 use crate::format::Format;
-use crate::heard::{Breach, Heard};
+use crate::heard::{Breach, Heard, NO_MEMORY};
+use crate::printer::Printer;
 use crate::session::{Moved, Session, Stage};
 use attachment::Attachment;
 use base_types::Text;
@@ -11,6 +11,7 @@ use mio::Poll;
 use mio::event::Event;
 use std::alloc::AllocError;
 use std::net::Net;
+use std::rt::Files;
 
 /// How many calls to the printer a turn makes at most.
 const CALLS: u32 = 64;
@@ -20,7 +21,7 @@ const PIECE: usize = 1024;
 
 /// A printer that speaks IPP.
 #[derive(Drop)]
-pub(crate) struct Ipp {
+pub struct Ipp {
     session: Session,
     printer: IppPrinter,
     format: Option<Format>,
@@ -31,45 +32,15 @@ pub(crate) struct Ipp {
 }
 
 impl Ipp {
-    /// A printer that is connected to for each task.
-    pub(crate) fn new(session: Session, printer: IppPrinter, format: Option<Format>) -> Ipp {
+    /// A printer that is connected to for each task, and is given documents of this format, where it is
+    /// said.
+    pub fn new(session: Session, printer: IppPrinter, format: Option<Format>) -> Ipp {
         Ipp {
             session,
             printer,
             format,
             answered: 0,
             ended: false,
-        }
-    }
-
-    /// Takes what a wait told.
-    pub(crate) fn told(&mut self, event: &Event) {
-        self.session.told(event);
-    }
-
-    /// Begins a job.
-    pub(crate) fn begin(&mut self, order: &JobOrder) {
-        self.printer.begin(order);
-    }
-
-    /// Goes on with what is to be done, or begins the next.
-    pub(crate) fn turn(
-        &mut self,
-        net: &impl Net,
-        poll: &Poll,
-        attachment: &mut Attachment,
-        now: u64,
-    ) -> Heard {
-        self.ended = false;
-        let wants = self.printer.wants_connection(attachment, now);
-        let done = match self.session.reach(net, poll, wants, now) {
-            Stage::Waits(heard) => Ok(self.wait_for_printer(heard, now)),
-            Stage::Opened(heard) => self.open(heard, attachment),
-            Stage::Open => self.exchange(attachment, now),
-        };
-        match done {
-            Ok(heard) => heard,
-            Err(AllocError) => Heard::Failed(Breach::OutOfMemory),
         }
     }
 
@@ -149,7 +120,7 @@ impl Ipp {
         }
         let octets = self.printer.octets();
         let moved = if self.printer.text().is_empty() {
-            send_some(&mut self.session, attachment, octets, now)
+            self.session.send_some(attachment, octets, now)
         } else {
             self.session.write(self.printer.text(), now)
         };
@@ -180,25 +151,50 @@ impl Ipp {
             Heard::Nothing
         }
     }
+}
 
-    /// The media that are loaded, where the printer told them anew.
-    pub(crate) fn take_media(&mut self) -> Option<Vec<Text>> {
+impl Printer for Ipp {
+    fn begin(&mut self, order: &JobOrder) {
+        self.printer.begin(order);
+    }
+
+    /// Goes on with the task, or begins the next.
+    fn turn<R: Net + Files>(
+        &mut self,
+        rt: &R,
+        poll: &Poll,
+        attachment: &mut Attachment,
+        now: u64,
+    ) -> Heard {
+        self.ended = false;
+        let wants = self.printer.wants_connection(attachment, now);
+        let heard = match self.session.reach(rt, poll, wants, now) {
+            Stage::Waits(heard) => Ok(self.wait_for_printer(heard, now)),
+            Stage::Opened(heard) => self.open(heard, attachment),
+            Stage::Open => self.exchange(attachment, now),
+        };
+        heard.unwrap_or(NO_MEMORY)
+    }
+
+    fn told(&mut self, event: &Event) {
+        self.session.told(event);
+    }
+
+    fn take_media(&mut self) -> Option<Vec<Text>> {
         self.printer.take_media()
     }
 
-    /// Forgets the job.
-    pub(crate) fn drop_job(&mut self) {
+    fn drop_job<F: Files>(&mut self, _files: &F) {
         self.printer.drop_job();
         self.session.close();
     }
 
-    /// Whether the last turn moved bytes, or ended a task, so that another may begin.
-    pub(crate) fn has_worked(&self) -> bool {
+    /// A task that has ended is work too, since another may begin.
+    fn has_worked(&self) -> bool {
         self.ended || self.session.has_worked()
     }
 
-    /// The ms until it has something to do by itself.
-    pub(crate) fn pause(&self, now: u64) -> Option<u64> {
+    fn pause(&self, now: u64, _has_job: bool) -> Option<u64> {
         let next = self.printer.pause(now);
         let patience = self.session.timeout();
         match self.session.pause(now, self.printer.is_busy(), patience) {

@@ -11,7 +11,7 @@ use std::net::{Net, Shutdown, SocketAddr};
 /// A socket to a peer, with what was told of it. Where a call had to wait, none is made until something is
 /// told.
 #[derive(Drop)]
-pub(crate) struct Link {
+pub struct Link {
     stream: TcpStream,
     readable: bool,
     writable: bool,
@@ -59,7 +59,7 @@ impl Link {
     }
 
     /// Reads some bytes; the count is 0 where none will come any more.
-    pub(crate) fn read(&mut self, buffer: &mut [u8]) -> io::Result<usize>
+    pub fn read(&mut self, buffer: &mut [u8]) -> io::Result<usize>
         ensures { ReadsAtMost result buffer.new }
     {
         if !self.readable {
@@ -73,7 +73,7 @@ impl Link {
     }
 
     /// Writes some bytes.
-    pub(crate) fn write(&mut self, bytes: &[u8]) -> io::Result<usize>
+    pub fn write(&mut self, bytes: &[u8]) -> io::Result<usize>
         ensures { WritesAtMost result bytes.now }
     {
         if !self.writable {
@@ -93,6 +93,6 @@ impl Link {
 }
 
 /// Whether a call only has to be made again.
-pub(crate) fn has_to_wait(error: &io::Error) -> bool {
+pub fn has_to_wait(error: &io::Error) -> bool {
     matches!(error.kind(), ErrorKind::WouldBlock | ErrorKind::Interrupted)
 }

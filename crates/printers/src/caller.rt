@@ -13,7 +13,7 @@ const CONNECTING: u64 = 20_000;
 
 /// What became of a peer in a turn.
 #[derive(Clone, Copy, Debug, PartialEq, Eq)]
-pub(crate) enum Reached {
+pub enum Reached {
     /// There is no connection yet.
     Not,
     /// It can't be reached, for the first time since it was.
@@ -26,7 +26,7 @@ pub(crate) enum Reached {
 
 /// A peer that is connected to, and tried again where it can't be reached.
 #[derive(Drop)]
-pub(crate) struct Caller {
+pub struct Caller {
     alloc: Global,
     place: Place,
     token: Token,
@@ -42,8 +42,8 @@ pub(crate) struct Caller {
 }
 
 impl Caller {
-    /// A peer at this place, of which waits tell under this token.
-    pub(crate) fn new(alloc: Global, place: Place, token: Token) -> Caller {
+    /// A peer at this place that isn't connected to yet, of which waits tell under this token.
+    pub fn new(alloc: Global, place: Place, token: Token) -> Caller {
         Caller {
             alloc,
             place,
@@ -58,7 +58,7 @@ impl Caller {
     }
 
     /// Takes what a wait told of this token.
-    pub(crate) fn told(&mut self, event: &Event) {
+    pub fn told(&mut self, event: &Event) {
         if event.token() != self.token {
             return;
         }
@@ -67,8 +67,8 @@ impl Caller {
         }
     }
 
-    /// Connects where there is no connection and it is time for a try.
-    pub(crate) fn turn(&mut self, net: &impl Net, poll: &Poll, now: u64) -> Reached {
+    /// Connects where there is no connection and it is time for a try, at this moment in ms.
+    pub fn turn(&mut self, net: &impl Net, poll: &Poll, now: u64) -> Reached {
         if self.open {
             return Reached::Still;
         }
@@ -126,31 +126,31 @@ impl Caller {
     }
 
     /// The connection, if there is one.
-    pub(crate) fn link(&mut self) -> Option<&mut Link> {
+    pub fn link(&mut self) -> Option<&mut Link> {
         if self.open { self.link.as_mut() } else { None }
     }
 
     /// Closes the connection, if there is one; the next try is made at once.
-    pub(crate) fn close(&mut self) {
+    pub fn close(&mut self) {
         self.link = None;
         self.open = false;
         self.retry = Retry::new();
     }
 
     /// Closes the connection, which has broken; the next try is made after a pause.
-    pub(crate) fn lose(&mut self, now: u64) {
+    pub fn lose(&mut self, now: u64) {
         self.link = None;
         self.open = false;
         self.retry.failed(now);
     }
 
     /// The peer has said something: it is there, and the pauses begin anew.
-    pub(crate) fn heard(&mut self) {
+    pub fn heard(&mut self) {
         self.retry = Retry::new();
     }
 
     /// The ms until the next try, where there is no connection.
-    pub(crate) fn pause(&self, now: u64) -> Option<u64> {
+    pub fn pause(&self, now: u64) -> Option<u64> {
         match &self.link {
             None => Some(self.retry.left(now)),
             Some(_) if !self.open => Some(CONNECTING.saturating_sub(now.saturating_sub(

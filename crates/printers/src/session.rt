@@ -1,12 +1,14 @@
 //! The connection to a printer, while it has a job.
-ghost use Rattle.attach.specs.Moved.{MovesAtMost};
+ghost use Rattle.printers.specs.Moved.{MovesAtMost};
 
 use crate::caller::{Caller, Reached};
 use crate::heard::{Breach, Heard};
 use crate::link::has_to_wait;
+use attachment::Attachment;
 use mio::Poll;
 use mio::event::Event;
 use std::net::Net;
+use text::drop_front;
 
 /// How far a printer is reached.
 #[derive(Clone, Copy, Debug)]
@@ -31,7 +33,7 @@ pub(crate) enum Moved {
 
 /// The connection to a printer, while it has a job or is away.
 #[derive(Drop)]
-pub(crate) struct Session {
+pub struct Session {
     caller: Caller,
     timeout: u64,
     /// It couldn't be reached when that was last tried.
@@ -43,7 +45,7 @@ pub(crate) struct Session {
 
 impl Session {
     /// A printer that isn't connected to yet, which may neither take nor say anything for so many ms.
-    pub(crate) fn new(caller: Caller, timeout: u64) -> Session {
+    pub fn new(caller: Caller, timeout: u64) -> Session {
         Session {
             caller,
             timeout,
@@ -128,6 +130,39 @@ impl Session {
             Err(error) if has_to_wait(&error) => Moved::Nothing,
             Err(_) => Moved::Broken,
         }
+    }
+
+    /// Writes some of a text, and drops what went of it.
+    pub(crate) fn write_front(&mut self, text: &mut Vec<u8>, now: u64) -> Moved {
+        let moved = self.write(text, now);
+        if let Moved::Bytes(count) = moved {
+            drop_front(text, count);
+        }
+        moved
+    }
+
+    /// Sends some octets of a job that are due. Where none are, the printer isn't waited for.
+    pub(crate) fn send_due(&mut self, attachment: &mut Attachment, now: u64) -> Moved {
+        if attachment.due().is_empty() {
+            self.rest(now);
+            return Moved::Nothing;
+        }
+        self.send_some(attachment, usize::MAX, now)
+    }
+
+    /// Sends some octets of a job that are due, so many at most.
+    pub(crate) fn send_some(
+        &mut self,
+        attachment: &mut Attachment,
+        most: usize,
+        now: u64,
+    ) -> Moved {
+        let due = attachment.due();
+        let moved = self.write(&due[..due.len().min(most)], now);
+        if let Moved::Bytes(count) = moved {
+            attachment.send(count);
+        }
+        moved
     }
 
     /// Ends the writing side: whether that could be done.

@@ -1,8 +1,8 @@
 //! A printer that speaks AppSocket and PJL: a job is wrapped in PJL, and the printer tells of it.
 ghost use Rattle.std.specs.Prelude.{◌≤◌, IfOk, length};
 
-use crate::app_socket::send_due;
-use crate::heard::{Breach, Heard};
+use crate::heard::{Breach, Heard, NO_MEMORY};
+use crate::printer::Printer;
 use crate::session::{Moved, Session, Stage};
 use attachment::Attachment;
 use base_types::Sides;
@@ -12,6 +12,7 @@ use mio::event::Event;
 use pjl_status::{Status, StatusReader};
 use std::alloc::{AllocError, Global};
 use std::net::Net;
+use std::rt::Files;
 use text::drop_front;
 
 /// How many calls to the printer a turn makes at most.
@@ -34,7 +35,7 @@ enum Part {
 
 /// A printer that speaks AppSocket and PJL.
 #[derive(Drop)]
-pub(crate) struct Pjl {
+pub struct Pjl {
     alloc: Global,
     session: Session,
     reader: StatusReader,
@@ -52,7 +53,7 @@ pub(crate) struct Pjl {
 
 impl Pjl {
     /// A printer that is connected to for each job.
-    pub(crate) fn new(alloc: Global, session: Session) -> Pjl {
+    pub fn new(alloc: Global, session: Session) -> Pjl {
         Pjl {
             alloc,
             session,
@@ -67,52 +68,13 @@ impl Pjl {
         }
     }
 
-    /// Takes what a wait told.
-    pub(crate) fn told(&mut self, event: &Event) {
-        self.session.told(event);
-    }
-
-    /// Begins a job.
-    pub(crate) fn begin(&mut self, order: &JobOrder) {
-        self.job = order.job.number();
-        self.copies = order.copies;
-        self.sides = order.sides;
-    }
-
-    /// Connects where a job is in hand, or the printer is away, sends the job, and hears of it. A printer
-    /// that isn't listened to any more is taken to run.
-    pub(crate) fn turn(
-        &mut self,
-        net: &impl Net,
-        poll: &Poll,
-        attachment: &mut Attachment,
-        now: u64,
-    ) -> Heard {
-        let has_job = attachment.job().is_some();
-        if !has_job && self.stopped {
-            self.stopped = false;
-            return Heard::Runs;
-        }
-        match self.session.reach(net, poll, has_job, now) {
-            Stage::Waits(heard) => heard,
-            Stage::Opened(heard) => match self.open() {
-                Ok(()) => heard,
-                Err(AllocError) => Heard::Failed(Breach::OutOfMemory),
-            },
-            Stage::Open => match self.exchange(attachment, now) {
-                Ok(heard) => heard,
-                Err(AllocError) => Heard::Failed(Breach::OutOfMemory),
-            },
-        }
-    }
-
-    /// The connection has come about.
-    fn open(&mut self) -> Result<(), AllocError> {
+    /// The connection has come about: the head is to be written.
+    fn open(&mut self, heard: Heard) -> Result<Heard, AllocError> {
         self.reader = StatusReader::new(self.alloc);
         self.input.clear();
         self.output = self.head()?;
         self.part = Part::Head;
-        Ok(())
+        Ok(heard)
     }
 
     /// Hears the printer, and sends it what is due.
@@ -170,22 +132,13 @@ impl Pjl {
         }
         if self.part == Part::Data {
             if !attachment.is_copy_sent() {
-                return Ok(send_due(&mut self.session, attachment, now));
+                return Ok(self.session.send_due(attachment, now));
             }
             attachment.end_copy();
             self.output = self.foot()?;
             self.part = Part::Foot;
         }
-        Ok(self.send_text(now))
-    }
-
-    /// Sends some of what is still to be written.
-    fn send_text(&mut self, now: u64) -> Moved {
-        let moved = self.session.write(&self.output, now);
-        if let Moved::Bytes(count) = moved {
-            drop_front(&mut self.output, count);
-        }
-        moved
+        Ok(self.session.write_front(&mut self.output, now))
     }
 
     /// What stands before a job: that the printer is to tell of it, and how it is printed.
@@ -211,22 +164,53 @@ impl Pjl {
         )?;
         Vec::from_slice(self.alloc, text.as_bytes())
     }
+}
 
-    /// Forgets the job.
-    pub(crate) fn drop_job(&mut self) {
+impl Printer for Pjl {
+    fn begin(&mut self, order: &JobOrder) {
+        self.job = order.job.number();
+        self.copies = order.copies;
+        self.sides = order.sides;
+    }
+
+    /// A printer that isn't listened to any more is taken to run.
+    fn turn<R: Net + Files>(
+        &mut self,
+        rt: &R,
+        poll: &Poll,
+        attachment: &mut Attachment,
+        now: u64,
+    ) -> Heard {
+        let has_job = attachment.job().is_some();
+        if !has_job && self.stopped {
+            self.stopped = false;
+            return Heard::Runs;
+        }
+        let heard = match self.session.reach(rt, poll, has_job, now) {
+            Stage::Waits(heard) => Ok(heard),
+            Stage::Opened(heard) => self.open(heard),
+            Stage::Open => self.exchange(attachment, now),
+        };
+        heard.unwrap_or(NO_MEMORY)
+    }
+
+    fn told(&mut self, event: &Event) {
+        self.session.told(event);
+    }
+
+    fn drop_job<F: Files>(&mut self, _files: &F) {
         self.part = Part::Nothing;
         self.output.clear();
         self.input.clear();
         self.session.close();
     }
 
-    /// Whether the last turn moved bytes, or left some unread.
-    pub(crate) fn has_worked(&self) -> bool {
+    /// What was read and isn't heard yet is work too.
+    fn has_worked(&self) -> bool {
         self.session.has_worked() || !self.input.is_empty()
     }
 
-    /// The ms until it has something to do by itself.
-    pub(crate) fn pause(&self, now: u64, has_job: bool) -> Option<u64> {
+    fn pause(&self, now: u64, has_job: bool) -> Option<u64> {
         if !has_job && self.stopped {
             return Some(0);
         }

@@ -1,8 +1,10 @@
+//! What is heard of a printer.
 use ipp_printer::{LeftOut, ReplyBreach};
+use std::fmt;
 
 /// Why a job can't be printed.
 #[derive(Clone, Copy, Debug)]
-pub(crate) enum Breach {
+pub enum Breach {
     /// The server canceled it.
     Canceled,
     /// The connection to the server was lost.
@@ -21,9 +23,24 @@ pub(crate) enum Breach {
     OutOfMemory,
 }
 
+impl fmt::Display for Breach {
+    fn fmt<W: fmt::Write>(&self, f: &mut fmt::Formatter<W>) -> fmt::Result {
+        f.write_str(match self {
+            Breach::Reply(breach) => return write!(f, "{breach}"),
+            Breach::Canceled => "canceled",
+            Breach::Unlinked => "unlinked",
+            Breach::Broken => "broken",
+            Breach::Refused => "refused",
+            Breach::Silent => "silent",
+            Breach::Unwritten => "unwritten",
+            Breach::OutOfMemory => "no memory",
+        })
+    }
+}
+
 /// What a printer came to in a turn.
 #[derive(Clone, Copy, Debug)]
-pub(crate) enum Heard {
+pub enum Heard {
     Nothing,
     /// It can't be reached, for the first time since it was.
     Away,
@@ -44,3 +61,6 @@ pub(crate) enum Heard {
     /// It can't print the job.
     Failed(Breach),
 }
+
+/// There is no memory to go on with a job.
+pub(crate) const NO_MEMORY: Heard = Heard::Failed(Breach::OutOfMemory);

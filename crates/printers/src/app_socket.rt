@@ -1,10 +1,13 @@
 //! A printer that speaks AppSocket: one connection a job, its octets, and then what it says until it closes.
 use crate::heard::{Breach, Heard};
+use crate::printer::Printer;
 use crate::session::{Moved, Session, Stage};
 use attachment::Attachment;
+use device_orders::JobOrder;
 use mio::Poll;
 use mio::event::Event;
 use std::net::Net;
+use std::rt::Files;
 
 /// How many calls to the printer a turn makes at most.
 const CALLS: u32 = 64;
@@ -14,7 +17,7 @@ const PIECE: usize = 1024;
 
 /// A printer that speaks AppSocket.
 #[derive(Drop)]
-pub(crate) struct AppSocket {
+pub struct AppSocket {
     session: Session,
     linger: u64,
     /// All is sent, and nothing more will be written.
@@ -24,31 +27,11 @@ pub(crate) struct AppSocket {
 impl AppSocket {
     /// A printer that is connected to for each job. Once it has taken all it may be silent for so many ms
     /// before the job counts as printed.
-    pub(crate) fn new(session: Session, linger: u64) -> AppSocket {
+    pub fn new(session: Session, linger: u64) -> AppSocket {
         AppSocket {
             session,
             linger,
             ends: false,
-        }
-    }
-
-    /// Takes what a wait told.
-    pub(crate) fn told(&mut self, event: &Event) {
-        self.session.told(event);
-    }
-
-    /// Connects where a job is in hand, or the printer is away, and sends what is due.
-    pub(crate) fn turn(
-        &mut self,
-        net: &impl Net,
-        poll: &Poll,
-        attachment: &mut Attachment,
-        now: u64,
-    ) -> Heard {
-        let has_job = attachment.job().is_some();
-        match self.session.reach(net, poll, has_job, now) {
-            Stage::Waits(heard) | Stage::Opened(heard) => heard,
-            Stage::Open => self.exchange(attachment, now),
         }
     }
 
@@ -93,7 +76,7 @@ impl AppSocket {
             if attachment.is_sent() {
                 return self.end(now);
             }
-            match send_due(&mut self.session, attachment, now) {
+            match self.session.send_due(attachment, now) {
                 Moved::Bytes(_) => {}
                 moved => return moved,
             }
@@ -110,51 +93,48 @@ impl AppSocket {
             Moved::Broken
         }
     }
+}
 
-    /// Forgets the job.
-    pub(crate) fn drop_job(&mut self) {
+impl Printer for AppSocket {
+    fn begin(&mut self, _order: &JobOrder) {}
+
+    fn times(&self, order: &JobOrder) -> u32 {
+        order.copies.max(1)
+    }
+
+    fn turn<R: Net + Files>(
+        &mut self,
+        rt: &R,
+        poll: &Poll,
+        attachment: &mut Attachment,
+        now: u64,
+    ) -> Heard {
+        let has_job = attachment.job().is_some();
+        match self.session.reach(rt, poll, has_job, now) {
+            Stage::Waits(heard) | Stage::Opened(heard) => heard,
+            Stage::Open => self.exchange(attachment, now),
+        }
+    }
+
+    fn told(&mut self, event: &Event) {
+        self.session.told(event);
+    }
+
+    fn drop_job<F: Files>(&mut self, _files: &F) {
         self.ends = false;
         self.session.close();
     }
 
-    /// Whether the last turn moved bytes.
-    pub(crate) fn has_worked(&self) -> bool {
+    fn has_worked(&self) -> bool {
         self.session.has_worked()
     }
 
-    /// The ms until it has something to do by itself.
-    pub(crate) fn pause(&self, now: u64, has_job: bool) -> Option<u64> {
+    fn pause(&self, now: u64, has_job: bool) -> Option<u64> {
         let patience = if self.ends {
             self.linger
         } else {
             self.session.timeout()
         };
         self.session.pause(now, has_job, patience)
-    }
-}
-
-/// Sends some of what is due. Where nothing is, the printer isn't waited for.
-pub(crate) fn send_due(session: &mut Session, attachment: &mut Attachment, now: u64) -> Moved {
-    if attachment.due().is_empty() {
-        session.rest(now);
-        return Moved::Nothing;
-    }
-    send_some(session, attachment, usize::MAX, now)
-}
-
-/// Sends some of what is due, so many octets at most.
-pub(crate) fn send_some(
-    session: &mut Session,
-    attachment: &mut Attachment,
-    most: usize,
-    now: u64,
-) -> Moved {
-    let due = attachment.due();
-    match session.write(&due[..due.len().min(most)], now) {
-        Moved::Bytes(count) => {
-            attachment.send(count);
-            Moved::Bytes(count)
-        }
-        moved => moved,
     }
 }

@@ -1,6 +1,6 @@
 //! A printer that speaks LPD (RFC 1179): a job is a control file and a data file, each acknowledged.
-use crate::app_socket::send_due;
-use crate::heard::{Breach, Heard};
+use crate::heard::{Breach, Heard, NO_MEMORY};
+use crate::printer::Printer;
 use crate::session::{Moved, Session, Stage};
 use attachment::Attachment;
 use device_orders::JobOrder;
@@ -8,7 +8,7 @@ use mio::Poll;
 use mio::event::Event;
 use std::alloc::{AllocError, Global};
 use std::net::Net;
-use text::drop_front;
+use std::rt::Files;
 
 /// How many calls to the printer a turn makes at most.
 const CALLS: u32 = 64;
@@ -33,7 +33,7 @@ enum Part {
 
 /// A printer that speaks LPD.
 #[derive(Drop)]
-pub(crate) struct Lpd {
+pub struct Lpd {
     alloc: Global,
     session: Session,
     queue: String,
@@ -48,8 +48,8 @@ pub(crate) struct Lpd {
 }
 
 impl Lpd {
-    /// A printer's queue that is connected to for each job.
-    pub(crate) fn new(alloc: Global, session: Session, queue: String, name: String) -> Lpd {
+    /// A printer's queue that is connected to for each job, which comes from the device of this name.
+    pub fn new(alloc: Global, session: Session, queue: String, name: String) -> Lpd {
         Lpd {
             alloc,
             session,
@@ -63,83 +63,55 @@ impl Lpd {
         }
     }
 
-    /// Takes what a wait told.
-    pub(crate) fn told(&mut self, event: &Event) {
-        self.session.told(event);
-    }
-
-    /// Begins a job.
-    pub(crate) fn begin(&mut self, order: &JobOrder) {
-        self.job = order.job.number();
-        self.octets = order.octets;
-        self.copies = order.copies;
-    }
-
-    /// Connects where a job is in hand, or the printer is away, and sends the job part by part.
-    pub(crate) fn turn(
-        &mut self,
-        net: &impl Net,
-        poll: &Poll,
-        attachment: &mut Attachment,
-        now: u64,
-    ) -> Heard {
-        let has_job = attachment.job().is_some();
-        match self.session.reach(net, poll, has_job, now) {
-            Stage::Waits(heard) => heard,
-            Stage::Opened(heard) => match self.go_on(Part::Queue) {
-                Ok(()) => heard,
-                Err(AllocError) => Heard::Failed(Breach::OutOfMemory),
-            },
-            Stage::Open => self.exchange(attachment, now),
-        }
+    /// The connection has come about: the first part is to be written.
+    fn open(&mut self, heard: Heard) -> Result<Heard, AllocError> {
+        self.go_on(Part::Queue)?;
+        Ok(heard)
     }
 
     /// Hears what the printer acknowledges, and sends it what is due.
-    fn exchange(&mut self, attachment: &mut Attachment, now: u64) -> Heard {
+    fn exchange(&mut self, attachment: &mut Attachment, now: u64) -> Result<Heard, AllocError> {
         for _ in 0..CALLS {
-            match self.hear(now) {
+            match self.hear(now)? {
                 Heard::Nothing => {}
-                heard => return heard,
+                heard => return Ok(heard),
             }
-            match self.send(attachment, now) {
-                Ok(Moved::Bytes(_)) => {}
-                Ok(Moved::Broken | Moved::End) => return Heard::Failed(Breach::Broken),
-                Ok(Moved::Nothing) => return self.session.wait(now),
-                Err(AllocError) => return Heard::Failed(Breach::OutOfMemory),
+            match self.send(attachment, now)? {
+                Moved::Bytes(_) => {}
+                Moved::Broken | Moved::End => return Ok(Heard::Failed(Breach::Broken)),
+                Moved::Nothing => return Ok(self.session.wait(now)),
             }
         }
-        Heard::Nothing
+        Ok(Heard::Nothing)
     }
 
     /// Hears the next octet that the printer says, which acknowledges a part that is written, or refuses
     /// it.
-    fn hear(&mut self, now: u64) -> Heard {
+    fn hear(&mut self, now: u64) -> Result<Heard, AllocError> {
         let mut buffer = [0u8; 1];
         match self.session.read(&mut buffer, now) {
-            Moved::Nothing => Heard::Nothing,
-            Moved::End | Moved::Broken => Heard::Failed(Breach::Broken),
-            Moved::Bytes(_) if buffer[0] != 0 => Heard::Failed(Breach::Refused),
+            Moved::Nothing => Ok(Heard::Nothing),
+            Moved::End | Moved::Broken => Ok(Heard::Failed(Breach::Broken)),
+            Moved::Bytes(_) if buffer[0] != 0 => Ok(Heard::Failed(Breach::Refused)),
             Moved::Bytes(_) => self.acknowledged(),
         }
     }
 
     /// A part is acknowledged.
-    fn acknowledged(&mut self) -> Heard {
+    fn acknowledged(&mut self) -> Result<Heard, AllocError> {
         if !self.output.is_empty() {
-            return Heard::Failed(Breach::Refused);
+            return Ok(Heard::Failed(Breach::Refused));
         }
         let next = match self.part {
             Part::Queue => Part::ControlHead,
             Part::ControlHead => Part::Control,
             Part::Control => Part::DataHead,
             Part::DataHead => Part::Data,
-            Part::Data => return Heard::Failed(Breach::Refused),
-            Part::End => return Heard::Printed,
+            Part::Data => return Ok(Heard::Failed(Breach::Refused)),
+            Part::End => return Ok(Heard::Printed),
         };
-        match self.go_on(next) {
-            Ok(()) => Heard::Nothing,
-            Err(AllocError) => Heard::Failed(Breach::OutOfMemory),
-        }
+        self.go_on(next)?;
+        Ok(Heard::Nothing)
     }
 
     /// Has the next part to write.
@@ -191,36 +163,52 @@ impl Lpd {
     fn send(&mut self, attachment: &mut Attachment, now: u64) -> Result<Moved, AllocError> {
         if self.part == Part::Data {
             if !attachment.is_copy_sent() {
-                return Ok(send_due(&mut self.session, attachment, now));
+                return Ok(self.session.send_due(attachment, now));
             }
             attachment.end_copy();
             self.go_on(Part::End)?;
         }
-        Ok(self.send_text(now))
+        Ok(self.session.write_front(&mut self.output, now))
+    }
+}
+
+impl Printer for Lpd {
+    fn begin(&mut self, order: &JobOrder) {
+        self.job = order.job.number();
+        self.octets = order.octets;
+        self.copies = order.copies;
     }
 
-    /// Sends some of what is still to be written.
-    fn send_text(&mut self, now: u64) -> Moved {
-        let moved = self.session.write(&self.output, now);
-        if let Moved::Bytes(count) = moved {
-            drop_front(&mut self.output, count);
-        }
-        moved
+    fn turn<R: Net + Files>(
+        &mut self,
+        rt: &R,
+        poll: &Poll,
+        attachment: &mut Attachment,
+        now: u64,
+    ) -> Heard {
+        let has_job = attachment.job().is_some();
+        let heard = match self.session.reach(rt, poll, has_job, now) {
+            Stage::Waits(heard) => Ok(heard),
+            Stage::Opened(heard) => self.open(heard),
+            Stage::Open => self.exchange(attachment, now),
+        };
+        heard.unwrap_or(NO_MEMORY)
     }
 
-    /// Forgets the job.
-    pub(crate) fn drop_job(&mut self) {
+    fn told(&mut self, event: &Event) {
+        self.session.told(event);
+    }
+
+    fn drop_job<F: Files>(&mut self, _files: &F) {
         self.output.clear();
         self.session.close();
     }
 
-    /// Whether the last turn moved bytes.
-    pub(crate) fn has_worked(&self) -> bool {
+    fn has_worked(&self) -> bool {
         self.session.has_worked()
     }
 
-    /// The ms until it has something to do by itself.
-    pub(crate) fn pause(&self, now: u64, has_job: bool) -> Option<u64> {
+    fn pause(&self, now: u64, has_job: bool) -> Option<u64> {
         self.session.pause(now, has_job, self.session.timeout())
     }
 }
