@@ -14,6 +14,8 @@ pub enum Asked<'a> {
     /// Judge the text of a plan from standard input, and where the starts are asked for tell when
     /// each job starts.
     Check { starts: bool },
+    /// Draw the plan of a text from standard input, in SVG or for a terminal.
+    Draw { text: bool },
     /// Attach a printer to a server.
     Attach(Attaching<'a>),
 }

@@ -148,6 +148,12 @@ fn check_command<'a>(alloc: Global) -> Result<Command<'a>, AllocError> {
         ))
 }
 
+fn draw_command<'a>(alloc: Global) -> Result<Command<'a>, AllocError> {
+    Command::new(alloc, "draw")
+        .about("Draw the plan of a text from standard input, as SVG")
+        .arg(flag(alloc, "text", "Draw it for a terminal of 80 columns"))
+}
+
 fn command<'a>(alloc: Global) -> Result<Command<'a>, AllocError> {
     Command::new(alloc, "printd")
         .about("A print server that proves its plans are the best")
@@ -158,6 +164,7 @@ fn command<'a>(alloc: Global) -> Result<Command<'a>, AllocError> {
         .subcommand(settings_command(alloc)?)?
         .subcommand(replay_command(alloc)?)?
         .subcommand(check_command(alloc)?)?
+        .subcommand(draw_command(alloc)?)?
         .subcommand(attach_command(alloc)?)
 }
 
@@ -216,6 +223,9 @@ fn meaning<'a>(alloc: Global, found: &ArgMatches<'a>) -> Result<Asked<'a>, Words
         }),
         Some(("check", inner)) => Ok(Asked::Check {
             starts: inner.get_flag("starts"),
+        }),
+        Some(("draw", inner)) => Ok(Asked::Draw {
+            text: inner.get_flag("text"),
         }),
         Some(("attach", inner)) => match attach_words(inner) {
             Some(attaching) => Ok(Asked::Attach(attaching)),

@@ -3,7 +3,7 @@
 //! The one call is [`run_check`]: for every input it writes exactly the verdict on the plan of that
 //! text, or why the text is refused, and gives the exit status, with what is objected to and where. How a
 //! text is read is `plan_text`'s, what a verdict says `plan_checker`'s; no word of a command line is read
-//! here. Its rows are plans of `play_examples`.
+//! here. [`fault_line`] finds the line at which a text is refused. Its rows are plans of `play_examples`.
 #![tactic(auto)]
 
 mod check;
@@ -14,3 +14,4 @@ mod starts;
 
 pub use check::{Audit, run_check};
 pub use objection::Objection;
+pub use place::fault_line;

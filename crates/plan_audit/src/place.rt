@@ -9,7 +9,7 @@ use std::alloc::{AllocError, Global};
 /// The line, counted from 1, at which a text is found to have this fault: the faulty line, or where the
 /// text ends before its end the line that isn't there, or not as a whole.
 #[tactic(auto, unfolding(crate::specs::Place::has_faulty_line))]
-pub(crate) fn fault_line(alloc: Global, text: &[u8], fault: TextFault) -> Result<usize, AllocError>
+pub fn fault_line(alloc: Global, text: &[u8], fault: TextFault) -> Result<usize, AllocError>
     requires { plan_at text.now ≡ Err fault }
     ensures { IfOk result (λ line. IsFaultLine text.now fault line) }
 {

@@ -7,6 +7,10 @@ pub enum Program {
     Replay,
     /// `printd check --starts`.
     Check,
+    /// `printd draw`.
+    Draw,
+    /// `printd draw --text`.
+    DrawText,
 }
 
 /// An example: a file that is given to a program, a file with what it must write, and how it must end.
@@ -17,7 +21,7 @@ pub struct Example {
     pub status: ExitStatus,
 }
 
-pub const EXAMPLES: [Example; 117] = [
+pub const EXAMPLES: [Example; 125] = [
     Example {
         input: "two_devices.trace",
         output: "two_devices.out",
@@ -689,6 +693,54 @@ pub const EXAMPLES: [Example; 117] = [
         output: "stranded_in_the_upper_class.out",
         program: Program::Check,
         status: ExitStatus::No,
+    },
+    Example {
+        input: "stranded_besides.plan",
+        output: "stranded_besides.svg",
+        program: Program::Draw,
+        status: ExitStatus::Done,
+    },
+    Example {
+        input: "two_classes.plan",
+        output: "two_classes.txt",
+        program: Program::DrawText,
+        status: ExitStatus::Done,
+    },
+    Example {
+        input: "stranded_besides.plan",
+        output: "stranded_besides.txt",
+        program: Program::DrawText,
+        status: ExitStatus::Done,
+    },
+    Example {
+        input: "late_device.plan",
+        output: "late_device.txt",
+        program: Program::DrawText,
+        status: ExitStatus::Done,
+    },
+    Example {
+        input: "greedy.plan",
+        output: "greedy.txt",
+        program: Program::DrawText,
+        status: ExitStatus::No,
+    },
+    Example {
+        input: "waits_before.plan",
+        output: "no_picture.txt",
+        program: Program::DrawText,
+        status: ExitStatus::No,
+    },
+    Example {
+        input: "job_twice.plan",
+        output: "no_picture.txt",
+        program: Program::Draw,
+        status: ExitStatus::No,
+    },
+    Example {
+        input: "bad_line.plan",
+        output: "no_picture.txt",
+        program: Program::Draw,
+        status: ExitStatus::Refused,
     },
     Example {
         input: "malformed_at_once.trace",

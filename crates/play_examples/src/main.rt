@@ -3,7 +3,8 @@
 //! line for each, and ends with status 1 where one differs.
 //!
 //! What a trace or a plan gives is the contract of `replay` and of `plan_audit`; here the definitions
-//! behind these contracts are held against rows that were worked out by hand.
+//! behind these contracts are held against rows that were worked out by hand. How the picture of a plan
+//! looks stands in its rows alone.
 #![tactic(auto)]
 
 mod cuts;
@@ -16,6 +17,7 @@ use crate::example::{EXAMPLES, Example, Program};
 use crate::many_jobs::CROWDS;
 use crate::texts::each_is_proved;
 use plan_audit::run_check;
+use plan_drawing::{Form, run_draw};
 use replay::run_replay;
 use std::process::ExitCode;
 use std::{fs, io};
@@ -28,6 +30,8 @@ fn play(rt: &HostRuntime, program: Program, input: &[u8]) -> (ExitStatus, Vec<u8
     let status = match program {
         Program::Replay => run_replay(rt.alloc(), &mut reader, &mut output, false).status,
         Program::Check => run_check(rt.alloc(), &mut reader, &mut output, true).status,
+        Program::Draw => run_draw(rt.alloc(), &mut reader, &mut output, Form::Svg).status,
+        Program::DrawText => run_draw(rt.alloc(), &mut reader, &mut output, Form::Text).status,
     };
     (status, output)
 }
@@ -41,7 +45,7 @@ fn has_proved_plans(
 ) -> io::Result<bool> {
     match program {
         Program::Replay => Ok(each_is_proved(rt.alloc(), input, wanted)?),
-        Program::Check => Ok(true),
+        Program::Check | Program::Draw | Program::DrawText => Ok(true),
     }
 }
 

@@ -1,7 +1,8 @@
-//! `printd replay` and `printd check`: what comes on standard input, played or judged.
+//! `printd replay`, `printd check` and `printd draw`: what comes on standard input, played, judged or drawn.
 use crate::failure::{cannot, out_of_memory, say};
 use crate::noted::{NotedInput, NotedOutput};
-use plan_audit::run_check;
+use plan_audit::{Audit, run_check};
+use plan_drawing::{Form, run_draw};
 use replay::run_replay;
 use std::io;
 use std::io::{Input, Read, Write};
@@ -26,11 +27,28 @@ pub(crate) fn check(rt: &HostRuntime, starts: bool) -> ExitStatus {
     let mut input = NotedInput::new(rt.reader());
     let mut output = NotedOutput::new(io::writer(rt));
     let audit = run_check(rt.alloc(), &mut input, &mut output, starts);
-    if let Some(objection) = &audit.objection {
-        say(rt, objection);
-    }
     if audit.status == ExitStatus::Failed {
         return failed(rt, "judge the plan", input, output);
+    }
+    told(rt, audit)
+}
+
+/// Draws the plan of a text from standard input, in SVG or for a terminal.
+pub(crate) fn draw(rt: &HostRuntime, text: bool) -> ExitStatus {
+    let mut input = NotedInput::new(rt.reader());
+    let mut output = NotedOutput::new(io::writer(rt));
+    let form = if text { Form::Text } else { Form::Svg };
+    let audit = run_draw(rt.alloc(), &mut input, &mut output, form);
+    if audit.status == ExitStatus::Failed {
+        return failed(rt, "draw the plan", input, output);
+    }
+    told(rt, audit)
+}
+
+/// Says what is objected to in a plan, and gives the status.
+fn told(rt: &HostRuntime, audit: Audit) -> ExitStatus {
+    if let Some(objection) = &audit.objection {
+        say(rt, objection);
     }
     audit.status
 }

@@ -1,7 +1,7 @@
 //! The program: `printd serve` is the server over sockets, `printd settings` shows or judges settings,
 //! `printd replay` reads a trace from standard input and writes what the server does, `printd check`
-//! reads the text of a plan and writes the verdict on it, and `printd attach` is a device of a server, whose
-//! jobs a printer prints.
+//! reads the text of a plan and writes the verdict on it, `printd draw` draws it, and `printd attach` is a
+//! device of a server, whose jobs a printer prints.
 #![tactic(auto)]
 
 mod attaching;
@@ -14,7 +14,7 @@ mod settings;
 
 use crate::attaching::run_attach;
 use crate::failure::{cannot, out_of_memory};
-use crate::judging::{check, replay};
+use crate::judging::{check, draw, replay};
 use crate::serving::run_serve;
 use crate::settings::run_settings;
 use command_line::{Asked, WordsError, read_words};
@@ -76,6 +76,7 @@ fn run(rt: &HostRuntime, asked: Asked<'_>) -> Result<ExitStatus, ExitStatus> {
         Asked::Settings(about) => run_settings(rt, about),
         Asked::Replay { plans } => Ok(replay(rt, plans)),
         Asked::Check { starts } => Ok(check(rt, starts)),
+        Asked::Draw { text } => Ok(draw(rt, text)),
         Asked::Attach(attaching) => run_attach(rt, attaching),
     }
 }

@@ -5,11 +5,13 @@ use std::test::Fail;
 use streams::ExitStatus;
 
 /// Lines of words that are read, and what they ask for.
-const READ: [(&str, &str); 16] = [
+const READ: [(&str, &str); 18] = [
     ("printd replay", "Replay { plans: false }"),
     ("printd replay --plans", "Replay { plans: true }"),
     ("printd check", "Check { starts: false }"),
     ("printd check --starts", "Check { starts: true }"),
+    ("printd draw", "Draw { text: false }"),
+    ("printd draw --text", "Draw { text: true }"),
     ("printd settings", "Settings(BuiltIn)"),
     (
         "printd settings lab.toml",

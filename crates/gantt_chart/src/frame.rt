@@ -1,0 +1,78 @@
+//! Where things stand in a picture.
+
+use crate::chart::{Chart, Lane};
+use crate::scale::Scale;
+use std::num::nearest_usize_to_f64;
+
+/// The least width of the lanes.
+const LANES_WIDTH: f64 = 960.0;
+
+/// The width of a letter of a device's name.
+const LETTER_WIDTH: f64 = 7.5;
+
+/// How far apart labels stand side by side below a lane.
+pub(crate) const LABEL_PITCH: f64 = 11.0;
+
+/// How many labels a lane may have, for which a picture is made wider.
+const LABELS: usize = 600;
+
+/// The room around everything.
+pub(crate) const MARGIN: f64 = 16.0;
+
+/// The lanes of a picture from left to right, and the scale by which moments stand there.
+#[derive(Clone, Copy)]
+pub(crate) struct Frame {
+    /// Where the lanes begin.
+    pub(crate) left: f64,
+    /// How wide they are.
+    pub(crate) width: f64,
+    pub(crate) scale: Scale,
+}
+
+/// The room for the name of a lane.
+fn name_width(lane: &Lane) -> f64 {
+    LETTER_WIDTH * nearest_usize_to_f64(lane.name.as_bytes().len())
+}
+
+/// The room for the labels of a lane.
+fn labels_width(lane: &Lane) -> f64 {
+    LABEL_PITCH * nearest_usize_to_f64(lane.jobs().min(LABELS))
+}
+
+impl Frame {
+    /// A frame without lanes, over so many ms.
+    fn empty(span: u64) -> Frame {
+        Frame {
+            left: MARGIN,
+            width: LANES_WIDTH,
+            scale: Scale::new(span),
+        }
+    }
+
+    /// Makes room for a chart.
+    fn fit(&mut self, chart: &Chart) {
+        for lane in &chart.lanes {
+            self.left = self.left.max(2.0 * MARGIN + name_width(lane));
+            self.width = self.width.max(labels_width(lane));
+        }
+    }
+
+    /// The frame of these charts: from the moment 0 until the last job of all ends.
+    pub(crate) fn of(charts: &[Chart]) -> Frame {
+        let mut frame = Frame::empty(charts.iter().map(Chart::span).max().unwrap_or(1));
+        for chart in charts {
+            frame.fit(chart);
+        }
+        frame
+    }
+
+    /// Where a moment stands.
+    pub(crate) fn x(self, moment: u64) -> f64 {
+        self.left + self.width * self.scale.part(moment)
+    }
+
+    /// Where the lanes end.
+    pub(crate) fn right(self) -> f64 {
+        self.left + self.width
+    }
+}

@@ -1,0 +1,115 @@
+//! The labels of jobs: in a bar where it is wide enough, else below its lane.
+
+use crate::chart::{Bar, Lane, Mark};
+use crate::frame::{Frame, LABEL_PITCH};
+use crate::length::ShortTime;
+use std::alloc::{AllocError, Global};
+use std::num::nearest_usize_to_f64;
+
+/// The width of a letter of a label.
+const LETTER_WIDTH: f64 = 6.4;
+
+/// The room around a label in its bar.
+const ROOM: f64 = 5.0;
+
+/// The number of a job, and how long it is.
+#[derive(Drop)]
+pub(crate) struct Label {
+    pub(crate) number: String,
+    pub(crate) length: String,
+}
+
+/// A label below its lane.
+#[derive(Drop)]
+pub(crate) struct Tag {
+    pub(crate) label: Label,
+    /// The middle of its bar.
+    pub(crate) middle: f64,
+    /// Where it stands.
+    pub(crate) x: f64,
+}
+
+impl Label {
+    /// The label of a job of this number that takes so many ms.
+    pub(crate) fn of(alloc: Global, number: u32, length: u64) -> Result<Label, AllocError> {
+        let length = ShortTime(length);
+        Ok(Label {
+            number: format!(in alloc; "{number}")?,
+            length: format!(in alloc; "{length}")?,
+        })
+    }
+
+    /// Whether its two lines fit into a bar of this width.
+    pub(crate) fn fits(&self, width: f64) -> bool {
+        let letters = self.number.len().max(self.length.len());
+        LETTER_WIDTH * nearest_usize_to_f64(letters) + ROOM <= width
+    }
+
+    /// How long it is in one line.
+    fn extent(&self) -> f64 {
+        let letters = self.number.len().saturating_add(self.length.len());
+        LETTER_WIDTH * (nearest_usize_to_f64(letters) + 1.0)
+    }
+}
+
+/// The label of a bar below its lane, where the bar has no room for it.
+fn tag_of(alloc: Global, frame: Frame, bar: &Bar) -> Result<Option<Tag>, AllocError> {
+    let Mark::Job(job) = bar.mark else {
+        return Ok(None);
+    };
+    let label = Label::of(alloc, job.number, bar.length())?;
+    let (start, end) = (frame.x(bar.start), frame.x(bar.end));
+    if label.fits(end - start) {
+        return Ok(None);
+    }
+    let middle = (start + end) / 2.0;
+    Ok(Some(Tag {
+        label,
+        middle,
+        x: middle,
+    }))
+}
+
+/// Moves each label so far to the right that it stands clear of the one before.
+fn push_right(tags: &mut [Tag], left: f64) {
+    let mut least = left;
+    for tag in tags.iter_mut() {
+        tag.x = tag.x.max(least);
+        least = tag.x + LABEL_PITCH;
+    }
+}
+
+/// Moves each label so far to the left that it stands clear of the one behind.
+fn push_left(tags: &mut [Tag], right: f64) {
+    let mut most = right;
+    for place in (0..tags.len()).rev() {
+        let tag = &mut tags[place];
+        tag.x = tag.x.min(most);
+        most = tag.x - LABEL_PITCH;
+    }
+}
+
+/// The labels below a lane, clear of each other; none where there are more than fit.
+pub(crate) fn tags_of(alloc: Global, frame: Frame, lane: &Lane) -> Result<Vec<Tag>, AllocError> {
+    let mut tags = Vec::new(alloc);
+    for bar in &lane.bars {
+        if let Some(tag) = tag_of(alloc, frame, bar)? {
+            tags.push(tag)?;
+        }
+    }
+    if LABEL_PITCH * nearest_usize_to_f64(tags.len()) > frame.width {
+        tags.clear();
+    }
+    push_right(&mut tags, frame.left);
+    push_left(&mut tags, frame.right());
+    Ok(tags)
+}
+
+/// The room that labels below a lane take.
+pub(crate) fn tags_height(tags: &[Tag]) -> f64 {
+    let mut height = 0.0;
+    for tag in tags {
+        height = tag.label.extent().max(height);
+    }
+    height
+}

@@ -1,0 +1,214 @@
+//! A lane of a chart in a picture: the device's name, its bars, and the labels of its jobs.
+
+use crate::chart::{Bar, Chart, ChartJob, Lane, Mark};
+use crate::colour::class_colour;
+use crate::frame::{Frame, MARGIN};
+use crate::label::{Label, Tag, tags_height, tags_of};
+use crate::scale::MOST_MARKS;
+use crate::svg::put_text;
+use std::alloc::{AllocError, Global};
+
+/// The height of a bar.
+const BAR_HEIGHT: f64 = 32.0;
+
+/// The room above a bar.
+const ABOVE: f64 = 8.0;
+
+/// How far below a bar its label begins, where it stands there.
+const LEADER: f64 = 12.0;
+
+/// The least width of a bar, so that it is seen.
+const THINNEST: f64 = 0.6;
+
+/// A bar as it is drawn: where it begins, and how wide it is.
+#[derive(Clone, Copy)]
+struct Extent {
+    x: f64,
+    y: f64,
+    width: f64,
+}
+
+/// Where a bar stands, whose top is there.
+fn extent_of(frame: Frame, bar: &Bar, y: f64) -> Extent {
+    let x = frame.x(bar.start);
+    Extent {
+        x,
+        y,
+        width: (frame.x(bar.end) - x).max(THINNEST),
+    }
+}
+
+/// Appends the lines of the scale behind a lane.
+fn put_grid(output: &mut String, frame: Frame, top: f64, bottom: f64) -> Result<(), AllocError> {
+    for place in 0..=MOST_MARKS {
+        let Some(mark) = frame.scale.mark(place) else {
+            return Ok(());
+        };
+        let x = frame.x(mark.moment);
+        write!(
+            output,
+            "<path d=\"M{x:.1} {top:.1}V{bottom:.1}\" stroke=\"#ddd\"/>\n"
+        )?;
+    }
+    Ok(())
+}
+
+/// Appends the name of a lane, which ends before the bars begin.
+fn put_name(output: &mut String, frame: Frame, lane: &Lane, y: f64) -> Result<(), AllocError> {
+    put_text(
+        output,
+        frame.left - MARGIN / 2.0,
+        y + 20.0,
+        " text-anchor=\"end\" font-weight=\"bold\"",
+        lane.name.as_bytes(),
+    )
+}
+
+/// Appends the two lines of a label in its bar.
+fn put_label(
+    output: &mut String,
+    extent: Extent,
+    ink: &str,
+    label: &Label,
+) -> Result<(), AllocError> {
+    let x = extent.x + extent.width / 2.0;
+    let (upper, lower) = (extent.y + 14.0, extent.y + 27.0);
+    let (number, length) = (&label.number, &label.length);
+    write!(
+        output,
+        "<text x=\"{x:.1}\" y=\"{upper:.1}\" text-anchor=\"middle\" font-weight=\"bold\" fill=\"{ink}\">{number}</text>\n"
+    )?;
+    write!(
+        output,
+        "<text x=\"{x:.1}\" y=\"{lower:.1}\" text-anchor=\"middle\" font-size=\"11\" fill=\"{ink}\">{length}</text>\n"
+    )?;
+    Ok(())
+}
+
+/// Appends a rectangle, which says when it begins and ends if it is pointed at.
+fn put_rectangle(
+    output: &mut String,
+    extent: Extent,
+    fill: &str,
+    bar: &Bar,
+    what: &str,
+) -> Result<(), AllocError> {
+    let Extent { x, y, width } = extent;
+    let (start, end) = (bar.start, bar.end);
+    write!(
+        output,
+        "<rect x=\"{x:.1}\" y=\"{y:.1}\" width=\"{width:.1}\" height=\"{BAR_HEIGHT}\" fill=\"{fill}\" stroke=\"#fff\" stroke-width=\"0.5\">"
+    )?;
+    write!(
+        output,
+        "<title>{what}: {start} to {end} ms</title></rect>\n"
+    )?;
+    Ok(())
+}
+
+/// What is told of a job.
+fn telling(alloc: Global, job: ChartJob, classes: &[u8]) -> Result<String, AllocError> {
+    let number = job.number;
+    match classes.get(job.class) {
+        Some(priority) => format!(in alloc; "job {number}, priority {priority}"),
+        None => format!(in alloc; "job {number}"),
+    }
+}
+
+/// Appends the bar of a job, with its label where it fits.
+fn put_job(
+    alloc: Global,
+    output: &mut String,
+    extent: Extent,
+    bar: &Bar,
+    job: ChartJob,
+    classes: &[u8],
+) -> Result<(), AllocError> {
+    let colour = class_colour(job.class, classes.len());
+    let fill = format!(in alloc; "{colour}")?;
+    let what = telling(alloc, job, classes)?;
+    put_rectangle(output, extent, &fill, bar, &what)?;
+    let label = Label::of(alloc, job.number, bar.length())?;
+    if label.fits(extent.width) {
+        put_label(output, extent, colour.ink(), &label)?;
+    }
+    Ok(())
+}
+
+/// Appends a bar.
+fn put_bar(
+    alloc: Global,
+    output: &mut String,
+    extent: Extent,
+    bar: &Bar,
+    classes: &[u8],
+) -> Result<(), AllocError> {
+    match bar.mark {
+        Mark::Wait => put_rectangle(output, extent, "url(#wait)", bar, "not free"),
+        Mark::Job(job) => put_job(alloc, output, extent, bar, job, classes),
+    }
+}
+
+/// Appends the label of a bar that stands below it, and a line to it.
+fn put_tag(output: &mut String, tag: &Tag, top: f64) -> Result<(), AllocError> {
+    let (middle, x) = (tag.middle, tag.x);
+    let (down, begin, text) = (top + LEADER - 3.0, top + LEADER, tag.x - 3.5);
+    let (number, length) = (&tag.label.number, &tag.label.length);
+    write!(
+        output,
+        "<path d=\"M{middle:.1} {top:.1}L{x:.1} {down:.1}\" stroke=\"#888\" stroke-width=\"0.5\"/>\n"
+    )?;
+    write!(
+        output,
+        "<text transform=\"translate({text:.1} {begin:.1}) rotate(90)\" font-size=\"10\"><tspan font-weight=\"bold\">{number}</tspan> {length}</text>\n"
+    )?;
+    Ok(())
+}
+
+/// Appends the bars of a lane, whose top is there.
+fn put_bars(
+    alloc: Global,
+    output: &mut String,
+    frame: Frame,
+    chart: &Chart,
+    lane: &Lane,
+    y: f64,
+) -> Result<(), AllocError> {
+    for bar in &lane.bars {
+        let extent = extent_of(frame, bar, y);
+        put_bar(alloc, output, extent, bar, &chart.classes)?;
+    }
+    Ok(())
+}
+
+/// Appends the labels below a lane.
+fn put_tags(output: &mut String, tags: &[Tag], top: f64) -> Result<(), AllocError> {
+    for tag in tags {
+        put_tag(output, tag, top)?;
+    }
+    Ok(())
+}
+
+/// Appends a lane from there down, and tells where it ends.
+pub(crate) fn put_lane(
+    alloc: Global,
+    output: &mut String,
+    frame: Frame,
+    chart: &Chart,
+    lane: &Lane,
+    top: f64,
+) -> Result<f64, AllocError> {
+    let tags = tags_of(alloc, frame, lane)?;
+    let bars = top + ABOVE;
+    let below = bars + BAR_HEIGHT;
+    let bottom = if tags.is_empty() {
+        below
+    } else {
+        below + LEADER + tags_height(&tags)
+    };
+    put_grid(output, frame, top, bottom)?;
+    put_name(output, frame, lane, bars)?;
+    put_bars(alloc, output, frame, chart, lane, bars)?;
+    put_tags(output, &tags, below)?;
+    Ok(bottom)
+}

@@ -1,0 +1,139 @@
+//! The scale of a chart: where a moment stands, and which moments are written below the lanes.
+
+use std::num::nearest_u64_to_f64;
+
+/// Times between two marks, in ms: the first is taken of which few enough fit into the span.
+const STEPS: [u64; 32] = [
+    1,
+    2,
+    5,
+    10,
+    20,
+    50,
+    100,
+    200,
+    500,
+    1_000,
+    2_000,
+    5_000,
+    10_000,
+    15_000,
+    30_000,
+    60_000,
+    120_000,
+    300_000,
+    600_000,
+    900_000,
+    1_800_000,
+    3_600_000,
+    7_200_000,
+    18_000_000,
+    36_000_000,
+    86_400_000,
+    172_800_000,
+    432_000_000,
+    864_000_000,
+    2_592_000_000,
+    8_640_000_000,
+    31_536_000_000,
+];
+
+/// How many marks there may be behind the first.
+pub(crate) const MOST_MARKS: u64 = 12;
+
+/// What the marks count.
+#[derive(Clone, Copy, Debug, PartialEq, Eq)]
+pub(crate) enum Unit {
+    Milliseconds,
+    Seconds,
+    Minutes,
+}
+
+/// A span of time, and the time between two of its marks, in ms.
+#[derive(Clone, Copy, Debug, PartialEq, Eq)]
+pub(crate) struct Scale {
+    span: u64,
+    step: u64,
+}
+
+/// A moment that is written, in ms, and by its number of units.
+#[derive(Clone, Copy, Debug, PartialEq, Eq)]
+pub(crate) struct ScaleMark {
+    pub(crate) moment: u64,
+    pub(crate) number: u64,
+}
+
+impl Unit {
+    /// The largest that isn't longer than a step.
+    fn of(step: u64) -> Unit {
+        if step >= 60_000 {
+            Unit::Minutes
+        } else if step >= 1_000 {
+            Unit::Seconds
+        } else {
+            Unit::Milliseconds
+        }
+    }
+
+    fn count(self, moment: u64) -> u64 {
+        match self {
+            Unit::Milliseconds => moment,
+            Unit::Seconds => moment / 1_000,
+            Unit::Minutes => moment / 60_000,
+        }
+    }
+
+    pub(crate) fn name(self) -> &'static str {
+        match self {
+            Unit::Milliseconds => "ms",
+            Unit::Seconds => "seconds",
+            Unit::Minutes => "minutes",
+        }
+    }
+}
+
+/// The time between two marks.
+fn step_of(span: u64) -> u64 {
+    for step in STEPS {
+        if span <= step.saturating_mul(MOST_MARKS) {
+            return step;
+        }
+    }
+    span / MOST_MARKS
+}
+
+impl Scale {
+    /// The scale of so many ms.
+    pub(crate) fn new(span: u64) -> Scale {
+        Scale {
+            span,
+            step: step_of(span),
+        }
+    }
+
+    pub(crate) fn unit(self) -> Unit {
+        Unit::of(self.step)
+    }
+
+    /// The mark at a place, if it is within the span; the first is that of the moment 0.
+    pub(crate) fn mark(self, place: u64) -> Option<ScaleMark> {
+        let moment = self.step.checked_mul(place)?;
+        if moment > self.span {
+            return None;
+        }
+        let number = self.unit().count(moment);
+        Some(ScaleMark { moment, number })
+    }
+
+    /// The part of the span that has passed at a moment, from 0 to 1.
+    pub(crate) fn part(self, moment: u64) -> f64 {
+        nearest_u64_to_f64(moment.min(self.span)) / nearest_u64_to_f64(self.span.max(1))
+    }
+
+    /// The column in which a moment stands, of so many from left to right, or behind the last one.
+    pub(crate) fn column(self, moment: u64, columns: u16) -> u16 {
+        let passed = u128::from(moment.min(self.span)) * u128::from(columns);
+        let column = passed / u128::from(self.span.max(1));
+        u16::try_from(column).unwrap_or(columns).min(columns)
+    }
+}

@@ -1,0 +1,22 @@
+//! The jobs that no device can print, in sentences.
+
+use base_types::{Cause, Stranded};
+use std::alloc::{AllocError, Global};
+
+/// What a cause means, behind its word in the text of a plan.
+fn meaning(cause: Cause) -> &'static str {
+    match cause {
+        Cause::NoDevice => "NoDevice, its printer has no device",
+        Cause::Format => "Format, none has every document format of the job",
+        Cause::Sides => "Sides, none of those left prints on both sides",
+        Cause::Finishings => "Finishings, none of those left has every finishing of the job",
+        Cause::Media => "Media, none of those left has its media loaded",
+        Cause::Running => "Running, none of those left runs",
+    }
+}
+
+/// A sentence about a job that no device can print.
+pub(crate) fn sentence(alloc: Global, stranded: &Stranded) -> Result<String, AllocError> {
+    let (number, cause) = (stranded.job.number(), meaning(stranded.cause));
+    format!(in alloc; "No device prints job {number}: {cause}.")
+}

@@ -1,0 +1,200 @@
+//! The chart of a plan.
+ghost use Rattle.std.specs.Prelude.{◌≡◌, All, Contains, IfSome};
+ghost use Rattle.prices.specs.Way.{IsWay};
+ghost use Rattle.prices.specs.Total.{completion_of};
+ghost use Rattle.prices.specs.Timetable.{own_slots};
+
+use base_types::{JobId, Text};
+use gantt_chart::{Bar, Chart, ChartJob, Lane, Mark};
+use plan_text::PlanText;
+use prices::{PlannedClass, start_of, total};
+use std::alloc::{AllocError, Global};
+
+/// A job on a device, from its start to its end, in ms from the moment that the waits are counted from.
+#[derive(Clone, Copy)]
+struct Printing {
+    device: usize,
+    start: u64,
+    end: u64,
+}
+
+/// Where a job is printed, and when, by the way of its class.
+fn printing_of(class: &PlannedClass, job: JobId) -> Option<Printing>
+    requires { IsWay class.now.problem class.now.priced.way }
+    ensures slot { IfSome result (λ p. Contains (own_slots class.now.problem class.now.priced.way) (record { job = job; device = p.device; start = p.start })) }
+    ensures completion { IfSome result (λ p. p.end ≡ completion_of class.now.problem class.now.priced.way job) }
+{
+    let (device, start) = start_of(&class.problem, &class.priced.way, job)?;
+    let time = class.problem.time(job, device).unwrap_or(0);
+    let end = start.checked_add(time)?;
+    Some(Printing {
+        device: device.place(),
+        start,
+        end,
+    })
+}
+
+/// When a device is free for the first class, where it isn't from the beginning on.
+fn first_wait(classes: &[PlannedClass], device: usize) -> Option<u64> {
+    let first = classes.first()?;
+    let wait = first.problem.waits().get(device).copied()?;
+    if wait > 0 { Some(wait) } else { None }
+}
+
+/// The lane of a device before its first job.
+fn empty_lane(alloc: Global, name: &Text, wait: Option<u64>) -> Result<Lane, AllocError> {
+    let mut bars = Vec::new(alloc);
+    if let Some(end) = wait {
+        bars.push(Bar {
+            mark: Mark::Wait,
+            start: 0,
+            end,
+        })?;
+    }
+    let name = name.copied(alloc)?;
+    Ok(Lane { name, bars })
+}
+
+/// The lanes of the devices before their first jobs.
+fn empty_lanes(
+    alloc: Global,
+    names: &[Text],
+    classes: &[PlannedClass],
+) -> Result<Vec<Lane>, AllocError> {
+    let mut lanes = Vec::new(alloc);
+    for (device, name) in names.iter().enumerate() {
+        lanes.push(empty_lane(alloc, name, first_wait(classes, device))?)?;
+    }
+    Ok(lanes)
+}
+
+/// Adds the bar of a job of the class at a place.
+fn add_job(
+    lanes: &mut [Lane],
+    place: usize,
+    class: &PlannedClass,
+    job: JobId,
+) -> Result<(), AllocError>
+    requires { IsWay class.now.problem class.now.priced.way }
+{
+    let Some(printing) = printing_of(class, job) else {
+        return Ok(());
+    };
+    let bar = Bar {
+        mark: Mark::Job(ChartJob {
+            number: job.number(),
+            class: place,
+        }),
+        start: printing.start,
+        end: printing.end,
+    };
+    if let Some(lane) = lanes.get_mut(printing.device) {
+        lane.bars.push(bar)?;
+    }
+    Ok(())
+}
+
+/// Adds the bars of some jobs of the class at a place.
+fn add_jobs(
+    lanes: &mut [Lane],
+    place: usize,
+    class: &PlannedClass,
+    jobs: &[JobId],
+) -> Result<(), AllocError>
+    requires { IsWay class.now.problem class.now.priced.way }
+{
+    for job in jobs {
+        add_job(lanes, place, class, *job)?;
+    }
+    Ok(())
+}
+
+/// Adds the bars of the class at a place, on each device from the first to be printed on.
+fn add_class(lanes: &mut [Lane], place: usize, class: &PlannedClass) -> Result<(), AllocError>
+    requires { IsWay class.now.problem class.now.priced.way }
+{
+    for queue in class.priced.way.queues() {
+        add_jobs(lanes, place, class, queue.jobs())?;
+    }
+    Ok(())
+}
+
+/// Adds the bars of all classes.
+fn add_classes(lanes: &mut [Lane], classes: &[PlannedClass]) -> Result<(), AllocError>
+    requires { All (λ class. IsWay class.problem class.priced.way) classes.now }
+{
+    for (place, class) in classes.iter().enumerate() {
+        add_class(lanes, place, class)?;
+    }
+    Ok(())
+}
+
+/// The priorities of classes.
+fn priorities_of(alloc: Global, classes: &[PlannedClass]) -> Result<Vec<u8>, AllocError> {
+    let mut priorities = Vec::new(alloc);
+    for class in classes {
+        priorities.push(class.priority.level())?;
+    }
+    Ok(priorities)
+}
+
+/// The sum of the completions of all jobs, in ms.
+fn total_of(classes: &[PlannedClass]) -> u128
+    requires { All (λ class. IsWay class.problem class.priced.way) classes.now }
+{
+    let mut sum = 0u128;
+    for class in classes {
+        sum = sum.saturating_add(u128::from(total(&class.problem, &class.priced.way)));
+    }
+    sum
+}
+
+/// How many jobs there are in the classes.
+fn jobs_in(classes: &[PlannedClass]) -> usize {
+    let mut jobs = 0usize;
+    for class in classes {
+        jobs = jobs.saturating_add(class.problem.ids().len());
+    }
+    jobs
+}
+
+/// A number of things, in words.
+fn counted(alloc: Global, count: usize, one: &str) -> Result<String, AllocError> {
+    if count == 1 {
+        format!(in alloc; "1 {one}")
+    } else {
+        format!(in alloc; "{count} {one}s")
+    }
+}
+
+/// What a chart is of, in a line.
+fn title_of(alloc: Global, named: &PlanText, is_proved: bool) -> Result<String, AllocError> {
+    let jobs = counted(alloc, jobs_in(named.plan().classes()), "job")?;
+    let devices = counted(alloc, named.devices().len(), "device")?;
+    if is_proved {
+        format!(in alloc; "{jobs} on {devices}, proved the best")
+    } else {
+        format!(in alloc; "{jobs} on {devices}, not proved the best")
+    }
+}
+
+/// The chart of a plan, from the moment on that its waits are counted from.
+pub(crate) fn chart_of(
+    alloc: Global,
+    named: &PlanText,
+    is_proved: bool,
+) -> Result<Chart, AllocError>
+    requires { All (λ class. IsWay class.problem class.priced.way) named.now.plan.classes }
+{
+    let classes = named.plan().classes();
+    let title = title_of(alloc, named, is_proved)?;
+    let mut lanes = empty_lanes(alloc, named.devices(), classes)?;
+    add_classes(&mut lanes, classes)?;
+    Ok(Chart {
+        title,
+        lanes,
+        classes: priorities_of(alloc, classes)?,
+        stranded: Vec::from_slice(alloc, named.plan().stranded())?,
+        total: total_of(classes),
+    })
+}

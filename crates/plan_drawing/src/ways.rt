@@ -1,0 +1,36 @@
+//! Whether the lists of a plan are a timetable.
+ghost use Rattle.std.specs.Prelude.{All, IsTrue, ◌↔◌};
+ghost use Rattle.prices.specs.Way.{IsWay};
+
+use prices::{PlannedClass, is_way, leaves_waits};
+
+/// Whether the lists of each class are a way of it.
+pub(crate) fn have_ways(classes: &[PlannedClass]) -> bool
+    ensures { IsTrue result ↔ All (λ class. IsWay class.problem class.priced.way) classes.now }
+{
+    classes
+        .iter()
+        .all(|class| is_way(&class.problem, &class.priced.way))
+}
+
+/// Whether a class has just the waits that the class above it leaves.
+fn follows(above: &PlannedClass, class: &PlannedClass) -> bool
+    requires { IsWay above.now.problem above.now.priced.way }
+{
+    let waits = class.problem.waits();
+    waits.len() == above.problem.waits().len()
+        && leaves_waits(&above.problem, &above.priced.way, waits)
+}
+
+/// Whether each class but the first has just the waits that the class above it leaves, so that no two jobs
+/// are on a device at a time.
+pub(crate) fn follow_one_another(classes: &[PlannedClass]) -> bool
+    requires { All (λ class. IsWay class.problem class.priced.way) classes.now }
+{
+    for place in 1..classes.len() {
+        if !follows(&classes[place - 1], &classes[place]) {
+            return false;
+        }
+    }
+    true
+}
