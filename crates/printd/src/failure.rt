@@ -15,7 +15,7 @@ fn reason(error: &io::Error) -> &'static str {
         ErrorKind::NotADirectory => "a part of its path is no folder",
         ErrorKind::StorageFull => "no space is left",
         ErrorKind::OutOfMemory => "out of memory",
-        ErrorKind::WriteZero => "it takes no bytes",
+        ErrorKind::WriteZero => "it takes no bytes, or there is no memory for its buffer",
         ErrorKind::Unsupported => "the system does not know such addresses",
         _ => "the system refuses it",
     }
