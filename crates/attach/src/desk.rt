@@ -33,7 +33,7 @@ pub(crate) struct Desk<P: Printer> {
 }
 
 /// Why the server is no longer heard.
-#[derive(Clone, Copy, Debug)]
+#[derive(Clone, Copy)]
 enum Stop {
     /// Its connection has ended, or it wrote what it never writes.
     Lost,
