@@ -1,4 +1,5 @@
 //! What an adapter does in a turn.
+use crate::figures::Figures;
 use crate::line::{Came, ServerLine};
 use crate::log::{Log, Note};
 use attachment::{Attachment, LoadedMedia, PrinterState};
@@ -29,11 +30,12 @@ pub(crate) struct Desk<P: Printer> {
     line: ServerLine,
     printer: P,
     log: Log,
+    figures: Figures,
     worked: bool,
 }
 
 /// Why the server is no longer heard.
-#[derive(Clone, Copy, Debug)]
+#[derive(Clone, Copy)]
 enum Stop {
     /// Its connection has ended, or it wrote what it never writes.
     Lost,
@@ -54,6 +56,7 @@ impl<P: Printer> Desk<P> {
         line: ServerLine,
         printer: P,
         log: Log,
+        figures: Figures,
     ) -> Desk<P> {
         Desk {
             alloc,
@@ -63,6 +66,7 @@ impl<P: Printer> Desk<P> {
             line,
             printer,
             log,
+            figures,
             worked: false,
         }
     }
@@ -78,9 +82,15 @@ impl<P: Printer> Desk<P> {
         self.log.take()
     }
 
+    /// What was measured since the last call.
+    pub(crate) fn take_figures(&mut self) -> Vec<u8> {
+        self.figures.take()
+    }
+
     /// One turn: connects, hears the server, goes on with the printer, and says what is due.
     pub(crate) fn turn<R: Net + Files>(&mut self, rt: &R, poll: &Poll, now: u64) {
         self.log.set_now(now);
+        self.figures.set_now(now);
         self.worked = false;
         let stop = self.take_turn(rt, poll, now);
         if let Err(stop) = stop {
@@ -187,6 +197,7 @@ impl<P: Printer> Desk<P> {
         let times = self.printer.times(order);
         self.attachment.order(order.job, order.octets, times);
         self.printer.begin(order);
+        self.figures.begin(order);
         self.log.note(Note::Began {
             job,
             octets: order.octets,
@@ -237,18 +248,21 @@ impl<P: Printer> Desk<P> {
 
     /// The printer prints nothing for now.
     fn stop(&mut self, note: Note) {
+        self.figures.leave();
         self.attachment.set_printer(PrinterState::Stopped);
         self.log.note(note);
     }
 
     /// The printer prints.
     fn run(&mut self, note: Note) {
+        self.figures.leave();
         self.attachment.set_printer(PrinterState::Running);
         self.log.note(note);
     }
 
     /// The printer has printed so many pages of the job.
     fn tell_pages(&mut self, printed: u32) -> Result<(), Stop> {
+        self.figures.pages(printed);
         if let Some(report) = self.attachment.pages(printed) {
             self.line.say(&report)?;
         }
@@ -276,8 +290,14 @@ impl<P: Printer> Desk<P> {
             return Ok(());
         };
         match &report {
-            Report::Done { job } => self.log.note(Note::Done(*job)),
-            Report::Fail { job } => self.log.note(Note::Failed(*job, breach)),
+            Report::Done { job } => {
+                self.figures.finish();
+                self.log.note(Note::Done(*job));
+            }
+            Report::Fail { job } => {
+                self.figures.leave();
+                self.log.note(Note::Failed(*job, breach));
+            }
             _ => {}
         }
         Ok(self.line.say(&report)?)
@@ -317,6 +337,7 @@ impl<P: Printer> Desk<P> {
             self.log.note(Note::Failed(job.number(), breach));
         }
         self.line.lose(now);
+        self.figures.leave();
         self.printer.drop_job(rt);
         self.attachment.link();
         self.log.note(Note::Unlinked);

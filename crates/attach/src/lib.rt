@@ -10,6 +10,7 @@
 
 mod clock;
 mod desk;
+mod figures;
 mod line;
 mod log;
 mod plan;

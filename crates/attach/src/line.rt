@@ -13,7 +13,7 @@ use text::drop_front;
 const PIECE: usize = 65_536;
 
 /// What came of the server.
-#[derive(Clone, Copy, Debug, PartialEq, Eq)]
+#[derive(Clone, Copy)]
 pub(crate) enum Came {
     /// Nothing for now.
     Nothing,

@@ -6,7 +6,7 @@ use std::alloc::{AllocError, Global};
 use std::fmt;
 
 /// What happens that is worth a line.
-#[derive(Clone, Copy, Debug)]
+#[derive(Clone, Copy)]
 pub(crate) enum Note {
     /// There is a connection to the server.
     Linked,
@@ -33,26 +33,28 @@ pub(crate) enum Note {
 
 impl fmt::Display for Note {
     fn fmt<W: fmt::Write>(&self, f: &mut fmt::Formatter<W>) -> fmt::Result {
-        match *self {
-            Note::Linked => f.write_str("linked"),
-            Note::Unlinked => f.write_str("unlinked"),
-            Note::ServerAway => f.write_str("server away"),
-            Note::Refused(fault) => write!(f, "refused {fault}"),
-            Note::JobTooEarly(job) => write!(f, "refused job {job} before the last was answered"),
-            Note::PrinterAway => f.write_str("printer away"),
-            Note::PrinterBack => f.write_str("printer back"),
-            Note::PrinterStopped => f.write_str("printer stopped"),
-            Note::PrinterRuns => f.write_str("printer runs"),
-            Note::Unread(breach) => write!(f, "printer unread {breach}"),
-            Note::LeftOut(left_out) => write!(f, "left out{left_out}"),
+        f.write_str(match *self {
+            Note::Linked => "linked",
+            Note::Unlinked => "unlinked",
+            Note::ServerAway => "server away",
+            Note::PrinterAway => "printer away",
+            Note::PrinterBack => "printer back",
+            Note::PrinterStopped => "printer stopped",
+            Note::PrinterRuns => "printer runs",
+            Note::Refused(fault) => return write!(f, "refused {fault}"),
+            Note::JobTooEarly(job) => {
+                return write!(f, "refused job {job} before the last was answered");
+            }
+            Note::Unread(breach) => return write!(f, "printer unread {breach}"),
+            Note::LeftOut(left_out) => return write!(f, "left out{left_out}"),
             Note::Began {
                 job,
                 octets,
                 copies,
-            } => write!(f, "job {job} {octets} {copies}"),
-            Note::Done(job) => write!(f, "done {job}"),
-            Note::Failed(job, breach) => write!(f, "fail {job} {breach}"),
-        }
+            } => return write!(f, "job {job} {octets} {copies}"),
+            Note::Done(job) => return write!(f, "done {job}"),
+            Note::Failed(job, breach) => return write!(f, "fail {job} {breach}"),
+        })
     }
 }
 

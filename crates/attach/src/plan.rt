@@ -45,6 +45,12 @@ pub struct Plan {
     pub timeout: u64,
     /// A printer that speaks AppSocket speaks PJL too.
     pub pjl: bool,
+    /// How many turns it takes.
+    pub turns: u64,
+    /// Whether what happens is written to the log.
+    pub logs: bool,
+    /// Whether the printer's rates and its setup are measured and written.
+    pub measures: bool,
 }
 
 /// The words that say what an adapter is to do.
@@ -60,6 +66,9 @@ pub struct PlanWords<'a> {
     /// In seconds.
     pub timeout: u32,
     pub pjl: bool,
+    pub turns: u64,
+    pub logs: bool,
+    pub measures: bool,
 }
 
 /// Which of the words makes no sense.
@@ -103,6 +112,9 @@ pub fn read_plan(alloc: Global, words: PlanWords<'_>) -> Result<Plan, WordFault>
         linger: u64::from(words.linger) * 1000,
         timeout: u64::from(words.timeout) * 1000,
         pjl: words.pjl,
+        turns: words.turns,
+        logs: words.logs,
+        measures: words.measures,
     })
 }
 

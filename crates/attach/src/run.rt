@@ -1,6 +1,7 @@
 //! An adapter that runs.
 use crate::clock::millis_since;
 use crate::desk::Desk;
+use crate::figures::Figures;
 use crate::line::ServerLine;
 use crate::log::Log;
 use crate::plan::{Plan, Target};
@@ -22,25 +23,25 @@ const PRINTER: Token = Token(1);
 /// How many sockets a wait tells of at most.
 const EVENTS: usize = 8;
 
-/// Which device an adapter is, where its server is, how many turns it takes, and whether it keeps a log.
+/// Which device an adapter is, where its server is, how many turns it takes, and what it writes.
 #[derive(Drop)]
 struct Device {
     name: String,
     server: Place,
     turns: u64,
     logs: bool,
+    measures: bool,
 }
 
-/// Does what a plan says for so many turns, and writes a line of each thing that happens where that is
-/// wanted. A log that can't be written stops nothing. The error is the clock's or the system's, or out of
-/// memory at the start.
-pub fn attach<R: Net + Files + Clock, W: Write>(
+/// Does what a plan says. It writes a line of each thing that happens to the log, and after each job the
+/// rates and the setup of the printer to the figures, where these are wanted. What can't be written stops
+/// nothing. The error is the clock's or the system's, or out of memory at the start.
+pub fn attach<R: Net + Files + Clock, L: Write, F: Write>(
     alloc: Global,
     rt: &R,
     plan: Plan,
-    turns: u64,
-    logs: bool,
-    log: &mut W,
+    log: &mut L,
+    figures: &mut F,
 ) -> io::Result<()> {
     let printer_name = plan.name.clone()?;
     let Plan {
@@ -52,34 +53,38 @@ pub fn attach<R: Net + Files + Clock, W: Write>(
         linger,
         timeout,
         pjl,
+        turns,
+        logs,
+        measures,
     } = plan;
     let device = Device {
         name,
         server,
         turns,
         logs,
+        measures,
     };
     match target {
         Target::Folder(path) => {
             let printer = Folder::new(alloc, path, printer_name, format, ms_per_page);
-            run(alloc, rt, device, printer, log)
+            run(alloc, rt, device, printer, log, figures)
         }
         Target::AppSocket(place) if pjl => {
             let printer = Pjl::new(alloc, session(alloc, place, timeout));
-            run(alloc, rt, device, printer, log)
+            run(alloc, rt, device, printer, log, figures)
         }
         Target::AppSocket(place) => {
             let printer = AppSocket::new(session(alloc, place, timeout), linger);
-            run(alloc, rt, device, printer, log)
+            run(alloc, rt, device, printer, log, figures)
         }
         Target::Lpd(place, queue) => {
             let printer = Lpd::new(alloc, session(alloc, place, timeout), queue, printer_name);
-            run(alloc, rt, device, printer, log)
+            run(alloc, rt, device, printer, log, figures)
         }
         Target::Ipp(place, address) => {
             let ipp = IppPrinter::new(alloc, address);
             let printer = Ipp::new(session(alloc, place, timeout), ipp, format);
-            run(alloc, rt, device, printer, log)
+            run(alloc, rt, device, printer, log, figures)
         }
     }
 }
@@ -90,26 +95,29 @@ fn session(alloc: Global, place: Place, timeout: u64) -> Session {
 }
 
 /// Makes the adapter of a device and its printer, and has it take its turns.
-fn run<P: Printer, R: Net + Files + Clock, W: Write>(
+fn run<P: Printer, R: Net + Files + Clock, L: Write, F: Write>(
     alloc: Global,
     rt: &R,
     device: Device,
     printer: P,
-    log: &mut W,
+    log: &mut L,
+    figures: &mut F,
 ) -> io::Result<()> {
     let line = ServerLine::new(alloc, Caller::new(alloc, device.server, SERVER))?;
     let logs = Log::new(alloc, device.logs);
-    let mut desk = Desk::new(alloc, device.name, line, printer, logs);
-    take_turns(alloc, rt, &mut desk, device.turns, log)
+    let measures = Figures::new(alloc, device.measures);
+    let mut desk = Desk::new(alloc, device.name, line, printer, logs, measures);
+    take_turns(alloc, rt, &mut desk, device.turns, log, figures)
 }
 
 /// Takes so many turns, with waits between them.
-fn take_turns<P: Printer, R: Net + Files + Clock, W: Write>(
+fn take_turns<P: Printer, R: Net + Files + Clock, L: Write, F: Write>(
     alloc: Global,
     rt: &R,
     desk: &mut Desk<P>,
     turns: u64,
-    log: &mut W,
+    log: &mut L,
+    figures: &mut F,
 ) -> io::Result<()> {
     let mut poll = Poll::new(rt)?;
     let mut events = Events::with_capacity(alloc, EVENTS)?;
@@ -117,7 +125,8 @@ fn take_turns<P: Printer, R: Net + Files + Clock, W: Write>(
     for _ in 0..turns {
         let now = millis_since(rt, &start)?;
         desk.turn(rt, &poll, now);
-        let _written = log.write_all(&desk.take_log());
+        let _logged = log.write_all(&desk.take_log());
+        let _written = figures.write_all(&desk.take_figures());
         poll.poll(&mut events, Some(Duration::from_millis(desk.pause(now))))?;
         for event in events.iter() {
             desk.told(event);

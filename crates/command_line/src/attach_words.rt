@@ -25,6 +25,8 @@ pub struct Attaching<'a> {
     pub turns: u64,
     /// Whether what happens is written to standard error.
     pub log: bool,
+    /// Whether the printer's rates and its setup are measured and written.
+    pub measure: bool,
 }
 
 fn word<'a>(alloc: Global, name: &'a str, value: &'a str, help: &'a str) -> Arg<'a> {
@@ -131,6 +133,13 @@ fn log<'a>(alloc: Global) -> Arg<'a> {
         .help("Write connections, jobs and faults to standard error")
 }
 
+fn measure<'a>(alloc: Global) -> Arg<'a> {
+    Arg::new(alloc, "measure")
+        .long("measure")
+        .action(ArgAction::SetTrue)
+        .help("Write the printer's rates and its setup for the settings, after each job")
+}
+
 /// The command that attaches a printer.
 pub(crate) fn attach_command<'a>(alloc: Global) -> Result<Command<'a>, AllocError> {
     Command::new(alloc, "attach")
@@ -144,7 +153,8 @@ pub(crate) fn attach_command<'a>(alloc: Global) -> Result<Command<'a>, AllocErro
         .arg(timeout(alloc))?
         .arg(pjl(alloc))?
         .arg(turns(alloc))?
-        .arg(log(alloc))
+        .arg(log(alloc))?
+        .arg(measure(alloc))
 }
 
 /// What the words of the command say.
@@ -160,5 +170,6 @@ pub(crate) fn attach_words<'a>(found: &ArgMatches<'a>) -> Option<Attaching<'a>> 
         pjl: found.get_flag("pjl"),
         turns: found.get_one::<u64>("turns").unwrap_or(u64::MAX),
         log: found.get_flag("log"),
+        measure: found.get_flag("measure"),
     })
 }

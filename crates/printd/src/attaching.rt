@@ -19,17 +19,14 @@ pub(crate) fn run_attach(
         linger: attaching.linger,
         timeout: attaching.timeout,
         pjl: attaching.pjl,
+        turns: attaching.turns,
+        logs: attaching.log,
+        measures: attaching.measure,
     };
     let plan = read_plan(rt.alloc(), words).map_err(|fault| refuse(rt, fault, words))?;
     let mut errors = rt.stderr();
-    match attach(
-        rt.alloc(),
-        rt,
-        plan,
-        attaching.turns,
-        attaching.log,
-        &mut errors,
-    ) {
+    let mut output = rt.stdout();
+    match attach(rt.alloc(), rt, plan, &mut errors, &mut output) {
         Ok(()) => Ok(ExitStatus::Done),
         Err(error) => Err(cannot(rt, "attach a printer", error)),
     }

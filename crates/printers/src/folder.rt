@@ -13,7 +13,7 @@ use std::rt::Files;
 use std::{fs, io};
 
 /// Where a job's file is written, and where it stands once the job is printed.
-#[derive(Debug, Drop)]
+#[derive(Drop)]
 struct Sheet {
     beside: String,
     whole: String,

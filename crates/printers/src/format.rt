@@ -1,7 +1,7 @@
 //! What a document is, by its first bytes.
 
 /// What a document is.
-#[derive(Clone, Copy, Debug, PartialEq, Eq)]
+#[derive(Clone, Copy, Debug)]
 pub enum Format {
     Pdf,
     PostScript,
@@ -29,17 +29,17 @@ const FRONTS: [(&[u8], Format); 9] = [
     (b"\x89PNG", Format::Png),
 ];
 
-/// The media types of formats, and the endings of their files.
-const NAMES: [(Format, &str, &str); 9] = [
-    (Format::Pdf, "application/pdf", "pdf"),
-    (Format::PostScript, "application/postscript", "ps"),
-    (Format::Pcl, "application/vnd.hp-PCL", "pcl"),
-    (Format::PwgRaster, "image/pwg-raster", "pwg"),
-    (Format::AppleRaster, "image/urf", "urf"),
-    (Format::Jpeg, "image/jpeg", "jpg"),
-    (Format::Png, "image/png", "png"),
-    (Format::Text, "text/plain", "txt"),
-    (Format::Octets, "application/octet-stream", "bin"),
+/// All formats.
+const ALL: [Format; 9] = [
+    Format::Pdf,
+    Format::PostScript,
+    Format::Pcl,
+    Format::PwgRaster,
+    Format::AppleRaster,
+    Format::Jpeg,
+    Format::Png,
+    Format::Text,
+    Format::Octets,
 ];
 
 /// How many bytes are looked at to tell whether a document is text.
@@ -53,7 +53,8 @@ impl Format {
                 return format;
             }
         }
-        if !bytes.is_empty() && bytes.iter().take(LOOKED_AT).all(|byte| is_text(*byte)) {
+        let front = &bytes[..bytes.len().min(LOOKED_AT)];
+        if !front.is_empty() && front.iter().all(|byte| is_text(*byte)) {
             Format::Text
         } else {
             Format::Octets
@@ -62,8 +63,8 @@ impl Format {
 
     /// The format of this media type, in any case; any other is octets.
     pub fn named(media_type: &str) -> Format {
-        for (format, name, _) in NAMES {
-            if name.eq_ignore_ascii_case(media_type) {
+        for format in ALL {
+            if format.media_type().eq_ignore_ascii_case(media_type) {
                 return format;
             }
         }
@@ -72,22 +73,32 @@ impl Format {
 
     /// Its media type.
     pub fn media_type(self) -> &'static str {
-        for (format, name, _) in NAMES {
-            if format == self {
-                return name;
-            }
+        match self {
+            Format::Pdf => "application/pdf",
+            Format::PostScript => "application/postscript",
+            Format::Pcl => "application/vnd.hp-PCL",
+            Format::PwgRaster => "image/pwg-raster",
+            Format::AppleRaster => "image/urf",
+            Format::Jpeg => "image/jpeg",
+            Format::Png => "image/png",
+            Format::Text => "text/plain",
+            Format::Octets => "application/octet-stream",
         }
-        "application/octet-stream"
     }
 
     /// The ending of its files.
     pub fn ending(self) -> &'static str {
-        for (format, _, ending) in NAMES {
-            if format == self {
-                return ending;
-            }
+        match self {
+            Format::Pdf => "pdf",
+            Format::PostScript => "ps",
+            Format::Pcl => "pcl",
+            Format::PwgRaster => "pwg",
+            Format::AppleRaster => "urf",
+            Format::Jpeg => "jpg",
+            Format::Png => "png",
+            Format::Text => "txt",
+            Format::Octets => "bin",
         }
-        "bin"
     }
 }
 

@@ -17,7 +17,7 @@ const CALLS: u32 = 64;
 const HOST: &str = "printd";
 
 /// What is sent now, each once the part before it is acknowledged.
-#[derive(Clone, Copy, Debug, PartialEq, Eq)]
+#[derive(Clone, Copy, PartialEq, Eq)]
 enum Part {
     /// The command that the queue is to receive a job.
     Queue,
@@ -149,14 +149,17 @@ impl Lpd {
         let name = self.name.as_str();
         let job = self.job;
         let number = job % 1000;
-        let mut text = format!(in self.alloc; "H{HOST}\nP{name}\nJ{name}-{job}\n")?;
+        let lines = self.copy_lines()?;
+        format!(in self.alloc;
+            "H{HOST}\nP{name}\nJ{name}-{job}\n{lines}UdfA{number:03}{HOST}\nN{name}-{job}\n"
+        )
+    }
+
+    /// A line for each copy of the data file.
+    fn copy_lines(&self) -> Result<String, AllocError> {
+        let number = self.job % 1000;
         let line = format!(in self.alloc; "ldfA{number:03}{HOST}\n")?;
-        for _ in 0..self.copies {
-            text.push_str(&line)?;
-        }
-        let end = format!(in self.alloc; "UdfA{number:03}{HOST}\nN{name}-{job}\n")?;
-        text.push_str(&end)?;
-        Ok(text)
+        line.repeat(self.alloc, self.copies as usize)
     }
 
     /// Sends some of the part; behind the data their end.

@@ -25,7 +25,7 @@ const PIECE: usize = 1024;
 const NEEDS_SOMEONE: u32 = 40_000;
 
 /// What is sent now, or that all is.
-#[derive(Clone, Copy, Debug, PartialEq, Eq)]
+#[derive(Clone, Copy, PartialEq, Eq)]
 enum Part {
     Head,
     Data,
@@ -244,8 +244,11 @@ fn heard_of(status: Status, part: Part, stopped: bool) -> Heard {
         Status::Page(page) => Heard::Pages(page),
         Status::JobEnded if part == Part::Nothing => Heard::Printed,
         Status::JobEnded => Heard::Failed(Breach::Broken),
-        Status::Device(code) if code >= NEEDS_SOMEONE && !stopped => Heard::Stops,
-        Status::Device(code) if code < NEEDS_SOMEONE && stopped => Heard::Runs,
-        Status::Device(_) | Status::Other => Heard::Nothing,
+        Status::Device(code) => match (code >= NEEDS_SOMEONE, stopped) {
+            (true, false) => Heard::Stops,
+            (false, true) => Heard::Runs,
+            _ => Heard::Nothing,
+        },
+        Status::Other => Heard::Nothing,
     }
 }

@@ -7,7 +7,7 @@ const FIRST: u64 = 1_000;
 const LONGEST: u64 = 30_000;
 
 /// When a peer is tried again: after 1, 2, 4 s and so on, 30 at most.
-#[derive(Clone, Copy, Debug)]
+#[derive(Clone, Copy)]
 pub(crate) struct Retry {
     /// The moment of the next try.
     pub(crate) at: u64,

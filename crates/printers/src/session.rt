@@ -11,7 +11,7 @@ use std::net::Net;
 use text::drop_front;
 
 /// How far a printer is reached.
-#[derive(Clone, Copy, Debug)]
+#[derive(Clone, Copy)]
 pub(crate) enum Stage {
     /// There is no connection now.
     Waits(Heard),
@@ -21,7 +21,7 @@ pub(crate) enum Stage {
 }
 
 /// What a call on a connection moved.
-#[derive(Clone, Copy, Debug, PartialEq, Eq)]
+#[derive(Clone, Copy, PartialEq, Eq)]
 pub(crate) enum Moved {
     Nothing,
     /// So many bytes, one at least.

@@ -12,6 +12,8 @@ mod ipp_messages;
 #[cfg(test)]
 mod ipp_replies;
 #[cfg(test)]
+mod measured_jobs;
+#[cfg(test)]
 mod settings_sentences;
 #[cfg(test)]
 mod text_bytes;

@@ -1,0 +1,69 @@
+//! What is measured of the printer, as it is written after each job.
+use base_types::Limits;
+use device_orders::JobOrder;
+use job_objects::estimated_impressions;
+use rates::Measurement;
+use std::alloc::{AllocError, Global};
+
+/// The printer's rates and its setup, where they are measured.
+#[derive(Drop)]
+pub(crate) struct Figures {
+    alloc: Global,
+    wanted: bool,
+    now: u64,
+    measurement: Measurement,
+    text: Vec<u8>,
+}
+
+impl Figures {
+    /// Nothing is measured yet.
+    pub(crate) fn new(alloc: Global, wanted: bool) -> Figures {
+        Figures {
+            alloc,
+            wanted,
+            now: 0,
+            measurement: Measurement::new(),
+            text: Vec::new(alloc),
+        }
+    }
+
+    /// It is so late.
+    pub(crate) fn set_now(&mut self, now: u64) {
+        self.now = now;
+    }
+
+    /// A job begins.
+    pub(crate) fn begin(&mut self, order: &JobOrder) {
+        let octets = (order.octets as usize).min(Limits::JOB_OCTETS);
+        let impressions = estimated_impressions(None, octets).saturating_mul(order.copies);
+        self.measurement.begin(order.sides, impressions, self.now);
+    }
+
+    /// So many impressions of the job are printed.
+    pub(crate) fn pages(&mut self, printed: u32) {
+        self.measurement.pages(printed, self.now);
+    }
+
+    /// The job is done.
+    pub(crate) fn finish(&mut self) {
+        if self.measurement.finish(self.now) && self.wanted {
+            let _added = self.add();
+        }
+    }
+
+    /// The job has failed, or the printer doesn't print for a while: it isn't measured any further.
+    pub(crate) fn leave(&mut self) {
+        self.measurement.leave();
+    }
+
+    /// Adds what is measured. Where there is no memory for it, it is left out.
+    fn add(&mut self) -> Result<(), AllocError> {
+        let text = format!(in self.alloc; "{}", self.measurement)?;
+        self.text.extend_from_slice(text.as_bytes())
+    }
+
+    /// What was added since the last call.
+    pub(crate) fn take(&mut self) -> Vec<u8> {
+        std::mem::replace(&mut self.text, Vec::new(self.alloc))
+    }
+}
