@@ -1,0 +1,56 @@
+//! The columns of a list.
+
+/// What a column says of its jobs.
+#[derive(Clone, Copy, Debug, PartialEq, Eq)]
+pub enum Column {
+    /// When it comes, in ms from the beginning of the list.
+    Moment,
+    /// Impressions of one copy.
+    Impressions,
+    /// Octets, by which the impressions are estimated.
+    Octets,
+    Copies,
+    Sides,
+    Media,
+    Format,
+    Finishings,
+    Priority,
+    /// The name of its printer.
+    Printer,
+}
+
+impl Column {
+    /// The column of a name.
+    pub(crate) fn named(name: &[u8]) -> Option<Column> {
+        match name {
+            b"moment" => Some(Column::Moment),
+            b"impressions" => Some(Column::Impressions),
+            b"octets" => Some(Column::Octets),
+            b"copies" => Some(Column::Copies),
+            b"sides" => Some(Column::Sides),
+            b"media" => Some(Column::Media),
+            b"format" => Some(Column::Format),
+            b"finishings" => Some(Column::Finishings),
+            b"priority" => Some(Column::Priority),
+            b"printer" => Some(Column::Printer),
+            _ => None,
+        }
+    }
+
+    /// What its fields may say.
+    pub(crate) fn wanted(self) -> &'static str {
+        match self {
+            Column::Moment => "moment is a number of ms, 0 to 281,474,976,710,656",
+            Column::Impressions => "impressions are 1 to 10,000",
+            Column::Octets => "octets are 0 to 16,777,216",
+            Column::Copies => "copies are 1 to 999",
+            Column::Sides => "sides is one-sided, two-sided-long-edge or two-sided-short-edge",
+            Column::Media => "media is the name of a medium, of 64 bytes at most",
+            Column::Format => "format is a media type, of 64 bytes at most",
+            Column::Finishings =>
+                "finishings are staple, punch and bind, each once, with a space between two",
+            Column::Priority => "priority is 1 to 100",
+            Column::Printer => "printer is the name of a printer of the settings",
+        }
+    }
+}

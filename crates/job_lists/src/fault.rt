@@ -1,0 +1,101 @@
+//! What is wrong with a list.
+
+use crate::column::Column;
+use std::alloc::{AllocError, AllocFailed};
+use std::fmt;
+use thiserror::Error;
+
+/// Why a text is no list of jobs.
+#[derive(Clone, Copy, Debug, PartialEq, Eq)]
+pub enum ListFault {
+    /// The first line names a column that isn't known.
+    UnknownColumn,
+    /// The first line names a column twice.
+    ColumnTwice,
+    /// A line has another number of fields than the first.
+    FieldCount,
+    /// A field says what its column doesn't allow.
+    Field(Column),
+    /// A job has no moment.
+    NoMoment,
+    /// A job has neither impressions nor octets.
+    NoLength,
+    /// A job comes before the one in the line before.
+    Order,
+    /// There are more jobs than [`crate::MOST_JOBS`].
+    TooMany,
+}
+
+/// Why a line gives no job.
+#[derive(Debug, Drop)]
+pub(crate) enum LineError {
+    Fault(ListFault),
+    OutOfMemory,
+}
+
+/// Why no list was read.
+#[derive(Debug, Drop, Error)]
+pub enum ListError {
+    /// The text is none, by this fault of this line, counted from 1.
+    #[error("line {line}: {fault}")]
+    Fault { line: u64, fault: ListFault },
+    #[error("out of memory")]
+    OutOfMemory,
+}
+
+impl fmt::Display for ListFault {
+    fn fmt<W: fmt::Write>(&self, f: &mut fmt::Formatter<W>) -> fmt::Result {
+        let meaning = match self {
+            ListFault::UnknownColumn =>
+                "a column is none of moment, impressions, octets, copies, sides, media, format, finishings, priority and printer",
+            ListFault::ColumnTwice => "a column stands twice",
+            ListFault::FieldCount => "this line has another number of fields than the first",
+            ListFault::Field(column) => column.wanted(),
+            ListFault::NoMoment => "this job has no moment",
+            ListFault::NoLength => "this job has neither impressions nor octets",
+            ListFault::Order => "this job comes before the one in the line before",
+            ListFault::TooMany => "there are more than 100,000 jobs",
+        };
+        write!(f, "{meaning}")
+    }
+}
+
+impl From<AllocError> for ListError {
+    fn from(_error: AllocError) -> ListError {
+        ListError::OutOfMemory
+    }
+}
+
+impl<T: Drop> From<AllocFailed<T>> for ListError {
+    fn from(_error: AllocFailed<T>) -> ListError {
+        ListError::OutOfMemory
+    }
+}
+
+impl LineError {
+    /// The error of a list whose line this is.
+    pub(crate) fn at(self, line: u64) -> ListError {
+        match self {
+            LineError::Fault(fault) => ListError::Fault { line, fault },
+            LineError::OutOfMemory => ListError::OutOfMemory,
+        }
+    }
+}
+
+impl From<ListFault> for LineError {
+    fn from(fault: ListFault) -> LineError {
+        LineError::Fault(fault)
+    }
+}
+
+impl From<AllocError> for LineError {
+    fn from(_error: AllocError) -> LineError {
+        LineError::OutOfMemory
+    }
+}
+
+impl<T: Drop> From<AllocFailed<T>> for LineError {
+    fn from(_error: AllocFailed<T>) -> LineError {
+        LineError::OutOfMemory
+    }
+}

@@ -1,0 +1,69 @@
+//! What a field says.
+ghost use Rattle.std.specs.Prelude.{◌≤◌, ◌<◌, ◌^◌, ◌-◌, IfSome, length};
+
+use base_types::{Finishings, Sides};
+use printer_objects::Finishing;
+use settings_file::PrinterSettings;
+
+/// The number of a field, from the least to the most.
+pub(crate) fn number_in(field: &[u8], least: u32, most: u32) -> Option<u32>
+    requires { most < 2 ^ 32 }
+    ensures { IfSome result (λ n. (least ≤ n) × (n ≤ most)) }
+{
+    let number = text::number_up_to(field, u64::from(most))? as u32;
+    if number < least { None } else { Some(number) }
+}
+
+/// The sides of a keyword (RFC 8011, section 5.2.8).
+pub(crate) fn sides_named(field: &[u8]) -> Option<Sides> {
+    match field {
+        b"one-sided" => Some(Sides::One),
+        b"two-sided-long-edge" => Some(Sides::LongEdge),
+        b"two-sided-short-edge" => Some(Sides::ShortEdge),
+        _ => None,
+    }
+}
+
+fn finishing_named(word: &[u8]) -> Option<Finishing> {
+    match word {
+        b"staple" => Some(Finishing::Staple),
+        b"punch" => Some(Finishing::Punch),
+        b"bind" => Some(Finishing::Bind),
+        _ => None,
+    }
+}
+
+/// These finishings, and the one of a word, if it isn't there yet.
+fn with_word(found: Finishings, word: &[u8]) -> Option<Finishings> {
+    let finishing = finishing_named(word)?;
+    if finishing.is_in(found) {
+        None
+    } else {
+        Some(finishing.with(found))
+    }
+}
+
+/// The finishings of words with single spaces between them.
+pub(crate) fn finishings_named(field: &[u8]) -> Option<Finishings> {
+    let mut found = Finishings::none();
+    for word in field.split(|byte| *byte == b' ') {
+        found = with_word(found, word)?;
+    }
+    Some(found)
+}
+
+/// The place of the printer of a name.
+pub(crate) fn printer_named(printers: &[PrinterSettings], name: &[u8]) -> Option<usize> {
+    printers
+        .iter()
+        .position(|printer| printer.name.as_bytes() == name)
+}
+
+/// A field that isn't longer than so many bytes.
+pub(crate) fn up_to(field: &[u8], most: usize) -> Option<&[u8]> {
+    if field.len() <= most {
+        Some(field)
+    } else {
+        None
+    }
+}

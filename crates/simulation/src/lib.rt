@@ -1,0 +1,28 @@
+//! A day of a print room, played: once as the server would plan it, and once for each policy that plans
+//! nothing.
+//!
+//! [`run_simulation`] plays the jobs of a list on the devices of some settings, which keep their estimates
+//! or miss them by a random part, and writes what came of it: how long people waited for their paper, how
+//! long each device printed and stood idle, and which jobs no device can print; or it draws two of the
+//! days. The plans are those of the real core, `dispatcher::Core`, which is sent requests and reports; it
+//! promises nothing else than that it is safe and ends. No clock is read and no word of a command line.
+//!
+//! Its rows are days of `play_examples`.
+#![tactic(auto)]
+
+mod day;
+mod fleet;
+mod floor;
+mod outcome;
+mod picture;
+mod planned;
+mod request;
+mod room;
+mod run;
+mod summary;
+mod table;
+
+pub use day::Noise;
+pub use fleet::{Added, FleetFault};
+pub use floor::Watch;
+pub use run::{Question, SimulationFault, run_simulation};

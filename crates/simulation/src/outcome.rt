@@ -1,0 +1,70 @@
+//! What a day came to.
+
+use crate::day::Day;
+use crate::floor::{Print, Watch, play};
+use crate::planned::Planned;
+use assignment::Lazy;
+use dispatcher::Core;
+use job_lists::ListedJob;
+use policies::{Policy, Queue};
+use std::alloc::{AllocError, Global};
+
+/// The name of the day that the server plans.
+const PLANNED: &str = "planned";
+
+/// A day as it was played: by whom, and what was printed when.
+#[derive(Drop)]
+pub(crate) struct Outcome {
+    pub(crate) name: &'static str,
+    /// In the order in which the jobs began.
+    pub(crate) prints: Vec<Print>,
+}
+
+/// Plays a day with the real core.
+fn play_planned<W: Watch>(
+    alloc: Global,
+    core: Core<Lazy>,
+    listed: &[ListedJob],
+    day: &Day,
+    watch: &mut W,
+) -> Result<Outcome, AllocError> {
+    let devices = core.settings().devices.len();
+    let mut room = Planned::new(alloc, core, listed);
+    Ok(Outcome {
+        name: PLANNED,
+        prints: play(alloc, day, devices, &mut room, PLANNED, watch)?,
+    })
+}
+
+/// Plays a day by a policy.
+fn play_policy<W: Watch>(
+    alloc: Global,
+    policy: Policy,
+    day: &Day,
+    devices: usize,
+    watch: &mut W,
+) -> Result<Outcome, AllocError> {
+    let mut queue = Queue::new(alloc, policy, &day.jobs, devices)?;
+    let name = policy.name();
+    Ok(Outcome {
+        name,
+        prints: play(alloc, day, devices, &mut queue, name, watch)?,
+    })
+}
+
+/// Plays a day with the real core, and then once for each policy.
+pub(crate) fn play_all<W: Watch>(
+    alloc: Global,
+    core: Core<Lazy>,
+    listed: &[ListedJob],
+    day: &Day,
+    watch: &mut W,
+) -> Result<Vec<Outcome>, AllocError> {
+    let devices = core.settings().devices.len();
+    let mut outcomes = Vec::new(alloc);
+    outcomes.push(play_planned(alloc, core, listed, day, watch)?)?;
+    for policy in Policy::ALL {
+        outcomes.push(play_policy(alloc, policy, day, devices, watch)?)?;
+    }
+    Ok(outcomes)
+}

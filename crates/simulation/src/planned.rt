@@ -1,0 +1,151 @@
+//! The jobs of a day, given to the real core.
+
+use crate::request::print_job;
+use crate::room::Room;
+use assignment::Lazy;
+use base_types::{DeviceId, JobId, Moment, Report};
+use dispatcher::Core;
+use events::{Answer, Event, Reply, Status};
+use job_lists::ListedJob;
+use policies::Start;
+use print_room::Started;
+use requests::{Asked, ipp_event};
+use std::alloc::{AllocError, Global};
+use std::collections::VecDeque;
+
+/// What became of a job that was sent to the core.
+#[derive(Clone, Copy, Debug, PartialEq, Eq)]
+enum Sent {
+    Taken,
+    /// There are as many jobs as there can be.
+    Busy,
+    Refused,
+}
+
+/// A core, and the jobs of a day that it is sent.
+#[derive(Drop)]
+pub(crate) struct Planned<'a> {
+    alloc: Global,
+    core: Core<Lazy>,
+    listed: &'a [ListedJob],
+    /// The places of the jobs that were taken, in the order of their ids, from 1 on.
+    taken: Vec<usize>,
+    /// The jobs that the core had no room for, in the order in which they came.
+    door: VecDeque<usize>,
+    /// The jobs that a dispatch began and that aren't told yet.
+    begun: Vec<Start>,
+}
+
+/// The moment of a number of ms; the last one that there is, where it is later.
+fn moment_at(millis: u64) -> Moment {
+    Moment::new(millis).unwrap_or(Moment::start())
+}
+
+/// What an answer says became of a job.
+fn sent_by(reply: &Reply) -> Sent {
+    match &reply.answer {
+        Answer::Ipp(answer) => match answer.status {
+            Status::Ok | Status::OkIgnoredOrSubstituted => Sent::Taken,
+            Status::Busy => Sent::Busy,
+            _ => Sent::Refused,
+        },
+        _ => Sent::Refused,
+    }
+}
+
+impl<'a> Planned<'a> {
+    /// A core whose devices are ready, but for those that are away, before the first job of a list.
+    pub(crate) fn new(alloc: Global, core: Core<Lazy>, listed: &'a [ListedJob]) -> Planned<'a> {
+        Planned {
+            alloc,
+            core,
+            listed,
+            taken: Vec::new(alloc),
+            door: VecDeque::new(alloc),
+            begun: Vec::new(alloc),
+        }
+    }
+
+    /// Sends the job at a place of the list.
+    fn send(&mut self, place: usize, now: u64) -> Result<Sent, AllocError> {
+        let Some(job) = self.listed.get(place) else {
+            return Ok(Sent::Refused);
+        };
+        let body = print_job(self.alloc, self.core.settings(), job)?;
+        let Asked::Event(_, event) = ipp_event(self.alloc, &body)? else {
+            return Ok(Sent::Refused);
+        };
+        let reply = self.core.apply(event, moment_at(now))?;
+        let sent = sent_by(&reply);
+        if sent == Sent::Taken {
+            self.taken.push(place)?;
+        }
+        Ok(sent)
+    }
+
+    /// Sends the first job of those that the core had no room for.
+    fn send_waiting(&mut self, now: u64) -> Result<(), AllocError> {
+        if let Some(place) = self.door.front().copied() {
+            if self.send(place, now)? != Sent::Busy {
+                self.door.pop_front();
+            }
+        }
+        Ok(())
+    }
+
+    /// The place of a job that began.
+    fn place_of(&self, job: JobId) -> Option<usize> {
+        let before = job.number().saturating_sub(1) as usize;
+        self.taken.get(before).copied()
+    }
+
+    /// Notes a job that began.
+    fn note(&mut self, started: &Started) -> Result<(), AllocError> {
+        if let Some(job) = self.place_of(started.job) {
+            self.begun.push(Start {
+                job,
+                device: started.device.place(),
+            })?;
+        }
+        Ok(())
+    }
+
+    /// Has the core plan, and notes what begins.
+    fn dispatch(&mut self, now: u64) -> Result<(), AllocError> {
+        let planned = self.core.dispatch(moment_at(now))?;
+        let begun = Vec::from_slice(self.alloc, self.core.dispatched(planned).started())?;
+        for started in &begun {
+            self.note(started)?;
+        }
+        Ok(())
+    }
+
+    /// The id of the job at a place of the list, where it was taken.
+    fn id_of(&self, place: usize) -> Option<u32> {
+        let before = self.taken.iter().position(|taken| *taken == place)?;
+        u32::try_from(before.saturating_add(1)).ok()
+    }
+}
+
+impl Room for Planned<'_> {
+    fn take(&mut self, job: usize, now: u64) -> Result<(), AllocError> {
+        if !self.door.is_empty() || self.send(job, now)? == Sent::Busy {
+            self.door.push_back(job)?;
+        }
+        self.dispatch(now)
+    }
+
+    fn end(&mut self, ended: Start, now: u64) -> Result<(), AllocError> {
+        if let Some(job) = self.id_of(ended.job) {
+            let device = DeviceId::new(ended.device);
+            let report = Event::Report(device, Report::Done { job });
+            self.core.apply(report, moment_at(now))?;
+        }
+        self.send_waiting(now)?;
+        self.dispatch(now)
+    }
+
+    fn start(&mut self) -> Option<Start> {
+        self.begun.pop()
+    }
+}

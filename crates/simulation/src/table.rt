@@ -1,0 +1,184 @@
+//! The numbers of days, in rows.
+
+use crate::day::Day;
+use crate::outcome::Outcome;
+use crate::summary::{Waits, last_end, printed_on, waits_of};
+use base_types::Text;
+use gantt_chart::ShortTime;
+use std::alloc::{AllocError, Global};
+
+/// The columns of a name at the beginning of a row, and of each number.
+const NAME: usize = 16;
+
+const NUMBER: usize = 11;
+
+const PAIR: usize = 18;
+
+/// How many jobs that no device can print are told by their numbers.
+const NUMBERS: usize = 10;
+
+fn put_spaces(output: &mut String, count: usize) -> Result<(), AllocError> {
+    for _ in 0..count {
+        output.push(' ')?;
+    }
+    Ok(())
+}
+
+/// Appends a text that ends behind so many columns.
+fn put_right(output: &mut String, text: &str, columns: usize) -> Result<(), AllocError> {
+    put_spaces(output, columns.saturating_sub(text.len()))?;
+    output.push_str(text)?;
+    Ok(())
+}
+
+/// Appends a text, filled up to so many columns.
+fn put_left(output: &mut String, text: &str, columns: usize) -> Result<(), AllocError> {
+    output.push_str(text)?;
+    put_spaces(output, columns.saturating_sub(text.len()))
+}
+
+/// Appends a time.
+fn put_time(alloc: Global, output: &mut String, millis: u64) -> Result<(), AllocError> {
+    let time = ShortTime(millis);
+    let text = format!(in alloc; "{time}")?;
+    put_right(output, &text, NUMBER)
+}
+
+/// Appends the head of the rows of waits.
+fn put_waits_head(output: &mut String) -> Result<(), AllocError> {
+    put_left(output, "time to paper", NAME)?;
+    for name in ["jobs", "mean", "of planned", "median", "95 of 100", "worst"] {
+        put_right(output, name, NUMBER)?;
+    }
+    output.push('\n')?;
+    Ok(())
+}
+
+/// A part of a whole in per cent, cut off.
+fn percent_of(part: u64, whole: u64) -> u128 {
+    u128::from(part)
+        .saturating_mul(100)
+        .checked_div(u128::from(whole))
+        .unwrap_or(100)
+}
+
+/// Appends the row of a day; its mean is compared with another.
+fn put_waits(
+    alloc: Global,
+    output: &mut String,
+    name: &str,
+    waits: Waits,
+    planned: u64,
+) -> Result<(), AllocError> {
+    let jobs = waits.jobs;
+    let percent = percent_of(waits.mean, planned);
+    put_left(output, name, NAME)?;
+    put_right(output, &format!(in alloc; "{jobs}")?, NUMBER)?;
+    put_time(alloc, output, waits.mean)?;
+    put_right(output, &format!(in alloc; "{percent} %")?, NUMBER)?;
+    put_time(alloc, output, waits.median)?;
+    put_time(alloc, output, waits.late)?;
+    put_time(alloc, output, waits.worst)?;
+    output.push('\n')?;
+    Ok(())
+}
+
+/// Appends the rows of all days; the first is what they are compared with.
+fn put_all_waits(
+    alloc: Global,
+    output: &mut String,
+    day: &Day,
+    outcomes: &[Outcome],
+) -> Result<(), AllocError> {
+    put_waits_head(output)?;
+    let mut planned = None;
+    for outcome in outcomes {
+        let waits = waits_of(alloc, day, &outcome.prints)?;
+        let first = planned.unwrap_or(waits.mean);
+        planned = Some(first);
+        put_waits(alloc, output, outcome.name, waits, first)?;
+    }
+    Ok(())
+}
+
+/// Appends how long a device printed and how long it stood idle until the last job of the day ended.
+fn put_use(
+    alloc: Global,
+    output: &mut String,
+    outcome: &Outcome,
+    device: usize,
+) -> Result<(), AllocError> {
+    let printed = printed_on(&outcome.prints, device);
+    let idle = last_end(&outcome.prints).saturating_sub(printed);
+    let (printed, idle) = (ShortTime(printed), ShortTime(idle));
+    put_right(output, &format!(in alloc; "{printed}, {idle}")?, PAIR)
+}
+
+/// Appends the row of a device.
+fn put_device(
+    alloc: Global,
+    output: &mut String,
+    name: &Text,
+    outcomes: &[Outcome],
+    device: usize,
+) -> Result<(), AllocError> {
+    for byte in name.as_bytes() {
+        output.push(char::from(*byte))?;
+    }
+    put_spaces(output, NAME.saturating_sub(name.as_bytes().len()))?;
+    for outcome in outcomes {
+        put_use(alloc, output, outcome, device)?;
+    }
+    output.push('\n')?;
+    Ok(())
+}
+
+/// Appends the rows of all devices.
+fn put_devices(
+    alloc: Global,
+    output: &mut String,
+    names: &[Text],
+    outcomes: &[Outcome],
+) -> Result<(), AllocError> {
+    put_left(output, "printed, idle", NAME)?;
+    for outcome in outcomes {
+        put_right(output, outcome.name, PAIR)?;
+    }
+    output.push('\n')?;
+    for (device, name) in names.iter().enumerate() {
+        put_device(alloc, output, name, outcomes, device)?;
+    }
+    Ok(())
+}
+
+/// Appends how many jobs no device can print, and the numbers of the first of them, counted from 1.
+fn put_unprintable(output: &mut String, day: &Day) -> Result<(), AllocError> {
+    let count = day.unprintable();
+    write!(output, "\nno device can print {count} of the jobs")?;
+    let mut told = 0usize;
+    for (place, job) in day.jobs.iter().enumerate() {
+        if !job.is_printable() && told < NUMBERS {
+            let number = place.saturating_add(1);
+            let mark = if told == 0 { ':' } else { ',' };
+            write!(output, "{mark} {number}")?;
+            told = told.saturating_add(1);
+        }
+    }
+    output.push('\n')?;
+    Ok(())
+}
+
+/// The numbers of a day, as it was played in several ways: whole lines.
+pub(crate) fn table_of(
+    alloc: Global,
+    names: &[Text],
+    day: &Day,
+    outcomes: &[Outcome],
+) -> Result<String, AllocError> {
+    let mut table = String::new(alloc);
+    put_all_waits(alloc, &mut table, day, outcomes)?;
+    table.push('\n')?;
+    put_devices(alloc, &mut table, names, outcomes)?;
+    put_unprintable(&mut table, day)?;
+    Ok(table)
+}
