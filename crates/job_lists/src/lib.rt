@@ -3,10 +3,9 @@
 //!
 //! [`read_list`] gives the jobs of a text for the printers of some settings, or its first fault with its
 //! line. It promises that each job's numbers are in their ranges; which bytes are a record is `csv`'s to
-//! say. It opens no file, and knows no device: a job may need what none has. `docs/COMPARE.md` has the
-//! columns.
+//! say. It opens no file, and knows no device: a job may need what none has.
 //!
-//! Tests stand in `reader_tests`.
+//! No program reads such a list yet.
 #![tactic(auto)]
 
 mod column;

@@ -4,7 +4,7 @@
 //! each a device by a [`Policy`]. It promises that it is safe and ends. Here is no clock: what comes and
 //! what ends is told from above.
 //!
-//! Its rows are days of `play_examples`.
+//! No program plays a day yet.
 #![tactic(auto)]
 
 mod day_job;

@@ -7,7 +7,7 @@
 //! days. The plans are those of the real core, `dispatcher::Core`, which is sent requests and reports; it
 //! promises nothing else than that it is safe and ends. No clock is read and no word of a command line.
 //!
-//! Its rows are days of `play_examples`.
+//! No program plays a day yet.
 #![tactic(auto)]
 
 mod day;
