@@ -1,1 +1,3 @@
-pub mod Talks
+pub mod Readers
+pub mod Loads
+pub mod Entries

@@ -1,6 +1,10 @@
+pub mod States
 pub mod Session
 pub mod Commands
-pub mod LpdAsks
-pub mod Talks
-pub mod Hearing
+pub mod Entry
+pub mod Steps
+pub mod Peers
+pub mod Asking
+pub mod Connections
+pub mod Fits
 pub mod Slots

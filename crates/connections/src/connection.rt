@@ -1,34 +1,46 @@
 //! A connection.
-ghost use Rattle.std.specs.Prelude.{◌≡◌, ◌<◌, ◌++◌, [], false, true, IfOk, OnOk, OnErr, length};
+ghost use Rattle.std.specs.Prelude.{◌≡◌, ◌<◌, ◌++◌, IfOk, IfSome, IsTrue, OnOk, OnErr, length};
 ghost use Rattle.std.specs.List.{flat_map};
 ghost use Rattle.device_link.specs.Orders.{cancel_line, job_line};
-ghost use Rattle.outputs.specs.Reply.{http_reply, refusal_head};
-ghost use Rattle.connections.specs.Hearing.{Brings, HearsTalk, closes_of, device_of};
-ghost use Rattle.connections.specs.LpdAsks.{is_last};
+ghost use Rattle.outputs.specs.Reply.{http_reply};
 ghost use Rattle.outputs.specs.declared.output.TheConstants.{RESERVED_BYTES};
 ghost use Rattle.outputs.specs.Output.{OffersFront};
-ghost use Rattle.connections.specs.Session.{is_queue};
-ghost use Rattle.connections.specs.Slots.{IsFed, IsBegun, IsGiven, IsUnread, talking, is_named, gives_way, is_kept, is_read, is_done};
+ghost use Rattle.connections.specs.Entry.{opening_entry, ending, broken, given_up};
+ghost use Rattle.connections.specs.Steps.{due_bytes, http_status};
+ghost use Rattle.connections.specs.Asking.{Asking, Feeds};
+ghost use Rattle.connections.specs.Peers.{device_of, closes_of};
+ghost use Rattle.connections.specs.Connections.{load, is_read, is_done, is_ended, is_broken, gives_way, Takes, Keeps, KeepsAs};
+ghost use Rattle.connections.specs.Fits.{FitsConnection, Becomes};
 
-use crate::lpd_talk::LpdAsks;
-use crate::talk::{Brought, Talk};
+use crate::ask::{Ask, Growth};
+use crate::peer::Peer;
+use crate::step::{Due, Step};
 use base_types::{DeviceId, JobId, Limits, Needs};
-use http_front::Refusal;
-use lpd_reader::LpdItem;
+use events::Status;
+use http_front::continue_head;
 use outputs::{Offered, Output};
-use requests::AskedReader;
+use replies::ipp_refusal;
 use settings_file::Settings;
 use spool::Document;
 use std::alloc::{AllocError, Global};
 use std::marker::Model;
-use wires::{Wire, WireId};
+use wires::{Door, Wire, WireId};
 
-/// A connection: what it brings, and what waits to be taken.
+/// What becomes of a piece that was read.
+#[derive(Clone, Copy, Debug, PartialEq, Eq)]
+pub enum Fed {
+    /// Nothing counts of it any more.
+    Useless,
+    Fed,
+    /// Memory was refused, and the connection of this number broke.
+    Refused(WireId),
+}
+
+/// A connection: who is at its other end, and what waits to be taken.
 #[derive(Drop)]
 pub struct Connection {
-    alloc: Global,
     id: WireId,
-    talk: Talk,
+    peer: Peer,
     /// Its input has ended.
     ended: bool,
     /// Nothing counts that is read from now on.
@@ -39,13 +51,13 @@ pub struct Connection {
 }
 
 impl Model for Connection {
-    ghost use Rattle.connections.specs.Slots.{ConnectionState};
+    ghost use Rattle.connections.specs.Connections.{ConnectionState};
 
     ghost Value = { ConnectionState };
 
     ghost view = { λ c. record {
       id = c.id;
-      talk = c.talk;
+      peer = c.peer;
       ended = c.ended;
       over = c.over;
       broken = c.broken;
@@ -54,14 +66,13 @@ impl Model for Connection {
 }
 
 impl Connection {
-    /// A connection that brings this.
-    pub fn new(alloc: Global, id: WireId, talk: Talk) -> Result<Connection, AllocError>
-        ensures { IfOk result (λ c. c ≡ record { id = id; talk = talk; ended = false; over = false; broken = false; output = [] }) }
+    /// The connection of this number on the wire, that came at a door. The only error is out of memory.
+    pub fn new(alloc: Global, id: WireId, door: Door) -> Result<Connection, AllocError>
+        ensures { IfOk result (FitsConnection (opening_entry door id)) }
     {
         Ok(Connection {
-            alloc,
             id,
-            talk,
+            peer: Peer::new(alloc, door),
             ended: false,
             over: false,
             broken: false,
@@ -76,11 +87,18 @@ impl Connection {
         self.id
     }
 
-    /// Whether nothing counts that is read from now on.
-    pub fn is_over(&self) -> bool
-        ensures { result ≡ self.now.over }
+    /// The device that said its name on it.
+    pub fn device(&self) -> Option<DeviceId>
+        ensures { result ≡ device_of self.now.peer }
     {
-        self.over
+        self.peer.device()
+    }
+
+    /// Whether its input has ended.
+    pub fn has_ended(&self) -> bool
+        ensures { result ≡ self.now.ended }
+    {
+        self.ended
     }
 
     /// Whether it is to be closed as by a fault.
@@ -104,159 +122,162 @@ impl Connection {
         (self.ended || self.over) && self.output.is_empty()
     }
 
-    /// Whether it closes after the reply to the request that is coming.
-    pub fn closes(&self) -> bool
-        ensures { result ≡ closes_of self.now.talk }
-    {
-        self.talk.closes()
-    }
-
-    /// The device that said its name on it.
-    pub fn device(&self) -> Option<DeviceId>
-        ensures { result ≡ device_of self.now.talk }
-    {
-        self.talk.device()
-    }
-
     /// Its input has ended.
     pub fn end(&mut self)
-        ensures { self.new ≡ record self.old { ended = true } }
+        ensures is { self.new ≡ is_ended self.old }
+        ensures becomes { Becomes (λ e new. new ≡ ending e) self.old self.new }
     {
         self.ended = true;
     }
 
     /// It is to be closed as by a fault.
     pub fn break_off(&mut self)
-        ensures { self.new ≡ record self.old { broken = true } }
+        ensures is { self.new ≡ is_broken self.old }
+        ensures becomes { Becomes (λ e new. new ≡ broken e) self.old self.new }
     {
         self.broken = true;
-    }
-
-    /// Whether nothing counts that is read from now on.
-    pub fn finish(&mut self, over: bool)
-        ensures { self.new ≡ record self.old { over = over } }
-    {
-        self.over = over;
-    }
-
-    /// A request begins.
-    pub fn begin(&mut self, closes: bool)
-        ensures { IsBegun closes self.old self.new }
-    {
-        self.talk.begin(closes);
-    }
-
-    /// A device has said its name.
-    pub fn name(&mut self, device: DeviceId)
-        ensures { self.new ≡ is_named device self.old }
-    {
-        self.talk.name(device);
-    }
-
-    /// Whether its input has ended.
-    pub fn has_ended(&self) -> bool
-        ensures { result ≡ self.now.ended }
-    {
-        self.ended
     }
 
     /// The device that said its name has another connection: this one is to be closed as by a fault.
     pub fn give_way(&mut self)
-        ensures { self.new ≡ gives_way self.old }
+        ensures is { self.new ≡ gives_way self.old }
+        ensures becomes { Becomes (λ e new. new ≡ given_up e) self.old self.new }
     {
-        self.talk.unname();
+        self.peer.give_way();
         self.broken = true;
     }
 
-    /// Takes the next bytes of the wire. The error is out of memory: none of them is taken.
-    pub fn feed(&mut self, piece: &[u8]) -> Result<(), AllocError>
-        ensures ok { OnOk result (IsFed piece.now self.old self.new) }
-        ensures err { OnErr result (self.new ≡ self.old) }
+    /// Takes the next bytes of the wire.
+    #[tactic(auto, using(crate::proofs::Entries::fed))]
+    pub fn feed(&mut self, piece: &[u8]) -> Fed
+        ensures { Becomes (Feeds piece.now result) self.old self.new }
     {
-        self.talk.feed(piece)
+        if self.over {
+            return Fed::Useless;
+        }
+        match self.peer.feed(piece) {
+            Ok(()) => Fed::Fed,
+            Err(_) => {
+                self.broken = true;
+                Fed::Refused(self.id)
+            }
+        }
     }
 
-    /// What comes next, if it is whole.
-    pub fn next(&mut self) -> Option<Brought>
-        ensures brings { Brings result self.old.talk self.new.talk }
-        ensures rest { self.new ≡ talking self.new.talk self.old }
+    /// What it asks next, if something whole is left of what was read and counts.
+    #[tactic(auto, using(crate::proofs::Entries::asks, crate::proofs::Entries::rests, crate::proofs::Entries::counts_no_more, crate::proofs::Loads::falls))]
+    pub fn next(&mut self, settings: &Settings) -> Option<Ask>
+        ensures asks { Becomes (Asking settings.now result) self.old self.new }
+        ensures falls { IfSome result (λ ask. load self.new < load self.old) }
     {
-        self.talk.next()
+        if self.over || self.broken {
+            return None;
+        }
+        match self.peer.next(settings) {
+            Some(step) => Some(self.take(step)),
+            None => None,
+        }
     }
 
-    /// Reads the part of a request's body that came last. The error is out of memory.
-    pub fn take_part(&mut self) -> Result<(), AllocError>
-        ensures ok { OnOk result (IsGiven self.old self.new) }
-        ensures err { OnErr result (self.new ≡ self.old) }
+    /// Takes a step: what is asked then.
+    fn take(&mut self, step: Step) -> Ask
+        ensures { Takes step self.old result self.new }
     {
-        self.talk.take_part()
+        match step {
+            Step::Due { due, last } => {
+                self.over = last;
+                self.acknowledge(due)
+            }
+            Step::Asks { ask, last } => {
+                self.over = last;
+                ask
+            }
+            Step::Breaks(ask) => {
+                self.broken = true;
+                ask
+            }
+        }
     }
 
-    /// Takes the body of a request.
-    pub fn take_body(&mut self) -> AskedReader
-        ensures { IsUnread result self.old self.new }
+    /// This becomes due, or the connection breaks, where memory is refused.
+    fn acknowledge(&mut self, due: Due) -> Ask
+        ensures { Keeps (due_bytes due) self.old result self.new }
     {
-        self.talk.take_body(self.alloc)
+        match push(&mut self.output, due) {
+            Ok(()) => Ask::Nothing,
+            Err(_) => {
+                self.broken = true;
+                Ask::Broke(Growth::Output)
+            }
+        }
     }
 
-    /// Acts on what an LPD client said.
-    pub fn hear(&mut self, item: LpdItem, settings: &Settings) -> LpdAsks
-        ensures hears { HearsTalk (is_queue settings.now) item result self.old.talk self.new.talk }
-        ensures rest { self.new ≡ record self.old { talk = self.new.talk; over = is_last result } }
+    /// Bytes are due from now on, unless it is broken. Whether memory was refused, and it broke.
+    pub fn keep(&mut self, bytes: &[u8]) -> bool
+        ensures keeps { KeepsAs bytes.now result self.old self.new }
+        ensures full { IsTrue result → RESERVED_BYTES < length (self.old.output ++ bytes.now) }
     {
-        let asks = self.talk.hear(item, settings);
-        self.over = asks.is_last();
-        asks
+        if self.broken {
+            return false;
+        }
+        let kept = self.output.push(bytes);
+        self.broken = kept.is_err();
+        self.broken
     }
 
-    /// Bytes are due from now on. The error is out of memory.
-    pub fn keep(&mut self, bytes: &[u8]) -> Result<(), AllocError>
-        ensures ok { OnOk result (self.new ≡ is_kept bytes.now self.old) }
-        ensures err { OnErr result (self.new ≡ self.old) }
-        ensures full { OnErr result (RESERVED_BYTES < length (self.old.output ++ bytes.now)) }
+    /// A reply of IPP is due from now on, unless it is broken. Whether memory was refused, and it broke.
+    pub fn keep_reply(&mut self, bytes: &[u8]) -> bool
+        ensures keeps { KeepsAs (http_reply (closes_of self.old.peer) bytes.now) result self.old self.new }
+        ensures full { IsTrue result → RESERVED_BYTES < length (self.old.output ++ http_reply (closes_of self.old.peer) bytes.now) }
     {
-        self.output.push(bytes)
+        if self.broken {
+            return false;
+        }
+        let kept = self.output.push_reply(self.peer.closes(), bytes);
+        self.broken = kept.is_err();
+        self.broken
     }
 
-    /// A reply of IPP is due from now on. The error is out of memory.
-    pub fn keep_reply(&mut self, closes: bool, bytes: &[u8]) -> Result<(), AllocError>
-        ensures ok { OnOk result (self.new ≡ is_kept (http_reply closes bytes.now) self.old) }
-        ensures err { OnErr result (self.new ≡ self.old) }
-        ensures full { OnErr result (RESERVED_BYTES < length (self.old.output ++ http_reply closes bytes.now)) }
+    /// The reply of a status alone is due from now on, unless it is broken. Whether memory was refused, and
+    /// it broke.
+    #[tactic(auto, unfolding(crate::specs::Steps::http_status))]
+    pub fn keep_status(&mut self, status: Status, request: u32) -> bool
+        ensures keeps { KeepsAs (http_status (closes_of self.old.peer) status request) result self.old self.new }
+        ensures full { IsTrue result → RESERVED_BYTES < length (self.old.output ++ http_status (closes_of self.old.peer) status request) }
     {
-        self.output.push_reply(closes, bytes)
+        self.keep_reply(&ipp_refusal(status, request))
     }
 
-    /// The reply to a request that is refused is due from now on. The error is out of memory.
-    pub fn keep_refusal(&mut self, refusal: Refusal) -> Result<(), AllocError>
-        ensures ok { OnOk result (self.new ≡ is_kept (refusal_head refusal) self.old) }
-        ensures err { OnErr result (self.new ≡ self.old) }
-        ensures full { OnErr result (RESERVED_BYTES < length (self.old.output ++ refusal_head refusal)) }
+    /// The line that cancels a job is due from now on, unless it is broken. Whether memory was refused, and
+    /// it broke.
+    pub fn keep_cancel(&mut self, job: JobId) -> bool
+        ensures { KeepsAs (cancel_line job) result self.old self.new }
     {
-        self.output.push_refusal(refusal)
+        if self.broken {
+            return false;
+        }
+        let kept = self.output.push_cancel(job);
+        self.broken = kept.is_err();
+        self.broken
     }
 
-    /// The line that cancels a job is due from now on. The error is out of memory.
-    pub fn keep_cancel(&mut self, job: JobId) -> Result<(), AllocError>
-        ensures ok { OnOk result (self.new ≡ is_kept (cancel_line job) self.old) }
-        ensures err { OnErr result (self.new ≡ self.old) }
-    {
-        self.output.push_cancel(job)
-    }
-
-    /// A job of so many octets is due from now on, its line and then its documents. The error is out of
-    /// memory.
+    /// A job of so many octets is due from now on, its line and then its documents, unless it is broken.
+    /// Whether memory was refused, and it broke.
     pub fn keep_job(
         &mut self,
         job: JobId,
         octets: usize,
         needs: &Needs,
         documents: &[Document],
-    ) -> Result<(), AllocError>
-        ensures ok { OnOk result (self.new ≡ is_kept (job_line job octets needs.now ++ flat_map (λ d. d.contents) documents.now) self.old) }
-        ensures err { OnErr result (self.new ≡ self.old) }
+    ) -> bool
+        ensures { KeepsAs (job_line job octets needs.now ++ flat_map (λ d. d.contents) documents.now) result self.old self.new }
     {
-        self.output.push_job(job, octets, needs, documents)
+        if self.broken {
+            return false;
+        }
+        let kept = self.output.push_job(job, octets, needs, documents);
+        self.broken = kept.is_err();
+        self.broken
     }
 
     /// Offers a front of what waits to the wire, which may take some of it.
@@ -265,5 +286,25 @@ impl Connection {
         ensures rest { self.new ≡ record self.old { output = self.new.output } }
     {
         self.output.offer(self.id, wire)
+    }
+}
+
+/// This is due from now on. The error is out of memory.
+#[tactic(auto, unfolding(crate::specs::Steps::http_status))]
+fn push(output: &mut Output, due: Due) -> Result<(), AllocError>
+    ensures ok { OnOk result (output.new ≡ output.old ++ due_bytes due) }
+    ensures err { OnErr result (output.new ≡ output.old) }
+    ensures full { OnErr result (RESERVED_BYTES < length (output.old ++ due_bytes due)) }
+{
+    match due {
+        Due::Nothing => Ok(()),
+        Due::Byte(byte) => output.push(&[byte]),
+        Due::Continue => output.push(continue_head()),
+        Due::Refusal(refusal) => output.push_refusal(refusal),
+        Due::Status {
+            closes,
+            status,
+            request,
+        } => output.push_reply(closes, &ipp_refusal(status, request)),
     }
 }

@@ -1,21 +1,28 @@
-//! The connections of a server: what each has brought, and what is due on it.
+//! The connections of a server: what each peer has said, what that asks of the server, and what is due.
 //!
-//! A [`Connection`] is of an IPP client, an LPD client or a device. It is fed what comes of its peer, and
-//! says what that brings ([`Connection::next`]): requests in HTTP, what an LPD client says, a device's
-//! reports. What is due on it waits in an [`outputs::Output`] until a wire takes it.
+//! A [`Connection`] is of an IPP client, an LPD client or a device. It is fed what comes of its peer, acts
+//! on what concerns it alone, and asks the server for the rest, one thing at a time
+//! ([`Connection::next`]): the bodies of HTTP, the files of LPD and the names of devices are its own. What
+//! is due on it waits in an [`outputs::Output`] until a wire takes it.
 //!
-//! The functions of [`table`] say the same of a connection among many, by its key: each answers what
-//! became of it, and nothing else changes. Which of it becomes an event of the core, and what is due then,
-//! stands above. Its rows are sessions of `server_tests` and traces of `play_examples`.
+//! Its contracts speak of an entry: all that was read, what of it was acted on, all that was due and all
+//! that was taken (`specs/Entry.antt`). Its rows are sessions of `server_tests` and traces of
+//! `play_examples`.
 #![tactic(auto)]
 
+mod ask;
 mod connection;
-mod http_talk;
-mod lpd_talk;
+mod device;
+mod ipp_client;
+mod lpd_client;
+mod peer;
+mod step;
 pub mod table;
-mod talk;
 
-pub use connection::Connection;
-pub use http_talk::HttpTalk;
-pub use lpd_talk::{LpdAsks, LpdTalk, REFUSED};
-pub use talk::{Brought, LinkTalk, Talk};
+pub use ask::{Ask, Client, Growth, Part};
+pub use connection::{Connection, Fed};
+pub use device::Device;
+pub use ipp_client::IppClient;
+pub use lpd_client::{LpdClient, REFUSED};
+pub use peer::Peer;
+pub use step::{Due, Step};

@@ -1,5 +1,5 @@
 -- What is short needs no memory where nothing waits.
-use Rattle.std.proofs.Common.{◌≡◌, ◌≤◌, ◌<◌, arith, ℕ, Bool, true, false, List, [], ◌∷◌, ◌++◌, length, decimal, refl, ◌∙◌, ap, subst, Option, Some}
+use Rattle.std.proofs.Common.{◌≡◌, ◌≤◌, ◌<◌, arith, ℕ, Bool, true, false, List, [], ◌∷◌, ◌++◌, length, decimal, refl, sym, ◌∙◌, ap, subst, Option, Some, inl, inr}
 use Rattle.std.specs.Prelude.{nat_lt}
 use Rattle.std.proofs.lemmas.Bool.Decides.{nat_tests}
 use Rattle.std.proofs.lemmas.List.{length-append}
@@ -9,13 +9,13 @@ use Rattle.http_front.specs.declared.refusal.Refusal.{Refusal}
 use Rattle.http_front.specs.declared.refusal.Refusal.TheVariants.{BadRequest, MethodNotAllowed, ContentTooLarge, UnsupportedMediaType, ExpectationFailed, HeadTooLarge, NotImplemented}
 use Rattle.events.specs.declared.status.Status.{Status}
 use Rattle.replies.specs.Reply.{refusal_bytes}
-use Rattle.server.specs.Ledger.{Entry}
 use Rattle.server.specs.Rel.{Nothing, If}
-use Rattle.server.specs.Keeping.{needs_memory, KeepsOpen, KeepsAt}
+use Rattle.server.specs.Keeping.{KeepsOpen, KeepsAt}
 use Rattle.outputs.specs.Reply.{http_reply, refusal_head}
-use Rattle.server.specs.Exchange.{http_status}
-use Rattle.server.specs.Law.{AreKept}
+use Rattle.server.specs.Law.{AreKept, AreOwed}
 use Rattle.outputs.specs.declared.output.TheConstants.{RESERVED_BYTES}
+use Rattle.connections.specs.Entry.{Entry, needs_memory}
+use Rattle.connections.specs.Steps.{http_status}
 
 -- ---- where it has room
 
@@ -28,6 +28,13 @@ kept bytes short key e l hs l' there whole none it =
     let found : KeepsAt (needs_memory bytes) key bytes (Some e) l hs l' = subst (λ (o : Option Entry). KeepsAt (needs_memory bytes) key bytes o l hs l') there it in
     let here : KeepsOpen (needs_memory bytes e) key bytes e l hs l' = subst (λ (t : Bool). If t Nothing (KeepsOpen (needs_memory bytes e) key bytes e) l hs l') whole found in
     subst (λ (t : Bool). KeepsOpen t key bytes e l hs l') fits here
+
+owed : (bytes : List ℕ) → length bytes ≤ 256 → AreOwed bytes
+owed bytes short e what new none (inl it) = it
+owed bytes short e what new none (inr (broke, needs, is)) =
+    let fits : needs_memory bytes e ≡ false = ap (λ (w : List ℕ). nat_lt RESERVED_BYTES (length (w ++ bytes))) none ∙ not_above RESERVED_BYTES (length bytes) short in
+    let never : true ≡ false = sym needs ∙ fits in
+    absurd (cc)
 
 -- ---- how long it is
 
@@ -80,11 +87,17 @@ refusal_short NotImplemented = refused_short (opening 501) (within (opening 501)
 pub status_kept : (closes : Bool) (status : Status) (request : ℕ) → AreKept (http_status closes status request)
 status_kept closes status request = kept (http_status closes status request) (omega (arith, status_short closes status request))
 
-pub refusal_kept : (refusal : Refusal) → AreKept (refusal_head refusal)
-refusal_kept refusal = kept (refusal_head refusal) (omega (arith, refusal_short refusal))
+pub status_owed : (closes : Bool) (status : Status) (request : ℕ) → AreOwed (http_status closes status request)
+status_owed closes status request = owed (http_status closes status request) (omega (arith, status_short closes status request))
 
-pub continue_kept : AreKept continue_head
-continue_kept = kept continue_head (within continue_head 256 refl)
+pub refusal_owed : (refusal : Refusal) → AreOwed (refusal_head refusal)
+refusal_owed refusal = owed (refusal_head refusal) (omega (arith, refusal_short refusal))
+
+pub continue_owed : AreOwed continue_head
+continue_owed = owed continue_head (within continue_head 256 refl)
+
+pub byte_owed : (byte : ℕ) → AreOwed (byte ∷ [])
+byte_owed byte = owed (byte ∷ []) (within (byte ∷ []) 256 refl)
 
 pub byte_kept : (byte : ℕ) → AreKept (byte ∷ [])
 byte_kept byte = kept (byte ∷ []) (within (byte ∷ []) 256 refl)

@@ -17,7 +17,7 @@ use Rattle.requests.specs.declared.asked.Asked.TheVariants as asks
 use Rattle.requests.specs.Asked.{Asks}
 use Rattle.dispatcher.specs.Notes.{Note, Tells}
 use Rattle.server.specs.Polls.{Happening}
-use Rattle.server.specs.Ledger.{Entry, Ledger, Fate, opening_ledger}
+use Rattle.server.specs.Ledger.{Ledger, Fate, opening_ledger}
 use Rattle.server.specs.Rel.{Rel}
 use Rattle.server.specs.Closing.{IsTaken}
 use Rattle.server.specs.Turn as Between
@@ -26,6 +26,7 @@ use Rattle.server.specs.Law.{core_notes, Collects, moment_of, happenings_of, hap
 use Rattle.dispatcher.specs.declared.listener.Place.TheVariants as At
 use Rattle.server.proofs.Speaking.{notes_append, no_refusal_told, none_before, none_after, Happened, happened_whole, happened, happened_then, whole_light, whole_told}
 use Rattle.server.proofs.Parts.{calm_answers, ticked, Holds, deed_in}
+use Rattle.connections.specs.Entry.{Entry}
 
 -- ---- what closed connections were given
 

@@ -4,14 +4,7 @@ use Rattle.std.specs.Prelude.{nat_lt, length, take}
 use Rattle.base_types.specs.declared.limits.TheConstants.Limits.{CONNECTIONS}
 use Rattle.base_types.specs.declared.report.Report.{Report}
 use Rattle.base_types.specs.declared.report.Report.TheVariants as reported
-use Rattle.base_types.specs.Report.{ReportRecord, SaysHello, SaysMedia, SaysReady, SaysStop, SaysBusy, SaysPages, SaysDone, SaysFail, IsGone}
-use Rattle.http_front.specs.Stream.{Said}
-use Rattle.http_front.specs.Reply.{continue_head}
-use Rattle.http_front.specs.declared.refusal.Refusal.TheVariants.{BadRequest}
-use Rattle.http_front.specs.declared.item.HttpItem.{HttpItem}
-use Rattle.http_front.specs.declared.item.HttpItem.TheVariants as item
-use Rattle.lpd_reader.specs.Session.{CommandRecord, ItemRecord, Says, Aborts, Announces, HasFile}
-use Rattle.lpd_session.specs.Session.{SessionState, SentRecord}
+use Rattle.base_types.specs.Report.{ReportRecord}
 use Rattle.print_room.specs.State.{State}
 use Rattle.events.specs.declared.event.Event.{Event}
 use Rattle.events.specs.declared.event.Event.TheVariants as Is
@@ -20,40 +13,50 @@ use Rattle.events.specs.declared.reply.Answer.TheVariants as answered
 use Rattle.events.specs.declared.reply.LpdAnswer.{LpdAnswer}
 use Rattle.events.specs.declared.reply.LpdAnswer.TheVariants as shown
 use Rattle.events.specs.declared.reply.Reply.{Reply}
-use Rattle.dispatcher.specs.declared.outcome.Outcome.{Outcome}
+use Rattle.events.specs.declared.status.Status.{Status}
 use Rattle.events.specs.declared.status.Status.TheVariants.{TemporaryError}
 use Rattle.events.specs.Event.{is_query}
-use Rattle.dispatcher.specs.Run.{reply_of, Handles}
-use Rattle.requests.specs.declared.asked.Asked.{Asked}
-use Rattle.requests.specs.declared.asked.Asked.TheVariants as asks
-use Rattle.replies.specs.QueueText.{ack_of, text_of}
-use Rattle.wires.specs.Poll.{Poll, Accepts, Reads, Writes, Closes}
-use Rattle.dispatcher.specs.Notes.{Note, DeviceRefused, Refused}
-use Rattle.server.specs.Polls.{Happening, Polled, Told}
-use Rattle.server.specs.Ledger.{Entry, Ledger, Fate, Drained, Broken, opening_entry, with_entry, with_new, device_of, waiting}
-use Rattle.server.specs.Rel.{Rel, Nothing, Polls, Tells, Then, If, Or, Times, Many, Each}
-use Rattle.server.specs.Keeping.{Sets, broken, Breaks, Drops, Keeps}
-use Rattle.server.specs.Happening.{Happens, Unanswered}
-use Rattle.server.specs.Closing as Closing
-use Rattle.server.specs.Closing.{Leaves, ClosesAs, ClosesFirst, Settles}
-use Rattle.server.specs.Exchange as Http
-use Rattle.outputs.specs.Reply.{http_reply, refusal_head}
-use Rattle.server.specs.Devices as Links
-use Rattle.server.specs.Queues as Queues
-use Rattle.connections.specs.Session.{Hearing, Goes, Stops, Submits, Commands, heard, nack, file_lost, is_queue}
-use Rattle.server.specs.Polling.{Opens, AcceptsAs, AcceptsOne, AcceptsAt, ActsNext, Acts, Serves, Feeds, FeedsAt, FeedsOne, Fails, ReadsAs, ReadsOpen, ReadsAt, is_read, ReadsOne, WritesAs, WritesOpen, WritesAt, WritesOne, is_done, EndsAt, EndsOne}
-use Rattle.server.specs.Turn as Between
-use Rattle.server.specs.Turn.{Ticks, is_tick_due, TicksIfDue, Covers, Round, Turn, has_refusal, Deed, Turned, Served_body, Reported, Ticked, DoesDeed}
-use Rattle.server.specs.Law.{core_notes, IsWhole, moment_of, happenings_of}
-use Rattle.wires.specs.declared.wire.Answer.TheVariants as wire
-use Rattle.wires.specs.declared.wire.Answer.{Answer as WireAnswer}
-use Rattle.wires.specs.declared.wire.Door.{Door}
-use Rattle.wires.specs.declared.wire.Door.TheVariants.{Ipp, Lpd, Devices}
+use Rattle.dispatcher.specs.declared.outcome.Outcome.{Outcome}
 use Rattle.dispatcher.specs.declared.listener.DeviceRefusal.{DeviceRefusal}
 use Rattle.dispatcher.specs.declared.listener.DeviceRefusal.TheVariants as why
 use Rattle.dispatcher.specs.declared.listener.Place.{Place}
 use Rattle.dispatcher.specs.declared.listener.Place.TheVariants as At
-use Rattle.server.proofs.Speaking.{only_notes, Calmly, calm_nothing, calm_then, calm_if, calm_or, calm_refusal, calm_sets, calm_drops, calm_feed, calm_breaks, calm_keeps, IsOther, Happened, happened_notes, happened, happened_then, whole_light, whole_told}
+use Rattle.dispatcher.specs.Notes.{Note, DeviceRefused, Refused}
+use Rattle.dispatcher.specs.Run.{reply_of, Handles}
+use Rattle.requests.specs.declared.asked.Asked.{Asked}
+use Rattle.requests.specs.declared.asked.Asked.TheVariants as asks
+use Rattle.replies.specs.QueueText.{ack_of, text_of}
+use Rattle.outputs.specs.Reply.{http_reply}
+use Rattle.wires.specs.Poll.{Poll, Accepts, Reads, Writes, Closes}
+use Rattle.wires.specs.declared.wire.Answer.TheVariants as wire
+use Rattle.wires.specs.declared.wire.Answer.{Answer as WireAnswer}
+use Rattle.wires.specs.declared.wire.Door.{Door}
+use Rattle.wires.specs.declared.wire.Door.TheVariants.{Ipp, Lpd, Devices}
+use Rattle.connections.specs.declared.ask.Ask.{Ask}
+use Rattle.connections.specs.declared.ask.Ask.TheVariants as ask
+use Rattle.connections.specs.declared.ask.Client.{Client}
+use Rattle.connections.specs.declared.ask.Client.TheVariants as client
+use Rattle.connections.specs.declared.ask.Growth.{Growth}
+use Rattle.connections.specs.declared.ask.Growth.TheVariants as growth
+use Rattle.connections.specs.declared.ask.Part.{Part}
+use Rattle.connections.specs.declared.ask.Part.TheVariants as part
+use Rattle.connections.specs.Entry.{Entry, opening_entry, device_of, closes_of, given_up, reading, waiting}
+use Rattle.connections.specs.Steps.{http_status}
+use Rattle.server.specs.Polls.{Happening, Polled, Told}
+use Rattle.server.specs.Ledger.{Ledger, Fate, Drained, Broken, with_new}
+use Rattle.server.specs.Rel.{Rel, Nothing, Polls, Tells, Then, If, Or, Times, Many, Each}
+use Rattle.server.specs.Keeping.{Sets, Breaks, Keeps, KeepsReplyAt, KeepsReply, KeepsStatus}
+use Rattle.server.specs.Happening.{Happens, Unanswered}
+use Rattle.server.specs.Closing as Closing
+use Rattle.server.specs.Closing.{Leaves, ClosesAs, ClosesFirst, Settles}
+use Rattle.server.specs.Answering as Asked
+use Rattle.server.specs.Greeting as Greeting
+use Rattle.server.specs.Acting as Acting
+use Rattle.server.specs.Polling.{Opens, AcceptsAs, AcceptsOne, AcceptsAt, Acts, Serves, FedWhole, FedOpen, FeedsAt, FeedsOne, Fails, ReadsAs, ReadsOpen, ReadsAt, is_read, ReadsOne, WritesAs, WritesOpen, WritesAt, WritesOne, is_done, EndsAt, EndsOne}
+use Rattle.server.specs.Turn as Between
+use Rattle.server.specs.Turn.{Ticks, is_tick_due, TicksIfDue, Covers, Round, Turn, has_refusal, Deed, Turned, Served_body, Reported, Ticked, DoesDeed}
+use Rattle.server.specs.Law.{core_notes, IsWhole, moment_of, happenings_of}
+use Rattle.server.proofs.Speaking.{only_notes, Calmly, calm_nothing, calm_then, calm_if, calm_or, calm_refusal, calm_sets, calm_drops, calm_breaks, calm_keeps, IsOther, Happened, happened_notes, happened, happened_then, whole_light, whole_told}
 
 -- the core stays, and so does what was closed; the core tells nothing
 pub record IsCalm (l : Ledger) (hs : List Happening) (l' : Ledger) : Type 0 where
@@ -121,54 +124,79 @@ calm_answers request (Some reply) bytes l hs l' (inl (are, it)) = calm_nothing l
 calm_answers request (Some reply) bytes l hs l' (inr it) = calm_refusal At.Reply None refl l hs l' it
 calm_answers request None bytes l hs l' it = calm_refusal At.Event None refl l hs l' it
 
-calm_lost : (key id : ℕ) (closes : Bool) (request : ℕ) (query : Bool) → Calmly (Http.LosesReply key id closes request query)
-calm_lost key id closes request query =
-    calm_then (calm_refusal At.Reply (Some id) refl)
-    (calm_if query (Keeps key (Http.http_status closes TemporaryError request)) (Breaks key) (calm_keeps key (Http.http_status closes TemporaryError request)) (calm_breaks key))
+calm_reply_at : (bytes : Bool → List ℕ) (key : ℕ) (o : Option Entry) → Calmly (KeepsReplyAt bytes key o)
+calm_reply_at bytes key None = calm_nothing
+calm_reply_at bytes key (Some e) = calm_keeps key (bytes (closes_of e.talk))
 
-calm_replies : (key id : ℕ) (closes : Bool) (request : ℕ) (query : Bool) (answer : Answer) → Calmly (Http.RepliesWith key id closes request query answer)
-calm_replies key id closes request query (answered.Ipp answer) l hs l' (inl (bytes, are, it)) = calm_keeps key (http_reply closes bytes) l hs l' it
-calm_replies key id closes request query (answered.Ipp answer) l hs l' (inr it) = calm_lost key id closes request query l hs l' it
-calm_replies key id closes request query (answered.Lpd answer) l hs l' it = calm_nothing l hs l' it
-calm_replies key id closes request query answered.Nothing l hs l' it = calm_nothing l hs l' it
+calm_reply : (key : ℕ) (bytes : List ℕ) → Calmly (KeepsReply key bytes)
+calm_reply key bytes l hs l' it = calm_reply_at (λ closes. http_reply closes bytes) key (l.entries key) l hs l' it
 
-calm_answer : (key id : ℕ) (closes : Bool) (request : ℕ) (query : Bool) (reply : Option Reply) → Calmly (Http.Replies key id closes request query reply)
-calm_answer key id closes request query (Some reply) = calm_replies key id closes request query reply.answer
-calm_answer key id closes request query None = calm_then (calm_refusal At.Event (Some id) refl) (calm_keeps key (Http.http_status closes TemporaryError request))
+calm_status : (key : ℕ) (status : Status) (request : ℕ) → Calmly (KeepsStatus key status request)
+calm_status key status request l hs l' it = calm_reply_at (λ closes. http_status closes status request) key (l.entries key) l hs l' it
 
-calm_shows : (key id : ℕ) (text : List ℕ) → Calmly (Queues.Shows key id text)
+calm_dropped : (key id request : ℕ) → Calmly (Asked.Drops key id request)
+calm_dropped key id request = calm_then (calm_refusal At.Event (Some id) refl) (calm_status key TemporaryError request)
+
+calm_lost : (key id request : ℕ) (query : Bool) → Calmly (Asked.LosesReply key id request query)
+calm_lost key id request query = calm_then (calm_refusal At.Reply (Some id) refl) (calm_if query (KeepsStatus key TemporaryError request) (Breaks key) (calm_status key TemporaryError request) (calm_breaks key))
+
+calm_replies : (key id request : ℕ) (query : Bool) (answer : Answer) → Calmly (Asked.RepliesWith key id request query answer)
+calm_replies key id request query (answered.Ipp answer) l hs l' (inl (bytes, are, it)) = calm_reply key bytes l hs l' it
+calm_replies key id request query (answered.Ipp answer) l hs l' (inr it) = calm_lost key id request query l hs l' it
+calm_replies key id request query (answered.Lpd answer) l hs l' it = calm_nothing l hs l' it
+calm_replies key id request query answered.Nothing l hs l' it = calm_nothing l hs l' it
+
+calm_answer : (key id request : ℕ) (query : Bool) (reply : Option Reply) → Calmly (Asked.Replies key id request query reply)
+calm_answer key id request query (Some reply) = calm_replies key id request query reply.answer
+calm_answer key id request query None = calm_dropped key id request
+
+calm_shows : (key id : ℕ) (text : List ℕ) → Calmly (Asked.Shows key id text)
 calm_shows key id text = calm_or (calm_keeps key text) (calm_then (calm_refusal At.Reply (Some id) refl) (calm_breaks key))
 
-calm_told : (key id : ℕ) (answer : LpdAnswer) → Calmly (Queues.IsTold key id answer)
+calm_told : (key id : ℕ) (answer : LpdAnswer) → Calmly (Asked.IsTold key id answer)
 calm_told key id (shown.Taken taken) = calm_keeps key (ack_of (shown.Taken taken) ∷ [])
 calm_told key id (shown.Queue listing) = calm_shows key id (text_of (shown.Queue listing))
 calm_told key id shown.NoQueue = calm_shows key id (text_of shown.NoQueue)
 
-calm_answered : (key id : ℕ) (answer : Answer) → Calmly (Queues.IsAnswered key id answer)
+calm_answered : (key id : ℕ) (answer : Answer) → Calmly (Asked.IsShown key id answer)
 calm_answered key id (answered.Lpd answer) = calm_told key id answer
 calm_answered key id (answered.Ipp answer) = calm_nothing
 calm_answered key id answered.Nothing = calm_nothing
 
-calm_byte : (key : ℕ) (byte : Option ℕ) → Calmly (Queues.Answers key byte)
-calm_byte key None = calm_nothing
-calm_byte key (Some byte) = calm_keeps key (byte ∷ [])
+calm_declines : (place : Place) (key id : ℕ) → IsOther place (Some id) → Calmly (Asked.Declines place key id)
+calm_declines place key id other = calm_then (calm_refusal place (Some id) other) (calm_keeps key (1 ∷ []))
 
-calm_declines : (place : Place) (key id : ℕ) → IsOther place (Some id) → Calmly (Queues.Declines place key id)
-calm_declines place key id other = calm_then (calm_refusal place (Some id) other) (calm_byte key nack)
-
-calm_acknowledges : (key id : ℕ) (reply : Option Reply) → Calmly (Queues.Acknowledges key id reply)
+calm_acknowledges : (key id : ℕ) (reply : Option Reply) → Calmly (Asked.Acknowledges key id reply)
 calm_acknowledges key id (Some reply) = calm_answered key id reply.answer
 calm_acknowledges key id None = calm_declines At.Event key id refl
 
-calm_responds : (key id : ℕ) (reply : Option Reply) → Calmly (Queues.Responds key id reply)
+calm_responds : (key id : ℕ) (reply : Option Reply) → Calmly (Asked.Responds key id reply)
 calm_responds key id (Some reply) = calm_answered key id reply.answer
 calm_responds key id None = calm_then (calm_refusal At.Event (Some id) refl) (calm_breaks key)
+
+other_growth : (growth : Growth) (id : ℕ) → IsOther (Acting.place_of growth) (Some id)
+other_growth growth.Input id = refl
+other_growth growth.Output id = refl
+
+other_part : (part : Part) (id : ℕ) → IsOther (Acting.place_of_part part) (Some id)
+other_part part.File id = refl
+other_part part.Job id = refl
 
 -- ---- where an event was dropped, its caller tells
 
 -- a refusal is told, and then something else
 refused_first : (place : Place) (id : Option ℕ) (Q : Rel) (l : Ledger) (hs : List Happening) (l' : Ledger) → Then (Tells (Refused place id)) Q l hs l' → has_refusal hs ≡ true
 refused_first place id Q l hs l' it = ap has_refusal (it.whole ∙ ap (λ (ks : List Happening). ks ++ it.back) it.first.0)
+
+calm_client : (key id : ℕ) (who : Client) (query : Bool) (reply : Option Reply) → Calmly (Asked.Answers key id who query reply)
+calm_client key id (client.Ipp request) query reply = calm_answer key id request query reply
+calm_client key id client.LpdJob query reply = calm_acknowledges key id reply
+calm_client key id client.LpdCommand query reply = calm_responds key id reply
+
+dropped_told : (key id : ℕ) (who : Client) (query : Bool) (l : Ledger) (hs : List Happening) (l' : Ledger) → Asked.Answers key id who query None l hs l' → has_refusal hs ≡ true
+dropped_told key id (client.Ipp request) query = refused_first At.Event (Some id) (KeepsStatus key TemporaryError request)
+dropped_told key id client.LpdJob query = refused_first At.Event (Some id) (Keeps key (1 ∷ []))
+dropped_told key id client.LpdCommand query = refused_first At.Event (Some id) (Breaks key)
 
 -- ---- deeds
 
@@ -251,114 +279,60 @@ module _ (moment : ℕ) (P : Rel) (k : Holds moment P) where
   fails_in : (key : ℕ) → Within P (Fails moment key)
   fails_in key = then_in (calmly_in (calm_breaks key)) settles_in
 
-  -- ---- an IPP client's connection
+  -- ---- what connections ask
 
-  http_answered_in : (key id : ℕ) (closes : Bool) (request : ℕ) (event : Event) → Within P (Http.IsAnswered moment key id closes request event)
-  http_answered_in key id closes request event l hs l' (outcome, it) =
-      answered_in event (Http.Replies key id closes request (is_query event)) (calm_answer key id closes request (is_query event)) (refused_first At.Event (Some id) (Keeps key (Http.http_status closes TemporaryError request))) outcome l hs l' it
+  answers_in : (key id : ℕ) (who : Client) (event : Event) → Within P (Asked.IsAnswered moment key id who event)
+  answers_in key id who event l hs l' (outcome, it) = answered_in event (Asked.Answers key id who (is_query event)) (calm_client key id who (is_query event)) (dropped_told key id who (is_query event)) outcome l hs l' it
 
-  asks_in : (key id : ℕ) (closes : Bool) (asked : Asked) → Within P (Http.AsksFor moment key id closes asked)
-  asks_in key id closes asks.TooShort = keeps_in key (refusal_head BadRequest)
-  asks_in key id closes (asks.Refused status request) = keeps_in key (Http.http_status closes status request)
-  asks_in key id closes (asks.Event request event) = http_answered_in key id closes request event
-
-  whole_in : (key : ℕ) (e : Entry) (said : List Said) (closes : Bool) (body : List ℕ) → Within P (Http.IsWhole moment key e said closes body)
-  whole_in key e said closes body l hs l' (inl (asked, are, it)) = then_in (sets_in key (Http.heard e said closes [] (Http.closes_with closes asked))) (asks_in key e.id closes asked) l hs l' it
-  whole_in key e said closes body l hs l' (inr (request, is, it)) =
-      then_in (sets_in key (Http.heard e said closes [] closes)) (then_in (calmly_in (calm_refusal At.Event (Some e.id) refl)) (keeps_in key (Http.http_status closes TemporaryError request))) l hs l' it
-
-  item_in : (key : ℕ) (e : Entry) (said : List Said) (closes : Bool) (body : List ℕ) (what : HttpItem) (part : List ℕ) → Within P (Http.Hears moment key e said closes body what part)
-  item_in key e said closes body (item.Head next) part = sets_in key (Http.heard e said next [] false)
-  item_in key e said closes body item.Continue part = then_in (sets_in key (Http.heard e said closes body false)) (keeps_in key continue_head)
-  item_in key e said closes body item.BodyPart part =
-      or_in (sets_in key (Http.heard e said closes (body ++ part) false)) (then_in (sets_in key (Http.heard e said closes body false)) (calmly_in (calm_feed key)))
-  item_in key e said closes body item.BodyEnd part = whole_in key e said closes body
-  item_in key e said closes body (item.Refuse refusal) part = then_in (sets_in key (Http.heard e said closes body true)) (keeps_in key (refusal_head refusal))
-
-  -- ---- a device's connection
-
-  tells_in : (device : ℕ) (said : ReportRecord) → Within P (Links.Tells moment device said)
+  tells_in : (device : ℕ) (said : ReportRecord) → Within P (Greeting.Tells moment device said)
   tells_in device said l hs l' (report, is, it) = reported_in device report l hs l' it
 
-  gives_way_at_in : (key : ℕ) (o : Option Entry) → Within P (Links.GivesWayAt key o)
+  gives_way_at_in : (key : ℕ) (o : Option Entry) → Within P (Greeting.GivesWayAt key o)
   gives_way_at_in key None = nothing_in
-  gives_way_at_in key (Some e) = sets_in key (Links.given_up e)
+  gives_way_at_in key (Some e) = sets_in key (given_up e)
 
-  gives_way_in : (key : ℕ) → Within P (Links.GivesWay key)
+  gives_way_in : (key : ℕ) → Within P (Greeting.GivesWay key)
   gives_way_in key l hs l' it = gives_way_at_in key (l.entries key) l hs l' it
 
-  turns_away_in : (key : ℕ) (e : Entry) (why : DeviceRefusal) → Within P (Links.TurnsAway key e why)
-  turns_away_in key e why l hs l' it = k.calm l hs l' (calm_as (Told (DeviceRefused e.id why) ∷ []) (with_entry key (broken e) l) l hs l' refl refl refl it)
+  turned_away_in : (id : ℕ) (reason : DeviceRefusal) → Within P (Tells (DeviceRefused id reason))
+  turned_away_in id reason = same_in (Told (DeviceRefused id reason) ∷ []) refl
 
-  greets_in : (key : ℕ) (e : Entry) (reports : List ReportRecord) (name : List ℕ) (device : Option ℕ) → Within P (Links.Greets moment key e reports name device)
-  greets_in key e reports name None l hs l' it = turns_away_in key e (why.UnknownName name) l hs l' it
-  greets_in key e reports name (Some device) l hs l' (inl (absent, it)) = then_in (sets_in key (Links.linked e reports (Some device))) (tells_in device (SaysHello name)) l hs l' it
-  greets_in key e reports name (Some device) l hs l' (inr (inl (other, it))) = turns_away_in key e (why.Connected device) l hs l' it
-  greets_in key e reports name (Some device) l hs l' (inr (inr (other, ended, it))) =
-      then_in (sets_in key (Links.linked e reports (Some device))) (then_in (gives_way_in other) (then_in (gone_in (Some device)) (tells_in device (SaysHello name)))) l hs l' it
+  greets_in : (key id device : ℕ) (name : List ℕ) → Within P (Greeting.Greets moment key id device name)
+  greets_in key id device name l hs l' (inl (absent, it)) = reported_in device (reported.Hello name) l hs l' it
+  greets_in key id device name l hs l' (inr (inl (other, ended, it))) = then_in (gives_way_in other) (then_in (gone_in (Some device)) (reported_in device (reported.Hello name))) l hs l' it
+  greets_in key id device name l hs l' (inr (inr (other, is, it))) = then_in (gives_way_in key) (turned_away_in id (why.Connected device)) l hs l' it
 
-  report_in : (key : ℕ) (e : Entry) (reports : List ReportRecord) (device : Option ℕ) (said : ReportRecord) → Within P (Links.HearsReport moment key e reports device said)
-  report_in key e reports (Some device) said l hs l' it = then_in (sets_in key (Links.linked e reports (Some device))) (tells_in device said) l hs l' it
-  report_in key e reports None (SaysHello name) l hs l' it = greets_in key e reports name (Links.device_named name l.core) l hs l' it
-  report_in key e reports None (SaysMedia names) l hs l' it = absurd it
-  report_in key e reports None SaysReady l hs l' it = absurd it
-  report_in key e reports None SaysStop l hs l' it = absurd it
-  report_in key e reports None (SaysBusy time) l hs l' it = absurd it
-  report_in key e reports None (SaysPages job printed) l hs l' it = absurd it
-  report_in key e reports None (SaysDone job) l hs l' it = absurd it
-  report_in key e reports None (SaysFail job) l hs l' it = absurd it
-  report_in key e reports None IsGone l hs l' it = absurd it
+  does_in : (key id : ℕ) (what : Ask) → Within P (Acting.Does moment key id what)
+  does_in key id ask.Nothing = nothing_in
+  does_in key id (ask.Broke growth) = calmly_in (calm_refusal (Acting.place_of growth) (Some id) (other_growth growth id))
+  does_in key id (ask.Event who event) = answers_in key id who event
+  does_in key id (ask.Unread request) = calmly_in (calm_dropped key id request)
+  does_in key id (ask.Lost part) = calmly_in (calm_declines (Acting.place_of_part part) key id (other_part part id))
+  does_in key id (ask.Hello device name) = greets_in key id device name
+  does_in key id (ask.Report device report) = reported_in device report
+  does_in key id (ask.Stranger name) = turned_away_in id (why.UnknownName name)
+  does_in key id (ask.Fault device) = turned_away_in id (why.Fault device)
 
-  -- ---- an LPD client's connection
-
-  submitted_in : (key id : ℕ) (job : SentRecord) → Within P (Queues.IsSubmitted moment key id job)
-  submitted_in key id job l hs l' (inl (event, is, (outcome, it))) =
-      answered_in event (Queues.Acknowledges key id) (calm_acknowledges key id) (refused_first At.Event (Some id) (Queues.Answers key nack)) outcome l hs l' it
-  submitted_in key id job l hs l' (inr it) = calmly_in (calm_declines At.Event key id refl) l hs l' it
-
-  commanded_in : (key id : ℕ) (command : CommandRecord) → Within P (Queues.IsCommanded moment key id command)
-  commanded_in key id command l hs l' (event, is, (outcome, it)) =
-      answered_in event (Queues.Responds key id) (calm_responds key id) (refused_first At.Event (Some id) (Breaks key)) outcome l hs l' it
-
-  does_in : (key : ℕ) (e : Entry) (items : List ItemRecord) (hearing : Hearing) → Within P (Queues.Does moment key e items hearing)
-  does_in key e items (Goes answer next) = then_in (sets_in key (Queues.talks e items next false)) (calmly_in (calm_byte key answer))
-  does_in key e items (Stops answer) = then_in (sets_in key (Queues.talks e items None true)) (calmly_in (calm_byte key answer))
-  does_in key e items (Submits job next) = then_in (sets_in key (Queues.talks e items (Some next) false)) (submitted_in key e.id job)
-  does_in key e items (Commands command) = then_in (sets_in key (Queues.talks e items None true)) (commanded_in key e.id command)
-
-  loses_in : (key : ℕ) (e : Entry) (items : List ItemRecord) (session : Option SessionState) (said : ItemRecord) → Within P (Queues.Loses key e items session said)
-  loses_in key e items session (HasFile contents) l hs l' it = then_in (sets_in key (Queues.talks e items (file_lost session) false)) (calmly_in (calm_declines At.File key e.id refl)) l hs l' it
-  loses_in key e items session (Says command) l hs l' it = absurd it
-  loses_in key e items session Aborts l hs l' it = absurd it
-  loses_in key e items session (Announces head) l hs l' it = absurd it
-
-  lpd_in : (key : ℕ) → Within P (Queues.HearsNext moment key)
-  lpd_in key l hs l' it =
-      or_in (does_in key it.entry (it.items ++ it.said ∷ []) (heard (is_queue l.core.settings) it.session it.said)) (loses_in key it.entry (it.items ++ it.said ∷ []) it.session it.said) l hs l' it.does
+  asks_in : (key id : ℕ) (what : Ask) → Within P (Acting.Asks key id what)
+  asks_in key id what l hs l' it = sets_in key it.new l hs l' (it.still, it.after)
 
   -- ---- reads
 
-  acts_next_in : (key : ℕ) → Within P (ActsNext moment key)
-  acts_next_in key =
-      or_in {R = Http.HearsNext moment key} (λ l hs l' it. item_in key it.entry _ it.closes it.body it.what it.part l hs l' it.does)
-      (or_in {R = Links.ReportsNext moment key} (λ l hs l' it. report_in key it.entry _ it.device it.said l hs l' it.does)
-      (or_in {R = Links.LosesLine key} (λ l hs l' it. calmly_in (calm_drops At.Feed key it.entry refl) l hs l' it.does)
-      (or_in {R = Links.LinkBreaks key} (λ l hs l' it. turns_away_in key it.entry (why.Fault it.device) l hs l' it.does)
-      (or_in (lpd_in key)
-      (or_in {R = Queues.LosesLine key} {S = Queues.IsFaulty key} (λ l hs l' it. calmly_in (calm_drops At.Feed key it.entry refl) l hs l' it.does)
-      (λ l hs l' it. then_in (sets_in key (Queues.talks it.entry it.items it.session true)) (calmly_in (calm_byte key nack)) l hs l' it.does))))))
+  acts_next_in : (key : ℕ) → Within P (Acting.ActsNext moment key)
+  acts_next_in key l hs l' (id, what, it) = then_in (asks_in key id what) (does_in key id what) l hs l' it
 
   serves_in : (key : ℕ) → Within P (Serves moment key)
   serves_in key l hs l' it = many_in (Acts moment key) (then_in (acts_next_in key) settles_in) l hs l' it.0
 
-  feeds_in : (key : ℕ) (e : Entry) (bytes : List ℕ) → Within P (Feeds moment key e bytes)
-  feeds_in key e bytes =
-      if_in e.over Nothing (Or (Then (Sets key (record e { read = e.read ++ bytes })) (Serves moment key)) (Then (Drops At.Feed key e) (Settles moment))) nothing_in
-      (or_in (then_in (sets_in key (record e { read = e.read ++ bytes })) (serves_in key)) (then_in (calmly_in (calm_drops At.Feed key e refl)) settles_in))
+  fed_whole_in : (key : ℕ) (e : Entry) (bytes : List ℕ) → Within P (FedWhole moment key e bytes)
+  fed_whole_in key e bytes = or_in (then_in (sets_in key (reading bytes e)) (serves_in key)) (then_in (calmly_in (calm_drops At.Feed key e refl)) settles_in)
+
+  fed_in : (key : ℕ) (e : Entry) (bytes : List ℕ) → Within P (FedOpen moment key e bytes)
+  fed_in key e bytes = if_in e.over (Sets key e) (FedWhole moment key e bytes) (sets_in key e) (fed_whole_in key e bytes)
 
   feeds_at_in : (key : ℕ) (bytes : List ℕ) (o : Option Entry) → Within P (FeedsAt moment key bytes o)
   feeds_at_in key bytes None = nothing_in
-  feeds_at_in key bytes (Some e) = feeds_in key e bytes
+  feeds_at_in key bytes (Some e) = fed_in key e bytes
 
   feeds_one_in : (key : ℕ) (bytes : List ℕ) → Within P (FeedsOne moment key bytes)
   feeds_one_in key bytes l hs l' it = feeds_at_in key bytes (l.entries key) l hs l' it

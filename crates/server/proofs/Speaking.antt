@@ -17,14 +17,15 @@ use Rattle.dispatcher.specs.Notes.{Note, Planned, Canceled, DeviceRefused, Refus
 use Rattle.dispatcher.specs.Run.{reply_of, cancels_told, Handles}
 use Rattle.dispatcher.specs.Step.{TakesNoMemory}
 use Rattle.server.specs.Polls.{Happening, Polled, Told}
-use Rattle.server.specs.Ledger.{Entry, Ledger, with_entry, job_bytes}
+use Rattle.server.specs.Ledger.{Ledger, with_entry, job_bytes}
 use Rattle.server.specs.Rel.{Rel, Nothing, Tells, Then, If, Or, EachOf}
-use Rattle.server.specs.Keeping.{Sets, broken, BreaksAt, Breaks, Drops, DropsAt, DropsOne, owing, needs_memory, KeepsOpen, KeepsAt, KeepsWhere, Keeps, KeepsOn}
+use Rattle.server.specs.Keeping.{Sets, BreaksAt, Breaks, Drops, KeepsOpen, KeepsAt, KeepsWhere, Keeps, KeepsOn}
 use Rattle.server.specs.Happening.{Sends, SendsAll, Starts, StartsAll, Orders, Happens}
 use Rattle.server.specs.Turn.{has_refusal}
 use Rattle.server.specs.Law.{refusal_note, core_note, core_notes, IsWhole}
 use Rattle.server.proofs.Steps.{refusals_append, right_false}
 use Rattle.server.proofs.Happening.{refused_of}
+use Rattle.connections.specs.Entry.{Entry, broken, owing, needs_memory}
 
 -- ---- what is told
 
@@ -130,13 +131,6 @@ calm_sets key e l hs l' it = calm_by [] (with_entry key e l) l hs l' tt refl ref
 
 pub calm_drops : (place : Place) (key : ℕ) (e : Entry) → IsOther place (Some e.id) → Calmly (Drops place key e)
 calm_drops place key e other l hs l' it = calm_by (Told (Refused place (Some e.id)) ∷ []) (with_entry key (broken e) l) l hs l' (other, tt) refl refl it
-
-fed_at : (key : ℕ) (o : Option Entry) → Calmly (DropsAt At.Feed key o)
-fed_at key None = calm_nothing
-fed_at key (Some e) = calm_drops At.Feed key e refl
-
-pub calm_feed : (key : ℕ) → Calmly (DropsOne At.Feed key)
-calm_feed key l hs l' it = fed_at key (l.entries key) l hs l' it
 
 breaks_at : (key : ℕ) (o : Option Entry) → Calmly (BreaksAt key o)
 breaks_at key None = calm_nothing

@@ -19,8 +19,12 @@ use Rattle.requests.specs.Asked.{Asks}
 use Rattle.replies.specs.Reply.{refusal_bytes}
 use Rattle.dispatcher.specs.Notes.{Note, Planned, Canceled, DeviceRefused, Refused}
 use Rattle.server.specs.Polls.{Happening, Polled, Told}
-use Rattle.server.specs.Ledger.{Entry, Ledger, Fate, waiting}
-use Rattle.server.specs.Keeping.{Sets, owing, Keeps}
+use Rattle.connections.specs.declared.ask.Ask.{Ask}
+use Rattle.connections.specs.declared.ask.Ask.TheVariants as ask
+use Rattle.connections.specs.Entry.{Entry, waiting, owing}
+use Rattle.connections.specs.Asking.{Owes}
+use Rattle.server.specs.Ledger.{Ledger, Fate}
+use Rattle.server.specs.Keeping.{Sets, Keeps}
 use Rattle.server.specs.Closing.{IsTaken}
 use Rattle.server.specs.Turn.{Outcome as Answer, Replied, BadRequest, OutOfMemory, IsBytes, has_refusal, Deed, Turned, Served_body, Reported, Ticked, Trace}
 
@@ -129,8 +133,12 @@ AllTaken closed = All (λ (it : Entry × Fate). IsTaken it.1 it.0) closed
 
 -- ---- what needs no memory
 
--- where nothing waits on an open connection these bytes become due on it, and are never refused
+-- where nothing waits on an open connection the server's bytes become due on it, and are never refused
 abbrev pub AreKept : List ℕ → Type 0
 AreKept bytes =
     (key : ℕ) (e : Entry) (l : Ledger) (hs : List Happening) (l' : Ledger)
     → l.entries key ≡ Some e → e.broken ≡ false → waiting e ≡ [] → Keeps key bytes l hs l' → Sets key (owing bytes e) l hs l'
+
+-- neither are those that a connection owes by itself
+abbrev pub AreOwed : List ℕ → Type 0
+AreOwed bytes = (e : Entry) (what : Ask) (new : Entry) → waiting e ≡ [] → Owes bytes e what new → (what ≡ ask.Nothing) × (new ≡ owing bytes e)

@@ -4,14 +4,12 @@ pub mod Rel
 pub mod Keeping
 pub mod Happening
 pub mod Closing
-pub mod Exchange
-pub mod Devices
-pub mod Queues
-pub mod Granting
+pub mod Answering
+pub mod Greeting
+pub mod Acting
 pub mod Polling
 pub mod Turn
 pub mod Law
 pub mod State
-pub mod Newcomers
 pub mod Stands
 pub mod NoteLog

@@ -1,106 +1,182 @@
-//! What an IPP client's event is answered.
+//! What clients' events are answered.
 ghost use Rattle.std.specs.Prelude.{◌≡◌};
+ghost use Rattle.replies.specs.QueueText.{text_of};
 ghost use Rattle.server.specs.Polls.{alone};
-ghost use Rattle.server.specs.Exchange.{IsAnswered, Replies, RepliesWith, LosesReply, ipp_answer};
+ghost use Rattle.server.specs.Answering.{IsAnswered, Answers, Replies, RepliesWith, LosesReply, Drops, ipp_answer, Declines, Acknowledges, Responds, IsShown, IsTold, Shows};
 ghost use Rattle.server.specs.Stands.{Aside};
 
+use crate::acting::Asker;
 use crate::engine::Engine;
 use base_types::Moment;
 use connections::table::break_off;
+use connections::{Client, REFUSED};
 use dispatcher::{Listener, Place};
-use events::{Answer as Says, Event, IppAnswer, Reply, Status};
+use events::{Answer as Says, Event, IppAnswer, LpdAnswer, Reply, Status};
 use planners::Planner;
-use replies::ipp_reply;
-use wires::WireId;
-
-/// Who asks, and how the reply goes.
-#[derive(Clone, Copy, Debug)]
-pub(crate) struct Asker {
-    /// The connection's number.
-    pub id: WireId,
-    pub closes: bool,
-    pub request: u32,
-}
+use replies::{ipp_reply, lpd_ack, lpd_queue_text};
 
 impl<P: Planner + Drop> Engine<P> {
-    /// An event of the connection under a key, and its answer.
+    /// An event of a client, and its answer.
     pub(crate) fn happen<N: Listener>(
         &mut self,
         moment: Moment,
-        key: usize,
         asker: Asker,
+        client: Client,
         event: Event,
         notes: &mut N,
     )
-        ensures { Aside (alone N.told) (IsAnswered moment key asker.id asker.closes asker.request event) notes.old self.old notes.new self.new }
+        ensures { Aside (alone N.told) (IsAnswered moment asker.key asker.id client event) notes.old self.old notes.new self.new }
     {
         let query = event.is_query();
         let handled = self.handle(moment, event, notes);
-        self.reply(key, asker, query, handled.outcome.into_reply(), notes);
+        self.answer(asker, client, query, handled.outcome.into_reply(), notes);
     }
 
-    /// A reply becomes due, or that the event was dropped.
-    fn reply<N: Listener>(
+    /// The answer to a client's event becomes due, which may have been dropped, out of memory.
+    fn answer<N: Listener>(
         &mut self,
-        key: usize,
         asker: Asker,
+        client: Client,
         query: bool,
         reply: Option<Reply>,
         notes: &mut N,
     )
-        ensures { Aside (alone N.told) (Replies key asker.id asker.closes asker.request query reply) notes.old self.old notes.new self.new }
+        ensures { Aside (alone N.told) (Answers asker.key asker.id client query reply) notes.old self.old notes.new self.new }
+    {
+        match client {
+            Client::Ipp(request) => self.reply(asker, request, query, reply, notes),
+            Client::LpdJob => self.answer_job(asker, reply, notes),
+            Client::LpdCommand => self.answer_command(asker, reply, notes),
+        }
+    }
+}
+
+/// IPP clients.
+impl<P: Planner + Drop> Engine<P> {
+    /// A reply becomes due, or that the request was dropped.
+    fn reply<N: Listener>(
+        &mut self,
+        asker: Asker,
+        request: u32,
+        query: bool,
+        reply: Option<Reply>,
+        notes: &mut N,
+    )
+        ensures { Aside (alone N.told) (Replies asker.key asker.id request query reply) notes.old self.old notes.new self.new }
     {
         match reply {
-            Some(reply) => self.reply_with(key, asker, query, reply.answer, notes),
-            None => {
-                notes.refused(Place::Event, Some(asker.id));
-                self.keep_status(
-                    key,
-                    asker.closes,
-                    Status::TemporaryError,
-                    asker.request,
-                    notes,
-                );
-            }
+            Some(reply) => self.reply_with(asker, request, query, reply.answer, notes),
+            None => self.drop_request(asker, request, notes),
         }
     }
 
-    /// The bytes of an answer become due on the connection under a key, which has this number.
+    /// A request was dropped, out of memory, which it is answered.
+    pub(crate) fn drop_request<N: Listener>(&mut self, asker: Asker, request: u32, notes: &mut N)
+        ensures { Aside (alone N.told) (Drops asker.key asker.id request) notes.old self.old notes.new self.new }
+    {
+        notes.refused(Place::Event, Some(asker.id));
+        self.keep_status(asker.key, Status::TemporaryError, request, notes);
+    }
+
+    /// The bytes of an answer become due on the client's connection.
     fn reply_with<N: Listener>(
         &mut self,
-        key: usize,
         asker: Asker,
+        request: u32,
         query: bool,
         answer: Says,
         notes: &mut N,
     )
-        ensures { Aside (alone N.told) (RepliesWith key asker.id asker.closes asker.request query answer) notes.old self.old notes.new self.new }
+        ensures { Aside (alone N.told) (RepliesWith asker.key asker.id request query answer) notes.old self.old notes.new self.new }
     {
         let Some(answer) = ipp_answer(answer) else {
             return;
         };
-        match ipp_reply(self.alloc, answer, asker.request) {
-            Ok(bytes) => self.keep_reply(key, asker.closes, &bytes, notes),
-            Err(_) => self.lose_reply(key, asker, query, notes),
+        match ipp_reply(self.alloc, answer, request) {
+            Ok(bytes) => self.keep_reply(asker.key, &bytes, notes),
+            Err(_) => self.lose_reply(asker, request, query, notes),
         }
     }
 
     /// Memory for the bytes of an answer was refused: a query is answered so, after any other event the
     /// connection breaks.
-    fn lose_reply<N: Listener>(&mut self, key: usize, asker: Asker, query: bool, notes: &mut N)
-        ensures { Aside (alone N.told) (LosesReply key asker.id asker.closes asker.request query) notes.old self.old notes.new self.new }
+    fn lose_reply<N: Listener>(&mut self, asker: Asker, request: u32, query: bool, notes: &mut N)
+        ensures { Aside (alone N.told) (LosesReply asker.key asker.id request query) notes.old self.old notes.new self.new }
     {
         notes.refused(Place::Reply, Some(asker.id));
         if query {
-            self.keep_status(
-                key,
-                asker.closes,
-                Status::TemporaryError,
-                asker.request,
-                notes,
-            );
+            self.keep_status(asker.key, Status::TemporaryError, request, notes);
         } else {
-            break_off(&mut self.connections, key);
+            break_off(&mut self.connections, asker.key);
+        }
+    }
+}
+
+/// LPD clients.
+impl<P: Planner + Drop> Engine<P> {
+    /// The answer to a job becomes due, or that memory for it was refused.
+    fn answer_job<N: Listener>(&mut self, asker: Asker, reply: Option<Reply>, notes: &mut N)
+        ensures { Aside (alone N.told) (Acknowledges asker.key asker.id reply) notes.old self.old notes.new self.new }
+    {
+        match reply {
+            Some(reply) => self.tell_answer(asker, &reply.answer, notes),
+            None => self.decline(Place::Event, asker, notes),
+        }
+    }
+
+    /// Memory for a file or for its job was refused, and so is it.
+    pub(crate) fn decline<N: Listener>(&mut self, place: Place, asker: Asker, notes: &mut N)
+        ensures { Aside (alone N.told) (Declines place asker.key asker.id) notes.old self.old notes.new self.new }
+    {
+        notes.refused(place, Some(asker.id));
+        self.keep(asker.key, &[REFUSED], notes);
+    }
+
+    /// The answer to a command becomes due; where memory for it was refused the connection breaks.
+    fn answer_command<N: Listener>(&mut self, asker: Asker, reply: Option<Reply>, notes: &mut N)
+        ensures { Aside (alone N.told) (Responds asker.key asker.id reply) notes.old self.old notes.new self.new }
+    {
+        match reply {
+            Some(reply) => self.tell_answer(asker, &reply.answer, notes),
+            None => {
+                notes.refused(Place::Event, Some(asker.id));
+                break_off(&mut self.connections, asker.key);
+            }
+        }
+    }
+
+    /// The bytes of an answer to an LPD client become due, if it is one.
+    fn tell_answer<N: Listener>(&mut self, asker: Asker, answer: &Says, notes: &mut N)
+        ensures { Aside (alone N.told) (IsShown asker.key asker.id answer.now) notes.old self.old notes.new self.new }
+    {
+        match answer {
+            Says::Lpd(answer) => self.tell_client(asker, answer, notes),
+            Says::Ipp(_) => {}
+            Says::Nothing => {}
+        }
+    }
+
+    /// The bytes of an answer to an LPD client become due.
+    fn tell_client<N: Listener>(&mut self, asker: Asker, answer: &LpdAnswer, notes: &mut N)
+        ensures { Aside (alone N.told) (IsTold asker.key asker.id answer.now) notes.old self.old notes.new self.new }
+    {
+        match answer {
+            LpdAnswer::Taken(_) => self.keep(asker.key, &[lpd_ack(answer)], notes),
+            LpdAnswer::Queue(_) => self.show(asker, answer, notes),
+            LpdAnswer::NoQueue => self.show(asker, answer, notes),
+        }
+    }
+
+    /// The text of a queue becomes due; where memory for it is refused, the connection breaks.
+    fn show<N: Listener>(&mut self, asker: Asker, answer: &LpdAnswer, notes: &mut N)
+        ensures { Aside (alone N.told) (Shows asker.key asker.id (text_of answer.now)) notes.old self.old notes.new self.new }
+    {
+        match lpd_queue_text(self.alloc, answer) {
+            Ok(text) => self.keep(asker.key, &text, notes),
+            Err(_) => {
+                notes.refused(Place::Reply, Some(asker.id));
+                break_off(&mut self.connections, asker.key);
+            }
         }
     }
 }

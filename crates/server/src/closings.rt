@@ -6,9 +6,10 @@ ghost use Rattle.server.specs.Rel.{Then};
 ghost use Rattle.server.specs.Keeping.{Breaks};
 ghost use Rattle.server.specs.Closing.{Settles};
 ghost use Rattle.server.specs.Polling.{EndsOne};
-ghost use Rattle.connections.specs.Slots.{ConnectionState, IsFirstBroken, broken_at};
+ghost use Rattle.connections.specs.Slots.{IsFirstBroken, broken_at};
 ghost use Rattle.server.specs.State.{slot_at};
 ghost use Rattle.server.specs.Stands.{Does, Aside, Closed};
+ghost use Rattle.connections.specs.Connections.{ConnectionState};
 
 use crate::engine::Engine;
 use base_types::{Moment, Report};

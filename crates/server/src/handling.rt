@@ -95,8 +95,8 @@ impl<P: Planner + Drop> Engine<P> {
         let Some(key) = key_of(&self.connections, device) else {
             return false;
         };
-        let kept = keep_cancel(&mut self.connections, key, job);
-        tell(kept, notes)
+        let broke = keep_cancel(&mut self.connections, key, job);
+        tell(broke, notes)
     }
 }
 

@@ -6,8 +6,8 @@ ghost use Rattle.events.specs.declared.status.Status.{Status};
 ghost use Rattle.print_room.specs.State.{State};
 ghost use Rattle.server.specs.Ledger.{Ledger, opening_ledger};
 ghost use Rattle.outputs.specs.Reply.{refusal_head};
-ghost use Rattle.server.specs.Exchange.{http_status};
-ghost use Rattle.server.specs.Law.{IsOneRun, IsAtMostOne, AllTaken, AreKept};
+ghost use Rattle.connections.specs.Steps.{http_status};
+ghost use Rattle.server.specs.Law.{IsOneRun, IsAtMostOne, AllTaken, AreKept, AreOwed};
 ghost use Rattle.server.specs.Turn.{Deed, DoesDeed, Trace, Runs};
 
 /// What happens in a trace is one run of the core: the events of its deeds, in order and each at its
@@ -38,7 +38,9 @@ pub fn closed_were_given()
 /// that tells a client to go on; and one byte, which is all that most of LPD's answers are.
 pub fn last_words_are_kept()
     ensures status { (closes : Bool) (status : Status) (request : ℕ) → AreKept (http_status closes status request) }
-    ensures refusal { (refusal : Refusal) → AreKept (refusal_head refusal) }
-    ensures going_on { AreKept continue_head }
+    ensures own_status { (closes : Bool) (status : Status) (request : ℕ) → AreOwed (http_status closes status request) }
+    ensures refusal { (refusal : Refusal) → AreOwed (refusal_head refusal) }
+    ensures going_on { AreOwed continue_head }
     ensures byte { (byte : ℕ) → AreKept (byte ∷ []) }
+    ensures own_byte { (byte : ℕ) → AreOwed (byte ∷ []) }
 {}

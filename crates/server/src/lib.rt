@@ -7,18 +7,17 @@
 //! Tests stand in `server_tests`.
 #![tactic(auto)]
 
+mod acting;
 mod answering;
 mod between;
 mod closings;
-mod devices;
 mod due;
 mod engine;
+mod greeting;
 mod handling;
-mod items;
 mod law;
 mod note_log;
 mod polls;
-mod said;
 mod served;
 mod starting;
 mod ticks;

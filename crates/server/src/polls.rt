@@ -1,13 +1,12 @@
 //! The polls of one connection, and of a door.
 ghost use Rattle.server.specs.Polls.{both};
-ghost use Rattle.connections.specs.Hearing.{IsNewTalk};
-ghost use Rattle.server.specs.Polling.{AcceptsAt, AcceptsOne, Opens, Serves, FeedsOne, ReadsOne, WritesOne};
+ghost use Rattle.server.specs.Polling.{AcceptsAt, AcceptsOne, Opens, FeedsOne, ReadsOne, WritesOne};
 ghost use Rattle.server.specs.Stands.{Does};
 
 use crate::engine::Engine;
 use base_types::{Limits, Moment};
-use connections::Talk;
-use connections::table::{Fed, end, feed, insert, offer, to_read};
+use connections::Fed;
+use connections::table::{end, feed, insert, offer, to_read};
 use dispatcher::{Listener, Place};
 use outputs::Offered;
 use planners::Planner;
@@ -37,16 +36,15 @@ impl<P: Planner + Drop> Engine<P> {
         ensures { Does (both W.polled N.told) (AcceptsOne door) (wire.old, notes.old) self.old (wire.new, notes.new) self.new }
     {
         if let Answer::Done(id) = wire.poll_accept(door) {
-            let talk = Talk::new(self.alloc, door);
-            self.open(id, talk, wire, notes);
+            self.open(door, id, wire, notes);
         }
     }
 
     /// A connection has come.
-    fn open<W: Wire, N: Listener>(&mut self, id: WireId, talk: Talk, wire: &mut W, notes: &mut N)
-        ensures { (door : Door) → IsNewTalk door talk → Does (both W.polled N.told) (Opens door id) (wire.old, notes.old) self.old (wire.new, notes.new) self.new }
+    fn open<W: Wire, N: Listener>(&mut self, door: Door, id: WireId, wire: &mut W, notes: &mut N)
+        ensures { Does (both W.polled N.told) (Opens door id) (wire.old, notes.old) self.old (wire.new, notes.new) self.new }
     {
-        if insert(&mut self.connections, self.alloc, id, talk) {
+        if insert(&mut self.connections, self.alloc, id, door) {
             return;
         }
         notes.refused(Place::Accept, Some(id));
@@ -86,29 +84,16 @@ impl<P: Planner + Drop> Engine<P> {
     )
         ensures { Does (both W.polled N.told) (FeedsOne moment key piece.now) (wire.old, notes.old) self.old (wire.new, notes.new) self.new }
     {
-        match feed(&mut self.connections, key, piece) {
-            Fed::Absent => {}
+        let Some(fed) = feed(&mut self.connections, key, piece) else {
+            return;
+        };
+        match fed {
             Fed::Useless => {}
             Fed::Fed => self.serve(moment, key, wire, notes),
             Fed::Refused(id) => {
                 notes.refused(Place::Feed, Some(id));
                 self.settle(moment, wire, notes);
             }
-        }
-    }
-
-    /// Acts on each item of the connection under a key.
-    fn serve<W: Wire, N: Listener>(
-        &mut self,
-        moment: Moment,
-        key: usize,
-        wire: &mut W,
-        notes: &mut N,
-    )
-        ensures { Does (both W.polled N.told) (Serves moment key) (wire.old, notes.old) self.old (wire.new, notes.new) self.new }
-    {
-        while self.hear(moment, key, notes) {
-            self.settle(moment, wire, notes);
         }
     }
 

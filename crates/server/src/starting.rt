@@ -4,17 +4,18 @@ ghost use Rattle.server.specs.Polls.{alone};
 ghost use Rattle.server.specs.Ledger.{job_bytes};
 ghost use Rattle.server.specs.Rel.{EachOf};
 ghost use Rattle.server.specs.Happening.{Starts};
-ghost use Rattle.connections.specs.Slots.{KeepsAs};
+ghost use Rattle.connections.specs.Slots.{KeepsAt};
 ghost use Rattle.server.specs.State.{EngineState, with_slots};
 ghost use Rattle.server.specs.Stands.{Openly};
 
 use crate::due::tell;
 use base_types::JobId;
 use connections::Connection;
-use connections::table::{Kept, keep, keep_job, key_of};
+use connections::table::{keep, keep_job, key_of};
 use dispatcher::{Core, Listener, Started};
 use planners::Planner;
 use slab::Slab;
+use wires::WireId;
 
 /// The bytes of what began with the last plan become due, by device. Whether a growth was refused.
 pub(crate) fn start_all<P: Planner + Drop, N: Listener>(
@@ -44,8 +45,8 @@ fn start<P: Planner + Drop, N: Listener>(
     let Some(key) = key_of(connections, started.device) else {
         return false;
     };
-    let kept = keep_started(core, connections, key, started.job);
-    tell(kept, notes)
+    let broke = keep_started(core, connections, key, started.job);
+    tell(broke, notes)
 }
 
 /// The bytes of the job of an id become due on the connection under a key.
@@ -54,8 +55,8 @@ fn keep_started<P: Planner + Drop>(
     connections: &mut Slab<Connection>,
     key: usize,
     id: JobId,
-) -> Kept
-    ensures { KeepsAs (job_bytes core.now id) key result connections.old.slots connections.new.slots }
+) -> Option<WireId>
+    ensures { KeepsAt key (job_bytes core.now id) result connections.old.slots connections.new.slots }
 {
     let Some(job) = core.job(id) else {
         return keep(connections, key, &[]);

@@ -6,7 +6,7 @@ use Rattle.server.proofs.Happening.{tells, breaks}
 use Rattle.server.proofs.engine.Engine.show.Goals as goal
 
 pub returns-in-Ok : goal.returns-in-Ok
-returns-in-Ok g c = aside_as (alone g.N.Listener.told) _ _ _ _ _ _ (λ l hs l' fits fits' it. inl (subst (λ (bytes : List ℕ). Keeps c.args.key bytes l hs l') (c.deref.ensures.value ∙ c.in-Ok.ensures) it)) c.keep.ensures
+returns-in-Ok g c = aside_as (alone g.N.Listener.told) _ _ _ _ _ _ (λ l hs l' fits fits' it. inl (subst (λ (bytes : List ℕ). Keeps c.args.asker.key bytes l hs l') (c.deref.ensures.value ∙ c.in-Ok.ensures) it)) c.keep.ensures
 
 pub returns-in-Err : goal.returns-in-Err
 returns-in-Err g c =

@@ -1,0 +1,327 @@
+-- What readers say, as entries have it.
+use Rattle.std.proofs.Common.{◌≡◌, ℕ, Bool, true, false, List, [], ◌∷◌, ◌++◌, refl, sym, ◌∙◌, ap, subst, Option, Some, None, inl, inr, Ok, Err, ◌<◌, IsSome}
+use Rattle.std.specs.Prelude.{take}
+use Rattle.std.specs.Str.Lines.{strip_carriage_return}
+use Rattle.std.proofs.lemmas.List.{append-nil}
+use Rattle.text.specs.Parts.{words_of}
+use Rattle.base_types.specs.declared.report.Report.{Report}
+use Rattle.base_types.specs.declared.report.Report.TheVariants as reported
+use Rattle.base_types.specs.Report.{ReportRecord, SaysHello, SaysMedia, SaysReady, SaysStop, SaysBusy, SaysPages, SaysDone, SaysFail, IsGone, report_of}
+use Rattle.settings_file.specs.Settings.{ServerSettings}
+use Rattle.device_link.specs.Line.{in_turn, said}
+use Rattle.device_link.specs.declared.fault.LinkError.{LinkError}
+use Rattle.device_link.specs.declared.fault.LinkError.TheVariants as link
+use Rattle.device_link.specs.Stream.{LinkState}
+use Rattle.device_link.specs.Stream as Link
+use Rattle.http_front.specs.declared.item.HttpItem.{HttpItem}
+use Rattle.http_front.specs.declared.item.HttpItem.TheVariants as item
+use Rattle.http_front.specs.Stream.{HttpState, Said, said_by, Exchanges}
+use Rattle.http_front.specs.Stream as Http
+use Rattle.lpd_reader.specs.declared.fault.LpdError.{LpdError}
+use Rattle.lpd_reader.specs.declared.fault.LpdError.TheVariants as lpd
+use Rattle.lpd_reader.specs.declared.item.LpdItem.{LpdItem}
+use Rattle.lpd_reader.specs.Session.{ItemRecord, item_record}
+use Rattle.lpd_reader.specs.Stream.{LpdState, LpdItems, Open}
+use Rattle.lpd_reader.specs.Stream as Lpd
+use Rattle.requests.specs.Reader as Body
+use Rattle.connections.specs.declared.peer.Peer.{Peer}
+use Rattle.connections.specs.declared.peer.Peer.TheVariants as of
+use Rattle.connections.specs.declared.step.Step.{Step}
+use Rattle.connections.specs.declared.step.Step.TheVariants as step
+use Rattle.connections.specs.States.{IppClientState, LpdClientState, DeviceState}
+use Rattle.connections.specs.Session.{is_queue}
+use Rattle.connections.specs.Entry.{Talk, Entry, talking}
+use Rattle.connections.specs.Entry as entry
+use Rattle.connections.specs.Steps.{StepsDevice, StepsHello, place_of, step_of}
+use Rattle.connections.specs.Peers.{with_http, with_lpd, with_link, HearsIpp, HearsWholeItem, HearsWholeReport, NextIpp, NextLpd, NextDevice, NextPeer, IsFedPeer, link_step, Greets, ComesOf}
+use Rattle.connections.specs.Asking.{HearsIpp as NextItem, HearsItem, FindsFault, HearsReport, FindsLinkFault, Hears, IsHeardAs}
+use Rattle.connections.specs.Fits.{FitsIpp, FitsLpd, FitsDevice, FitsPeer}
+
+-- what the first fault of an LPD client's stream comes to, or the lack of memory for a line
+pub next_failed : (queues : List ℕ → Bool) (t u : LpdClientState) (error : LpdError) → Lpd.Answers t.reader (Err error) u.reader → u ≡ with_lpd u.reader t → NextLpd queues (Some (step_of error)) t u
+next_failed queues t u (lpd.Fault fault) answers is = inr (inl (fault, answers, refl, is))
+next_failed queues t u lpd.OutOfMemory answers is = inr (inr (answers, refl, is))
+
+-- what was taken off of its stream, if an item is whole
+pub item_heard : (queues : List ℕ → Bool) (t u : LpdClientState) (reader : LpdState) (it : Option LpdItem) (what : Option Step) → Lpd.Answers t.reader (Ok it) reader → (IsSome it → Lpd.work reader < Lpd.work t.reader) → HearsWholeItem queues it what (with_lpd reader t) u → NextLpd queues what t u
+item_heard queues t u reader None None answers falls hears =
+    let same : reader ≡ u.reader = sym (ap (λ (x : LpdClientState). x.reader) hears) in
+    (subst (λ (r : LpdState). Lpd.Answers t.reader (Ok None) r) same answers, hears ∙ ap (λ (r : LpdState). with_lpd r t) same)
+item_heard queues t u reader (Some it) (Some what) answers falls hears = inl (it, reader, answers, falls refl, hears)
+item_heard queues t u reader None (Some what) answers falls hears = absurd hears
+item_heard queues t u reader (Some it) None answers falls hears = absurd hears
+
+pub report_heard : (named : List ℕ → Option ℕ) (t u : DeviceState) (reader : LinkState) (it : Option Report) (what : Option Step) → Link.Answers t.reader (Ok it) reader → (IsSome it → Link.work reader < Link.work t.reader) → HearsWholeReport named it what (with_link reader t) u → NextDevice named what t u
+report_heard named t u reader None None answers falls hears =
+    let same : reader ≡ u.reader = sym (ap (λ (x : DeviceState). x.reader) hears) in
+    (subst (λ (r : LinkState). Link.Answers t.reader (Ok None) r) same answers, hears ∙ ap (λ (r : LinkState). with_link r t) same)
+report_heard named t u reader (Some it) (Some what) answers falls hears = inl (it, reader, answers, falls refl, hears)
+report_heard named t u reader None (Some what) answers falls hears = absurd hears
+report_heard named t u reader (Some it) None answers falls hears = absurd hears
+
+-- what the first fault of a device's stream comes to, or the lack of memory for a line
+pub report_failed : (named : List ℕ → Option ℕ) (t u : DeviceState) (error : LinkError) → Link.Answers t.reader (Err error) u.reader → u ≡ with_link u.reader t → NextDevice named (Some (link_step error t.device)) t u
+report_failed named t u (link.Fault fault) answers is = inr (inl (fault, answers, refl, is))
+report_failed named t u link.OutOfMemory answers is = inr (inr (answers, refl, is))
+
+-- the connection goes on after this step
+abbrev pub Goes : Step → Type 0
+Goes (step.Due due last) = Unit {0}
+Goes (step.Asks ask last) = Unit {0}
+Goes (step.Breaks ask) = ⊥
+
+-- what a broken connection's peer said counts no more
+pub broken_peer : (read : List ℕ) (talk : Talk) (off : Bool) (p : Peer) → FitsPeer read talk off p → FitsPeer read talk true p
+broken_peer read talk off (of.Ipp t) f = f
+broken_peer read talk off (of.Lpd t) f = f
+broken_peer read talk off (of.Device t) f = record { reports = f.reports; is = f.is; linked = λ no. let never : true ≡ false = no in cc }
+
+-- the next of a stream was acted on, and the entry says so
+pub record Heard (settings : ServerSettings) (e : Entry) (what : Step) (p : Peer) : Type 0 where
+  pub talk : Talk
+  pub hears : Hears settings e.talk e what (talking talk e)
+  pub broken : FitsPeer e.read talk true p
+  pub whole : Goes what → FitsPeer e.read talk false p
+
+-- ---- an IPP client
+
+fits_ipp : (read : List ℕ) (said : List Said) (closes : Bool) (body : List ℕ) (reader : HttpState) (u : IppClientState) → Http.Stands read said reader → u.reader ≡ reader → u.closes ≡ closes → Body.Heard body u.body → FitsIpp read (entry.Http said closes body) u
+fits_ipp read said closes body reader u stands same is heard = record {
+  said = said;
+  body = body;
+  is = ap (λ (x : Bool). entry.Http said x body) (sym is);
+  stands = subst (λ (r : HttpState). Http.Stands read said r) (sym same) stands;
+  heard = heard;
+}
+
+says_first : (read : List ℕ) (said : List Said) (reader : HttpState) → Http.Stands read said reader → Http.SaysFirst read said
+says_first read said reader stands = record { next = reader.awaited; left = stands.left; leads = stands.leads }
+
+-- an item comes to this
+abbrev Comes : Entry → List Said → Bool → List ℕ → Step → IppClientState → Type 0
+Comes e said closes body what u = (talk : Talk) × NextItem e said closes body what (talking talk e) × FitsIpp e.read talk u
+
+part_comes : (e : Entry) (said : List Said) (t u : IppClientState) (body : List ℕ) (reader : HttpState) (what : Step) → Http.Stands e.read (said ++ said_by item.BodyPart reader.part) reader → Body.Heard body t.body → HearsIpp item.BodyPart what (with_http reader t) u → Comes e said t.closes body what u
+part_comes e said t u body reader (step.Due due last) stands heard it = (
+  entry.Http (said ++ said_by item.BodyPart reader.part) t.closes (body ++ reader.part),
+  record { item = item.BodyPart; part = reader.part; next = says_first e.read (said ++ said_by item.BodyPart reader.part) reader stands; comes = inl it.0; after = refl },
+  fits_ipp e.read (said ++ said_by item.BodyPart reader.part) t.closes (body ++ reader.part) reader u stands (ap (λ (x : IppClientState). x.reader) it.1) (ap (λ (x : IppClientState). x.closes) it.1) (it.2 body heard),
+)
+part_comes e said t u body reader (step.Asks ask last) stands heard it = absurd it
+part_comes e said t u body reader (step.Breaks ask) stands heard it = (
+  entry.Http (said ++ said_by item.BodyPart reader.part) t.closes body,
+  record { item = item.BodyPart; part = reader.part; next = says_first e.read (said ++ said_by item.BodyPart reader.part) reader stands; comes = inr it.0; after = refl },
+  fits_ipp e.read (said ++ said_by item.BodyPart reader.part) t.closes body reader u stands (ap (λ (x : IppClientState). x.reader) it.1) (ap (λ (x : IppClientState). x.closes) it.1) (subst (λ (x : IppClientState). Body.Heard body x.body) (sym it.1) heard),
+)
+
+item_comes : (e : Entry) (said : List Said) (t u : IppClientState) (body : List ℕ) (reader : HttpState) (what : Step) (it : HttpItem) → Http.Stands e.read (said ++ said_by it reader.part) reader → Body.Heard body t.body → HearsIpp it what (with_http reader t) u → Comes e said t.closes body what u
+item_comes e said t u body reader what (item.Head closes) stands heard (is, same, begun) = (
+  entry.Http (said ++ said_by (item.Head closes) reader.part) closes [],
+  record { item = item.Head closes; part = reader.part; next = says_first e.read (said ++ said_by (item.Head closes) reader.part) reader stands; comes = is; after = refl },
+  fits_ipp e.read (said ++ said_by (item.Head closes) reader.part) closes [] reader u stands (ap (λ (x : IppClientState). x.reader) same) (ap (λ (x : IppClientState). x.closes) same) begun,
+)
+item_comes e said t u body reader what item.Continue stands heard (is, same) = (
+  entry.Http (said ++ said_by item.Continue reader.part) t.closes body,
+  record { item = item.Continue; part = reader.part; next = says_first e.read (said ++ said_by item.Continue reader.part) reader stands; comes = is; after = refl },
+  fits_ipp e.read (said ++ said_by item.Continue reader.part) t.closes body reader u stands (ap (λ (x : IppClientState). x.reader) same) (ap (λ (x : IppClientState). x.closes) same) (subst (λ (x : IppClientState). Body.Heard body x.body) (sym same) heard),
+)
+item_comes e said t u body reader what item.BodyPart stands heard it = part_comes e said t u body reader what stands heard it
+item_comes e said t u body reader what item.BodyEnd stands heard (same, begun, ends) = (
+  entry.Http (said ++ said_by item.BodyEnd reader.part) t.closes [],
+  record { item = item.BodyEnd; part = reader.part; next = says_first e.read (said ++ said_by item.BodyEnd reader.part) reader stands; comes = ends body heard; after = refl },
+  fits_ipp e.read (said ++ said_by item.BodyEnd reader.part) t.closes [] reader u stands (ap (λ (x : IppClientState). x.reader) same) (ap (λ (x : IppClientState). x.closes) same) begun,
+)
+item_comes e said t u body reader what (item.Refuse refusal) stands heard (is, same) = (
+  entry.Http (said ++ said_by (item.Refuse refusal) reader.part) t.closes body,
+  record { item = item.Refuse refusal; part = reader.part; next = says_first e.read (said ++ said_by (item.Refuse refusal) reader.part) reader stands; comes = is; after = refl },
+  fits_ipp e.read (said ++ said_by (item.Refuse refusal) reader.part) t.closes body reader u stands (ap (λ (x : IppClientState). x.reader) same) (ap (λ (x : IppClientState). x.closes) same) (subst (λ (x : IppClientState). Body.Heard body x.body) (sym same) heard),
+)
+
+heard_ipp : (settings : ServerSettings) (e : Entry) (t u : IppClientState) (what : Step) → FitsIpp e.read e.talk t → NextIpp (Some what) t u → Heard settings e what (of.Ipp u)
+heard_ipp settings e t u what f (it, reader, answers, falls, hears) =
+    let c = item_comes e f.said t u f.body reader what it (answers.0 e.read f.said f.stands) f.heard hears in
+    record { talk = c.0; hears = subst (λ (k : Talk). Hears settings k e what (talking c.0 e)) (sym f.is) c.1; broken = c.2; whole = λ goes. c.2 }
+
+-- ---- an LPD client
+
+heard_lpd : (settings : ServerSettings) (e : Entry) (t u : LpdClientState) (what : Step) → FitsLpd e.read e.talk t → NextLpd (is_queue settings) (Some what) t u → Heard settings e what (of.Lpd u)
+heard_lpd settings e t u what f (inl (it, reader, answers, falls, (same, comes))) =
+    let items : List ItemRecord = f.items ++ item_record it reader.file ∷ [] in
+    let stands : Lpd.Stands e.read items reader = answers e.read f.items f.stands in
+    let fits : FitsLpd e.read (entry.Queue (f.items ++ item_record it reader.file ∷ []) u.session) u = record { items = f.items ++ item_record it reader.file ∷ []; is = refl; stands = subst (λ (r : LpdState). Lpd.Stands e.read (f.items ++ item_record it reader.file ∷ []) r) (sym same) stands } in
+    let next : HearsItem (is_queue settings) e f.items t.session what (talking (entry.Queue (f.items ++ item_record it reader.file ∷ []) u.session) e) = record {
+      said = item_record it reader.file;
+      session_after = u.session;
+      next = record { next = reader.awaited; left = stands.left; leads = stands.leads };
+      comes = comes;
+      after = refl;
+    } in
+    record { talk = entry.Queue (f.items ++ item_record it reader.file ∷ []) u.session; hears = subst (λ (k : Talk). Hears settings k e what (talking (entry.Queue (f.items ++ item_record it reader.file ∷ []) u.session) e)) (sym f.is) (inl next); broken = fits; whole = λ goes. fits }
+heard_lpd settings e t u what f (inr (inl (fault, answers, comes, is))) =
+    let found = answers.1 e.read f.items f.stands in
+    let fits : FitsLpd e.read e.talk u = record { items = f.items; is = f.is ∙ sym (ap (λ (x : LpdClientState). entry.Queue f.items x.session) is); stands = found.1 } in
+    let next : FindsFault e f.items what (talking e.talk e) = record { fault = fault; is = found.0; comes = comes; after = refl } in
+    record { talk = e.talk; hears = subst (λ (k : Talk). Hears settings k e what (talking e.talk e)) (sym f.is) (inr (inl next)); broken = fits; whole = λ goes. fits }
+heard_lpd settings e t u what f (inr (inr (answers, comes, is))) =
+    let fits : FitsLpd e.read e.talk u = record { items = f.items; is = f.is ∙ sym (ap (λ (x : LpdClientState). entry.Queue f.items x.session) is); stands = subst (λ (r : LpdState). Lpd.Stands e.read f.items r) (sym answers.0) f.stands } in
+    record { talk = e.talk; hears = subst (λ (k : Talk). Hears settings k e what (talking e.talk e)) (sym f.is) (inr (inr (comes, refl))); broken = fits; whole = λ goes. fits }
+
+-- ---- a device
+
+abbrev IsHello : ReportRecord → Type 0
+IsHello (SaysHello name) = Unit {0}
+IsHello _ = ⊥
+
+first_is_hello : (o : Option ReportRecord) (r : ReportRecord) → in_turn false o ≡ Some r → IsHello r
+first_is_hello None r is = cc
+first_is_hello (Some (SaysHello name)) r is = let same : SaysHello name ≡ r = cc in subst IsHello same tt
+first_is_hello (Some (SaysMedia names)) r is = cc
+first_is_hello (Some SaysReady) r is = cc
+first_is_hello (Some SaysStop) r is = cc
+first_is_hello (Some (SaysBusy time)) r is = cc
+first_is_hello (Some (SaysPages job printed)) r is = cc
+first_is_hello (Some (SaysDone job)) r is = cc
+first_is_hello (Some (SaysFail job)) r is = cc
+first_is_hello (Some IsGone) r is = cc
+
+hello_first : (read : List ℕ) (r : ReportRecord) (reader : LinkState) → Link.Stands read (r ∷ []) reader → IsHello r
+hello_first read r reader stands =
+    let front = stands.leads.1 in
+    first_is_hello (said (words_of (strip_carriage_return (take front.count read)))) r front.says
+
+-- what a report comes to, and what the device is then: it has said its name, unless the connection breaks
+record Comes_of (named : List ℕ → Option ℕ) (device : Option ℕ) (it : ReportRecord) (what : Step) (after : Option ℕ) : Type 0 where
+  pub steps : StepsDevice named device it what after
+  pub goes : Goes what → after ≡ None → ⊥
+
+greets_hello : (name : List ℕ) (o : Option ℕ) (what : Step) (after : Option ℕ) → StepsHello name o what after → Goes what → after ≡ None → ⊥
+greets_hello name None what after (is, none) goes gone = subst Goes is goes
+greets_hello name (Some device) what after (is, some) goes gone = let never : Some device ≡ None = sym some ∙ gone in cc
+
+first_comes : (named : List ℕ → Option ℕ) (it : Report) (what : Step) (after : Option ℕ) → IsHello (report_of it) → Greets named it what after → Comes_of named None (report_of it) what after
+first_comes named (reported.Hello name) what after hello greets = record { steps = greets; goes = greets_hello name (named name) what after greets }
+first_comes named (reported.Media names) what after hello greets = absurd hello
+first_comes named reported.Ready what after hello greets = absurd hello
+first_comes named reported.Stop what after hello greets = absurd hello
+first_comes named (reported.Busy time) what after hello greets = absurd hello
+first_comes named (reported.Pages job printed) what after hello greets = absurd hello
+first_comes named (reported.Done job) what after hello greets = absurd hello
+first_comes named (reported.Fail job) what after hello greets = absurd hello
+first_comes named reported.Gone what after hello greets = absurd hello
+
+report_comes : (named : List ℕ → Option ℕ) (read : List ℕ) (given : List ReportRecord) (device : Option ℕ) (it : Report) (reader : LinkState) (what : Step) (after : Option ℕ) → (device ≡ None → given ≡ []) → Link.Stands read (given ++ report_of it ∷ []) reader → ComesOf named device it what after → Comes_of named device (report_of it) what after
+report_comes named read given None it reader what after unnamed stands comes =
+    let only : Link.Stands read (report_of it ∷ []) reader = subst (λ (rs : List ReportRecord). Link.Stands read (rs ++ report_of it ∷ []) reader) (unnamed refl) stands in
+    first_comes named it what after (hello_first read (report_of it) reader only) comes
+report_comes named read given (Some device) it reader what after unnamed stands (is, some) = record {
+  steps = ((it, refl, is), some);
+  goes = λ goes no. let never : Some device ≡ None = sym some ∙ no in cc;
+}
+
+off_device : (read : List ℕ) (reports : List ReportRecord) (u : DeviceState) → FitsDevice read (entry.Link reports u.device) true u
+off_device read reports u = record { reports = reports; is = refl; linked = λ no. let never : true ≡ false = no in cc }
+
+heard_device : (settings : ServerSettings) (e : Entry) (t u : DeviceState) (what : Step) → FitsDevice e.read e.talk false t → NextDevice (place_of settings) (Some what) t u → Heard settings e what (of.Device u)
+heard_device settings e t u what f (inl (it, reader, answers, falls, (same, comes))) =
+    let linked = f.linked refl in
+    let stands : Link.Stands e.read (f.reports ++ report_of it ∷ []) reader = answers e.read f.reports linked.stands in
+    let c = report_comes (place_of settings) e.read f.reports t.device it reader what u.device linked.unnamed stands comes in
+    let next : HearsReport (place_of settings) e f.reports t.device what (talking (entry.Link (f.reports ++ report_of it ∷ []) u.device) e) = record {
+      said = report_of it;
+      device_after = u.device;
+      next = record { next = reader.greeted; left = stands.left; leads = stands.leads };
+      comes = c.steps;
+      after = refl;
+    } in
+    record {
+      talk = entry.Link (f.reports ++ report_of it ∷ []) u.device;
+      hears = subst (λ (k : Talk). Hears settings k e what (talking (entry.Link (f.reports ++ report_of it ∷ []) u.device) e)) (sym f.is) (inl next);
+      broken = off_device e.read (f.reports ++ report_of it ∷ []) u;
+      whole = λ goes. record {
+        reports = f.reports ++ report_of it ∷ [];
+        is = refl;
+        linked = λ on. record { stands = subst (λ (r : LinkState). Link.Stands e.read (f.reports ++ report_of it ∷ []) r) (sym same) stands; unnamed = λ none. absurd (c.goes goes none) };
+      };
+    }
+heard_device settings e t u what f (inr (inl (fault, answers, comes, is))) =
+    let found = answers.1 e.read f.reports (f.linked refl).stands in
+    let talk : e.talk ≡ entry.Link f.reports u.device = f.is ∙ sym (ap (λ (x : DeviceState). entry.Link f.reports x.device) is) in
+    let next : FindsLinkFault e f.reports t.device what (talking e.talk e) = record { fault = fault; is = found.0; comes = comes; after = refl } in
+    record {
+      talk = e.talk;
+      hears = subst (λ (k : Talk). Hears settings k e what (talking e.talk e)) (sym f.is) (inr (inl next));
+      broken = record { reports = f.reports; is = talk; linked = λ no. let never : true ≡ false = no in cc };
+      whole = λ goes. absurd (subst Goes comes goes);
+    }
+heard_device settings e t u what f (inr (inr (answers, comes, is))) =
+    let talk : e.talk ≡ entry.Link f.reports u.device = f.is ∙ sym (ap (λ (x : DeviceState). entry.Link f.reports x.device) is) in
+    record {
+      talk = e.talk;
+      hears = subst (λ (k : Talk). Hears settings k e what (talking e.talk e)) (sym f.is) (inr (inr (comes, refl)));
+      broken = record { reports = f.reports; is = talk; linked = λ no. let never : true ≡ false = no in cc };
+      whole = λ goes. absurd (subst Goes comes goes);
+    }
+
+-- ---- any of them
+
+pub heard : (settings : ServerSettings) (e : Entry) (x y : Peer) (what : Step) → FitsPeer e.read e.talk false x → NextPeer settings (Some what) x y → Heard settings e what y
+heard settings e (of.Ipp t) (of.Ipp u) what f next = heard_ipp settings e t u what f next
+heard settings e (of.Lpd t) (of.Lpd u) what f next = heard_lpd settings e t u what f next
+heard settings e (of.Device t) (of.Device u) what f next = heard_device settings e t u what f next
+heard settings e (of.Ipp t) (of.Lpd u) what f next = absurd next
+heard settings e (of.Ipp t) (of.Device u) what f next = absurd next
+heard settings e (of.Lpd t) (of.Ipp u) what f next = absurd next
+heard settings e (of.Lpd t) (of.Device u) what f next = absurd next
+heard settings e (of.Device t) (of.Ipp u) what f next = absurd next
+heard settings e (of.Device t) (of.Lpd u) what f next = absurd next
+
+-- nothing whole is left
+pub rested : (settings : ServerSettings) (read : List ℕ) (talk : Talk) (x y : Peer) → FitsPeer read talk false x → NextPeer settings None x y → IsHeardAs read talk × FitsPeer read talk false y
+rested settings read talk (of.Ipp t) (of.Ipp u) f (answers, is) =
+    let all : Exchanges read f.said = answers.1 read f.said f.stands in
+    let stands : Http.Stands read f.said u.reader = subst (λ (xs : List Said). Http.Stands read xs u.reader) (append-nil f.said) (answers.0 read f.said f.stands) in
+    let same : entry.Http f.said t.closes f.body ≡ entry.Http f.said u.closes f.body = sym (ap (λ (v : IppClientState). entry.Http f.said v.closes f.body) is) in
+    (subst (λ (k : Talk). IsHeardAs read k) (sym f.is) all, record { said = f.said; body = f.body; is = f.is ∙ same; stands = stands; heard = subst (λ (v : IppClientState). Body.Heard f.body v.body) (sym is) f.heard })
+rested settings read talk (of.Lpd t) (of.Lpd u) f (answers, is) =
+    let all : LpdItems read f.items Open = answers.1 read f.items f.stands in
+    let same : entry.Queue f.items t.session ≡ entry.Queue f.items u.session = sym (ap (λ (v : LpdClientState). entry.Queue f.items v.session) is) in
+    (subst (λ (k : Talk). IsHeardAs read k) (sym f.is) all, record { items = f.items; is = f.is ∙ same; stands = subst (λ (r : LpdState). Lpd.Stands read f.items r) (sym answers.0) f.stands })
+rested settings read talk (of.Device t) (of.Device u) f (answers, is) =
+    let linked = f.linked refl in
+    let all = answers.1 read f.reports linked.stands in
+    let same : entry.Link f.reports t.device ≡ entry.Link f.reports u.device = sym (ap (λ (v : DeviceState). entry.Link f.reports v.device) is) in (
+      subst (λ (k : Talk). IsHeardAs read k) (sym f.is) all,
+      record {
+        reports = f.reports;
+        is = f.is ∙ same;
+        linked = λ whole. record { stands = subst (λ (r : LinkState). Link.Stands read f.reports r) (sym answers.0) linked.stands; unnamed = λ none. linked.unnamed (sym (ap (λ (v : DeviceState). v.device) is) ∙ none) };
+      },
+    )
+rested settings read talk (of.Ipp t) (of.Lpd u) f it = absurd it
+rested settings read talk (of.Ipp t) (of.Device u) f it = absurd it
+rested settings read talk (of.Lpd t) (of.Ipp u) f it = absurd it
+rested settings read talk (of.Lpd t) (of.Device u) f it = absurd it
+rested settings read talk (of.Device t) (of.Ipp u) f it = absurd it
+rested settings read talk (of.Device t) (of.Lpd u) f it = absurd it
+
+-- a piece was fed
+pub fed_peer : (read piece : List ℕ) (talk : Talk) (off : Bool) (x y : Peer) → FitsPeer read talk off x → IsFedPeer piece x y → FitsPeer (read ++ piece) talk off y
+fed_peer read piece talk off (of.Ipp t) (of.Ipp u) f (is, stands) =
+    let same : entry.Http f.said t.closes f.body ≡ entry.Http f.said u.closes f.body = sym (ap (λ (v : IppClientState). entry.Http f.said v.closes f.body) is) in
+    record { said = f.said; body = f.body; is = f.is ∙ same; stands = stands read f.said f.stands; heard = subst (λ (v : IppClientState). Body.Heard f.body v.body) (sym is) f.heard }
+fed_peer read piece talk off (of.Lpd t) (of.Lpd u) f (is, stands) =
+    let same : entry.Queue f.items t.session ≡ entry.Queue f.items u.session = sym (ap (λ (v : LpdClientState). entry.Queue f.items v.session) is) in
+    record { items = f.items; is = f.is ∙ same; stands = stands read f.items f.stands }
+fed_peer read piece talk off (of.Device t) (of.Device u) f (is, stands) =
+    let same : entry.Link f.reports t.device ≡ entry.Link f.reports u.device = sym (ap (λ (v : DeviceState). entry.Link f.reports v.device) is) in
+    record {
+      reports = f.reports;
+      is = f.is ∙ same;
+      linked = λ whole. record { stands = stands read f.reports (f.linked whole).stands; unnamed = λ none. (f.linked whole).unnamed (sym (ap (λ (v : DeviceState). v.device) is) ∙ none) };
+    }
+fed_peer read piece talk off (of.Ipp t) (of.Lpd u) f it = absurd it
+fed_peer read piece talk off (of.Ipp t) (of.Device u) f it = absurd it
+fed_peer read piece talk off (of.Lpd t) (of.Ipp u) f it = absurd it
+fed_peer read piece talk off (of.Lpd t) (of.Device u) f it = absurd it
+fed_peer read piece talk off (of.Device t) (of.Ipp u) f it = absurd it
+fed_peer read piece talk off (of.Device t) (of.Lpd u) f it = absurd it

@@ -1,0 +1,121 @@
+-- What a connection asks next, by all that it has read and what of that was acted on.
+use Rattle.std.specs.Prelude.{ℕ, ◌≡◌, ◌⊎◌, ◌||◌, Bool, true, false, List, [], ◌∷◌, ◌++◌, Option, Some, None}
+use Rattle.base_types.specs.Report.{ReportRecord}
+use Rattle.settings_file.specs.Settings.{ServerSettings}
+use Rattle.http_front.specs.Stream.{Said, said_by, Exchanges}
+use Rattle.http_front.specs.Stream as Http
+use Rattle.http_front.specs.declared.item.HttpItem.{HttpItem}
+use Rattle.lpd_reader.specs.declared.fault.LpdFault.{LpdFault}
+use Rattle.lpd_reader.specs.Session.{ItemRecord}
+use Rattle.lpd_reader.specs.Stream.{LpdItems, Open, Faulty}
+use Rattle.lpd_reader.specs.Stream as Lpd
+use Rattle.lpd_session.specs.Session.{SessionState}
+use Rattle.device_link.specs.declared.fault.LinkFault.{LinkFault}
+use Rattle.device_link.specs.Stream.{device_reports, Unfinished}
+use Rattle.device_link.specs.Stream as Link
+use Rattle.connections.specs.declared.connection.Fed.{Fed}
+use Rattle.connections.specs.declared.connection.Fed.TheVariants as fed
+use Rattle.connections.specs.declared.ask.Ask.{Ask}
+use Rattle.connections.specs.declared.ask.Ask.TheVariants as ask
+use Rattle.connections.specs.declared.ask.Growth.TheVariants as growth
+use Rattle.connections.specs.declared.step.Step.{Step}
+use Rattle.connections.specs.declared.step.Step.TheVariants as step
+use Rattle.connections.specs.Session.{is_queue}
+use Rattle.connections.specs.Entry.{Talk, Http as OfIpp, Queue as OfLpd, Link as OfDevice, Entry, talking, reading, finishing, broken, owing, needs_memory}
+use Rattle.connections.specs.Steps.{StepsIpp, closes_after, body_after, StepsLpd, StepsDevice, refused, faulty, no_memory, place_of, due_bytes}
+
+-- ---- the next of a stream, after what was acted on
+
+-- the next item of an IPP client
+pub record HearsIpp (e : Entry) (said : List Said) (closes : Bool) (body : List ℕ) (what : Step) (mid : Entry) : Type 0 where
+  pub item : HttpItem
+  pub part : List ℕ
+  pub next : Http.SaysFirst e.read (said ++ said_by item part)
+  pub comes : StepsIpp item closes body what
+  pub after : mid ≡ talking (OfIpp (said ++ said_by item part) (closes_after item closes) (body_after item what part body)) e
+
+-- the next item of an LPD client
+pub record HearsItem (queues : List ℕ → Bool) (e : Entry) (items : List ItemRecord) (session : Option SessionState) (what : Step) (mid : Entry) : Type 0 where
+  pub said : ItemRecord
+  pub session_after : Option SessionState
+  pub next : Lpd.SaysFirst e.read (items ++ said ∷ [])
+  pub comes : StepsLpd queues session said what session_after
+  pub after : mid ≡ talking (OfLpd (items ++ said ∷ []) session_after) e
+
+-- a fault of its stream
+pub record FindsFault (e : Entry) (items : List ItemRecord) (what : Step) (mid : Entry) : Type 0 where
+  pub fault : LpdFault
+  pub is : LpdItems e.read items (Faulty fault)
+  pub comes : what ≡ refused
+  pub after : mid ≡ e
+
+-- memory to read a line is refused, so that it isn't known what it says
+abbrev pub LosesLine : Entry → Step → Entry → Type 0
+LosesLine e what mid = (what ≡ no_memory) × (mid ≡ e)
+
+-- the next report of a device
+pub record HearsReport (named : List ℕ → Option ℕ) (e : Entry) (reports : List ReportRecord) (device : Option ℕ) (what : Step) (mid : Entry) : Type 0 where
+  pub said : ReportRecord
+  pub device_after : Option ℕ
+  pub next : Link.SaysFirst e.read (reports ++ said ∷ [])
+  pub comes : StepsDevice named device said what device_after
+  pub after : mid ≡ talking (OfDevice (reports ++ said ∷ []) device_after) e
+
+-- a fault in what a device says
+pub record FindsLinkFault (e : Entry) (reports : List ReportRecord) (device : Option ℕ) (what : Step) (mid : Entry) : Type 0 where
+  pub fault : LinkFault
+  pub is : device_reports e.read ≡ record { reports = reports; ending = Link.Faulty fault }
+  pub comes : what ≡ faulty device
+  pub after : mid ≡ e
+
+-- the next of a stream comes to this, and is acted on
+abbrev pub Hears : ServerSettings → Talk → Entry → Step → Entry → Type 0
+Hears settings (OfIpp said closes body) e what mid = HearsIpp e said closes body what mid
+Hears settings (OfLpd items session) e what mid = HearsItem (is_queue settings) e items session what mid ⊎ (FindsFault e items what mid ⊎ LosesLine e what mid)
+Hears settings (OfDevice reports device) e what mid = HearsReport (place_of settings) e reports device what mid ⊎ (FindsLinkFault e reports device what mid ⊎ LosesLine e what mid)
+
+-- ---- what comes of it
+
+-- bytes become due; memory for them may be refused where they need some
+abbrev pub Owes : List ℕ → Entry → Ask → Entry → Type 0
+Owes bytes e what new =
+    ((what ≡ ask.Nothing) × (new ≡ owing bytes e))
+    ⊎ ((what ≡ ask.Broke growth.Output) × (needs_memory bytes e ≡ true) × (new ≡ broken e))
+
+abbrev pub StepsTo : Step → Entry → Ask → Entry → Type 0
+StepsTo (step.Due due last) e what new = Owes (due_bytes due) (finishing last e) what new
+StepsTo (step.Asks asked last) e what new = (what ≡ asked) × (new ≡ finishing last e)
+StepsTo (step.Breaks asked) e what new = (what ≡ asked) × (new ≡ broken e)
+
+-- ---- all of it
+
+-- what was acted on is all that was read
+abbrev pub IsHeardAs : List ℕ → Talk → Type 0
+IsHeardAs read (OfIpp said closes body) = Exchanges read said
+IsHeardAs read (OfLpd items session) = LpdItems read items Open
+IsHeardAs read (OfDevice reports device) = device_reports read ≡ record { reports = reports; ending = Unfinished }
+
+-- or nothing of it counts any more
+abbrev pub IsHeard : Entry → Type 0
+IsHeard e = ((e.over || e.broken) ≡ true) ⊎ IsHeardAs e.read e.talk
+
+-- a connection that counts asks this
+pub record AsksNext (settings : ServerSettings) (what : Ask) (e new : Entry) : Type 0 where
+  pub counts : (e.over || e.broken) ≡ false
+  pub comes : Step
+  pub mid : Entry
+  pub hears : Hears settings e.talk e comes mid
+  pub steps : StepsTo comes mid what new
+
+-- it asks this, or has nothing to ask
+abbrev pub Asking : ServerSettings → Option Ask → Entry → Entry → Type 0
+Asking settings None e new = IsHeard e × (new ≡ e)
+Asking settings (Some what) e new = AsksNext settings what e new
+
+-- ---- what comes of its peer
+
+-- a piece counts whole, or nothing counts any more, or memory for it is refused
+abbrev pub Feeds : List ℕ → Fed → Entry → Entry → Type 0
+Feeds piece fed.Useless e new = (e.over ≡ true) × (new ≡ e)
+Feeds piece fed.Fed e new = (e.over ≡ false) × (new ≡ reading piece e)
+Feeds piece (fed.Refused id) e new = (e.over ≡ false) × (id ≡ e.id) × (new ≡ broken e)

@@ -1,0 +1,96 @@
+-- A connection since it was accepted, as whole lists: all that was read, what of it was acted on, all that was due and all that was taken. Nothing of this is stored.
+use Rattle.std.specs.Prelude.{ℕ, nat_lt, Bool, true, false, List, [], ◌++◌, length, drop, Option, None}
+use Rattle.base_types.specs.Report.{ReportRecord}
+use Rattle.http_front.specs.Stream.{Said}
+use Rattle.lpd_reader.specs.Session.{ItemRecord}
+use Rattle.lpd_session.specs.Session.{SessionState}
+use Rattle.outputs.specs.declared.output.TheConstants.{RESERVED_BYTES}
+use Rattle.wires.specs.declared.wire.Door.{Door}
+use Rattle.wires.specs.declared.wire.Door.TheVariants.{Ipp, Lpd, Devices}
+
+-- what of a connection's bytes was acted on, and what is kept of it
+pub data Talk : Type 0 where
+  -- whether the connection closes after the reply to the request that is coming, and its body so far
+  Http : (said : List Said) (closes : Bool) (body : List ℕ) → Talk
+  -- the files of a queue, once they are received
+  Queue : (items : List ItemRecord) (session : Option SessionState) → Talk
+  -- the device that said its name
+  Link : (reports : List ReportRecord) (device : Option ℕ) → Talk
+
+abbrev pub opening_talk : Door → Talk
+opening_talk Ipp = Http [] false []
+opening_talk Lpd = Queue [] None
+opening_talk Devices = Link [] None
+
+abbrev pub device_of : Talk → Option ℕ
+device_of (Http said closes body) = None
+device_of (Queue items session) = None
+device_of (Link reports device) = device
+
+-- whether the connection closes after the reply to the request that came last
+abbrev pub closes_of : Talk → Bool
+closes_of (Http said closes body) = closes
+closes_of (Queue items session) = false
+closes_of (Link reports device) = false
+
+-- a connection since it was accepted
+pub record Entry : Type 0 where
+  -- the wire's number
+  pub id : ℕ
+  -- all that was read while it counted
+  pub read : List ℕ
+  pub talk : Talk
+  -- its input has ended
+  pub ended : Bool
+  -- nothing counts that is read from now on; it closes once all that is due was taken
+  pub over : Bool
+  -- it is to be closed as by a fault: nothing becomes due on it any more
+  pub broken : Bool
+  pub taken : List ℕ
+  pub due : List ℕ
+
+abbrev pub opening_entry : Door → ℕ → Entry
+opening_entry door id = record { id = id; read = []; talk = opening_talk door; ended = false; over = false; broken = false; taken = []; due = [] }
+
+-- what waits to be taken
+abbrev pub waiting : Entry → List ℕ
+waiting e = drop (length e.taken) e.due
+
+-- ---- changes
+
+-- this was acted on
+abbrev pub talking : Talk → Entry → Entry
+talking talk e = record e { talk = talk }
+
+-- a piece was read
+abbrev pub reading : List ℕ → Entry → Entry
+reading piece e = record e { read = e.read ++ piece }
+
+-- its input has ended
+abbrev pub ending : Entry → Entry
+ending e = record e { ended = true }
+
+-- whether nothing counts that is read from now on
+abbrev pub finishing : Bool → Entry → Entry
+finishing last e = record e { over = last }
+
+-- nothing becomes due on it from now on, and it is to be closed as by a fault
+abbrev pub broken : Entry → Entry
+broken e = record e { broken = true }
+
+-- these bytes are due on it too
+abbrev pub owing : List ℕ → Entry → Entry
+owing bytes e = record e { due = e.due ++ bytes }
+
+abbrev pub unnamed : Talk → Talk
+unnamed (Http said closes body) = Http said closes body
+unnamed (Queue items session) = Queue items session
+unnamed (Link reports device) = Link reports None
+
+-- the device that said its name there has another connection: this one is to be closed as by a fault
+abbrev pub given_up : Entry → Entry
+given_up e = record e { talk = unnamed e.talk; broken = true }
+
+-- with what waits these bytes are more than a connection reserves when it is accepted
+abbrev pub needs_memory : List ℕ → Entry → Bool
+needs_memory bytes e = nat_lt RESERVED_BYTES (length (waiting e ++ bytes))

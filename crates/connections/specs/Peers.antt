@@ -1,0 +1,196 @@
+-- What becomes of a peer, as its reader tells.
+use Rattle.std.specs.Prelude.{ℕ, ◌≡◌, ◌⊎◌, ◌<◌, ◌++◌, Bool, true, false, List, [], Option, Some, None, Ok, Err}
+use Rattle.base_types.specs.declared.report.Report.{Report}
+use Rattle.base_types.specs.declared.report.Report.TheVariants as report
+use Rattle.base_types.specs.Report.{ReportRecord}
+use Rattle.settings_file.specs.Settings.{ServerSettings}
+use Rattle.device_link.specs.declared.fault.LinkFault.{LinkFault}
+use Rattle.device_link.specs.declared.fault.LinkError.{LinkError}
+use Rattle.device_link.specs.declared.fault.LinkError.TheVariants as link
+use Rattle.device_link.specs.Stream.{LinkState}
+use Rattle.device_link.specs.Stream as Link
+use Rattle.lpd_reader.specs.declared.fault.LpdFault.{LpdFault}
+use Rattle.lpd_reader.specs.declared.fault.LpdError.TheVariants as lpd
+use Rattle.lpd_reader.specs.declared.item.LpdItem.{LpdItem}
+use Rattle.lpd_reader.specs.Session.{ItemRecord, item_record}
+use Rattle.lpd_reader.specs.Stream.{LpdState}
+use Rattle.lpd_reader.specs.Stream as Lpd
+use Rattle.http_front.specs.declared.item.HttpItem.{HttpItem}
+use Rattle.http_front.specs.declared.item.HttpItem.TheVariants as item
+use Rattle.http_front.specs.Stream.{HttpState, Said}
+use Rattle.http_front.specs.Stream as Http
+use Rattle.requests.specs.Reader.{ReaderState}
+use Rattle.requests.specs.Reader as Body
+use Rattle.connections.specs.States.{IppClientState, LpdClientState, DeviceState}
+use Rattle.connections.specs.Session.{is_queue}
+use Rattle.connections.specs.Steps.{EndsBody, StepsLpd, StepsHello, silent, no_memory, refused, faulty, place_of}
+use Rattle.connections.specs.declared.ask.Ask.TheVariants as ask
+use Rattle.connections.specs.declared.step.Due.TheVariants as due
+use Rattle.connections.specs.declared.step.Step.{Step}
+use Rattle.connections.specs.declared.step.Step.TheVariants as step
+use Rattle.connections.specs.declared.peer.Peer.{Peer}
+use Rattle.connections.specs.declared.peer.Peer.TheVariants as of
+use Rattle.wires.specs.declared.wire.Door.{Door}
+use Rattle.wires.specs.declared.wire.Door.TheVariants as door
+
+-- ---- an IPP client
+
+-- nothing was read yet
+abbrev pub IsNewIpp : IppClientState → Type 0
+IsNewIpp t = Http.Stands [] [] t.reader × (t.closes ≡ false) × Body.Heard [] t.body
+
+abbrev pub with_http : HttpState → IppClientState → IppClientState
+with_http reader t = record t { reader = reader }
+
+abbrev pub with_body : ReaderState → IppClientState → IppClientState
+with_body body t = record t { body = body }
+
+-- a piece was fed
+abbrev pub IsFedIpp : List ℕ → IppClientState → IppClientState → Type 0
+IsFedIpp piece t u = (u ≡ with_http u.reader t) × ((stream : List ℕ) (given : List Said) → Http.Stands stream given t.reader → Http.Stands (stream ++ piece) given u.reader)
+
+-- a request begins, with a body of which nothing came yet
+abbrev pub BeginsIpp : Bool → Step → IppClientState → IppClientState → Type 0
+BeginsIpp closes what t u = (what ≡ silent) × (u ≡ record t { closes = closes; body = u.body }) × Body.Heard [] u.body
+
+-- the part of the body that came last was read, or memory for it is refused
+abbrev pub TakesPart : Step → IppClientState → IppClientState → Type 0
+TakesPart (step.Due due last) t u = (step.Due due last ≡ silent) × (u ≡ with_body u.body t) × ((bytes : List ℕ) → Body.Heard bytes t.body → Body.Heard (bytes ++ t.reader.part) u.body)
+TakesPart (step.Asks ask last) t u = ⊥
+TakesPart (step.Breaks ask) t u = (step.Breaks ask ≡ no_memory) × (u ≡ t)
+
+-- the body was taken
+abbrev pub LosesBody : ReaderState → IppClientState → IppClientState → Type 0
+LosesBody body t u = (body ≡ t.body) × (u ≡ with_body u.body t) × Body.Heard [] u.body
+
+-- the body is whole
+abbrev pub EndsIpp : Step → IppClientState → IppClientState → Type 0
+EndsIpp what t u = (u ≡ with_body u.body t) × Body.Heard [] u.body × ((bytes : List ℕ) → Body.Heard bytes t.body → EndsBody t.closes bytes what)
+
+-- an item comes to this
+abbrev pub HearsIpp : HttpItem → Step → IppClientState → IppClientState → Type 0
+HearsIpp (item.Head closes) what t u = BeginsIpp closes what t u
+HearsIpp item.Continue what t u = (what ≡ step.Due due.Continue false) × (u ≡ t)
+HearsIpp item.BodyPart what t u = TakesPart what t u
+HearsIpp item.BodyEnd what t u = EndsIpp what t u
+HearsIpp (item.Refuse refusal) what t u = (what ≡ step.Due (due.Refusal refusal) true) × (u ≡ t)
+
+-- the next item, if one is whole, was taken off, and comes to this
+abbrev pub NextIpp : Option Step → IppClientState → IppClientState → Type 0
+NextIpp None t u = Http.Answers t.reader None u.reader × (u ≡ with_http u.reader t)
+NextIpp (Some what) t u =
+    (said : HttpItem) × (reader : HttpState)
+    × Http.Answers t.reader (Some said) reader × (Http.work reader < Http.work t.reader) × HearsIpp said what (with_http reader t) u
+
+-- ---- an LPD client
+
+abbrev pub IsNewLpd : LpdClientState → Type 0
+IsNewLpd t = Lpd.Stands [] [] t.reader × (t.session ≡ None)
+
+abbrev pub with_lpd : LpdState → LpdClientState → LpdClientState
+with_lpd reader t = record t { reader = reader }
+
+abbrev pub IsFedLpd : List ℕ → LpdClientState → LpdClientState → Type 0
+IsFedLpd piece t u = (u ≡ with_lpd u.reader t) × ((stream : List ℕ) (given : List ItemRecord) → Lpd.Stands stream given t.reader → Lpd.Stands (stream ++ piece) given u.reader)
+
+-- an item comes to this
+abbrev pub HearsLpd : (List ℕ → Bool) → LpdItem → Step → LpdClientState → LpdClientState → Type 0
+HearsLpd queues said what t u = (u.reader ≡ t.reader) × StepsLpd queues t.session (item_record said t.reader.file) what u.session
+
+-- so does one that may be whole
+abbrev pub HearsWholeItem : (List ℕ → Bool) → Option LpdItem → Option Step → LpdClientState → LpdClientState → Type 0
+HearsWholeItem queues None None t u = u ≡ t
+HearsWholeItem queues (Some said) (Some what) t u = HearsLpd queues said what t u
+HearsWholeItem queues _ _ t u = ⊥
+
+-- the next item was taken off, and comes to this; or a fault was found, or memory for a line is refused
+abbrev pub NextLpd : (List ℕ → Bool) → Option Step → LpdClientState → LpdClientState → Type 0
+NextLpd queues None t u = Lpd.Answers t.reader (Ok None) u.reader × (u ≡ with_lpd u.reader t)
+NextLpd queues (Some what) t u =
+    ((said : LpdItem) × (reader : LpdState) × Lpd.Answers t.reader (Ok (Some said)) reader × (Lpd.work reader < Lpd.work t.reader) × HearsLpd queues said what (with_lpd reader t) u)
+    ⊎ (((fault : LpdFault) × Lpd.Answers t.reader (Err (lpd.Fault fault)) u.reader × (what ≡ refused) × (u ≡ with_lpd u.reader t))
+    ⊎ (Lpd.Answers t.reader (Err lpd.OutOfMemory) u.reader × (what ≡ no_memory) × (u ≡ with_lpd u.reader t)))
+
+-- ---- a device
+
+abbrev pub IsNewDevice : DeviceState → Type 0
+IsNewDevice t = Link.Stands [] [] t.reader × (t.device ≡ None)
+
+abbrev pub with_link : LinkState → DeviceState → DeviceState
+with_link reader t = record t { reader = reader }
+
+abbrev pub IsFedDevice : List ℕ → DeviceState → DeviceState → Type 0
+IsFedDevice piece t u = (u ≡ with_link u.reader t) × ((stream : List ℕ) (given : List ReportRecord) → Link.Stands stream given t.reader → Link.Stands (stream ++ piece) given u.reader)
+
+abbrev pub link_step : LinkError → Option ℕ → Step
+link_step (link.Fault fault) device = faulty device
+link_step link.OutOfMemory device = no_memory
+
+-- the first report comes to this
+abbrev pub Greets : (List ℕ → Option ℕ) → Report → Step → Option ℕ → Type 0
+Greets named (report.Hello name) what after = StepsHello name (named name) what after
+Greets named _ what after = (what ≡ step.Breaks (ask.Fault None)) × (after ≡ None)
+
+-- a report comes to this, and this is then the device that said its name
+abbrev pub ComesOf : (List ℕ → Option ℕ) → Option ℕ → Report → Step → Option ℕ → Type 0
+ComesOf named None said what after = Greets named said what after
+ComesOf named (Some device) said what after = (what ≡ step.Asks (ask.Report device said) false) × (after ≡ Some device)
+
+abbrev pub HearsDevice : (List ℕ → Option ℕ) → Report → Step → DeviceState → DeviceState → Type 0
+HearsDevice named said what t u = (u.reader ≡ t.reader) × ComesOf named t.device said what u.device
+
+-- so does one that may be whole
+abbrev pub HearsWholeReport : (List ℕ → Option ℕ) → Option Report → Option Step → DeviceState → DeviceState → Type 0
+HearsWholeReport named None None t u = u ≡ t
+HearsWholeReport named (Some said) (Some what) t u = HearsDevice named said what t u
+HearsWholeReport named _ _ t u = ⊥
+
+-- the next report was taken off, and comes to this; or a fault was found, or memory for a line is refused
+abbrev pub NextDevice : (List ℕ → Option ℕ) → Option Step → DeviceState → DeviceState → Type 0
+NextDevice named None t u = Link.Answers t.reader (Ok None) u.reader × (u ≡ with_link u.reader t)
+NextDevice named (Some what) t u =
+    ((said : Report) × (reader : LinkState) × Link.Answers t.reader (Ok (Some said)) reader × (Link.work reader < Link.work t.reader) × HearsDevice named said what (with_link reader t) u)
+    ⊎ (((fault : LinkFault) × Link.Answers t.reader (Err (link.Fault fault)) u.reader × (what ≡ faulty t.device) × (u ≡ with_link u.reader t))
+    ⊎ (Link.Answers t.reader (Err link.OutOfMemory) u.reader × (what ≡ no_memory) × (u ≡ with_link u.reader t)))
+
+-- ---- any of them
+
+abbrev pub IsNewPeer : Door → Peer → Type 0
+IsNewPeer door.Ipp (of.Ipp t) = IsNewIpp t
+IsNewPeer door.Lpd (of.Lpd t) = IsNewLpd t
+IsNewPeer door.Devices (of.Device t) = IsNewDevice t
+IsNewPeer _ _ = ⊥
+
+abbrev pub IsFedPeer : List ℕ → Peer → Peer → Type 0
+IsFedPeer piece (of.Ipp t) (of.Ipp u) = IsFedIpp piece t u
+IsFedPeer piece (of.Lpd t) (of.Lpd u) = IsFedLpd piece t u
+IsFedPeer piece (of.Device t) (of.Device u) = IsFedDevice piece t u
+IsFedPeer piece _ _ = ⊥
+
+abbrev pub NextPeer : ServerSettings → Option Step → Peer → Peer → Type 0
+NextPeer settings what (of.Ipp t) (of.Ipp u) = NextIpp what t u
+NextPeer settings what (of.Lpd t) (of.Lpd u) = NextLpd (is_queue settings) what t u
+NextPeer settings what (of.Device t) (of.Device u) = NextDevice (place_of settings) what t u
+NextPeer settings what _ _ = ⊥
+
+-- how much it can bring, at most
+abbrev pub work : Peer → ℕ
+work (of.Ipp t) = Http.work t.reader
+work (of.Lpd t) = Lpd.work t.reader
+work (of.Device t) = Link.work t.reader
+
+abbrev pub closes_of : Peer → Bool
+closes_of (of.Ipp t) = t.closes
+closes_of (of.Lpd t) = false
+closes_of (of.Device t) = false
+
+-- the device that said its name
+abbrev pub device_of : Peer → Option ℕ
+device_of (of.Ipp t) = None
+device_of (of.Lpd t) = None
+device_of (of.Device t) = t.device
+
+abbrev pub unnamed : Peer → Peer
+unnamed (of.Ipp t) = of.Ipp t
+unnamed (of.Lpd t) = of.Lpd t
+unnamed (of.Device t) = of.Device (record t { device = None })

@@ -1,0 +1,23 @@
+-- Peers as plain data.
+use Rattle.std.specs.Prelude.{ℕ, Bool, Option}
+use Rattle.http_front.specs.Stream.{HttpState}
+use Rattle.lpd_reader.specs.Stream.{LpdState}
+use Rattle.lpd_session.specs.Session.{SessionState}
+use Rattle.device_link.specs.Stream.{LinkState}
+use Rattle.requests.specs.Reader.{ReaderState}
+
+pub record IppClientState : Type 0 where
+  pub reader : HttpState
+  -- of the request that is coming
+  pub closes : Bool
+  pub body : ReaderState
+
+pub record LpdClientState : Type 0 where
+  pub reader : LpdState
+  -- the files of a queue, once they are received
+  pub session : Option SessionState
+
+pub record DeviceState : Type 0 where
+  pub reader : LinkState
+  -- the device that said its name
+  pub device : Option ℕ

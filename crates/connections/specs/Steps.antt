@@ -1,0 +1,153 @@
+-- What the next of a peer's stream comes to: for an IPP client the items of HTTP (RFC 9112), for an LPD client those of RFC 1179, for a device its reports.
+use Rattle.std.specs.Prelude.{ℕ, ◌≡◌, ◌⊎◌, Bool, true, false, List, [], ◌∷◌, ◌++◌, position, Option, Some, None}
+use Rattle.std.specs.Str.{bytes_eq}
+use Rattle.base_types.specs.declared.report.Report.{Report}
+use Rattle.base_types.specs.Report.{ReportRecord, SaysHello, report_of}
+use Rattle.settings_file.specs.Settings.{ServerSettings}
+use Rattle.http_front.specs.Reply.{continue_head}
+use Rattle.http_front.specs.declared.refusal.Refusal.TheVariants.{BadRequest}
+use Rattle.http_front.specs.declared.item.HttpItem.{HttpItem}
+use Rattle.http_front.specs.declared.item.HttpItem.TheVariants as item
+use Rattle.lpd_reader.specs.declared.fault.LpdError.{LpdError}
+use Rattle.lpd_reader.specs.declared.fault.LpdError.TheVariants as fault
+use Rattle.lpd_reader.specs.Session.{ItemRecord, Says, Aborts, Announces, HasFile}
+use Rattle.lpd_session.specs.Session.{SessionState}
+use Rattle.events.specs.declared.status.Status.{Status}
+use Rattle.requests.specs.declared.asked.Asked.{Asked}
+use Rattle.requests.specs.declared.asked.Asked.TheVariants as asks
+use Rattle.requests.specs.Asked.{Asks, request_id_of}
+use Rattle.replies.specs.Reply.{refusal_bytes}
+use Rattle.outputs.specs.Reply.{http_reply, refusal_head}
+use Rattle.connections.specs.declared.ask.Ask.TheVariants as ask
+use Rattle.connections.specs.declared.ask.Client.TheVariants as client
+use Rattle.connections.specs.declared.ask.Growth.TheVariants as growth
+use Rattle.connections.specs.declared.ask.Part.TheVariants as part
+use Rattle.connections.specs.declared.step.Due.{Due}
+use Rattle.connections.specs.declared.step.Due.TheVariants as due
+use Rattle.connections.specs.declared.step.Step.{Step}
+use Rattle.connections.specs.declared.step.Step.TheVariants as step
+use Rattle.connections.specs.Session.{Hearing, Goes, Stops, Submits, Commands, heard, file_lost}
+use Rattle.connections.specs.Commands.{SubmitsJob, IsCommand}
+
+-- ---- bytes
+
+-- the reply of a status alone
+unfoldable pub http_status : Bool → Status → ℕ → List ℕ
+http_status closes status request = http_reply closes (refusal_bytes status request)
+
+abbrev pub due_bytes : Due → List ℕ
+due_bytes due.Nothing = []
+due_bytes (due.Byte byte) = byte ∷ []
+due_bytes due.Continue = continue_head
+due_bytes (due.Refusal refusal) = refusal_head refusal
+due_bytes (due.Status closes status request) = http_status closes status request
+
+-- nothing comes of it for anybody else
+abbrev pub silent : Step
+silent = step.Due due.Nothing false
+
+-- memory to keep it is refused
+abbrev pub no_memory : Step
+no_memory = step.Breaks (ask.Broke growth.Input)
+
+-- ---- an IPP client
+
+-- what a whole body asks; after one under 8 bytes, which has no header, the connection closes (RFC 8010, section 3.1.1)
+abbrev pub asked_step : Bool → Asked → Step
+asked_step closes asks.TooShort = step.Due (due.Refusal BadRequest) true
+asked_step closes (asks.Refused status request) = step.Due (due.Status closes status request) closes
+asked_step closes (asks.Event request event) = step.Asks (ask.Event (client.Ipp request) event) closes
+
+-- a whole body asks one thing, or memory to read it is refused
+abbrev pub EndsBody : Bool → List ℕ → Step → Type 0
+EndsBody closes body what =
+    ((asked : Asked) × Asks body asked × (what ≡ asked_step closes asked))
+    ⊎ ((request : ℕ) × (request_id_of body ≡ Some request) × (what ≡ step.Asks (ask.Unread request) closes))
+
+-- what an item comes to after a body of these bytes so far
+abbrev pub StepsIpp : HttpItem → Bool → List ℕ → Step → Type 0
+StepsIpp (item.Head next) closes body what = what ≡ silent
+StepsIpp item.Continue closes body what = what ≡ step.Due due.Continue false
+StepsIpp item.BodyPart closes body what = (what ≡ silent) ⊎ (what ≡ no_memory)
+StepsIpp item.BodyEnd closes body what = EndsBody closes body what
+StepsIpp (item.Refuse refusal) closes body what = what ≡ step.Due (due.Refusal refusal) true
+
+-- whether the connection closes after the reply to the request that is coming
+abbrev pub closes_after : HttpItem → Bool → Bool
+closes_after (item.Head next) closes = next
+closes_after item.Continue closes = closes
+closes_after item.BodyPart closes = closes
+closes_after item.BodyEnd closes = closes
+closes_after (item.Refuse refusal) closes = closes
+
+-- a part of a body is read, or it isn't
+abbrev pub grown : Step → List ℕ → List ℕ → List ℕ
+grown (step.Due due last) part body = body ++ part
+grown (step.Asks ask last) part body = body ++ part
+grown (step.Breaks ask) part body = body
+
+-- its body so far
+abbrev pub body_after : HttpItem → Step → List ℕ → List ℕ → List ℕ
+body_after (item.Head next) what part body = []
+body_after item.Continue what part body = body
+body_after item.BodyPart what part body = grown what part body
+body_after item.BodyEnd what part body = []
+body_after (item.Refuse refusal) what part body = body
+
+-- ---- an LPD client
+
+abbrev pub byte_due : Option ℕ → Due
+byte_due None = due.Nothing
+byte_due (Some byte) = due.Byte byte
+
+-- a fault in what it says is refused, and nothing more counts (RFC 1179, section 3)
+abbrev pub refused : Step
+refused = step.Due (due.Byte 1) true
+
+abbrev pub step_of : LpdError → Step
+step_of (fault.Fault it) = refused
+step_of fault.OutOfMemory = no_memory
+
+-- what it asks, as the server has it, and the session after it; memory for a job may be refused
+abbrev pub AsksAs : Hearing → Step → Option SessionState → Type 0
+AsksAs (Goes answer next) (step.Due what last) after = (what ≡ byte_due answer) × (last ≡ false) × (after ≡ next)
+AsksAs (Stops answer) (step.Due what last) after = (what ≡ byte_due answer) × (last ≡ true) × (after ≡ None)
+AsksAs (Submits job next) (step.Asks (ask.Event client.LpdJob event) last) after = SubmitsJob job event × (last ≡ false) × (after ≡ Some next)
+AsksAs (Submits job next) (step.Asks (ask.Lost part.Job) last) after = (last ≡ false) × (after ≡ Some next)
+AsksAs (Commands command) (step.Asks (ask.Event client.LpdCommand event) last) after = IsCommand command event × (last ≡ true) × (after ≡ None)
+AsksAs _ _ _ = ⊥
+
+-- memory for a file may be refused too: it isn't kept
+abbrev pub IsFileLost : Option SessionState → Step → Option SessionState → Type 0
+IsFileLost before what after = (what ≡ step.Asks (ask.Lost part.File) false) × (after ≡ file_lost before)
+
+abbrev pub AsksForFile : Hearing → Option SessionState → Step → Option SessionState → Type 0
+AsksForFile hearing before what after = IsFileLost before what after ⊎ AsksAs hearing what after
+
+-- what an item comes to, and the session after it; told which queues there are
+abbrev pub StepsLpd : (List ℕ → Bool) → Option SessionState → ItemRecord → Step → Option SessionState → Type 0
+StepsLpd is_queue before (HasFile contents) what after = AsksForFile (heard is_queue before (HasFile contents)) before what after
+StepsLpd is_queue before (Says command) what after = AsksAs (heard is_queue before (Says command)) what after
+StepsLpd is_queue before Aborts what after = AsksAs (heard is_queue before Aborts) what after
+StepsLpd is_queue before (Announces head) what after = AsksAs (heard is_queue before (Announces head)) what after
+
+-- ---- a device
+
+-- the place of the device of a name
+abbrev pub place_of : ServerSettings → List ℕ → Option ℕ
+place_of settings name = position (λ entry. bytes_eq name entry.name) settings.devices
+
+-- it says its name, which is a device's, or no device's
+abbrev pub StepsHello : List ℕ → Option ℕ → Step → Option ℕ → Type 0
+StepsHello name None what after = (what ≡ step.Breaks (ask.Stranger name)) × (after ≡ None)
+StepsHello name (Some device) what after = (what ≡ step.Asks (ask.Hello device name) false) × (after ≡ Some device)
+
+-- what a report comes to, and the device that has said its name then; the first report is a name, and no other is
+abbrev pub StepsDevice : (List ℕ → Option ℕ) → Option ℕ → ReportRecord → Step → Option ℕ → Type 0
+StepsDevice named None (SaysHello name) what after = StepsHello name (named name) what after
+StepsDevice named None _ what after = ⊥
+StepsDevice named (Some device) said what after = ((it : Report) × (report_of it ≡ said) × (what ≡ step.Asks (ask.Report device it) false)) × (after ≡ Some device)
+
+-- a fault in what it says
+abbrev pub faulty : Option ℕ → Step
+faulty device = step.Breaks (ask.Fault device)

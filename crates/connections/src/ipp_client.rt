@@ -1,0 +1,165 @@
+//! An IPP client: requests over HTTP, whose bodies are read as they come.
+ghost use Rattle.std.specs.Prelude.{◌≡◌, OnOk, OnErr, List, ℕ};
+ghost use Rattle.requests.specs.Asked.{Asks};
+ghost use Rattle.requests.specs.Reader.{Heard};
+ghost use Rattle.connections.specs.Steps.{EndsBody, asked_step};
+ghost use Rattle.connections.specs.Peers.{IsNewIpp, IsFedIpp, NextIpp, HearsIpp, BeginsIpp, TakesPart, EndsIpp, LosesBody};
+
+use crate::ask::{Ask, Client, Growth};
+use crate::step::{Due, Step};
+use http_front::{HttpItem, HttpReader, Refusal};
+use requests::{Asked, AskedReader};
+use std::alloc::{AllocError, Global};
+use std::marker::Model;
+use std::mem;
+
+/// An IPP client, as far as its stream was acted on.
+#[derive(Drop)]
+pub struct IppClient {
+    alloc: Global,
+    reader: HttpReader,
+    /// Whether the connection closes after the reply to the request that is coming.
+    closes: bool,
+    /// What the body of that request asks so far.
+    body: AskedReader,
+}
+
+impl Model for IppClient {
+    ghost use Rattle.connections.specs.States.{IppClientState};
+
+    ghost Value = { IppClientState };
+
+    ghost view = { λ t. record { reader = t.reader; closes = t.closes; body = t.body } };
+}
+
+impl IppClient {
+    /// A client of which nothing was read.
+    pub fn new(alloc: Global) -> IppClient
+        ensures { IsNewIpp result }
+    {
+        IppClient {
+            alloc,
+            reader: HttpReader::new(alloc),
+            closes: false,
+            body: AskedReader::new(alloc),
+        }
+    }
+
+    /// Takes the next bytes of the wire. The error is out of memory: none of them is taken.
+    pub fn feed(&mut self, piece: &[u8]) -> Result<(), AllocError>
+        ensures ok { OnOk result (IsFedIpp piece.now self.old self.new) }
+        ensures err { OnErr result (self.new ≡ self.old) }
+    {
+        self.reader.feed(piece)
+    }
+
+    /// Whether the connection closes after the reply to the request that came last.
+    pub fn closes(&self) -> bool
+        ensures { result ≡ self.now.closes }
+    {
+        self.closes
+    }
+
+    /// What the next item of its stream comes to, if one is whole.
+    pub fn next(&mut self) -> Option<Step>
+        ensures { NextIpp result self.old self.new }
+    {
+        match self.reader.next_item() {
+            Some(item) => Some(self.hear(item)),
+            None => None,
+        }
+    }
+
+    /// What an item comes to that was just taken off.
+    fn hear(&mut self, item: HttpItem) -> Step
+        ensures { HearsIpp item result self.old self.new }
+    {
+        match item {
+            HttpItem::Head { closes } => self.begin(closes),
+            HttpItem::Continue => due(Due::Continue, false),
+            HttpItem::BodyPart => self.take_part(),
+            HttpItem::BodyEnd => self.end_body(),
+            HttpItem::Refuse(refusal) => due(Due::Refusal(refusal), true),
+        }
+    }
+
+    /// A request begins.
+    fn begin(&mut self, closes: bool) -> Step
+        ensures { BeginsIpp closes result self.old self.new }
+    {
+        self.closes = closes;
+        self.body = AskedReader::new(self.alloc);
+        due(Due::Nothing, false)
+    }
+
+    /// Reads the part of the body that came last.
+    fn take_part(&mut self) -> Step
+        ensures { TakesPart result self.old self.new }
+    {
+        match self.body.feed(self.reader.part()) {
+            Ok(()) => due(Due::Nothing, false),
+            Err(_) => Step::Breaks(Ask::Broke(Growth::Input)),
+        }
+    }
+
+    /// What the body asks that is whole now.
+    fn end_body(&mut self) -> Step
+        ensures { EndsIpp result self.old self.new }
+    {
+        let mut body = self.take_body();
+        whole_step(self.closes, &mut body)
+    }
+
+    /// Takes the body.
+    fn take_body(&mut self) -> AskedReader
+        ensures { LosesBody result self.old self.new }
+    {
+        let next = AskedReader::new(self.alloc);
+        mem::replace(&mut self.body, next)
+    }
+}
+
+/// This becomes due.
+fn due(due: Due, last: bool) -> Step
+    ensures { result ≡ Step.Due due last }
+{
+    Step::Due { due, last }
+}
+
+/// What a whole body comes to. A body under 8 bytes is answered 400, and the connection closes (RFC 8010,
+/// section 3.1.1).
+fn whole_step(closes: bool, body: &mut AskedReader) -> Step
+    ensures { (bytes : List ℕ) → Heard bytes body.old → EndsBody closes bytes result }
+{
+    let Some(request) = body.request_id() else {
+        return due(Due::Refusal(Refusal::BadRequest), true);
+    };
+    match body.finish() {
+        Ok(asked) => asked_step(closes, asked),
+        Err(_) => Step::Asks {
+            ask: Ask::Unread(request),
+            last: closes,
+        },
+    }
+}
+
+/// What becomes of what a body asks.
+fn asked_step(closes: bool, asked: Asked) -> Step
+    ensures { result ≡ asked_step closes asked }
+{
+    match asked {
+        Asked::TooShort => due(Due::Refusal(Refusal::BadRequest), true),
+        Asked::Refused(status, request) => Step::Due {
+            due: Due::Status {
+                closes,
+                status,
+                request,
+            },
+            last: closes,
+        },
+        Asked::Event(request, event) => Step::Asks {
+            ask: Ask::Event(Client::Ipp(request), event),
+            last: closes,
+        },
+    }
+}

@@ -1,0 +1,324 @@
+//! An LPD client: commands, and the files of jobs (RFC 1179).
+ghost use Rattle.std.specs.Prelude.{◌≡◌, OnOk, OnErr, Some, None, true, false};
+ghost use Rattle.std.specs.List.{list_any};
+ghost use Rattle.std.specs.Str.{bytes_eq};
+ghost use Rattle.lpd_reader.specs.Session.{item_record, command_record, Says, Aborts, Announces, HasFile, ReceivesJob};
+ghost use Rattle.lpd_session.specs.Pending.{first_complete};
+ghost use Rattle.lpd_session.specs.Session.{sent_at};
+ghost use Rattle.connections.specs.Session.{heard, on_command, on_file, on_complete, on_job, is_queue};
+ghost use Rattle.connections.specs.Commands.{SubmitsJob};
+ghost use Rattle.connections.specs.Steps.{AsksAs, AsksForFile, StepsLpd, byte_due, step_of};
+ghost use Rattle.connections.specs.Peers.{IsNewLpd, IsFedLpd, NextLpd, HearsWholeItem};
+
+use crate::ask::{Ask, Client, Growth, Part};
+use crate::step::{Due, Step};
+use base_types::Text;
+use events::{Event, ListQueue, QueueForm, RemoveJobs, SubmitFiles};
+use lpd_reader::{FileHead, LpdCommand, LpdError, LpdItem, LpdReader};
+use lpd_session::{SentJob, Session};
+use settings_file::{PrinterSettings, Settings};
+use std::alloc::{AllocError, Global};
+use std::marker::Model;
+
+/// The acknowledgement of a file or of a command (RFC 1179, section 6).
+const ACCEPTED: u8 = 0;
+
+/// Their refusal.
+pub const REFUSED: u8 = 1;
+
+/// An LPD client, as far as its stream was acted on.
+#[derive(Drop)]
+pub struct LpdClient {
+    alloc: Global,
+    reader: LpdReader,
+    /// The files of a queue, once they are received.
+    session: Option<Session>,
+}
+
+impl Model for LpdClient {
+    ghost use Rattle.connections.specs.States.{LpdClientState};
+
+    ghost Value = { LpdClientState };
+
+    ghost view = { λ t. record { reader = t.reader; session = t.session } };
+}
+
+impl LpdClient {
+    /// A client of which nothing was read.
+    pub fn new(alloc: Global) -> LpdClient
+        ensures { IsNewLpd result }
+    {
+        LpdClient {
+            alloc,
+            reader: LpdReader::new(alloc),
+            session: None,
+        }
+    }
+
+    /// Takes the next bytes of the wire. The error is out of memory: none of them is taken.
+    pub fn feed(&mut self, piece: &[u8]) -> Result<(), AllocError>
+        ensures ok { OnOk result (IsFedLpd piece.now self.old self.new) }
+        ensures err { OnErr result (self.new ≡ self.old) }
+    {
+        self.reader.feed(piece)
+    }
+
+    /// What the next item of its stream comes to, if one is whole; or its first fault.
+    pub fn next(&mut self, settings: &Settings) -> Option<Step>
+        ensures { NextLpd (is_queue settings.now) result self.old self.new }
+    {
+        match self.reader.next_item() {
+            Ok(item) => self.hear_whole(item, settings),
+            Err(error) => Some(step_of(error)),
+        }
+    }
+
+    /// What an item comes to that was just taken off, if one is whole.
+    fn hear_whole(&mut self, item: Option<LpdItem>, settings: &Settings) -> Option<Step>
+        ensures { HearsWholeItem (is_queue settings.now) item result self.old self.new }
+    {
+        match item {
+            Some(item) => Some(self.hear(item, settings)),
+            None => None,
+        }
+    }
+
+    /// What an item comes to.
+    fn hear(&mut self, item: LpdItem, settings: &Settings) -> Step
+        ensures reader { self.new.reader ≡ self.old.reader }
+        ensures comes { StepsLpd (is_queue settings.now) self.old.session (item_record item self.old.reader.file) result self.new.session }
+    {
+        match item {
+            LpdItem::Command(command) => self.hear_command(command, settings),
+            LpdItem::Abort => self.abort(),
+            LpdItem::Announced(head) => self.announce(head),
+            LpdItem::File => self.take_file(),
+        }
+    }
+
+    /// Acts on a command.
+    fn hear_command(&mut self, command: LpdCommand, settings: &Settings) -> Step
+        ensures asks { AsksAs (heard (is_queue settings.now) self.old.session (Says (command_record command))) result self.new.session }
+        ensures reader { self.new.reader ≡ self.old.reader }
+    {
+        if self.session.is_some() {
+            return goes(None);
+        }
+        self.obey(command, settings)
+    }
+
+    /// Acts on the first command.
+    fn obey(&mut self, command: LpdCommand, settings: &Settings) -> Step
+        requires { self.old.session ≡ None }
+        ensures asks { AsksAs (on_command (is_queue settings.now) (command_record command)) result self.new.session }
+        ensures reader { self.new.reader ≡ self.old.reader }
+    {
+        match command {
+            LpdCommand::PrintWaiting { .. } => stops(None),
+            LpdCommand::ReceiveJob { queue } => self.receive(queue, settings),
+            LpdCommand::ListShort { queue, operands } => {
+                commands(listing(queue, QueueForm::Short, operands))
+            }
+            LpdCommand::ListLong { queue, operands } => {
+                commands(listing(queue, QueueForm::Long, operands))
+            }
+            LpdCommand::RemoveJobs {
+                queue,
+                agent,
+                operands,
+            } => commands(Event::RemoveJobs(RemoveJobs {
+                queue,
+                agent,
+                operands,
+            })),
+        }
+    }
+
+    /// The jobs of a queue are to be received.
+    fn receive(&mut self, queue: Text, settings: &Settings) -> Step
+        requires { self.old.session ≡ None }
+        ensures asks { AsksAs (on_command (is_queue settings.now) (ReceivesJob queue)) result self.new.session }
+        ensures reader { self.new.reader ≡ self.old.reader }
+    {
+        if is_queue(&settings.printers, &queue) {
+            self.session = Some(Session::new(self.alloc, queue));
+            goes(Some(ACCEPTED))
+        } else {
+            stops(Some(REFUSED))
+        }
+    }
+
+    /// The client gives up what it has sent.
+    fn abort(&mut self) -> Step
+        ensures asks { AsksAs (heard (λ name. false) self.old.session Aborts) result self.new.session }
+        ensures reader { self.new.reader ≡ self.old.reader }
+    {
+        if let Some(session) = &mut self.session {
+            session.abort();
+        }
+        goes(None)
+    }
+
+    /// A file is announced.
+    fn announce(&mut self, head: FileHead) -> Step
+        ensures asks { AsksAs (heard (λ name. false) self.old.session (Announces head)) result self.new.session }
+        ensures reader { self.new.reader ≡ self.old.reader }
+    {
+        let Some(session) = &mut self.session else {
+            return goes(None);
+        };
+        if session.admits(&head) {
+            session.announce(head);
+            goes(Some(ACCEPTED))
+        } else {
+            self.session = None;
+            stops(Some(REFUSED))
+        }
+    }
+
+    /// A file has come.
+    fn take_file(&mut self) -> Step
+        ensures asks { AsksForFile (heard (λ name. false) self.old.session (HasFile self.old.reader.file)) self.old.session result self.new.session }
+        ensures reader { self.new.reader ≡ self.old.reader }
+    {
+        match &mut self.session {
+            Some(session) => take(session, self.reader.file()),
+            None => goes(None),
+        }
+    }
+}
+
+/// What the first fault of the stream comes to, or the lack of memory for a line.
+fn step_of(error: LpdError) -> Step
+    ensures { result ≡ step_of error }
+{
+    match error {
+        LpdError::Fault(_) => Step::Due {
+            due: Due::Byte(REFUSED),
+            last: true,
+        },
+        LpdError::OutOfMemory => Step::Breaks(Ask::Broke(Growth::Input)),
+    }
+}
+
+/// The session goes on, and this byte is due, if any.
+fn goes(byte: Option<u8>) -> Step
+    ensures { result ≡ Step.Due (byte_due byte) false }
+{
+    Step::Due {
+        due: byte_due(byte),
+        last: false,
+    }
+}
+
+/// Nothing more counts, and this byte is due, if any.
+fn stops(byte: Option<u8>) -> Step
+    ensures { result ≡ Step.Due (byte_due byte) true }
+{
+    Step::Due {
+        due: byte_due(byte),
+        last: true,
+    }
+}
+
+fn byte_due(byte: Option<u8>) -> Due
+    ensures { result ≡ byte_due byte }
+{
+    match byte {
+        Some(byte) => Due::Byte(byte),
+        None => Due::Nothing,
+    }
+}
+
+/// The server is asked, and the session goes on.
+fn asks(ask: Ask) -> Step
+    ensures { result ≡ Step.Asks ask false }
+{
+    Step::Asks { ask, last: false }
+}
+
+/// A queue is listed, or jobs are removed. Nothing more counts.
+fn commands(event: Event) -> Step
+    ensures { result ≡ Step.Asks (Ask.Event Client.LpdCommand event) true }
+{
+    Step::Asks {
+        ask: Ask::Event(Client::LpdCommand, event),
+        last: true,
+    }
+}
+
+/// The event of a listing.
+fn listing(queue: Text, form: QueueForm, operands: Vec<Text>) -> Event
+    ensures { result ≡ Event.ListQueue (record { queue = queue; form = form; operands = operands }) }
+{
+    Event::ListQueue(ListQueue {
+        queue,
+        form,
+        operands,
+    })
+}
+
+/// Whether a printer of this name is there.
+fn is_queue(printers: &[PrinterSettings], name: &Text) -> bool
+    ensures { result ≡ list_any (λ printer. bytes_eq name.now printer.name) printers.now }
+{
+    printers
+        .iter()
+        .any(|printer| name.as_bytes() == printer.name.as_bytes())
+}
+
+/// Keeps the file that has come.
+fn take(session: &mut Session, contents: &[u8]) -> Step
+    ensures { AsksForFile (on_file contents.now session.old) (Some session.old) result (Some session.new) }
+{
+    match session.take_file(contents) {
+        Ok(true) => submit_complete(session),
+        Ok(false) => goes(Some(REFUSED)),
+        Err(_) => asks(Ask::Lost(Part::File)),
+    }
+}
+
+/// Submits the first job that is complete.
+fn submit_complete(session: &mut Session) -> Step
+    ensures { AsksAs (on_complete session.old (first_complete session.old.pending)) result (Some session.new) }
+{
+    match session.complete() {
+        Some(place) => submit(session, place),
+        None => goes(Some(ACCEPTED)),
+    }
+}
+
+/// Submits the job at a place.
+fn submit(session: &mut Session, place: usize) -> Step
+    ensures { AsksAs (on_job place session.old (sent_at place session.old)) result (Some session.new) }
+{
+    match session.job_at(place) {
+        Ok(Some(job)) => {
+            session.drop_job(place);
+            asks(Ask::Event(Client::LpdJob, submission(job)))
+        }
+        Ok(None) => goes(Some(ACCEPTED)),
+        Err(_) => {
+            session.drop_job(place);
+            asks(Ask::Lost(Part::Job))
+        }
+    }
+}
+
+/// The event of a job of files.
+fn submission(job: SentJob) -> Event
+    ensures { SubmitsJob job result }
+{
+    let SentJob {
+        queue,
+        owner,
+        name,
+        documents,
+    } = job;
+    Event::SubmitFiles(SubmitFiles {
+        queue,
+        owner,
+        name,
+        documents,
+    })
+}

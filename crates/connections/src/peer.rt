@@ -1,0 +1,85 @@
+//! Who is at the other end of a connection, by the door at which it came.
+ghost use Rattle.std.specs.Prelude.{◌≡◌, OnOk, OnErr};
+ghost use Rattle.connections.specs.Peers.{IsNewPeer, IsFedPeer, NextPeer, closes_of, device_of, unnamed};
+
+use crate::device::Device;
+use crate::ipp_client::IppClient;
+use crate::lpd_client::LpdClient;
+use crate::step::Step;
+use base_types::DeviceId;
+use settings_file::Settings;
+use std::alloc::{AllocError, Global};
+use wires::Door;
+
+/// Who is at the other end of a connection, as far as what it says was acted on.
+#[derive(Drop)]
+pub enum Peer {
+    Ipp(IppClient),
+    Lpd(LpdClient),
+    Device(Device),
+}
+
+impl Peer {
+    /// Who comes at a door, of whom nothing was read.
+    pub fn new(alloc: Global, door: Door) -> Peer
+        ensures { IsNewPeer door result }
+    {
+        match door {
+            Door::Ipp => Peer::Ipp(IppClient::new(alloc)),
+            Door::Lpd => Peer::Lpd(LpdClient::new(alloc)),
+            Door::Devices => Peer::Device(Device::new(alloc)),
+        }
+    }
+
+    /// Takes the next bytes of the wire. The error is out of memory: none of them is taken.
+    pub fn feed(&mut self, piece: &[u8]) -> Result<(), AllocError>
+        ensures ok { OnOk result (IsFedPeer piece.now self.old self.new) }
+        ensures err { OnErr result (self.new ≡ self.old) }
+    {
+        match self {
+            Peer::Ipp(client) => client.feed(piece),
+            Peer::Lpd(client) => client.feed(piece),
+            Peer::Device(device) => device.feed(piece),
+        }
+    }
+
+    /// What the next of its stream comes to.
+    pub fn next(&mut self, settings: &Settings) -> Option<Step>
+        ensures { NextPeer settings.now result self.old self.new }
+    {
+        match self {
+            Peer::Ipp(client) => client.next(),
+            Peer::Lpd(client) => client.next(settings),
+            Peer::Device(device) => device.next(settings),
+        }
+    }
+
+    /// Whether the connection closes after the reply to the request that came last.
+    pub fn closes(&self) -> bool
+        ensures { result ≡ closes_of self.now }
+    {
+        match self {
+            Peer::Ipp(client) => client.closes(),
+            Peer::Lpd(_) | Peer::Device(_) => false,
+        }
+    }
+
+    /// The device that said its name.
+    pub fn device(&self) -> Option<DeviceId>
+        ensures { result ≡ device_of self.now }
+    {
+        match self {
+            Peer::Ipp(_) | Peer::Lpd(_) => None,
+            Peer::Device(device) => device.device(),
+        }
+    }
+
+    /// The device that said its name has another connection.
+    pub fn give_way(&mut self)
+        ensures { self.new ≡ unnamed self.old }
+    {
+        if let Peer::Device(device) = self {
+            device.give_way();
+        }
+    }
+}

@@ -1,0 +1,56 @@
+-- What a connection asks, and what comes of it.
+use Rattle.std.specs.Prelude.{ℕ, ◌≡◌, List, [], Some}
+use Rattle.events.specs.declared.event.Event.TheVariants as Is
+use Rattle.dispatcher.specs.declared.listener.DeviceRefusal.TheVariants as why
+use Rattle.dispatcher.specs.declared.listener.Place.{Place}
+use Rattle.dispatcher.specs.declared.listener.Place.TheVariants as At
+use Rattle.dispatcher.specs.Notes.{Refused, DeviceRefused}
+use Rattle.connections.specs.declared.ask.Ask.{Ask}
+use Rattle.connections.specs.declared.ask.Ask.TheVariants as ask
+use Rattle.connections.specs.declared.ask.Growth.{Growth}
+use Rattle.connections.specs.declared.ask.Growth.TheVariants.{Input, Output}
+use Rattle.connections.specs.declared.ask.Part.{Part}
+use Rattle.connections.specs.declared.ask.Part.TheVariants.{File, Job}
+use Rattle.connections.specs.Entry.{Entry}
+use Rattle.connections.specs.Asking.{AsksNext}
+use Rattle.server.specs.Polls.{Happening}
+use Rattle.server.specs.Ledger.{Ledger, with_entry}
+use Rattle.server.specs.Rel.{Rel, Nothing, Tells, Then}
+use Rattle.server.specs.Happening.{Unanswered}
+use Rattle.server.specs.Answering.{IsAnswered, Drops, Declines}
+use Rattle.server.specs.Greeting.{Greets}
+
+-- where a growth was refused
+abbrev pub place_of : Growth → Place
+place_of Input = At.Feed
+place_of Output = At.Keep
+
+abbrev pub place_of_part : Part → Place
+place_of_part File = At.File
+place_of_part Job = At.Event
+
+-- the connection under a key, which has this number, asks this
+pub record Asks (key id : ℕ) (what : Ask) (l : Ledger) (hs : List Happening) (l' : Ledger) : Type 0 where
+  pub entry : Entry
+  pub new : Entry
+  pub there : l.entries key ≡ Some entry
+  pub its : id ≡ entry.id
+  pub asks : AsksNext l.core.settings what entry new
+  pub still : hs ≡ []
+  pub after : l' ≡ with_entry key new l
+
+-- what comes of it
+abbrev pub Does : ℕ → ℕ → ℕ → Ask → Rel
+Does moment key id ask.Nothing = Nothing
+Does moment key id (ask.Broke growth) = Tells (Refused (place_of growth) (Some id))
+Does moment key id (ask.Event client event) = IsAnswered moment key id client event
+Does moment key id (ask.Unread request) = Drops key id request
+Does moment key id (ask.Lost part) = Declines (place_of_part part) key id
+Does moment key id (ask.Hello device name) = Greets moment key id device name
+Does moment key id (ask.Report device report) = Unanswered moment (Is.Report device report)
+Does moment key id (ask.Stranger name) = Tells (DeviceRefused id (why.UnknownName name))
+Does moment key id (ask.Fault device) = Tells (DeviceRefused id (why.Fault device))
+
+-- it asks something, which comes about
+abbrev pub ActsNext : ℕ → ℕ → Rel
+ActsNext moment key l hs l' = (id : ℕ) × (what : Ask) × Then (Asks key id what) (Does moment key id what) l hs l'

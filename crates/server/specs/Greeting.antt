@@ -1,0 +1,55 @@
+-- Devices that say their names.
+use Rattle.std.specs.Prelude.{ℕ, ◌≡◌, ◌≢◌, ◌⊎◌, Bool, true, false, List, Option, Some, None}
+use Rattle.base_types.specs.declared.report.Report.{Report}
+use Rattle.base_types.specs.declared.report.Report.TheVariants as report
+use Rattle.base_types.specs.Report.{ReportRecord, report_of}
+use Rattle.events.specs.declared.event.Event.TheVariants as Is
+use Rattle.dispatcher.specs.declared.listener.DeviceRefusal.TheVariants as why
+use Rattle.dispatcher.specs.Notes.{DeviceRefused}
+use Rattle.connections.specs.Entry.{Entry, device_of, given_up}
+use Rattle.server.specs.Ledger.{Ledger}
+use Rattle.server.specs.Rel.{Rel, Nothing, Tells as Says, Then}
+use Rattle.server.specs.Keeping.{Sets, IsDevice}
+use Rattle.server.specs.Happening.{Unanswered}
+use Rattle.server.specs.Closing.{IsGone}
+
+-- a device reports
+abbrev pub Tells : ℕ → ℕ → ReportRecord → Rel
+Tells moment device said l hs l' = (report : Report) × (report_of report ≡ said) × Unanswered moment (Is.Report device report) l hs l'
+
+-- a connection is open there on which this device said its name, and its input has ended or hasn't
+abbrev pub IsDeviceAs : Bool → ℕ → Option Entry → Type 0
+IsDeviceAs ended device None = ⊥
+IsDeviceAs ended device (Some e) = (device_of e.talk ≡ Some device) × (e.ended ≡ ended)
+
+-- the device has no connection beside the one under a key
+abbrev pub IsAlone : ℕ → ℕ → Ledger → Type 0
+IsAlone device key l = (other : ℕ) → other ≢ key → IsDevice device (l.entries other) → ⊥
+
+-- it has one, whose input has ended or hasn't
+abbrev pub HasOther : Bool → ℕ → ℕ → ℕ → Ledger → Type 0
+HasOther ended device key other l = (other ≢ key) × IsDeviceAs ended device (l.entries other)
+
+-- the device that said its name on the connection under a key has another: this one is to be closed as by a fault
+abbrev pub GivesWayAt : ℕ → Option Entry → Rel
+GivesWayAt key None = Nothing
+GivesWayAt key (Some e) = Sets key (given_up e)
+
+abbrev pub GivesWay : ℕ → Rel
+GivesWay key l hs l' = GivesWayAt key (l.entries key) l hs l'
+
+-- it says its name
+abbrev pub SaysName : ℕ → ℕ → List ℕ → Rel
+SaysName moment device name = Unanswered moment (Is.Report device (report.Hello name))
+
+-- a device comes again: its old connection gives way, the device is gone, and says its name
+abbrev pub TakesOver : ℕ → ℕ → ℕ → List ℕ → Rel
+TakesOver moment old device name = Then (GivesWay old) (Then (IsGone moment (Some device)) (SaysName moment device name))
+
+-- A device says its name on the connection under a key. Where it has no other, that is an event; where the
+-- input of the other has ended, it takes its place; else the new one is refused, and that is no event.
+abbrev pub Greets : ℕ → ℕ → ℕ → ℕ → List ℕ → Rel
+Greets moment key id device name l hs l' =
+    (IsAlone device key l × SaysName moment device name l hs l')
+    ⊎ (((other : ℕ) × HasOther true device key other l × TakesOver moment other device name l hs l')
+    ⊎ ((other : ℕ) × HasOther false device key other l × Then (GivesWay key) (Says (DeviceRefused id (why.Connected device))) l hs l'))

@@ -1,0 +1,89 @@
+//! While a connection asks, it is handled.
+ghost use Rattle.std.specs.Prelude.{◌≡◌};
+ghost use Rattle.server.specs.Polls.{both, alone};
+ghost use Rattle.server.specs.Acting.{Does, place_of, place_of_part};
+ghost use Rattle.server.specs.Polling.{Serves};
+ghost use Rattle.server.specs.Stands.{Does as Leads, Aside, AsksBy};
+
+use crate::engine::Engine;
+use base_types::Moment;
+use connections::table::{Asked, next};
+use connections::{Ask, Growth, Part};
+use dispatcher::{DeviceRefusal, Listener, Place};
+use planners::Planner;
+use wires::{Wire, WireId};
+
+/// Who asks: the connection under a key, and its number.
+#[derive(Clone, Copy, Debug)]
+pub(crate) struct Asker {
+    pub key: usize,
+    pub id: WireId,
+}
+
+/// What connections ask, handled one at a time.
+impl<P: Planner + Drop> Engine<P> {
+    /// While the connection under a key asks, it is handled, and what broke is closed.
+    pub(crate) fn serve<W: Wire, N: Listener>(
+        &mut self,
+        moment: Moment,
+        key: usize,
+        wire: &mut W,
+        notes: &mut N,
+    )
+        ensures { Leads (both W.polled N.told) (Serves moment key) (wire.old, notes.old) self.old (wire.new, notes.new) self.new }
+    {
+        while let Some(asked) = self.ask(key) {
+            let Asked { id, ask } = asked;
+            self.act(moment, Asker { key, id }, ask, notes);
+            self.settle(moment, wire, notes);
+        }
+    }
+
+    /// What the connection under a key asks next.
+    fn ask(&mut self, key: usize) -> Option<Asked>
+        ensures { AsksBy key result self.old self.new }
+    {
+        next(&mut self.connections, key, self.core.settings())
+    }
+
+    /// Handles what is asked, for who asks.
+    fn act<N: Listener>(&mut self, moment: Moment, asker: Asker, ask: Ask, notes: &mut N)
+        ensures { Aside (alone N.told) (Does moment asker.key asker.id ask) notes.old self.old notes.new self.new }
+    {
+        match ask {
+            Ask::Nothing => {}
+            Ask::Broke(growth) => notes.refused(place_of(growth), Some(asker.id)),
+            Ask::Event(client, event) => self.happen(moment, asker, client, event, notes),
+            Ask::Unread(request) => self.drop_request(asker, request, notes),
+            Ask::Lost(part) => self.decline(place_of_part(part), asker, notes),
+            Ask::Hello(device, name) => self.greet(moment, asker, device, name, notes),
+            Ask::Report(device, report) => {
+                self.report_now(moment, device, report, notes);
+            }
+            Ask::Stranger(name) => {
+                notes.device_refused(asker.id, DeviceRefusal::UnknownName(name));
+            }
+            Ask::Fault(device) => notes.device_refused(asker.id, DeviceRefusal::Fault(device)),
+        }
+    }
+}
+
+/// Where a growth of a connection was refused.
+fn place_of(growth: Growth) -> Place
+    ensures { result ≡ place_of growth }
+{
+    match growth {
+        Growth::Input => Place::Feed,
+        Growth::Output => Place::Keep,
+    }
+}
+
+/// Where a part of an LPD client's job was lost.
+fn place_of_part(part: Part) -> Place
+    ensures { result ≡ place_of_part part }
+{
+    match part {
+        Part::File => Place::File,
+        Part::Job => Place::Event,
+    }
+}
