@@ -32,7 +32,12 @@ JOB_ID = b"\x21\x00\x06job-id\x00\x04"
 
 
 def command(example):
-    """The words that play an example."""
+    """The words that play an example: a day, which has settings beside it, is simulated or drawn."""
+    settings = example.with_suffix(".toml")
+    if example.suffix == ".csv":
+        return [PROGRAM, "simulate", "--settings", settings, "--jobs", example]
+    if settings.exists():
+        return [PROGRAM, "draw", "--trace", example]
     return [PROGRAM, "check"] if example.suffix == ".plan" else [PROGRAM, "replay"]
 
 
@@ -110,7 +115,7 @@ def main():
     words.add_argument("--each", type=int, default=1 << 40)
     words.add_argument("names", nargs="*")
     chosen = words.parse_args()
-    examples = sorted(path for path in EXAMPLES.iterdir() if path.suffix in (".trace", ".plan"))
+    examples = sorted(path for path in EXAMPLES.iterdir() if path.suffix in (".trace", ".plan", ".csv"))
     bad = False
     with tempfile.TemporaryDirectory() as folder:
         library = f"{folder}/refuse.so"

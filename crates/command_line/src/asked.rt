@@ -1,5 +1,6 @@
 //! What the program may be asked to do.
 use crate::attach_words::Attaching;
+use crate::simulate_words::Simulating;
 use std::net::SocketAddr;
 
 /// What the program is asked to do.
@@ -14,8 +15,10 @@ pub enum Asked<'a> {
     /// Judge the text of a plan from standard input, and where the starts are asked for tell when
     /// each job starts.
     Check { starts: bool },
-    /// Draw the plan of a text from standard input, in SVG or for a terminal.
-    Draw { text: bool },
+    /// Draw the plan of a text from standard input, or the day of a trace, in SVG or for a terminal.
+    Draw { text: bool, trace: Option<&'a str> },
+    /// Play a day of jobs.
+    Simulate(Simulating<'a>),
     /// Attach a printer to a server.
     Attach(Attaching<'a>),
 }

@@ -6,7 +6,7 @@ use std::alloc::Global;
 use std::net::{IpAddr, SocketAddr};
 
 /// The value of an option makes no sense, and what would.
-fn invalid(alloc: Global, value: &str, option: &str, wanted: &str) -> WordsError {
+pub(crate) fn invalid(alloc: Global, value: &str, option: &str, wanted: &str) -> WordsError {
     let text = format!(in alloc;
         "error: invalid value '{value}' for '--{option}': {wanted}\n\nFor more information, try '--help'.\n"
     );

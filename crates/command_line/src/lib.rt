@@ -10,9 +10,11 @@ mod asked;
 mod attach_words;
 mod doors;
 mod read;
+mod simulate_words;
 mod words_error;
 
 pub use asked::{AboutSettings, Asked, Log, Serving};
 pub use attach_words::Attaching;
 pub use read::read_words;
+pub use simulate_words::Simulating;
 pub use words_error::WordsError;

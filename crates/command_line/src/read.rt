@@ -1,8 +1,9 @@
 //! The commands of `printd`, as `clap` reads them.
 
 use crate::asked::{AboutSettings, Asked, Log, Serving};
-use crate::attach_words::{attach_command, attach_words};
+use crate::attach_words::{attach_command, attach_words, word};
 use crate::doors::{addresses, default_address};
+use crate::simulate_words::{simulate_command, simulate_words};
 use crate::words_error::WordsError;
 use clap::error::ErrorKind;
 use clap::{Arg, ArgAction, ArgMatches, Command, Error};
@@ -150,8 +151,14 @@ fn check_command<'a>(alloc: Global) -> Result<Command<'a>, AllocError> {
 
 fn draw_command<'a>(alloc: Global) -> Result<Command<'a>, AllocError> {
     Command::new(alloc, "draw")
-        .about("Draw the plan of a text from standard input, as SVG")
-        .arg(flag(alloc, "text", "Draw it for a terminal of 80 columns"))
+        .about("Draw the plan of a text from standard input, or the day of a trace, as SVG")
+        .arg(flag(alloc, "text", "Draw it for a terminal of 80 columns"))?
+        .arg(word(
+            alloc,
+            "trace",
+            "FILE",
+            "Draw the day of this trace: which device printed what, and when",
+        ))
 }
 
 fn command<'a>(alloc: Global) -> Result<Command<'a>, AllocError> {
@@ -165,6 +172,7 @@ fn command<'a>(alloc: Global) -> Result<Command<'a>, AllocError> {
         .subcommand(replay_command(alloc)?)?
         .subcommand(check_command(alloc)?)?
         .subcommand(draw_command(alloc)?)?
+        .subcommand(simulate_command(alloc)?)?
         .subcommand(attach_command(alloc)?)
 }
 
@@ -226,7 +234,9 @@ fn meaning<'a>(alloc: Global, found: &ArgMatches<'a>) -> Result<Asked<'a>, Words
         }),
         Some(("draw", inner)) => Ok(Asked::Draw {
             text: inner.get_flag("text"),
+            trace: inner.get_str("trace"),
         }),
+        Some(("simulate", inner)) => Ok(Asked::Simulate(simulate_words(alloc, inner)?)),
         Some(("attach", inner)) => match attach_words(inner) {
             Some(attaching) => Ok(Asked::Attach(attaching)),
             None => Err(no_command(alloc)),

@@ -2,11 +2,22 @@
 
 use base_types::{Stranded, Text};
 
+/// What becomes of a job on its device.
+#[derive(Clone, Copy, Debug, PartialEq, Eq)]
+pub enum Ending {
+    Printed,
+    Canceled,
+    Failed,
+    /// The chart ends before the job does.
+    Open,
+}
+
 /// A job by its number, of the class at a place of the chart's classes.
 #[derive(Clone, Copy, Debug, PartialEq, Eq)]
 pub struct ChartJob {
     pub number: u32,
     pub class: usize,
+    pub ending: Ending,
 }
 
 /// What a bar stands for.
@@ -16,6 +27,8 @@ pub enum Mark {
     Wait,
     /// The device prints a job.
     Job(ChartJob),
+    /// The job of this number came. The bar has no length.
+    Came(u32),
 }
 
 /// A bar of a lane, from its start to its end, in ms since the moment at which the chart begins.
@@ -26,7 +39,7 @@ pub struct Bar {
     pub end: u64,
 }
 
-/// A device, with its bars by rising start.
+/// A device, or the jobs that came, with its bars by rising start.
 #[derive(Debug, Drop)]
 pub struct Lane {
     pub name: Text,
@@ -43,11 +56,13 @@ pub struct Chart {
     pub classes: Vec<u8>,
     /// The jobs that no device can print.
     pub stranded: Vec<Stranded>,
-    /// The sum of the times to paper of all its jobs, in ms.
+    /// What else is said of jobs, a sentence each.
+    pub notes: Vec<String>,
+    /// The sum of the times to paper of all jobs that are printed, in ms.
     pub total: u128,
 }
 
-/// How long a chart is in which no job ends, in ms.
+/// How long a chart is in which nothing happens, in ms.
 const EMPTY: u64 = 60_000;
 
 impl Bar {
@@ -56,22 +71,46 @@ impl Bar {
         self.end.saturating_sub(self.start)
     }
 
-    fn is_job(&self) -> bool {
-        matches!(self.mark, Mark::Job(_))
+    /// The job that is printed.
+    pub(crate) fn job(&self) -> Option<ChartJob> {
+        match self.mark {
+            Mark::Job(job) => Some(job),
+            Mark::Wait | Mark::Came(_) => None,
+        }
+    }
+
+    fn is_wait(&self) -> bool {
+        matches!(self.mark, Mark::Wait)
+    }
+
+    /// Whether a job ends so.
+    pub(crate) fn ends_as(&self, ending: Ending) -> bool {
+        match self.job() {
+            Some(job) => job.ending == ending,
+            None => false,
+        }
     }
 }
 
 impl Lane {
-    /// How many jobs it has.
+    /// How many jobs it has, or how many came.
     pub(crate) fn jobs(&self) -> usize {
-        self.bars.iter().filter(|bar| bar.is_job()).count()
+        self.bars.iter().filter(|bar| !bar.is_wait()).count()
     }
 
-    /// When its last job ends; 0 where it has none.
+    /// How many jobs it has printed.
+    fn printed(&self) -> usize {
+        self.bars
+            .iter()
+            .filter(|bar| bar.ends_as(Ending::Printed))
+            .count()
+    }
+
+    /// When its last job ended, or came; 0 where it has none.
     fn last_end(&self) -> u64 {
         let mut last = 0;
         for bar in &self.bars {
-            if bar.is_job() {
+            if !bar.is_wait() {
                 last = bar.end.max(last);
             }
         }
@@ -80,21 +119,37 @@ impl Lane {
 
     /// Whether the device waits at any time.
     pub(crate) fn waits(&self) -> bool {
-        self.bars.iter().any(|bar| !bar.is_job())
+        self.bars.iter().any(|bar| bar.is_wait())
+    }
+
+    /// Whether it is the lane of the jobs that came.
+    pub(crate) fn has_arrivals(&self) -> bool {
+        self.bars
+            .iter()
+            .any(|bar| matches!(bar.mark, Mark::Came(_)))
+    }
+
+    fn has_ending(&self, ending: Ending) -> bool {
+        self.bars.iter().any(|bar| bar.ends_as(ending))
     }
 }
 
 impl Chart {
     /// How many jobs are printed.
-    pub(crate) fn jobs(&self) -> u64 {
+    fn printed(&self) -> u64 {
         let mut jobs = 0u64;
         for lane in &self.lanes {
-            jobs = jobs.saturating_add(lane.jobs() as u64);
+            jobs = jobs.saturating_add(lane.printed() as u64);
         }
         jobs
     }
 
-    /// When the last job ends, in ms; where there is none, a minute.
+    /// Whether a job ends so.
+    pub(crate) fn has_ending(&self, ending: Ending) -> bool {
+        self.lanes.iter().any(|lane| lane.has_ending(ending))
+    }
+
+    /// When the last job ended, or came, in ms; where there is none, a minute.
     pub(crate) fn span(&self) -> u64 {
         let mut last = 0;
         for lane in &self.lanes {
@@ -105,6 +160,8 @@ impl Chart {
 
     /// The mean time to paper, in ms, cut off; 0 where no job is printed.
     pub(crate) fn mean(&self) -> u128 {
-        self.total.checked_div(u128::from(self.jobs())).unwrap_or(0)
+        self.total
+            .checked_div(u128::from(self.printed()))
+            .unwrap_or(0)
     }
 }

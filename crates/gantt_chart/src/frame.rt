@@ -13,8 +13,14 @@ const LETTER_WIDTH: f64 = 7.5;
 /// How far apart labels stand side by side below a lane.
 pub(crate) const LABEL_PITCH: f64 = 11.0;
 
+/// The room that the label of a job that came has, so that it stands near its pin.
+const ARRIVAL_PITCH: f64 = 16.5;
+
 /// How many labels a lane may have, for which a picture is made wider.
 const LABELS: usize = 600;
+
+/// How many jobs may have come, for whose labels a picture is made wider.
+const ARRIVAL_LABELS: usize = 100;
 
 /// The room around everything.
 pub(crate) const MARGIN: f64 = 16.0;
@@ -34,9 +40,26 @@ fn name_width(lane: &Lane) -> f64 {
     LETTER_WIDTH * nearest_usize_to_f64(lane.name.as_bytes().len())
 }
 
-/// The room for the labels of a lane.
-fn labels_width(lane: &Lane) -> f64 {
-    LABEL_PITCH * nearest_usize_to_f64(lane.jobs().min(LABELS))
+/// The room that so many labels of a lane take.
+pub(crate) fn labels_width(lane: &Lane, labels: usize) -> f64 {
+    let pitch = if lane.has_arrivals() {
+        ARRIVAL_PITCH
+    } else {
+        LABEL_PITCH
+    };
+    pitch * nearest_usize_to_f64(labels)
+}
+
+/// How many labels of a lane a picture is made wider for.
+fn labels_of(lane: &Lane) -> usize {
+    let jobs = lane.jobs();
+    if !lane.has_arrivals() {
+        jobs.min(LABELS)
+    } else if jobs <= ARRIVAL_LABELS {
+        jobs
+    } else {
+        0
+    }
 }
 
 impl Frame {
@@ -53,7 +76,7 @@ impl Frame {
     fn fit(&mut self, chart: &Chart) {
         for lane in &chart.lanes {
             self.left = self.left.max(2.0 * MARGIN + name_width(lane));
-            self.width = self.width.max(labels_width(lane));
+            self.width = self.width.max(labels_width(lane, labels_of(lane)));
         }
     }
 

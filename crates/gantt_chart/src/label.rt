@@ -1,7 +1,7 @@
 //! The labels of jobs: in a bar where it is wide enough, else below its lane.
 
 use crate::chart::{Bar, Lane, Mark};
-use crate::frame::{Frame, LABEL_PITCH};
+use crate::frame::{Frame, LABEL_PITCH, labels_width};
 use crate::length::ShortTime;
 use std::alloc::{AllocError, Global};
 use std::num::nearest_usize_to_f64;
@@ -52,12 +52,23 @@ impl Label {
     }
 }
 
+/// The label of a bar, if it has one.
+fn label_of(alloc: Global, bar: &Bar) -> Result<Option<Label>, AllocError> {
+    match bar.mark {
+        Mark::Wait => Ok(None),
+        Mark::Job(job) => Ok(Some(Label::of(alloc, job.number, bar.length())?)),
+        Mark::Came(number) => Ok(Some(Label {
+            number: format!(in alloc; "{number}")?,
+            length: String::new(alloc),
+        })),
+    }
+}
+
 /// The label of a bar below its lane, where the bar has no room for it.
 fn tag_of(alloc: Global, frame: Frame, bar: &Bar) -> Result<Option<Tag>, AllocError> {
-    let Mark::Job(job) = bar.mark else {
+    let Some(label) = label_of(alloc, bar)? else {
         return Ok(None);
     };
-    let label = Label::of(alloc, job.number, bar.length())?;
     let (start, end) = (frame.x(bar.start), frame.x(bar.end));
     if label.fits(end - start) {
         return Ok(None);
@@ -97,7 +108,7 @@ pub(crate) fn tags_of(alloc: Global, frame: Frame, lane: &Lane) -> Result<Vec<Ta
             tags.push(tag)?;
         }
     }
-    if LABEL_PITCH * nearest_usize_to_f64(tags.len()) > frame.width {
+    if labels_width(lane, tags.len()) > frame.width {
         tags.clear();
     }
     push_right(&mut tags, frame.left);

@@ -1,7 +1,8 @@
 //! A lane of a chart in a picture: the device's name, its bars, and the labels of its jobs.
 
-use crate::chart::{Bar, Chart, ChartJob, Lane, Mark};
+use crate::chart::{Bar, Chart, ChartJob, Ending, Lane, Mark};
 use crate::colour::class_colour;
+use crate::ending::{strip_of, words_of};
 use crate::frame::{Frame, MARGIN};
 use crate::label::{Label, Tag, tags_height, tags_of};
 use crate::scale::MOST_MARKS;
@@ -16,6 +17,9 @@ const ABOVE: f64 = 8.0;
 
 /// How far below a bar its label begins, where it stands there.
 const LEADER: f64 = 12.0;
+
+/// The height of the strip that shows what became of a job.
+const STRIP_HEIGHT: f64 = 4.0;
 
 /// The least width of a bar, so that it is seen.
 const THINNEST: f64 = 0.6;
@@ -109,10 +113,44 @@ fn put_rectangle(
 /// What is told of a job.
 fn telling(alloc: Global, job: ChartJob, classes: &[u8]) -> Result<String, AllocError> {
     let number = job.number;
-    match classes.get(job.class) {
-        Some(priority) => format!(in alloc; "job {number}, priority {priority}"),
-        None => format!(in alloc; "job {number}"),
+    let mut text = match classes.get(job.class) {
+        Some(priority) => format!(in alloc; "job {number}, priority {priority}")?,
+        None => format!(in alloc; "job {number}")?,
+    };
+    if job.ending != Ending::Printed {
+        text.push_str(", ")?;
+        text.push_str(words_of(job.ending))?;
     }
+    Ok(text)
+}
+
+/// Appends the strip below a bar that shows what became of a job that wasn't printed.
+fn put_strip(output: &mut String, extent: Extent, ending: Ending) -> Result<(), AllocError> {
+    let Some(fill) = strip_of(ending) else {
+        return Ok(());
+    };
+    let Extent { x, width, .. } = extent;
+    let y = extent.y + BAR_HEIGHT;
+    write!(
+        output,
+        "<rect x=\"{x:.1}\" y=\"{y:.1}\" width=\"{width:.1}\" height=\"{STRIP_HEIGHT}\" fill=\"{fill}\"/>\n"
+    )?;
+    Ok(())
+}
+
+/// Appends the pin of a job that came.
+fn put_pin(
+    output: &mut String,
+    extent: Extent,
+    number: u32,
+    moment: u64,
+) -> Result<(), AllocError> {
+    let (x, top, bottom) = (extent.x, extent.y + 12.0, extent.y + BAR_HEIGHT);
+    write!(
+        output,
+        "<path d=\"M{x:.1} {bottom:.1}V{top:.1}h6v6h-6\" stroke=\"#444\" fill=\"#444\"><title>job {number} came at {moment} ms</title></path>\n"
+    )?;
+    Ok(())
 }
 
 /// Appends the bar of a job, with its label where it fits.
@@ -128,6 +166,7 @@ fn put_job(
     let fill = format!(in alloc; "{colour}")?;
     let what = telling(alloc, job, classes)?;
     put_rectangle(output, extent, &fill, bar, &what)?;
+    put_strip(output, extent, job.ending)?;
     let label = Label::of(alloc, job.number, bar.length())?;
     if label.fits(extent.width) {
         put_label(output, extent, colour.ink(), &label)?;
@@ -146,6 +185,7 @@ fn put_bar(
     match bar.mark {
         Mark::Wait => put_rectangle(output, extent, "url(#wait)", bar, "not free"),
         Mark::Job(job) => put_job(alloc, output, extent, bar, job, classes),
+        Mark::Came(number) => put_pin(output, extent, number, bar.start),
     }
 }
 

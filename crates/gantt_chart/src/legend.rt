@@ -2,6 +2,7 @@
 
 use crate::chart::Chart;
 use crate::colour::class_colour;
+use crate::ending::{SHOWN, strip_of, words_of};
 use crate::frame::{Frame, MARGIN};
 use crate::length::LongTime;
 use crate::svg::put_text;
@@ -67,6 +68,20 @@ fn put_classes(
     Ok(pen)
 }
 
+/// Appends what the strips below bars mean, of those that there are, and gives the place behind.
+fn put_endings(output: &mut String, chart: &Chart, from: Pen) -> Result<Pen, AllocError> {
+    let mut pen = from;
+    for ending in SHOWN {
+        if let Some(fill) = strip_of(ending)
+            && chart.has_ending(ending)
+        {
+            put_entry(output, pen, fill, words_of(ending))?;
+            pen = pen.next();
+        }
+    }
+    Ok(pen)
+}
+
 /// The times of a chart, in a sentence.
 pub(crate) fn times_of(alloc: Global, chart: &Chart) -> Result<String, AllocError> {
     let (total, mean) = (LongTime(chart.total), LongTime(chart.mean()));
@@ -97,6 +112,7 @@ pub(crate) fn put_heading(
         right: frame.right(),
     };
     let pen = put_classes(alloc, output, chart, pen)?;
+    let pen = put_endings(output, chart, pen)?;
     if chart.lanes.iter().any(|lane| lane.waits()) {
         put_entry(output, pen, "url(#wait)", "not free")?;
     }

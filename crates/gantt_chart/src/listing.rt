@@ -1,6 +1,7 @@
 //! The jobs of each lane in words, for a terminal, and what its fillings mean.
 
-use crate::chart::{Bar, Chart, Lane, Mark};
+use crate::chart::{Bar, Chart, ChartJob, Ending, Lane, Mark};
+use crate::ending::{SHOWN, edge_of, words_of};
 use crate::length::ShortTime;
 use crate::row::{WAIT, filling_of};
 use crate::terminal::{WIDTH, put_name};
@@ -40,13 +41,26 @@ impl Line {
     }
 }
 
-/// Appends the number and the length of a job, where the bar is that of one.
+/// The number and the length of a job, and what became of it where it wasn't printed.
+fn job_words(alloc: Global, job: ChartJob, length: u64) -> Result<String, AllocError> {
+    let (number, length) = (job.number, ShortTime(length));
+    if job.ending == Ending::Printed {
+        return format!(in alloc; "{number} {length}");
+    }
+    let words = words_of(job.ending);
+    format!(in alloc; "{number} {length} {words}")
+}
+
+/// Appends what a bar says of a job: how long it is, or when it came.
 fn put_job(alloc: Global, output: &mut String, line: Line, bar: &Bar) -> Result<Line, AllocError> {
-    let Mark::Job(job) = bar.mark else {
-        return Ok(line);
+    let entry = match bar.mark {
+        Mark::Wait => return Ok(line),
+        Mark::Job(job) => job_words(alloc, job, bar.length())?,
+        Mark::Came(number) => {
+            let moment = ShortTime(bar.start);
+            format!(in alloc; "{number} {moment}")?
+        }
     };
-    let (number, length) = (job.number, ShortTime(bar.length()));
-    let entry = format!(in alloc; "{number} {length}")?;
     line.with_entry(output, &entry)
 }
 
@@ -72,7 +86,41 @@ pub(crate) fn put_jobs(
     Ok(())
 }
 
-/// Appends what the fillings mean.
+/// Appends what the fillings of classes mean.
+fn put_classes(
+    alloc: Global,
+    output: &mut String,
+    chart: &Chart,
+    from: Line,
+) -> Result<Line, AllocError> {
+    let mut line = from;
+    for (place, priority) in chart.classes.iter().enumerate() {
+        let filling = char::from(filling_of(place));
+        let entry = format!(in alloc; "{filling} priority {priority}")?;
+        line = line.with_entry(output, &entry)?;
+    }
+    Ok(line)
+}
+
+/// Appends what the ends of bars mean, of those that there are.
+fn put_endings(
+    alloc: Global,
+    output: &mut String,
+    chart: &Chart,
+    from: Line,
+) -> Result<Line, AllocError> {
+    let mut line = from;
+    for ending in SHOWN {
+        if chart.has_ending(ending) {
+            let (edge, words) = (char::from(edge_of(ending)), words_of(ending));
+            let entry = format!(in alloc; "{edge} {words}")?;
+            line = line.with_entry(output, &entry)?;
+        }
+    }
+    Ok(line)
+}
+
+/// Appends what the characters of a chart mean.
 pub(crate) fn put_fillings(
     alloc: Global,
     output: &mut String,
@@ -80,14 +128,14 @@ pub(crate) fn put_fillings(
     indent: usize,
 ) -> Result<(), AllocError> {
     put_name(output, b"", indent)?;
-    let mut line = Line {
+    let begun = Line {
         end: indent,
         indent,
     };
-    for (place, priority) in chart.classes.iter().enumerate() {
-        let filling = char::from(filling_of(place));
-        let entry = format!(in alloc; "{filling} priority {priority}")?;
-        line = line.with_entry(output, &entry)?;
+    let line = put_classes(alloc, output, chart, begun)?;
+    let line = put_endings(alloc, output, chart, line)?;
+    if chart.lanes.iter().any(|lane| lane.has_arrivals()) {
+        line.with_entry(output, "1-9 jobs came, + more")?;
     }
     if chart.lanes.iter().any(|lane| lane.waits()) {
         let wait = char::from(WAIT);

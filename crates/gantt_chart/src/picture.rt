@@ -1,6 +1,7 @@
 //! Charts as a picture in SVG (SVG 1.1, W3C Recommendation of 2011).
 
 use crate::chart::Chart;
+use crate::ending::SHOWN;
 use crate::frame::{Frame, MARGIN};
 use crate::lane::put_lane;
 use crate::legend::put_heading;
@@ -81,6 +82,16 @@ fn put_stranded(
     Ok(bottom)
 }
 
+/// Appends what else is said of jobs, a line each, and tells where they end.
+fn put_notes(output: &mut String, notes: &[String], top: f64) -> Result<f64, AllocError> {
+    let mut bottom = top;
+    for note in notes {
+        bottom = bottom + LINE;
+        put_text(output, MARGIN, bottom, "", note.as_bytes())?;
+    }
+    Ok(bottom)
+}
+
 /// Appends a chart from there down, and tells where it ends.
 fn put_chart(
     alloc: Global,
@@ -92,7 +103,8 @@ fn put_chart(
     let lanes = put_heading(alloc, output, frame, chart, top)?;
     let scale = put_lanes(alloc, output, frame, chart, lanes)?;
     let below = put_scale(alloc, output, frame, scale)?;
-    let bottom = put_stranded(alloc, output, &chart.stranded, below)?;
+    let stranded = put_stranded(alloc, output, &chart.stranded, below)?;
+    let bottom = put_notes(output, &chart.notes, stranded)?;
     Ok(bottom + MARGIN)
 }
 
@@ -108,6 +120,15 @@ fn put_charts(
         bottom = put_chart(alloc, output, frame, chart, bottom)?;
     }
     Ok(bottom)
+}
+
+/// The strips of jobs that were canceled, and of those that haven't ended.
+const STRIPS: &str =
+    "<defs><pattern id=\"canceled\" width=\"8\" height=\"4\" patternUnits=\"userSpaceOnUse\"><rect width=\"8\" height=\"4\" fill=\"#fff\"/><rect width=\"5\" height=\"4\" fill=\"#d00000\"/></pattern><pattern id=\"open\" width=\"4\" height=\"4\" patternUnits=\"userSpaceOnUse\"><rect width=\"4\" height=\"4\" fill=\"#fff\"/><rect width=\"2\" height=\"4\" fill=\"#444\"/></pattern></defs>\n";
+
+/// Whether a strip shows somewhere what became of a job.
+fn have_strips(charts: &[Chart]) -> bool {
+    SHOWN.iter().any(|ending| charts.iter().any(|chart| chart.has_ending(*ending)))
 }
 
 /// The begin of a picture of this size: a white ground, and the hatching of waits.
@@ -127,11 +148,14 @@ fn head_of(alloc: Global, width: f64, height: f64) -> Result<String, AllocError>
 /// A picture of charts, below one another and over one scale: whole lines, as they are to be written.
 ///
 /// A bar tells its exact start and end where it is pointed at. The only error is out of memory.
-pub fn write_svg(alloc: Global, charts: &[Chart]) -> Result<String, AllocError> {
+pub(crate) fn write_svg(alloc: Global, charts: &[Chart]) -> Result<String, AllocError> {
     let frame = Frame::of(charts);
     let mut body = String::new(alloc);
     let bottom = put_charts(alloc, &mut body, frame, charts)?;
     let mut picture = head_of(alloc, frame.right() + 2.0 * MARGIN, bottom)?;
+    if have_strips(charts) {
+        picture.push_str(STRIPS)?;
+    }
     picture.push_str(&body)?;
     picture.push_str("</svg>\n")?;
     Ok(picture)

@@ -1,6 +1,7 @@
 //! Rows of a terminal's picture: the bars of a lane, and the numbers of the scale.
 
-use crate::chart::{Bar, Lane, Mark};
+use crate::chart::{Bar, ChartJob, Lane, Mark};
+use crate::ending::{SHOWN, edge_of};
 use crate::scale::{MOST_MARKS, Scale};
 use std::alloc::{AllocError, Global};
 
@@ -10,7 +11,7 @@ const FILLINGS: [u8; 6] = [b'#', b'=', b'+', b'-', b':', b'.'];
 /// The filling of waits.
 pub(crate) const WAIT: u8 = b'/';
 
-/// What stands where a bar begins and where it ends.
+/// What stands where a bar begins, and where it ends that was printed.
 const EDGE: u8 = b'|';
 
 /// The filling of a class at a place.
@@ -41,28 +42,55 @@ fn put_word(cells: &mut [u8], from: usize, word: &[u8]) {
     }
 }
 
-/// Puts a bar between two columns.
-fn put_bar(
+/// Whether a cell shows that a job ended there that wasn't printed.
+fn is_ending(byte: u8) -> bool {
+    SHOWN.iter().any(|ending| edge_of(*ending) == byte)
+}
+
+/// Puts the edge at which a bar begins, unless the one before shows there how it ended.
+fn put_begin(cells: &mut [u8], from: usize) {
+    if let Some(cell) = cells.get_mut(from)
+        && !is_ending(*cell)
+    {
+        *cell = EDGE;
+    }
+}
+
+/// Puts the bar of a job between two columns.
+fn put_job(
     alloc: Global,
     cells: &mut [u8],
     from: usize,
     to: usize,
-    mark: Mark,
+    job: ChartJob,
 ) -> Result<(), AllocError> {
-    match mark {
-        Mark::Wait => fill(cells, from, to, WAIT),
-        Mark::Job(job) => {
-            let number = job.number;
-            let word = format!(in alloc; "{number}")?;
-            fill(cells, from, to, filling_of(job.class));
-            if word.len() < to.saturating_sub(from) {
-                put_word(cells, from.saturating_add(1), word.as_bytes());
-            }
-        }
+    let number = job.number;
+    let word = format!(in alloc; "{number}")?;
+    fill(cells, from.saturating_add(1), to, filling_of(job.class));
+    if word.len() < to.saturating_sub(from) {
+        put_word(cells, from.saturating_add(1), word.as_bytes());
     }
+    put_begin(cells, from);
+    put_cell(cells, to, edge_of(job.ending));
+    Ok(())
+}
+
+/// Puts the wait of a device between two columns.
+fn put_wait(cells: &mut [u8], from: usize, to: usize) {
+    fill(cells, from, to, WAIT);
     put_cell(cells, from, EDGE);
     put_cell(cells, to, EDGE);
-    Ok(())
+}
+
+/// Counts one more job that came in a column.
+fn put_arrival(cells: &mut [u8], place: usize) {
+    if let Some(cell) = cells.get_mut(place) {
+        *cell = match *cell {
+            b' ' => b'1',
+            b'1'..=b'8' => cell.saturating_add(1),
+            _ => b'+',
+        };
+    }
 }
 
 fn put_lane_bar(
@@ -74,7 +102,12 @@ fn put_lane_bar(
 ) -> Result<(), AllocError> {
     let from = usize::from(scale.column(bar.start, columns));
     let to = usize::from(scale.column(bar.end, columns));
-    put_bar(alloc, cells, from, to, bar.mark)
+    match bar.mark {
+        Mark::Wait => put_wait(cells, from, to),
+        Mark::Job(job) => put_job(alloc, cells, from, to, job)?,
+        Mark::Came(_) => put_arrival(cells, from),
+    }
+    Ok(())
 }
 
 /// The row of a lane, of so many columns and one.

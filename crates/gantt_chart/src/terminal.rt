@@ -17,13 +17,19 @@ const LONGEST_NAME: usize = 16;
 
 const SHORTEST_NAME: usize = 8;
 
-/// How many columns names take.
-fn name_columns(chart: &Chart) -> usize {
+/// The columns of the longest name of a chart.
+fn longest_name(chart: &Chart) -> usize {
     let mut longest = SHORTEST_NAME;
     for lane in &chart.lanes {
         longest = lane.name.as_bytes().len().max(longest);
     }
-    longest.min(LONGEST_NAME)
+    longest
+}
+
+/// How many columns names take.
+fn name_columns(charts: &[Chart]) -> usize {
+    let longest = charts.iter().map(longest_name).max();
+    longest.unwrap_or(SHORTEST_NAME).min(LONGEST_NAME)
 }
 
 /// Appends a name, cut off or filled up with spaces to so many columns.
@@ -55,9 +61,9 @@ fn put_rows(
     alloc: Global,
     output: &mut String,
     chart: &Chart,
+    scale: Scale,
     names: usize,
 ) -> Result<(), AllocError> {
-    let scale = Scale::new(chart.span());
     let columns = u16::try_from(WIDTH.saturating_sub(names.saturating_add(1))).unwrap_or(0);
     for lane in &chart.lanes {
         let cells = lane_row(alloc, scale, columns, lane)?;
@@ -93,16 +99,44 @@ fn put_stranded(
     Ok(())
 }
 
-/// A picture of a chart in 80 columns, with the numbers and lengths of all its jobs below: whole lines, as
-/// they are to be written. The only error is out of memory.
-pub fn write_text(alloc: Global, chart: &Chart) -> Result<String, AllocError> {
-    let names = name_columns(chart);
+/// Appends what else is said of jobs, a line each.
+fn put_notes(output: &mut String, notes: &[String]) -> Result<(), AllocError> {
+    for note in notes {
+        output.push_str(note)?;
+        output.push('\n')?;
+    }
+    Ok(())
+}
+
+/// Appends a chart, with the numbers and lengths of all its jobs below.
+fn put_chart(
+    alloc: Global,
+    output: &mut String,
+    chart: &Chart,
+    scale: Scale,
+    names: usize,
+) -> Result<(), AllocError> {
     let (title, times) = (&chart.title, times_of(alloc, chart)?);
-    let mut picture = format!(in alloc; "{title}\n{times}\n\n")?;
-    put_rows(alloc, &mut picture, chart, names)?;
-    put_fillings(alloc, &mut picture, chart, names)?;
-    picture.push('\n')?;
-    put_lists(alloc, &mut picture, &chart.lanes, names)?;
-    put_stranded(alloc, &mut picture, &chart.stranded)?;
+    write!(output, "{title}\n{times}\n\n")?;
+    put_rows(alloc, output, chart, scale, names)?;
+    put_fillings(alloc, output, chart, names)?;
+    output.push('\n')?;
+    put_lists(alloc, output, &chart.lanes, names)?;
+    put_stranded(alloc, output, &chart.stranded)?;
+    put_notes(output, &chart.notes)
+}
+
+/// A picture of charts in 80 columns, below one another and over one scale: whole lines, as they are to be
+/// written. The only error is out of memory.
+pub(crate) fn write_text(alloc: Global, charts: &[Chart]) -> Result<String, AllocError> {
+    let names = name_columns(charts);
+    let scale = Scale::new(charts.iter().map(Chart::span).max().unwrap_or(1));
+    let mut picture = String::new(alloc);
+    for (place, chart) in charts.iter().enumerate() {
+        if place > 0 {
+            picture.push('\n')?;
+        }
+        put_chart(alloc, &mut picture, chart, scale, names)?;
+    }
     Ok(picture)
 }

@@ -116,5 +116,9 @@ pub fn read_list(
         let line = line_of(&row);
         add_job(alloc, &mut jobs, &columns, &row, settings).map_err(|error| error.at(line))?;
     }
+    if read_row(&mut reader, &mut row)? {
+        let line = line_of(&row);
+        return Err(LineError::Fault(ListFault::TooMany).at(line));
+    }
     Ok(jobs)
 }

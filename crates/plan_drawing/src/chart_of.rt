@@ -5,7 +5,7 @@ ghost use Rattle.prices.specs.Total.{completion_of};
 ghost use Rattle.prices.specs.Timetable.{own_slots};
 
 use base_types::{JobId, Text};
-use gantt_chart::{Bar, Chart, ChartJob, Lane, Mark};
+use gantt_chart::{Bar, Chart, ChartJob, Ending, Lane, Mark};
 use plan_text::PlanText;
 use prices::{PlannedClass, start_of, total};
 use std::alloc::{AllocError, Global};
@@ -84,6 +84,7 @@ fn add_job(
         mark: Mark::Job(ChartJob {
             number: job.number(),
             class: place,
+            ending: Ending::Printed,
         }),
         start: printing.start,
         end: printing.end,
@@ -195,6 +196,7 @@ pub(crate) fn chart_of(
         lanes,
         classes: priorities_of(alloc, classes)?,
         stranded: Vec::from_slice(alloc, named.plan().stranded())?,
+        notes: Vec::new(alloc),
         total: total_of(classes),
     })
 }

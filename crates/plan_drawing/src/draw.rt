@@ -5,22 +5,13 @@ ghost use Rattle.prices.specs.Plan.{HasOneListEach};
 use crate::chart_of::chart_of;
 use crate::ways::{follow_one_another, have_ways};
 use base_types::Limits;
-use gantt_chart::{Chart, write_svg, write_text};
+use gantt_chart::{Form, draw_charts};
 use plan_audit::{Audit, Objection, fault_line};
 use plan_checker::{PlanVerdict, check_plan};
 use plan_text::{PlanText, ReadError, read_plan_text};
 use std::alloc::{AllocError, Global};
 use std::io::{Read, Write};
 use streams::{ExitStatus, InputFault, read_whole, write_front};
-
-/// What a picture is made of.
-#[derive(Clone, Copy, Debug, PartialEq, Eq)]
-pub enum Form {
-    /// Elements of SVG.
-    Svg,
-    /// The characters of a terminal of 80 columns.
-    Text,
-}
 
 /// A picture, how the program ends, and what is objected to.
 #[derive(Drop)]
@@ -139,13 +130,5 @@ fn picture_of(
         return Ok(String::new(alloc));
     }
     let chart = chart_of(alloc, named, is_proved)?;
-    written(alloc, chart, form)
-}
-
-/// A chart in a form.
-fn written(alloc: Global, chart: Chart, form: Form) -> Result<String, AllocError> {
-    match form {
-        Form::Svg => write_svg(alloc, &[chart]),
-        Form::Text => write_text(alloc, &chart),
-    }
+    draw_charts(alloc, &[chart], form)
 }

@@ -11,4 +11,4 @@ mod chart_of;
 mod draw;
 mod ways;
 
-pub use draw::{Form, run_draw};
+pub use draw::run_draw;

@@ -4,20 +4,23 @@
 //!
 //! What a trace or a plan gives is the contract of `replay` and of `plan_audit`; here the definitions
 //! behind these contracts are held against rows that were worked out by hand. How the picture of a plan
-//! looks stands in its rows alone.
+//! or of a day looks stands in its rows alone.
 #![tactic(auto)]
 
 mod cuts;
+mod days;
 mod example;
 mod many_jobs;
 mod texts;
 
 use crate::cuts::{STREAMS, Stream, stays_in_two_pieces};
+use crate::days::{DAYS, DRAWN, Day, Drawn, is_drawn_so, is_played_so};
 use crate::example::{EXAMPLES, Example, Program};
 use crate::many_jobs::CROWDS;
 use crate::texts::each_is_proved;
+use gantt_chart::Form;
 use plan_audit::run_check;
-use plan_drawing::{Form, run_draw};
+use plan_drawing::run_draw;
 use replay::run_replay;
 use std::process::ExitCode;
 use std::{fs, io};
@@ -92,6 +95,44 @@ fn play_crowds(rt: &HostRuntime) -> io::Result<bool> {
     Ok(all)
 }
 
+/// Whether what is written of a day that is simulated is as it must be. The error is the system's, of its
+/// files.
+fn is_simulated_so(rt: &HostRuntime, day: &Day) -> io::Result<bool> {
+    let settings = fs::read(rt, day.settings)?;
+    let jobs = fs::read(rt, day.jobs)?;
+    let wanted = fs::read(rt, day.output)?;
+    Ok(is_played_so(rt.alloc(), &settings, &jobs, &wanted))
+}
+
+/// Whether the picture of a day is as it must be. The error is the system's, of its files.
+fn is_drawn_as_wanted(rt: &HostRuntime, drawn: &Drawn) -> io::Result<bool> {
+    let trace = fs::read(rt, drawn.trace)?;
+    let wanted = fs::read(rt, drawn.picture)?;
+    Ok(is_drawn_so(rt.alloc(), &trace, drawn.form, &wanted))
+}
+
+/// Draws the days of traces: whether each is as it must be.
+fn draw_days(rt: &HostRuntime) -> io::Result<bool> {
+    let mut all = true;
+    for drawn in &DRAWN {
+        let as_wanted = is_drawn_as_wanted(rt, drawn)?;
+        tell(rt, drawn.picture, as_wanted)?;
+        all = all && as_wanted;
+    }
+    Ok(all)
+}
+
+/// Simulates the days: whether each is as it must be.
+fn play_days(rt: &HostRuntime) -> io::Result<bool> {
+    let mut all = true;
+    for day in &DAYS {
+        let as_wanted = is_simulated_so(rt, day)?;
+        tell(rt, day.output, as_wanted)?;
+        all = all && as_wanted;
+    }
+    Ok(all)
+}
+
 /// Whether what comes of a stream is as it must be, wherever it is cut in two. The error is the
 /// system's, of its files.
 fn is_the_same_when_cut(rt: &HostRuntime, stream: &Stream) -> io::Result<bool> {
@@ -115,9 +156,11 @@ fn play_cuts(rt: &HostRuntime) -> io::Result<bool> {
 /// Plays them all: whether each is as it must be.
 fn play_all(rt: &HostRuntime) -> io::Result<bool> {
     let files = play_files(rt)?;
+    let days = play_days(rt)?;
+    let drawn = draw_days(rt)?;
     let crowds = play_crowds(rt)?;
     let cuts = play_cuts(rt)?;
-    Ok(files && crowds && cuts)
+    Ok(files && days && drawn && crowds && cuts)
 }
 
 fn main(rt: HostRuntime) -> ExitCode {

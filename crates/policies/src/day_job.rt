@@ -1,24 +1,36 @@
 //! The jobs of a day.
 
-/// A job: when it comes, how urgent it is, and how long it takes on each device.
+/// A device of a printer, and how long a job takes there.
+#[derive(Clone, Copy, Debug, PartialEq, Eq)]
+pub struct Member {
+    /// The place of the device in the settings.
+    pub device: usize,
+    /// In ms; none where the device can't print the job.
+    pub time: Option<u64>,
+}
+
+/// A job: when it comes, how urgent it is, and how long it takes on each device of its printer.
 #[derive(Debug, Drop)]
 pub struct DayJob {
     /// In ms from the beginning of the day.
     pub moment: u64,
     /// 1 to 100, 100 the most urgent.
     pub priority: u8,
-    /// In ms, for each device in the order of the settings; none where the device can't print it.
-    pub times: Vec<Option<u64>>,
+    /// The place of its printer in the settings.
+    pub printer: usize,
+    /// The devices of its printer, in the order of the printer.
+    pub members: Vec<Member>,
 }
 
 impl DayJob {
-    /// How long it takes on the device at a place, if that can print it.
+    /// How long it takes on the device at a place of the settings, if that can print it.
     pub fn time_on(&self, device: usize) -> Option<u64> {
-        self.times.get(device).copied().flatten()
+        let member = self.members.iter().find(|member| member.device == device)?;
+        member.time
     }
 
     /// Whether some device can print it.
     pub fn is_printable(&self) -> bool {
-        self.times.iter().any(|time| time.is_some())
+        self.members.iter().any(|member| member.time.is_some())
     }
 }

@@ -4,13 +4,13 @@
 //! each a device by a [`Policy`]. It promises that it is safe and ends. Here is no clock: what comes and
 //! what ends is told from above.
 //!
-//! No program plays a day yet.
+//! Its rows are days of `play_examples`.
 #![tactic(auto)]
 
 mod day_job;
 mod policy;
 mod queue;
 
-pub use day_job::DayJob;
+pub use day_job::{DayJob, Member};
 pub use policy::Policy;
 pub use queue::{Queue, Start};

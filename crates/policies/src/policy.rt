@@ -1,12 +1,13 @@
 //! The policies.
 
-/// How a device is chosen, among those that can print a job.
+/// How a device is chosen, among those of the job's printer that can print it.
 #[derive(Clone, Copy, Debug, PartialEq, Eq)]
 pub enum Policy {
-    /// The next one that is free, counted on from the device that was chosen last: a class of CUPS (the
-    /// CUPS Administrator's Manual, "Printer Classes").
+    /// The next one that is free, counted on from the one that a job of the printer was given last, and
+    /// before the first job from the first one: a class of CUPS (`cupsdFindAvailablePrinter` of its
+    /// scheduler).
     RoundRobin,
-    /// The first one that is free, in the order of the settings.
+    /// The first one that is free, in the order of the printer.
     FirstFree,
     /// The one for which the fewest jobs wait or print when the job comes; it waits for that one, free or not.
     ShortestQueue,

@@ -1,6 +1,6 @@
 //! The jobs that wait, and the devices that are free.
 
-use crate::day_job::DayJob;
+use crate::day_job::{DayJob, Member};
 use crate::policy::Policy;
 use std::alloc::{AllocError, Global};
 
@@ -37,47 +37,54 @@ pub struct Queue<'a> {
     /// By falling priority, and then in the order in which they came.
     waiting: Vec<Waiting>,
     devices: Vec<Device>,
-    /// The place from which the next free device is looked for.
-    next: usize,
+    /// For each printer, the place among its devices of the one that a job was given last.
+    last: Vec<usize>,
 }
 
 impl<'a> Queue<'a> {
-    /// A queue without jobs, for the jobs of a day and so many devices, all of which are free.
+    /// A queue without jobs, for the jobs of a day, so many printers, and so many devices, all of which are
+    /// free.
     pub fn new(
         alloc: Global,
         policy: Policy,
         jobs: &'a [DayJob],
+        printers: usize,
         devices: usize,
     ) -> Result<Queue<'a>, AllocError> {
-        let mut all = Vec::new(alloc);
-        for _ in 0..devices {
-            all.push(Device {
-                is_free: true,
-                jobs: 0,
-            })?;
-        }
+        let free = Device {
+            is_free: true,
+            jobs: 0,
+        };
         Ok(Queue {
             policy,
             jobs,
             waiting: Vec::new(alloc),
-            devices: all,
-            next: 0,
+            devices: vec![in alloc; free; devices]?,
+            last: vec![in alloc; 0; printers]?,
         })
+    }
+
+    /// How many jobs wait for the device at a place alone or print on it.
+    fn jobs_of(&self, device: usize) -> usize {
+        match self.devices.get(device) {
+            Some(device) => device.jobs,
+            None => 0,
+        }
     }
 
     /// The device that can print a job and has the fewest, the first of several.
     fn shortest(&self, job: &DayJob) -> Option<usize> {
-        let mut found: Option<(usize, usize)> = None;
-        for (place, device) in self.devices.iter().enumerate() {
+        let mut found: Option<usize> = None;
+        for member in &job.members {
             let is_shorter = match found {
-                Some((_, jobs)) => device.jobs < jobs,
+                Some(device) => self.jobs_of(member.device) < self.jobs_of(device),
                 None => true,
             };
-            if is_shorter && job.time_on(place).is_some() {
-                found = Some((place, device.jobs));
+            if is_shorter && member.time.is_some() {
+                found = Some(member.device);
             }
         }
-        found.map(|(place, _)| place)
+        found
     }
 
     /// The device that a job is to wait for alone, by the policy.
@@ -130,53 +137,84 @@ impl<'a> Queue<'a> {
         }
     }
 
-    /// Whether the device at a place is free and can print a job.
-    fn can_begin(&self, place: usize, job: &DayJob) -> bool {
-        match self.devices.get(place) {
-            Some(device) => device.is_free && job.time_on(place).is_some(),
+    /// Whether a device is free and can print the job of which it is told.
+    fn can_begin(&self, member: Member) -> bool {
+        match self.devices.get(member.device) {
+            Some(device) => device.is_free && member.time.is_some(),
             None => false,
         }
     }
 
-    /// The first device that can begin a job, from the place on at which the next one is looked for, and then
-    /// from the first on.
-    fn next_free(&self, from: usize, job: &DayJob) -> Option<usize> {
-        let devices = self.devices.len();
-        for step in 0..devices {
-            let place = from.saturating_add(step).checked_rem(devices)?;
-            if self.can_begin(place, job) {
-                return Some(place);
+    /// The place among a printer's devices of the one that a job was given last.
+    fn last_of(&self, printer: usize) -> usize {
+        self.last.get(printer).copied().unwrap_or(0)
+    }
+
+    /// The first device of a printer that can begin a job, from the one behind the last one round to the
+    /// last one itself.
+    fn next_free(&self, job: &DayJob) -> Option<usize> {
+        let count = job.members.len();
+        let behind = self.last_of(job.printer).saturating_add(1);
+        for step in 0..count {
+            let place = behind.saturating_add(step).checked_rem(count)?;
+            let member = job.members.get(place)?;
+            if self.can_begin(*member) {
+                return Some(member.device);
             }
         }
         None
+    }
+
+    /// The first device of a printer that can begin a job.
+    fn first_free(&self, job: &DayJob) -> Option<usize> {
+        let member = job.members.iter().find(|member| self.can_begin(**member))?;
+        Some(member.device)
+    }
+
+    /// The device that a job waits for alone, if it can begin.
+    fn own_free(&self, waiting: Waiting, job: &DayJob) -> Option<usize> {
+        let device = waiting.device?;
+        let member = job.members.iter().find(|member| member.device == device)?;
+        if self.can_begin(*member) {
+            Some(device)
+        } else {
+            None
+        }
     }
 
     /// The device that is to begin a job that waits, by the policy.
     fn choose(&self, waiting: Waiting) -> Option<usize> {
         let job = self.jobs.get(waiting.job)?;
         match self.policy {
-            Policy::RoundRobin => self.next_free(self.next, job),
-            Policy::FirstFree => self.next_free(0, job),
-            Policy::ShortestQueue => {
-                let device = waiting.device?;
-                if self.can_begin(device, job) {
-                    Some(device)
-                } else {
-                    None
-                }
-            }
+            Policy::RoundRobin => self.next_free(job),
+            Policy::FirstFree => self.first_free(job),
+            Policy::ShortestQueue => self.own_free(waiting, job),
+        }
+    }
+
+    /// Notes which device of its printer a job was given.
+    fn note_last(&mut self, start: Start) {
+        let Some(job) = self.jobs.get(start.job) else {
+            return;
+        };
+        let place = job
+            .members
+            .iter()
+            .position(|member| member.device == start.device);
+        if let Some(last) = self.last.get_mut(job.printer) {
+            *last = place.unwrap_or(0);
         }
     }
 
     /// Has a device begin the job that waits at a place.
-    fn begin(&mut self, place: usize, device: usize) {
+    fn begin(&mut self, place: usize, start: Start) {
         if place < self.waiting.len() {
             self.waiting.remove(place);
         }
-        if let Some(begun) = self.devices.get_mut(device) {
+        if let Some(begun) = self.devices.get_mut(start.device) {
             begun.is_free = false;
         }
-        self.next = device.saturating_add(1);
+        self.note_last(start);
     }
 
     /// The first of the jobs that wait which a free device can begin, and the place at which it waits.
@@ -196,7 +234,7 @@ impl<'a> Queue<'a> {
             return None;
         }
         let (place, start) = self.first_start()?;
-        self.begin(place, start.device);
+        self.begin(place, start);
         Some(start)
     }
 }

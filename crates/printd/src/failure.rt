@@ -1,7 +1,7 @@
 //! What is said where the program fails.
 use std::fmt::Display;
 use std::io;
-use std::io::ErrorKind;
+use std::io::{ErrorKind, Write};
 use streams::ExitStatus;
 
 /// The system's reason, in words.
@@ -56,5 +56,13 @@ pub(crate) fn cannot_with(
     match format!(in rt.alloc(); "{what} {name}") {
         Ok(text) => cannot(rt, &text, error),
         Err(_) => cannot(rt, what, error),
+    }
+}
+
+/// Writes a text to standard output; the error is one of what was said.
+pub(crate) fn write_text(rt: &HostRuntime, text: &str) -> Result<ExitStatus, ExitStatus> {
+    match io::writer(rt).write_all(text.as_bytes()) {
+        Ok(()) => Ok(ExitStatus::Done),
+        Err(error) => Err(cannot(rt, "write to standard output", error)),
     }
 }

@@ -1,8 +1,7 @@
-//! `printd replay`, `printd check` and `printd draw`: what comes on standard input, played, judged or drawn.
+//! `printd replay` and `printd check`: what comes on standard input, played or judged.
 use crate::failure::{cannot, out_of_memory, say};
 use crate::noted::{NotedInput, NotedOutput};
 use plan_audit::{Audit, run_check};
-use plan_drawing::{Form, run_draw};
 use replay::run_replay;
 use std::io;
 use std::io::{Input, Read, Write};
@@ -33,20 +32,8 @@ pub(crate) fn check(rt: &HostRuntime, starts: bool) -> ExitStatus {
     told(rt, audit)
 }
 
-/// Draws the plan of a text from standard input, in SVG or for a terminal.
-pub(crate) fn draw(rt: &HostRuntime, text: bool) -> ExitStatus {
-    let mut input = NotedInput::new(rt.reader());
-    let mut output = NotedOutput::new(io::writer(rt));
-    let form = if text { Form::Text } else { Form::Svg };
-    let audit = run_draw(rt.alloc(), &mut input, &mut output, form);
-    if audit.status == ExitStatus::Failed {
-        return failed(rt, "draw the plan", input, output);
-    }
-    told(rt, audit)
-}
-
 /// Says what is objected to in a plan, and gives the status.
-fn told(rt: &HostRuntime, audit: Audit) -> ExitStatus {
+pub(crate) fn told(rt: &HostRuntime, audit: Audit) -> ExitStatus {
     if let Some(objection) = &audit.objection {
         say(rt, objection);
     }
@@ -54,7 +41,7 @@ fn told(rt: &HostRuntime, audit: Audit) -> ExitStatus {
 }
 
 /// Says why it failed: the output couldn't be written, the input couldn't be read, or memory was refused.
-fn failed<R: Read + Drop, W: Write + Drop>(
+pub(crate) fn failed<R: Read + Drop, W: Write + Drop>(
     rt: &HostRuntime,
     what: &str,
     input: NotedInput<R>,

@@ -1,22 +1,26 @@
 //! The program: `printd serve` is the server over sockets, `printd settings` shows or judges settings,
 //! `printd replay` reads a trace from standard input and writes what the server does, `printd check`
-//! reads the text of a plan and writes the verdict on it, `printd draw` draws it, and `printd attach` is a
-//! device of a server, whose jobs a printer prints.
+//! reads the text of a plan and writes the verdict on it, `printd draw` draws it or the day of a trace,
+//! `printd simulate` plays a day of jobs, and `printd attach` is a device of a server, whose jobs a printer prints.
 #![tactic(auto)]
 
 mod attaching;
+mod drawing;
 mod failure;
 mod judging;
 mod log_output;
 mod noted;
 mod serving;
 mod settings;
+mod simulating;
 
 use crate::attaching::run_attach;
+use crate::drawing::{draw, draw_trace, form_of};
 use crate::failure::{cannot, out_of_memory};
-use crate::judging::{check, draw, replay};
+use crate::judging::{check, replay};
 use crate::serving::run_serve;
 use crate::settings::run_settings;
+use crate::simulating::run_simulate;
 use command_line::{Asked, WordsError, read_words};
 use std::alloc::AllocError;
 use std::io::{ErrorKind, Write};
@@ -76,7 +80,12 @@ fn run(rt: &HostRuntime, asked: Asked<'_>) -> Result<ExitStatus, ExitStatus> {
         Asked::Settings(about) => run_settings(rt, about),
         Asked::Replay { plans } => Ok(replay(rt, plans)),
         Asked::Check { starts } => Ok(check(rt, starts)),
-        Asked::Draw { text } => Ok(draw(rt, text)),
+        Asked::Draw { text, trace: None } => Ok(draw(rt, form_of(text))),
+        Asked::Draw {
+            text,
+            trace: Some(file),
+        } => draw_trace(rt, file, form_of(text)),
+        Asked::Simulate(simulating) => run_simulate(rt, simulating),
         Asked::Attach(attaching) => run_attach(rt, attaching),
     }
 }

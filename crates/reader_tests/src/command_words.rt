@@ -5,13 +5,25 @@ use std::test::Fail;
 use streams::ExitStatus;
 
 /// Lines of words that are read, and what they ask for.
-const READ: [(&str, &str); 18] = [
+const READ: [(&str, &str); 21] = [
     ("printd replay", "Replay { plans: false }"),
     ("printd replay --plans", "Replay { plans: true }"),
     ("printd check", "Check { starts: false }"),
     ("printd check --starts", "Check { starts: true }"),
-    ("printd draw", "Draw { text: false }"),
-    ("printd draw --text", "Draw { text: true }"),
+    ("printd draw", "Draw { text: false, trace: None }"),
+    ("printd draw --text", "Draw { text: true, trace: None }"),
+    (
+        "printd draw --trace a.trace --text",
+        "Draw { text: true, trace: Some(\"a.trace\") }",
+    ),
+    (
+        "printd simulate --settings a.toml --jobs b.csv",
+        "Simulate(Simulating { settings: \"a.toml\", jobs: \"b.csv\", noise: 0, seed: 1, without: [], with: [], like: [], draw: None, text: false })",
+    ),
+    (
+        "printd simulate --settings a --jobs b --noise 20 --seed 7 --without A --without B --with C=D --draw first-free --text",
+        "Simulate(Simulating { settings: \"a\", jobs: \"b\", noise: 20, seed: 7, without: [\"A\", \"B\"], with: [\"C\"], like: [\"D\"], draw: Some(\"first-free\"), text: true })",
+    ),
     ("printd settings", "Settings(BuiltIn)"),
     (
         "printd settings lab.toml",

@@ -12,6 +12,7 @@ mod ipp_messages;
 #[cfg(test)]
 mod ipp_replies;
 #[cfg(test)]
+mod job_list_lines;
 mod measured_jobs;
 #[cfg(test)]
 mod settings_sentences;

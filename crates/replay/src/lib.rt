@@ -15,5 +15,6 @@ mod run;
 mod wire;
 
 pub use law::lines_are_one_run;
-pub use objection::{LineFault, Objection};
+pub use objection::{LineFault, Objection, form_fault};
 pub use run::{Replayed, run_replay};
+pub use wire::TraceWire;

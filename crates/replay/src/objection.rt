@@ -96,7 +96,7 @@ pub(crate) fn about_settings(alloc: Global, settings: &[u8]) -> Objection {
 }
 
 /// What is wrong with the form of bytes that are no line of a trace.
-pub(crate) fn form_fault(line: &[u8]) -> LineFault {
+pub fn form_fault(line: &[u8]) -> LineFault {
     if line.starts_with(b"at ") {
         LineFault::Moment
     } else if line.starts_with(b"ipp ") {

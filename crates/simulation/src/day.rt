@@ -1,13 +1,13 @@
-//! The jobs of a day, with how long each takes on each device.
-ghost use Rattle.std.specs.Prelude.{◌<◌, length};
+//! The jobs of a day, with how long each takes on each device of its printer.
 
+use crate::cause::cause_of;
 use assignment::Lazy;
-use base_types::{DeviceId, DeviceNow, Needs, PrinterSet};
+use base_types::{DeviceId, DeviceNow, JobId, Needs, PrinterSet, Stranded};
 use capabilities::able;
 use cost_table::time;
 use dispatcher::Core;
 use job_lists::ListedJob;
-use policies::DayJob;
+use policies::{DayJob, Member};
 use rand_core::utils::NextWord;
 use rand_pcg::Pcg32;
 use std::alloc::{AllocError, Global};
@@ -24,6 +24,8 @@ pub struct Noise {
 #[derive(Drop)]
 pub(crate) struct Day {
     pub(crate) jobs: Vec<DayJob>,
+    /// The jobs that no device can print, by their places, counted from 1.
+    pub(crate) stranded: Vec<Stranded>,
     parts: Vec<f64>,
 }
 
@@ -45,25 +47,63 @@ fn part_of(percent: u8, chance: &mut Pcg32) -> f64 {
     1.0 + swing * f64::from(percent) / 100.0
 }
 
-/// How long a job takes on each device of a core that has all its devices ready.
-fn times_of(
-    alloc: Global,
+/// How long a job takes on a device of a core.
+fn time_at(
     core: &Core<Lazy>,
-    devices: usize,
+    device: DeviceId,
     needs: &Needs,
-) -> Result<Vec<Option<u64>>, AllocError> {
-    let mut times = Vec::with_capacity(alloc, devices)?;
-    for place in 0..devices {
-        times.push(time_at(core, DeviceId::new(place), needs))?;
-    }
-    Ok(times)
+    printer: &PrinterSet,
+) -> Option<u64> {
+    let now = core.device(device)?;
+    estimate(needs, device, now, printer)
 }
 
-/// How long a job takes on a device of a core.
-fn time_at(core: &Core<Lazy>, device: DeviceId, needs: &Needs) -> Option<u64> {
-    let printer = core.settings().printers.get(needs.printer.place())?;
-    let now = core.device(device)?;
-    estimate(needs, device, now, &printer.devices)
+/// How long a job takes on each device of its printer.
+fn members_of(
+    alloc: Global,
+    core: &Core<Lazy>,
+    needs: &Needs,
+    printer: &PrinterSet,
+) -> Result<Vec<Member>, AllocError> {
+    let mut members = Vec::with_capacity(alloc, printer.devices().len())?;
+    for device in printer.devices() {
+        members.push(Member {
+            device: device.place(),
+            time: time_at(core, *device, needs, printer),
+        })?;
+    }
+    Ok(members)
+}
+
+/// The job of a list as the policies see it. One whose printer isn't there has no device.
+fn day_job(alloc: Global, core: &Core<Lazy>, job: &ListedJob) -> Result<DayJob, AllocError> {
+    let printer = job.needs.printer.place();
+    let members = match core.settings().printers.get(printer) {
+        Some(found) => members_of(alloc, core, &job.needs, &found.devices)?,
+        None => Vec::new(alloc),
+    };
+    Ok(DayJob {
+        moment: job.moment,
+        priority: job.priority,
+        printer,
+        members,
+    })
+}
+
+/// Notes a job that no device can print, whose place in the list this is.
+fn note_stranded(
+    alloc: Global,
+    stranded: &mut Vec<Stranded>,
+    core: &Core<Lazy>,
+    needs: &Needs,
+    place: usize,
+) -> Result<(), AllocError> {
+    let number = u32::try_from(place.saturating_add(1)).unwrap_or(0);
+    if let Some(job) = JobId::new(number) {
+        let cause = cause_of(alloc, core, needs)?;
+        stranded.push(Stranded { job, cause })?;
+    }
+    Ok(())
 }
 
 impl Day {
@@ -74,19 +114,33 @@ impl Day {
         listed: &[ListedJob],
         noise: Noise,
     ) -> Result<Day, AllocError> {
-        let devices = core.settings().devices.len();
         let mut chance = Pcg32::new(noise.seed, 0);
-        let mut jobs = Vec::with_capacity(alloc, listed.len())?;
-        let mut parts = Vec::with_capacity(alloc, listed.len())?;
-        for job in listed {
-            parts.push(part_of(noise.percent, &mut chance))?;
-            jobs.push(DayJob {
-                moment: job.moment,
-                priority: job.priority,
-                times: times_of(alloc, core, devices, &job.needs)?,
-            })?;
+        let mut day = Day {
+            jobs: Vec::with_capacity(alloc, listed.len())?,
+            stranded: Vec::new(alloc),
+            parts: Vec::with_capacity(alloc, listed.len())?,
+        };
+        for (place, job) in listed.iter().enumerate() {
+            day.parts.push(part_of(noise.percent, &mut chance))?;
+            day.add(alloc, core, place, job)?;
         }
-        Ok(Day { jobs, parts })
+        Ok(day)
+    }
+
+    /// Adds the job at a place of a list.
+    fn add(
+        &mut self,
+        alloc: Global,
+        core: &Core<Lazy>,
+        place: usize,
+        listed: &ListedJob,
+    ) -> Result<(), AllocError> {
+        let job = day_job(alloc, core, listed)?;
+        if !job.is_printable() {
+            note_stranded(alloc, &mut self.stranded, core, &listed.needs, place)?;
+        }
+        self.jobs.push(job)?;
+        Ok(())
     }
 
     /// When the job at a place comes.
@@ -95,19 +149,6 @@ impl Day {
             Some(job) => job.moment,
             None => 0,
         }
-    }
-
-    /// How urgent the job at a place is.
-    pub(crate) fn priority_of(&self, place: usize) -> u8 {
-        match self.jobs.get(place) {
-            Some(job) => job.priority,
-            None => 0,
-        }
-    }
-
-    /// How many jobs no device can print.
-    pub(crate) fn unprintable(&self) -> usize {
-        self.jobs.iter().filter(|job| !job.is_printable()).count()
     }
 
     /// Whether some device can print the job at a place.

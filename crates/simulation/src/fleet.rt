@@ -10,6 +10,7 @@ use settings_file::{
     DeviceSettings, PrinterSettings, Settings, SettingsFault, read_settings_bytes,
 };
 use std::alloc::{AllocError, AllocFailed, Global};
+use thiserror::Error;
 
 /// A device that there is one more of.
 #[derive(Clone, Copy, Debug, PartialEq, Eq)]
@@ -20,12 +21,16 @@ pub struct Added<'a> {
 }
 
 /// Why there is no such fleet.
-#[derive(Debug, Drop)]
+#[derive(Debug, Drop, Error)]
 pub enum FleetFault {
-    /// The settings have no device of this name.
-    NoDevice(Text),
-    /// With the devices added the settings are beyond their limits.
-    Settings(SettingsFault),
+    #[error("the settings have no device \"{name}\"")]
+    Unknown { name: String },
+    #[error("the settings have a device \"{name}\" already")]
+    Taken { name: String },
+    /// With this device more they are no settings.
+    #[error("the settings take no device \"{name}\" more: a name has 1 to 32 letters, digits, _ and -, and there are 32 devices at most")]
+    Refused { name: String },
+    #[error("out of memory")]
     OutOfMemory,
 }
 
@@ -42,19 +47,11 @@ impl<T: Drop> From<AllocFailed<T>> for FleetFault {
 }
 
 /// The place of the device of a name.
-pub(crate) fn device_named(settings: &Settings, name: &str) -> Option<usize> {
+fn device_named(settings: &Settings, name: &str) -> Option<usize> {
     settings
         .devices
         .iter()
         .position(|device| device.name.as_bytes() == name.as_bytes())
-}
-
-/// The fault that there is no device of a name.
-fn no_device(alloc: Global, name: &str) -> FleetFault {
-    match Text::copy_of(alloc, name.as_bytes()) {
-        Ok(name) => FleetFault::NoDevice(name),
-        Err(_) => FleetFault::OutOfMemory,
-    }
 }
 
 /// Appends a text as TOML writes it.
@@ -201,18 +198,31 @@ fn text_with(
     Ok(text)
 }
 
+/// The place of the device of a name, or the fault that there is none.
+fn known(alloc: Global, settings: &Settings, name: &str) -> Result<usize, FleetFault> {
+    match device_named(settings, name) {
+        Some(place) => Ok(place),
+        None => Err(FleetFault::Unknown {
+            name: String::from_str(alloc, name)?,
+        }),
+    }
+}
+
 /// Settings with one more device: it stands behind all others, and is one of each printer that has the
 /// device that it is like.
 fn with_device(alloc: Global, settings: &Settings, added: Added<'_>) -> Result<Settings, FleetFault>
     ensures { IfOk result MeetsLimits }
 {
-    let Some(like) = device_named(settings, added.like) else {
-        return Err(no_device(alloc, added.like));
-    };
+    let like = known(alloc, settings, added.like)?;
+    let name = String::from_str(alloc, added.name)?;
+    if device_named(settings, added.name).is_some() {
+        return Err(FleetFault::Taken { name });
+    }
     let text = text_with(alloc, settings, like, added.name)?;
     match read_settings_bytes(alloc, &text) {
         Ok(settings) => Ok(settings),
-        Err(fault) => Err(FleetFault::Settings(fault)),
+        Err(SettingsFault::OutOfMemory) => Err(FleetFault::OutOfMemory),
+        Err(_) => Err(FleetFault::Refused { name }),
     }
 }
 
@@ -247,10 +257,7 @@ fn make_ready(core: &mut Core<Lazy>, away: &[usize]) -> Result<(), AllocError> {
 fn places_of(alloc: Global, settings: &Settings, names: &[&str]) -> Result<Vec<usize>, FleetFault> {
     let mut places = Vec::new(alloc);
     for name in names {
-        match device_named(settings, name) {
-            Some(place) => places.push(place)?,
-            None => return Err(no_device(alloc, name)),
-        }
+        places.push(known(alloc, settings, name)?)?;
     }
     Ok(places)
 }

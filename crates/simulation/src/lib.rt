@@ -7,9 +7,10 @@
 //! days. The plans are those of the real core, `dispatcher::Core`, which is sent requests and reports; it
 //! promises nothing else than that it is safe and ends. No clock is read and no word of a command line.
 //!
-//! No program plays a day yet.
+//! Its rows are days of `play_examples`.
 #![tactic(auto)]
 
+mod cause;
 mod day;
 mod fleet;
 mod floor;
@@ -25,4 +26,5 @@ mod table;
 pub use day::Noise;
 pub use fleet::{Added, FleetFault};
 pub use floor::Watch;
-pub use run::{Question, SimulationFault, run_simulation};
+pub use picture::Drawn;
+pub use run::{Question, run_simulation};

@@ -10,7 +10,7 @@ use policies::{Policy, Queue};
 use std::alloc::{AllocError, Global};
 
 /// The name of the day that the server plans.
-const PLANNED: &str = "planned";
+pub(crate) const PLANNED: &str = "planned";
 
 /// A day as it was played: by whom, and what was printed when.
 #[derive(Drop)]
@@ -30,21 +30,23 @@ fn play_planned<W: Watch>(
 ) -> Result<Outcome, AllocError> {
     let devices = core.settings().devices.len();
     let mut room = Planned::new(alloc, core, listed);
-    Ok(Outcome {
+    let played = play(alloc, day, devices, &mut room, PLANNED, watch);
+    played.map(|prints| Outcome {
         name: PLANNED,
-        prints: play(alloc, day, devices, &mut room, PLANNED, watch)?,
+        prints,
     })
 }
 
-/// Plays a day by a policy.
+/// Plays a day by a policy, with so many printers and devices.
 fn play_policy<W: Watch>(
     alloc: Global,
     policy: Policy,
     day: &Day,
+    printers: usize,
     devices: usize,
     watch: &mut W,
 ) -> Result<Outcome, AllocError> {
-    let mut queue = Queue::new(alloc, policy, &day.jobs, devices)?;
+    let mut queue = Queue::new(alloc, policy, &day.jobs, printers, devices)?;
     let name = policy.name();
     Ok(Outcome {
         name,
@@ -60,11 +62,12 @@ pub(crate) fn play_all<W: Watch>(
     day: &Day,
     watch: &mut W,
 ) -> Result<Vec<Outcome>, AllocError> {
+    let printers = core.settings().printers.len();
     let devices = core.settings().devices.len();
     let mut outcomes = Vec::new(alloc);
     outcomes.push(play_planned(alloc, core, listed, day, watch)?)?;
     for policy in Policy::ALL {
-        outcomes.push(play_policy(alloc, policy, day, devices, watch)?)?;
+        outcomes.push(play_policy(alloc, policy, day, printers, devices, watch)?)?;
     }
     Ok(outcomes)
 }

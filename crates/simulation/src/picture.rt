@@ -2,70 +2,58 @@
 
 use crate::day::Day;
 use crate::floor::Print;
-use crate::outcome::Outcome;
-use crate::summary::total_of;
-use base_types::{Limits, Text};
-use gantt_chart::{Bar, Chart, ChartJob, Lane, Mark, write_svg};
+use crate::outcome::{Outcome, PLANNED};
+use base_types::Text;
+use gantt_chart::{Arrival, Chart, Ending, Form, chart_of_day, draw_charts};
+use policies::Policy;
 use std::alloc::{AllocError, Global};
 
-/// The priorities of the jobs of a day, the highest first.
-fn classes_of(alloc: Global, day: &Day) -> Result<Vec<u8>, AllocError> {
-    let mut classes = Vec::new(alloc);
-    for step in 0..=Limits::HIGHEST_PRIORITY {
-        let priority = Limits::HIGHEST_PRIORITY - step;
-        if day.jobs.iter().any(|job| job.priority == priority) {
-            classes.push(priority)?;
-        }
-    }
-    Ok(classes)
+/// What is drawn of a simulation: the planned day, and below it that of a policy.
+#[derive(Clone, Copy, Debug, PartialEq, Eq)]
+pub struct Drawn {
+    pub policy: Policy,
+    pub form: Form,
 }
 
-/// The bar of a job that was printed. Its number is its place in the list, counted from 1.
-fn bar_of(day: &Day, classes: &[u8], print: &Print) -> Bar {
-    let priority = day.priority_of(print.job);
-    let class = classes.iter().position(|class| *class == priority);
-    Bar {
-        mark: Mark::Job(ChartJob {
-            number: u32::try_from(print.job.saturating_add(1)).unwrap_or(u32::MAX),
-            class: class.unwrap_or(0),
-        }),
-        start: print.start,
-        end: print.end,
+/// How many jobs that no device can print stand below a chart.
+const STRANDED: usize = 10;
+
+/// The jobs of a day, each with its place in the list, counted from 1, as its number.
+fn arrivals_of(alloc: Global, day: &Day) -> Result<Vec<Arrival>, AllocError> {
+    let mut arrivals = Vec::with_capacity(alloc, day.jobs.len())?;
+    for (place, job) in day.jobs.iter().enumerate() {
+        arrivals.push(Arrival {
+            number: u32::try_from(place.saturating_add(1)).unwrap_or(u32::MAX),
+            priority: job.priority,
+            moment: job.moment,
+        })?;
     }
+    Ok(arrivals)
 }
 
-/// The lane of a device.
-fn lane_of(
-    alloc: Global,
-    name: &Text,
-    day: &Day,
-    classes: &[u8],
-    prints: &[Print],
-    device: usize,
-) -> Result<Lane, AllocError> {
-    let mut bars = Vec::new(alloc);
+/// What devices printed, as it is drawn.
+fn prints_of(alloc: Global, prints: &[Print]) -> Result<Vec<gantt_chart::Print>, AllocError> {
+    let mut drawn = Vec::with_capacity(alloc, prints.len())?;
     for print in prints {
-        if print.device == device {
-            bars.push(bar_of(day, classes, print))?;
-        }
+        drawn.push(gantt_chart::Print {
+            job: print.job,
+            device: print.device,
+            start: print.start,
+            end: print.end,
+            ending: Ending::Printed,
+        })?;
     }
-    let name = name.copied(alloc)?;
-    Ok(Lane { name, bars })
+    Ok(drawn)
 }
 
-/// The lanes of all devices.
-fn lanes_of(
-    alloc: Global,
-    names: &[Text],
-    day: &Day,
-    classes: &[u8],
-    prints: &[Print],
-) -> Result<Vec<Lane>, AllocError> {
-    let mut lanes = Vec::new(alloc);
-    for (device, name) in names.iter().enumerate() {
-        lanes.push(lane_of(alloc, name, day, classes, prints, device)?)?;
+/// A line about the jobs that no device can print, where there are more than stand below a chart.
+fn notes_of(alloc: Global, day: &Day) -> Result<Vec<String>, AllocError> {
+    let mut notes = Vec::new(alloc);
+    let more = day.stranded.len().saturating_sub(STRANDED);
+    if more > 0 {
+        notes.push(format!(in alloc; "Nor does any print {more} others.")?)?;
     }
-    Ok(lanes)
+    Ok(notes)
 }
 
 /// The chart of a day.
@@ -75,31 +63,35 @@ fn chart_of(
     day: &Day,
     outcome: &Outcome,
 ) -> Result<Chart, AllocError> {
-    let classes = classes_of(alloc, day)?;
-    let lanes = lanes_of(alloc, names, day, &classes, &outcome.prints)?;
-    let total = total_of(alloc, day, &outcome.prints)?;
-    Ok(Chart {
-        title: String::from_str(alloc, outcome.name)?,
-        lanes,
-        classes,
-        stranded: Vec::new(alloc),
-        total,
-    })
+    let arrivals = arrivals_of(alloc, day)?;
+    let prints = prints_of(alloc, &outcome.prints)?;
+    let shown = day.stranded.len().min(STRANDED);
+    chart_of_day(
+        alloc,
+        gantt_chart::Day {
+            title: String::from_str(alloc, outcome.name)?,
+            devices: names,
+            arrivals: &arrivals,
+            prints: &prints,
+            stranded: Vec::from_slice(alloc, &day.stranded[..shown])?,
+            notes: notes_of(alloc, day)?,
+        },
+    )
 }
 
-/// A picture of a day as it was played in several ways: those of these names, below one another.
+/// A picture of a day as it was played in two ways: planned, and below it by a policy.
 pub(crate) fn picture_of(
     alloc: Global,
     names: &[Text],
     day: &Day,
     outcomes: &[Outcome],
-    drawn: &[&str],
+    drawn: Drawn,
 ) -> Result<String, AllocError> {
     let mut charts = Vec::new(alloc);
     for outcome in outcomes {
-        if drawn.contains(&outcome.name) {
+        if outcome.name == PLANNED || outcome.name == drawn.policy.name() {
             charts.push(chart_of(alloc, names, day, outcome)?)?;
         }
     }
-    write_svg(alloc, &charts)
+    draw_charts(alloc, &charts, drawn.form)
 }

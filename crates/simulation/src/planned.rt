@@ -3,7 +3,7 @@
 use crate::request::print_job;
 use crate::room::Room;
 use assignment::Lazy;
-use base_types::{DeviceId, JobId, Moment, Report};
+use base_types::{DeviceId, JobId, Limits, Moment, Report};
 use dispatcher::Core;
 use events::{Answer, Event, Reply, Status};
 use job_lists::ListedJob;
@@ -28,7 +28,7 @@ pub(crate) struct Planned<'a> {
     alloc: Global,
     core: Core<Lazy>,
     listed: &'a [ListedJob],
-    /// The places of the jobs that were taken, in the order of their ids, from 1 on.
+    /// The places of the jobs that were taken, in the order of their ids, from 1 on, which is that of the list.
     taken: Vec<usize>,
     /// The jobs that the core had no room for, in the order in which they came.
     door: VecDeque<usize>,
@@ -38,7 +38,7 @@ pub(crate) struct Planned<'a> {
 
 /// The moment of a number of ms; the last one that there is, where it is later.
 fn moment_at(millis: u64) -> Moment {
-    Moment::new(millis).unwrap_or(Moment::start())
+    Moment::new(millis.min(Limits::LAST_MOMENT)).unwrap_or(Moment::start())
 }
 
 /// What an answer says became of a job.
@@ -72,25 +72,37 @@ impl<'a> Planned<'a> {
             return Ok(Sent::Refused);
         };
         let body = print_job(self.alloc, self.core.settings(), job)?;
-        let Asked::Event(_, event) = ipp_event(self.alloc, &body)? else {
-            return Ok(Sent::Refused);
-        };
-        let reply = self.core.apply(event, moment_at(now))?;
-        let sent = sent_by(&reply);
+        let sent = self.send_body(&body, now)?;
         if sent == Sent::Taken {
             self.taken.push(place)?;
         }
         Ok(sent)
     }
 
-    /// Sends the first job of those that the core had no room for.
-    fn send_waiting(&mut self, now: u64) -> Result<(), AllocError> {
-        if let Some(place) = self.door.front().copied() {
-            if self.send(place, now)? != Sent::Busy {
-                self.door.pop_front();
-            }
+    /// Sends the body of a request.
+    fn send_body(&mut self, body: &[u8], now: u64) -> Result<Sent, AllocError> {
+        match ipp_event(self.alloc, body)? {
+            Asked::Event(_, event) => self.apply(event, now),
+            _ => Ok(Sent::Refused),
         }
-        Ok(())
+    }
+
+    /// Has the core act on an event.
+    fn apply(&mut self, event: Event, now: u64) -> Result<Sent, AllocError> {
+        let reply = self.core.apply(event, moment_at(now))?;
+        Ok(sent_by(&reply))
+    }
+
+    /// Sends the first job of those that the core had no room for, and has it planned where it is taken.
+    fn send_waiting(&mut self, now: u64) -> Result<(), AllocError> {
+        let Some(place) = self.door.front().copied() else {
+            return Ok(());
+        };
+        if self.send(place, now)? == Sent::Busy {
+            return Ok(());
+        }
+        self.door.pop_front();
+        self.dispatch(now)
     }
 
     /// The place of a job that began.
@@ -122,7 +134,7 @@ impl<'a> Planned<'a> {
 
     /// The id of the job at a place of the list, where it was taken.
     fn id_of(&self, place: usize) -> Option<u32> {
-        let before = self.taken.iter().position(|taken| *taken == place)?;
+        let before = self.taken.binary_search(&place).ok()?;
         u32::try_from(before.saturating_add(1)).ok()
     }
 }
@@ -131,6 +143,7 @@ impl Room for Planned<'_> {
     fn take(&mut self, job: usize, now: u64) -> Result<(), AllocError> {
         if !self.door.is_empty() || self.send(job, now)? == Sent::Busy {
             self.door.push_back(job)?;
+            return Ok(());
         }
         self.dispatch(now)
     }
@@ -139,10 +152,10 @@ impl Room for Planned<'_> {
         if let Some(job) = self.id_of(ended.job) {
             let device = DeviceId::new(ended.device);
             let report = Event::Report(device, Report::Done { job });
-            self.core.apply(report, moment_at(now))?;
+            self.apply(report, now)?;
         }
-        self.send_waiting(now)?;
-        self.dispatch(now)
+        self.dispatch(now)?;
+        self.send_waiting(now)
     }
 
     fn start(&mut self) -> Option<Start> {

@@ -5,10 +5,12 @@ use crate::day::{Day, Noise};
 use crate::fleet::{Added, FleetFault, core_of};
 use crate::floor::Watch;
 use crate::outcome::play_all;
-use crate::picture::picture_of;
+use crate::picture::{Drawn, picture_of};
 use crate::table::table_of;
-use job_lists::{ListError, read_list};
-use policies::Policy;
+use assignment::Lazy;
+use base_types::Text;
+use dispatcher::Core;
+use job_lists::ListedJob;
 use settings_file::Settings;
 use std::alloc::{AllocError, Global};
 
@@ -19,61 +21,64 @@ pub struct Question<'a> {
     /// The names of devices that are away all day.
     pub away: &'a [&'a str],
     pub added: &'a [Added<'a>],
-    /// The policy whose day is drawn below the planned one; a table is written where there is none.
-    pub drawn: Option<Policy>,
+    /// What is drawn; a table is written where that is nothing.
+    pub drawn: Option<Drawn>,
 }
 
-/// Why nothing is played.
-#[derive(Debug, Drop)]
-pub enum SimulationFault {
-    List(ListError),
-    Fleet(FleetFault),
-    OutOfMemory,
+/// The names of the devices, and the jobs of a day.
+#[derive(Drop)]
+struct Stage {
+    names: Vec<Text>,
+    day: Day,
 }
 
-impl From<ListError> for SimulationFault {
-    fn from(error: ListError) -> SimulationFault {
-        SimulationFault::List(error)
+/// The names of the devices of a core, and the day of a list, by what these devices are.
+fn stage_of(
+    alloc: Global,
+    core: &Core<Lazy>,
+    listed: &[ListedJob],
+    noise: Noise,
+) -> Result<Stage, AllocError> {
+    let names = core.settings().device_names(alloc)?;
+    let day = Day::new(alloc, core, listed, noise)?;
+    Ok(Stage { names, day })
+}
+
+/// Plays a day: the table of what came of it, or a picture.
+fn play_on<W: Watch>(
+    alloc: Global,
+    core: Core<Lazy>,
+    listed: &[ListedJob],
+    stage: &Stage,
+    drawn: Option<Drawn>,
+    watch: &mut W,
+) -> Result<String, AllocError> {
+    let Stage { names, day } = stage;
+    let outcomes = play_all(alloc, core, listed, day, watch)?;
+    match drawn {
+        Some(drawn) => picture_of(alloc, names, day, &outcomes, drawn),
+        None => table_of(alloc, names, day, &outcomes),
     }
 }
 
-impl From<FleetFault> for SimulationFault {
-    fn from(fault: FleetFault) -> SimulationFault {
-        SimulationFault::Fleet(fault)
-    }
-}
-
-impl From<AllocError> for SimulationFault {
-    fn from(_error: AllocError) -> SimulationFault {
-        SimulationFault::OutOfMemory
-    }
-}
-
-/// Plays a list of jobs on the devices of some settings, once as the core plans it and once for each policy:
-/// the table of what came of it, or a picture.
+/// Plays the jobs of a list, which is one for these settings, on their devices, once as the core plans it and
+/// once for each policy: the table of what came of it, or a picture.
 ///
 /// # Errors
 ///
-/// The list has a fault, a device isn't there, there are too many devices, or there is no memory.
+/// A device isn't there, a device more can't be, or there is no memory.
 pub fn run_simulation<W: Watch>(
     alloc: Global,
     settings: Settings,
-    list: &[u8],
+    listed: &[ListedJob],
     question: Question<'_>,
     watch: &mut W,
-) -> Result<String, SimulationFault>
+) -> Result<String, FleetFault>
     requires { MeetsLimits settings }
 {
     let core = core_of(alloc, settings, question.added, question.away)?;
-    let listed = read_list(alloc, list, core.settings())?;
-    let names = core.settings().device_names(alloc)?;
-    let day = Day::new(alloc, &core, &listed, question.noise)?;
-    let outcomes = play_all(alloc, core, &listed, &day, watch)?;
-    match question.drawn {
-        Some(policy) => {
-            let drawn = ["planned", policy.name()];
-            Ok(picture_of(alloc, &names, &day, &outcomes, &drawn)?)
-        }
-        None => Ok(table_of(alloc, &names, &day, &outcomes)?),
+    match stage_of(alloc, &core, listed, question.noise) {
+        Ok(stage) => Ok(play_on(alloc, core, listed, &stage, question.drawn, watch)?),
+        Err(_) => Err(FleetFault::OutOfMemory),
     }
 }

@@ -35,7 +35,7 @@ fn rank(times: &[u64], percent: usize) -> u64 {
 }
 
 /// The sum of times, in ms.
-pub(crate) fn sum_of(times: &[u64]) -> u128 {
+fn sum_of(times: &[u64]) -> u128 {
     let mut sum = 0u128;
     for time in times {
         sum = sum.saturating_add(u128::from(*time));
@@ -59,11 +59,6 @@ pub(crate) fn waits_of(alloc: Global, day: &Day, prints: &[Print]) -> Result<Wai
         late: rank(&times, 95),
         worst: rank(&times, 100),
     })
-}
-
-/// The sum of the times to paper, in ms.
-pub(crate) fn total_of(alloc: Global, day: &Day, prints: &[Print]) -> Result<u128, AllocError> {
-    Ok(sum_of(&times_to_paper(alloc, day, prints)?))
 }
 
 /// How long a device printed in all, in ms.

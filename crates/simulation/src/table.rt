@@ -3,19 +3,27 @@
 use crate::day::Day;
 use crate::outcome::Outcome;
 use crate::summary::{Waits, last_end, printed_on, waits_of};
-use base_types::Text;
+use base_types::{Stranded, Text};
 use gantt_chart::ShortTime;
 use std::alloc::{AllocError, Global};
 
-/// The columns of a name at the beginning of a row, and of each number.
+/// The columns of a name at the beginning of a row, so that no row is longer than 80.
 const NAME: usize = 16;
 
-const NUMBER: usize = 11;
+/// The columns of the numbers of a day.
+const JOBS: usize = 7;
 
-const PAIR: usize = 18;
+const TIME: usize = 9;
+
+const PERCENT: usize = 13;
+
+const LATE: usize = 11;
+
+/// The columns of a device's times.
+const PAIR: usize = 16;
 
 /// How many jobs that no device can print are told by their numbers.
-const NUMBERS: usize = 10;
+const STRANDED: usize = 10;
 
 fn put_spaces(output: &mut String, count: usize) -> Result<(), AllocError> {
     for _ in 0..count {
@@ -37,21 +45,29 @@ fn put_left(output: &mut String, text: &str, columns: usize) -> Result<(), Alloc
     put_spaces(output, columns.saturating_sub(text.len()))
 }
 
-/// Appends a time.
-fn put_time(alloc: Global, output: &mut String, millis: u64) -> Result<(), AllocError> {
-    let time = ShortTime(millis);
-    let text = format!(in alloc; "{time}")?;
-    put_right(output, &text, NUMBER)
-}
-
 /// Appends the head of the rows of waits.
 fn put_waits_head(output: &mut String) -> Result<(), AllocError> {
     put_left(output, "time to paper", NAME)?;
-    for name in ["jobs", "mean", "of planned", "median", "95 of 100", "worst"] {
-        put_right(output, name, NUMBER)?;
-    }
+    put_right(output, "jobs", JOBS)?;
+    put_right(output, "mean", TIME)?;
+    put_right(output, "of planned", PERCENT)?;
+    put_right(output, "median", TIME)?;
+    put_right(output, "95 of 100", LATE)?;
+    put_right(output, "worst", TIME)?;
     output.push('\n')?;
     Ok(())
+}
+
+/// Appends a time that ends behind so many columns.
+fn put_time(
+    alloc: Global,
+    output: &mut String,
+    millis: u64,
+    columns: usize,
+) -> Result<(), AllocError> {
+    let time = ShortTime(millis);
+    let text = format!(in alloc; "{time}")?;
+    put_right(output, &text, columns)
 }
 
 /// A part of a whole in per cent, cut off.
@@ -73,12 +89,12 @@ fn put_waits(
     let jobs = waits.jobs;
     let percent = percent_of(waits.mean, planned);
     put_left(output, name, NAME)?;
-    put_right(output, &format!(in alloc; "{jobs}")?, NUMBER)?;
-    put_time(alloc, output, waits.mean)?;
-    put_right(output, &format!(in alloc; "{percent} %")?, NUMBER)?;
-    put_time(alloc, output, waits.median)?;
-    put_time(alloc, output, waits.late)?;
-    put_time(alloc, output, waits.worst)?;
+    put_right(output, &format!(in alloc; "{jobs}")?, JOBS)?;
+    put_time(alloc, output, waits.mean, TIME)?;
+    put_right(output, &format!(in alloc; "{percent} %")?, PERCENT)?;
+    put_time(alloc, output, waits.median, TIME)?;
+    put_time(alloc, output, waits.late, LATE)?;
+    put_time(alloc, output, waits.worst, TIME)?;
     output.push('\n')?;
     Ok(())
 }
@@ -151,18 +167,14 @@ fn put_devices(
     Ok(())
 }
 
-/// Appends how many jobs no device can print, and the numbers of the first of them, counted from 1.
-fn put_unprintable(output: &mut String, day: &Day) -> Result<(), AllocError> {
-    let count = day.unprintable();
+/// Appends how many jobs no device can print, and the numbers of the first of them, each with its cause.
+fn put_stranded(output: &mut String, stranded: &[Stranded]) -> Result<(), AllocError> {
+    let count = stranded.len();
     write!(output, "\nno device can print {count} of the jobs")?;
-    let mut told = 0usize;
-    for (place, job) in day.jobs.iter().enumerate() {
-        if !job.is_printable() && told < NUMBERS {
-            let number = place.saturating_add(1);
-            let mark = if told == 0 { ':' } else { ',' };
-            write!(output, "{mark} {number}")?;
-            told = told.saturating_add(1);
-        }
+    for (place, one) in stranded.iter().take(STRANDED).enumerate() {
+        let mark = if place == 0 { ':' } else { ',' };
+        let (number, cause) = (one.job.number(), one.cause);
+        write!(output, "{mark} {number} {cause:?}")?;
     }
     output.push('\n')?;
     Ok(())
@@ -179,6 +191,6 @@ pub(crate) fn table_of(
     put_all_waits(alloc, &mut table, day, outcomes)?;
     table.push('\n')?;
     put_devices(alloc, &mut table, names, outcomes)?;
-    put_unprintable(&mut table, day)?;
+    put_stranded(&mut table, &day.stranded)?;
     Ok(table)
 }

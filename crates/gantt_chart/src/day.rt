@@ -1,0 +1,147 @@
+//! The chart of a day: when each job came, and what each device printed when.
+
+use crate::chart::{Bar, Chart, ChartJob, Ending, Lane, Mark};
+use base_types::{Limits, Stranded, Text};
+use std::alloc::{AllocError, Global};
+
+/// A job that came.
+#[derive(Clone, Copy, Debug, PartialEq, Eq)]
+pub struct Arrival {
+    pub number: u32,
+    pub priority: u8,
+    /// In ms since the moment at which the day begins.
+    pub moment: u64,
+}
+
+/// What a device printed of a job, from when to when, in ms since the moment at which the day begins.
+#[derive(Clone, Copy, Debug, PartialEq, Eq)]
+pub struct Print {
+    /// The place of the job among those that came.
+    pub job: usize,
+    /// The place of the device.
+    pub device: usize,
+    pub start: u64,
+    pub end: u64,
+    pub ending: Ending,
+}
+
+/// A day of some devices.
+#[derive(Debug, Drop)]
+pub struct Day<'a> {
+    /// What it is a day of, in a line.
+    pub title: String,
+    /// The names of the devices.
+    pub devices: &'a [Text],
+    pub arrivals: &'a [Arrival],
+    /// By rising start.
+    pub prints: &'a [Print],
+    /// The jobs that no device can print.
+    pub stranded: Vec<Stranded>,
+    /// What else is said of jobs, a sentence each.
+    pub notes: Vec<String>,
+}
+
+/// The name of the lane of the jobs that came.
+const CAME: &[u8] = b"came";
+
+/// The priorities of jobs, the highest first.
+fn classes_of(alloc: Global, arrivals: &[Arrival]) -> Result<Vec<u8>, AllocError> {
+    let mut classes = Vec::new(alloc);
+    for step in 0..=Limits::HIGHEST_PRIORITY {
+        let priority = Limits::HIGHEST_PRIORITY - step;
+        if arrivals.iter().any(|job| job.priority == priority) {
+            classes.push(priority)?;
+        }
+    }
+    Ok(classes)
+}
+
+/// The lane of the jobs that came.
+fn came_lane(alloc: Global, arrivals: &[Arrival]) -> Result<Lane, AllocError> {
+    let mut bars = Vec::with_capacity(alloc, arrivals.len())?;
+    for job in arrivals {
+        bars.push(Bar {
+            mark: Mark::Came(job.number),
+            start: job.moment,
+            end: job.moment,
+        })?;
+    }
+    let name = Text::copy_of(alloc, CAME)?;
+    Ok(Lane { name, bars })
+}
+
+/// The bar of what a device printed of a job.
+fn bar_of(job: Arrival, classes: &[u8], print: Print) -> Bar {
+    let class = classes
+        .iter()
+        .position(|priority| *priority == job.priority);
+    Bar {
+        mark: Mark::Job(ChartJob {
+            number: job.number,
+            class: class.unwrap_or(0),
+            ending: print.ending,
+        }),
+        start: print.start,
+        end: print.end,
+    }
+}
+
+/// The lane of the device at a place.
+fn lane_of(alloc: Global, day: &Day<'_>, classes: &[u8], place: usize) -> Result<Lane, AllocError> {
+    let mut bars = Vec::new(alloc);
+    for print in day.prints {
+        if print.device == place
+            && let Some(job) = day.arrivals.get(print.job)
+        {
+            bars.push(bar_of(*job, classes, *print))?;
+        }
+    }
+    let name = match day.devices.get(place) {
+        Some(name) => name.copied(alloc)?,
+        None => Text::copy_of(alloc, b"")?,
+    };
+    Ok(Lane { name, bars })
+}
+
+/// The lane of the jobs that came, and below it those of the devices.
+fn lanes_of(alloc: Global, day: &Day<'_>, classes: &[u8]) -> Result<Vec<Lane>, AllocError> {
+    let mut lanes = Vec::new(alloc);
+    lanes.push(came_lane(alloc, day.arrivals)?)?;
+    for place in 0..day.devices.len() {
+        lanes.push(lane_of(alloc, day, classes, place)?)?;
+    }
+    Ok(lanes)
+}
+
+/// How long a job took from when it came to when it was printed.
+fn time_to_paper(arrivals: &[Arrival], print: &Print) -> u64 {
+    match arrivals.get(print.job) {
+        Some(job) if print.ending == Ending::Printed => print.end.saturating_sub(job.moment),
+        _ => 0,
+    }
+}
+
+/// The sum of the times to paper.
+fn total_of(arrivals: &[Arrival], prints: &[Print]) -> u128 {
+    let mut total = 0u128;
+    for print in prints {
+        total = total.saturating_add(u128::from(time_to_paper(arrivals, print)));
+    }
+    total
+}
+
+/// The chart of a day: a lane of the jobs that came, and one for each device. The only error is out of
+/// memory.
+pub fn chart_of_day(alloc: Global, day: Day<'_>) -> Result<Chart, AllocError> {
+    let classes = classes_of(alloc, day.arrivals)?;
+    let lanes = lanes_of(alloc, &day, &classes)?;
+    let total = total_of(day.arrivals, day.prints);
+    Ok(Chart {
+        title: day.title,
+        lanes,
+        classes,
+        stranded: day.stranded,
+        notes: day.notes,
+        total,
+    })
+}

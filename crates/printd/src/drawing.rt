@@ -1,0 +1,49 @@
+//! `printd draw`.
+
+use crate::failure::{cannot, cannot_with, out_of_memory, say, write_text};
+use crate::judging::{failed, told};
+use crate::noted::{NotedInput, NotedOutput};
+use gantt_chart::Form;
+use plan_drawing::run_draw;
+use recorded_days::{DayFault, draw_day};
+use std::{fs, io};
+use streams::ExitStatus;
+
+/// The form that is asked for.
+pub(crate) fn form_of(text: bool) -> Form {
+    if text { Form::Text } else { Form::Svg }
+}
+
+/// Draws the plan of a text from standard input.
+pub(crate) fn draw(rt: &HostRuntime, form: Form) -> ExitStatus {
+    let mut input = NotedInput::new(rt.reader());
+    let mut output = NotedOutput::new(io::writer(rt));
+    let audit = run_draw(rt.alloc(), &mut input, &mut output, form);
+    if audit.status == ExitStatus::Failed {
+        return failed(rt, "draw the plan", input, output);
+    }
+    told(rt, audit)
+}
+
+/// Says why a trace tells of no day, and gives the status.
+pub(crate) fn refuse_day(rt: &HostRuntime, what: &str, fault: &DayFault) -> ExitStatus {
+    match fault {
+        DayFault::Refused { sentence } => {
+            say(rt, sentence);
+            ExitStatus::Refused
+        }
+        DayFault::OutOfMemory => cannot(rt, what, out_of_memory()),
+    }
+}
+
+/// Draws the day of a trace; the error is one of what was said.
+pub(crate) fn draw_trace(
+    rt: &HostRuntime,
+    file: &str,
+    form: Form,
+) -> Result<ExitStatus, ExitStatus> {
+    let text = fs::read(rt, file).map_err(|error| cannot_with(rt, "read", file, error))?;
+    let drawn = draw_day(rt.alloc(), file, &text, form);
+    let picture = drawn.map_err(|fault| refuse_day(rt, "draw the day", &fault))?;
+    write_text(rt, &picture)
+}

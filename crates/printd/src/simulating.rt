@@ -1,0 +1,161 @@
+//! `printd simulate`.
+
+use crate::drawing::{form_of, refuse_day};
+use crate::failure::{cannot, cannot_with, out_of_memory, say, write_text};
+use crate::settings::settings_of;
+use command_line::Simulating;
+use job_lists::{ListError, ListedJob, read_list};
+use policies::Policy;
+use recorded_days::{DayFault, listed_jobs, read_day};
+use settings_file::Settings;
+use simulation::{Added, Drawn, FleetFault, Noise, Question, Watch, run_simulation};
+use std::alloc::AllocError;
+use std::fs;
+use std::os::unix::fs::FileTypeExt;
+use streams::ExitStatus;
+use traces::split_settings;
+
+/// What is done here, in words.
+const PLAY: &str = "play the jobs";
+
+/// Tells on a terminal how far a day has been played.
+#[derive(Drop)]
+struct Progress<'a> {
+    rt: &'a HostRuntime,
+    is_told: bool,
+    /// How many hundredths of the jobs had come when it was told last.
+    told: usize,
+}
+
+/// Whether standard error is a terminal, or another device of characters.
+fn is_terminal(rt: &HostRuntime) -> bool {
+    match fs::metadata(rt, "/dev/stderr") {
+        Ok(found) => found.file_type().is_char_device(),
+        Err(_) => false,
+    }
+}
+
+impl Watch for Progress<'_> {
+    fn come(&mut self, name: &str, come: usize, jobs: usize) {
+        let hundredths = come.saturating_mul(100).checked_div(jobs).unwrap_or(0);
+        if self.is_told && hundredths != self.told {
+            self.told = hundredths;
+            let _said = eprint!(self.rt; "\r\x1b[Kprintd: {name}: {come} of {jobs} jobs");
+        }
+    }
+}
+
+impl Progress<'_> {
+    fn new(rt: &HostRuntime) -> Progress<'_> {
+        Progress {
+            rt,
+            is_told: is_terminal(rt),
+            told: 0,
+        }
+    }
+
+    /// Takes the line away.
+    fn end(&self) {
+        if self.is_told {
+            let _said = eprint!(self.rt; "\r\x1b[K");
+        }
+    }
+}
+
+/// The devices that there are more.
+fn added_of<'a>(
+    rt: &HostRuntime,
+    simulating: &'a Simulating<'_>,
+) -> Result<Vec<Added<'a>>, AllocError> {
+    let mut added = Vec::new(rt.alloc());
+    for (name, like) in simulating.with.iter().zip(&simulating.like) {
+        added.push(Added { name, like })?;
+    }
+    Ok(added)
+}
+
+/// The policy of a name.
+fn policy_named(name: &str) -> Option<Policy> {
+    Policy::ALL
+        .iter()
+        .copied()
+        .find(|policy| policy.name() == name)
+}
+
+/// What is drawn, if anything is.
+fn drawn_of(simulating: &Simulating<'_>) -> Option<Drawn> {
+    let policy = policy_named(simulating.draw?)?;
+    let form = form_of(simulating.text);
+    Some(Drawn { policy, form })
+}
+
+/// Says why a list isn't read, and gives the status.
+fn refuse_list(rt: &HostRuntime, file: &str, error: &ListError) -> ExitStatus {
+    match error {
+        ListError::Fault { line, fault } => {
+            let _said = eprintln!(rt; "printd: {file}: line {line}: {fault}");
+            ExitStatus::Refused
+        }
+        ListError::OutOfMemory => cannot(rt, PLAY, out_of_memory()),
+    }
+}
+
+/// Says why nothing is played, and gives the status.
+fn refuse(rt: &HostRuntime, fault: &FleetFault) -> ExitStatus {
+    match fault {
+        FleetFault::OutOfMemory => cannot(rt, PLAY, out_of_memory()),
+        _ => {
+            say(rt, fault);
+            ExitStatus::Refused
+        }
+    }
+}
+
+/// The jobs that a trace tells of, for some settings.
+fn jobs_of_trace(
+    rt: &HostRuntime,
+    file: &str,
+    text: &[u8],
+    settings: &Settings,
+) -> Result<Vec<ListedJob>, DayFault> {
+    let day = read_day(rt.alloc(), file, text)?;
+    listed_jobs(rt.alloc(), &day, settings)
+}
+
+/// The jobs of a file: those of a trace, where a line is a point alone, else those of a list.
+fn jobs_of(
+    rt: &HostRuntime,
+    file: &str,
+    settings: &Settings,
+) -> Result<Vec<ListedJob>, ExitStatus> {
+    let text = fs::read(rt, file).map_err(|error| cannot_with(rt, "read", file, error))?;
+    if split_settings(&text).is_some() {
+        jobs_of_trace(rt, file, &text, settings).map_err(|fault| refuse_day(rt, PLAY, &fault))
+    } else {
+        read_list(rt.alloc(), &text, settings).map_err(|error| refuse_list(rt, file, &error))
+    }
+}
+
+/// Plays the jobs of a list; the error is one of what was said.
+pub(crate) fn run_simulate(
+    rt: &HostRuntime,
+    simulating: Simulating<'_>,
+) -> Result<ExitStatus, ExitStatus> {
+    let settings = settings_of(rt, simulating.settings)?;
+    let jobs = jobs_of(rt, simulating.jobs, &settings)?;
+    let added = added_of(rt, &simulating).map_err(|_| cannot(rt, PLAY, out_of_memory()))?;
+    let question = Question {
+        noise: Noise {
+            percent: simulating.noise,
+            seed: simulating.seed,
+        },
+        away: &simulating.without,
+        added: &added,
+        drawn: drawn_of(&simulating),
+    };
+    let mut progress = Progress::new(rt);
+    let played = run_simulation(rt.alloc(), settings, &jobs, question, &mut progress);
+    progress.end();
+    let text = played.map_err(|fault| refuse(rt, &fault))?;
+    write_text(rt, &text)
+}

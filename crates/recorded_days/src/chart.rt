@@ -1,0 +1,139 @@
+//! A day of a trace, drawn.
+
+use crate::fault::DayFault;
+use crate::job::{RecordedJob, RecordedPrint};
+use crate::read::{RecordedDay, read_day};
+use base_types::Stranded;
+use gantt_chart::{Arrival, Day, Ending, Form, Print, chart_of_day, draw_charts};
+use job_objects::JobState;
+use std::alloc::{AllocError, Global};
+
+/// The jobs that came.
+fn arrivals_of(alloc: Global, jobs: &[RecordedJob]) -> Result<Vec<Arrival>, AllocError> {
+    let mut arrivals = Vec::with_capacity(alloc, jobs.len())?;
+    for job in jobs {
+        arrivals.push(Arrival {
+            number: job.id.number(),
+            priority: job.priority,
+            moment: job.came,
+        })?;
+    }
+    Ok(arrivals)
+}
+
+/// What became of a job on its device.
+fn ending_of(job: Option<&RecordedJob>) -> Ending {
+    let Some(job) = job else {
+        return Ending::Open;
+    };
+    match job.state {
+        JobState::Completed => Ending::Printed,
+        JobState::Canceled => Ending::Canceled,
+        JobState::Aborted => Ending::Failed,
+        JobState::Pending | JobState::PendingHeld | JobState::Processing | JobState::Stopped =>
+            Ending::Open,
+    }
+}
+
+/// What a device printed, as it is drawn.
+fn print_of(day: &RecordedDay, print: &RecordedPrint) -> Print {
+    Print {
+        job: print.job,
+        device: print.device,
+        start: print.start,
+        end: print.end.unwrap_or(day.end),
+        ending: ending_of(day.jobs.get(print.job)),
+    }
+}
+
+/// What devices printed, as it is drawn.
+fn prints_of(alloc: Global, day: &RecordedDay) -> Result<Vec<Print>, AllocError> {
+    let mut prints = Vec::with_capacity(alloc, day.prints.len())?;
+    for print in &day.prints {
+        prints.push(print_of(day, print))?;
+    }
+    Ok(prints)
+}
+
+/// Whether a job waits, and the last plan found no device for it.
+fn is_stranded(stranded: &[Stranded], job: &RecordedJob) -> bool {
+    job.state.is_pending() && stranded.iter().any(|one| one.job == job.id)
+}
+
+/// What became of a job that no device had.
+fn fate_of(state: JobState) -> &'static str {
+    match state {
+        JobState::Canceled => "was canceled before a device had it",
+        JobState::Aborted => "was given up before a device had it",
+        JobState::PendingHeld => "is held, or hasn't come in as a whole",
+        JobState::Pending | JobState::Processing | JobState::Stopped | JobState::Completed =>
+            "still waits",
+    }
+}
+
+/// A sentence about each job that no device had, but for those that stand below the chart anyway.
+fn notes_of(alloc: Global, day: &RecordedDay) -> Result<Vec<String>, AllocError> {
+    let mut notes = Vec::new(alloc);
+    for job in &day.jobs {
+        if !job.begun && !is_stranded(&day.stranded, job) {
+            let (number, fate) = (job.id.number(), fate_of(job.state));
+            notes.push(format!(in alloc; "Job {number} {fate}.")?)?;
+        }
+    }
+    Ok(notes)
+}
+
+/// The jobs that no device can print, of those that still wait.
+fn stranded_of(alloc: Global, day: &RecordedDay) -> Result<Vec<Stranded>, AllocError> {
+    let mut stranded = Vec::new(alloc);
+    for one in &day.stranded {
+        let waits = day
+            .jobs
+            .iter()
+            .any(|job| job.id == one.job && job.state.is_pending());
+        if waits {
+            stranded.push(*one)?;
+        }
+    }
+    Ok(stranded)
+}
+
+/// A number of things, in words.
+fn counted(alloc: Global, count: usize, one: &str) -> Result<String, AllocError> {
+    let plural = if count == 1 { "" } else { "s" };
+    format!(in alloc; "{count} {one}{plural}")
+}
+
+/// What a chart is of, in a line.
+fn title_of(alloc: Global, day: &RecordedDay, prints: &[Print]) -> Result<String, AllocError> {
+    let jobs = counted(alloc, day.jobs.len(), "job")?;
+    let devices = counted(alloc, day.devices.len(), "device")?;
+    let printed = prints
+        .iter()
+        .filter(|print| print.ending == Ending::Printed)
+        .count();
+    format!(in alloc; "a day of {devices}: {jobs} came, {printed} printed")
+}
+
+/// A picture of the day that a trace tells of, which is the text of a file of this name.
+///
+/// # Errors
+///
+/// Those of [`read_day`].
+pub fn draw_day(alloc: Global, file: &str, text: &[u8], form: Form) -> Result<String, DayFault> {
+    let day = read_day(alloc, file, text)?;
+    let arrivals = arrivals_of(alloc, &day.jobs)?;
+    let prints = prints_of(alloc, &day)?;
+    let chart = chart_of_day(
+        alloc,
+        Day {
+            title: title_of(alloc, &day, &prints)?,
+            devices: &day.devices,
+            arrivals: &arrivals,
+            prints: &prints,
+            stranded: stranded_of(alloc, &day)?,
+            notes: notes_of(alloc, &day)?,
+        },
+    )?;
+    Ok(draw_charts(alloc, &[chart], form)?)
+}

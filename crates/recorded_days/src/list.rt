@@ -1,0 +1,86 @@
+//! The jobs of a day as a list, to be played in other ways.
+
+use crate::fault::{DayFault, refused};
+use crate::job::{RecordedJob, copy_of};
+use crate::read::RecordedDay;
+use base_types::{Needs, PrinterId};
+use job_lists::ListedJob;
+use settings_file::Settings;
+use std::alloc::{AllocError, Global};
+
+/// The printer of some settings that has the name of a printer of a day.
+fn printer_in(day: &RecordedDay, printer: PrinterId, settings: &Settings) -> Option<PrinterId> {
+    let name = day.printers.get(printer.place())?;
+    let place = settings
+        .printers
+        .iter()
+        .position(|known| known.name.as_bytes() == name.as_bytes())?;
+    Some(PrinterId::new(place))
+}
+
+/// The fault that the settings lack the printer of a job.
+fn no_printer(alloc: Global, day: &RecordedDay, job: &RecordedJob, printer: PrinterId) -> DayFault {
+    let number = job.id.number();
+    let name = match day.printers.get(printer.place()) {
+        Some(name) => str::from_utf8(name.as_bytes()).unwrap_or("?"),
+        None => "?",
+    };
+    refused(format!(in alloc;
+        "the settings have no printer \"{name}\", to which job {number} goes"
+    ))
+}
+
+/// What a job needs, for the printer of other settings; of its documents the format of the first counts.
+fn needs_at(alloc: Global, needs: &Needs, printer: PrinterId) -> Result<Needs, AllocError> {
+    let mut moved = copy_of(alloc, needs)?;
+    moved.printer = printer;
+    moved.formats.truncate(1);
+    Ok(moved)
+}
+
+/// The job at a place as one of a list; none where it was canceled or given up before a device had it.
+fn listed_job(
+    alloc: Global,
+    day: &RecordedDay,
+    place: usize,
+    settings: &Settings,
+) -> Result<Option<ListedJob>, DayFault> {
+    let Some(job) = day.jobs.get(place) else {
+        return Ok(None);
+    };
+    let Some(needs) = &job.needs else {
+        return Ok(None);
+    };
+    if job.state.is_finished() && !job.begun {
+        return Ok(None);
+    }
+    let Some(printer) = printer_in(day, needs.printer, settings) else {
+        return Err(no_printer(alloc, day, job, needs.printer));
+    };
+    Ok(Some(ListedJob {
+        moment: job.came,
+        priority: job.priority,
+        needs: needs_at(alloc, needs, printer)?,
+    }))
+}
+
+/// The jobs of a day for some settings, in the order in which they came, each at the moment at which all of
+/// it had come in and nothing held it back. A job that was canceled or given up before a device had it is
+/// left out; what became of any other doesn't count. Of several documents the format of the first counts.
+///
+/// # Errors
+///
+/// The settings lack a printer of the day's name, or there is no memory.
+pub fn listed_jobs(
+    alloc: Global,
+    day: &RecordedDay,
+    settings: &Settings,
+) -> Result<Vec<ListedJob>, DayFault> {
+    let mut jobs = Vec::new(alloc);
+    for place in &day.ready {
+        if let Some(job) = listed_job(alloc, day, *place, settings)? {
+            jobs.push(job)?;
+        }
+    }
+    Ok(jobs)
+}

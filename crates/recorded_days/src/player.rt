@@ -1,0 +1,194 @@
+//! A server that is told the lines of a trace, and is looked at.
+ghost use Rattle.settings_file.specs.Settings.{MeetsLimits};
+
+use crate::recorder::Recorder;
+use assignment::Lazy;
+use base_types::{Moment, Text};
+use replay::{LineFault, TraceWire, form_fault};
+use server::{Engine, NoteLog};
+use settings_file::Settings;
+use std::alloc::{AllocError, Global};
+use traces::{Input, Line, Opening, read_line};
+use transcripts::{Connection, end_at, numbered, put_connection, send_at};
+use wires::{Memory, Peer};
+
+/// After so many turns for one line no more are taken for it.
+const MOST_TURNS: usize = 16_777_216;
+
+/// A server, the wire of its connections, and what was seen of its jobs.
+#[derive(Drop)]
+pub(crate) struct Player {
+    alloc: Global,
+    engine: Engine<Lazy>,
+    wire: TraceWire,
+    connections: Vec<Connection>,
+    heard: NoteLog,
+    /// The moment that the trace told last.
+    told: Moment,
+    /// The moment of the last event.
+    now: Moment,
+    pub(crate) recorder: Recorder,
+}
+
+impl Player {
+    /// A server that starts with these settings.
+    pub(crate) fn new(alloc: Global, settings: Settings) -> Result<Player, AllocError>
+        requires { MeetsLimits settings }
+    {
+        let engine = Engine::new(alloc, settings, Lazy::new(alloc))?;
+        Ok(Player {
+            alloc,
+            engine,
+            wire: TraceWire {
+                memory: Memory::new(Vec::new(alloc)),
+                stirred: false,
+                failed: false,
+            },
+            connections: Vec::new(alloc),
+            heard: NoteLog::new(alloc),
+            told: Moment::start(),
+            now: Moment::start(),
+            recorder: Recorder::new(alloc),
+        })
+    }
+
+    /// The moment of the last event, in ms.
+    pub(crate) fn end(&self) -> u64 {
+        self.now.millis()
+    }
+
+    /// Acts on a line, where the devices have these names; the inner error is what is wrong with it.
+    pub(crate) fn act(
+        &mut self,
+        bytes: &[u8],
+        names: &[Text],
+    ) -> Result<Result<(), LineFault>, AllocError> {
+        let Some(line) = read_line(self.alloc, bytes, names)? else {
+            return Ok(Err(form_fault(bytes)));
+        };
+        if let Some(fault) = self.objection(&line) {
+            return Ok(Err(fault));
+        }
+        self.give(line)?;
+        Ok(Ok(()))
+    }
+
+    /// Why a line may not come now.
+    fn objection(&self, line: &Line) -> Option<LineFault> {
+        match line {
+            Line::At(_) | Line::Ipp(_) | Line::Device(_, _) | Line::Tick => None,
+            Line::Open(opening) => match numbered(&self.connections, opening.number) {
+                Some(_) => Some(LineFault::Given),
+                None => None,
+            },
+            Line::In(input) => self.unless_open(input.number),
+            Line::End(number) => self.unless_open(*number),
+        }
+    }
+
+    /// The fault that no connection of a number is open, unless one is.
+    fn unless_open(&self, number: u64) -> Option<LineFault> {
+        let peer = match numbered(&self.connections, number) {
+            Some(connection) => self.wire.memory.peers.get(connection.place),
+            None => None,
+        };
+        match peer {
+            Some(peer) if !peer.ended => None,
+            _ => Some(LineFault::NotOpen),
+        }
+    }
+
+    /// Does what a line says.
+    fn give(&mut self, line: Line) -> Result<(), AllocError> {
+        match line {
+            Line::At(moment) => {
+                self.told = moment;
+                return Ok(());
+            }
+            Line::Ipp(body) => {
+                let _served = self.engine.serve_body(&body, &mut self.heard, self.told)?;
+            }
+            Line::Device(device, report) => {
+                self.engine
+                    .report(device, report, &mut self.heard, self.told)?;
+            }
+            Line::Tick => self.engine.tick(&mut self.heard, self.told)?,
+            Line::Open(opening) => {
+                self.open(opening)?;
+                return self.take_turns();
+            }
+            Line::In(input) => {
+                self.bring(&input)?;
+                return self.take_turns();
+            }
+            Line::End(number) => {
+                self.end_input(number);
+                return self.take_turns();
+            }
+        }
+        self.look()
+    }
+
+    /// Looks at what an event did.
+    fn look(&mut self) -> Result<(), AllocError> {
+        self.now = self.told.later(self.now);
+        let heard = self.heard.take()?;
+        self.recorder.look(&self.engine, &heard, self.now.millis())
+    }
+
+    /// A connection comes in.
+    fn open(&mut self, opening: Opening) -> Result<(), AllocError> {
+        let Opening { number, door } = opening;
+        let place = self.wire.memory.peers.len();
+        let peer = Peer::new(
+            self.alloc,
+            door,
+            Vec::new(self.alloc),
+            usize::MAX,
+            usize::MAX,
+        );
+        self.wire.memory.peers.push(peer)?;
+        let gone = false;
+        put_connection(
+            &mut self.connections,
+            Connection {
+                number,
+                place,
+                gone,
+            },
+        )
+    }
+
+    /// Bytes come on a connection.
+    fn bring(&mut self, input: &Input) -> Result<(), AllocError> {
+        match numbered(&self.connections, input.number) {
+            Some(connection) => {
+                send_at(&mut self.wire.memory.peers, connection.place, &input.bytes)
+            }
+            None => Ok(()),
+        }
+    }
+
+    /// Nothing more comes on a connection.
+    fn end_input(&mut self, number: u64) {
+        if let Some(connection) = numbered(&self.connections, number) {
+            end_at(&mut self.wire.memory.peers, connection.place);
+        }
+    }
+
+    /// Takes turns until one in which no poll came to something, and looks after each.
+    fn take_turns(&mut self) -> Result<(), AllocError> {
+        for _turn in 0..MOST_TURNS {
+            self.wire.stirred = false;
+            self.engine.turn(&mut self.wire, &mut self.heard, self.told);
+            self.look()?;
+            if self.wire.failed {
+                return Err(AllocError);
+            }
+            if !self.wire.stirred {
+                return Ok(());
+            }
+        }
+        Ok(())
+    }
+}

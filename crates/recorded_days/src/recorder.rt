@@ -1,0 +1,213 @@
+//! What is seen of a server's jobs while it plays.
+
+use crate::job::{RecordedJob, RecordedPrint};
+use assignment::Lazy;
+use base_types::{Activity, DeviceId, JobId, Limits, Stranded};
+use dispatcher::Started;
+use job_objects::Job;
+use server::{Engine, Heard};
+use std::alloc::{AllocError, Global};
+
+/// The jobs that were seen, and what devices printed of them.
+#[derive(Drop)]
+pub(crate) struct Recorder {
+    alloc: Global,
+    /// By rising id.
+    pub(crate) jobs: Vec<RecordedJob>,
+    /// The numbers of their ids.
+    ids: Vec<u32>,
+    /// The places of the jobs that were ready, in the order in which they came to be.
+    pub(crate) ready: Vec<usize>,
+    /// By rising start.
+    pub(crate) prints: Vec<RecordedPrint>,
+    /// The jobs for which the last plan found no device.
+    pub(crate) stranded: Vec<Stranded>,
+    /// The places of the jobs that weren't finished when they were seen last.
+    unfinished: Vec<usize>,
+    /// The places of the prints that hadn't ended.
+    running: Vec<usize>,
+    /// The number of the first id that wasn't looked for yet.
+    next: u32,
+}
+
+/// The highest number of a job that was heard to begin; 0 where none was.
+fn last_begun(heard: &[Heard]) -> u32 {
+    let mut last = 0;
+    for one in heard {
+        if let Heard::Began(started) = one {
+            last = started.job.number().max(last);
+        }
+    }
+    last
+}
+
+/// The job of the id of a number, if it is kept.
+fn job_numbered(engine: &Engine<Lazy>, number: u32) -> Option<&Job> {
+    let id = JobId::new(number)?;
+    engine.job(id)
+}
+
+/// Whether a device has a job.
+fn has(engine: &Engine<Lazy>, device: usize, job: JobId) -> bool {
+    let Some(device) = engine.device(DeviceId::new(device)) else {
+        return false;
+    };
+    match device.activity {
+        Activity::Running(Some(printing)) => printing.job == job,
+        Activity::Stopped(Some(interrupted)) => interrupted.job == job,
+        Activity::Running(None) | Activity::Stopped(None) => false,
+    }
+}
+
+impl Recorder {
+    /// Nothing was seen yet.
+    pub(crate) fn new(alloc: Global) -> Recorder {
+        Recorder {
+            alloc,
+            jobs: Vec::new(alloc),
+            ids: Vec::new(alloc),
+            ready: Vec::new(alloc),
+            prints: Vec::new(alloc),
+            stranded: Vec::new(alloc),
+            unfinished: Vec::new(alloc),
+            running: Vec::new(alloc),
+            next: JobId::FIRST,
+        }
+    }
+
+    /// Notes what a server did until a moment, and what was heard of it.
+    pub(crate) fn look(
+        &mut self,
+        engine: &Engine<Lazy>,
+        heard: &[Heard],
+        now: u64,
+    ) -> Result<(), AllocError> {
+        self.find_jobs(engine, last_begun(heard))?;
+        self.hear(heard, now)?;
+        self.note_jobs(engine, now)?;
+        self.end_prints(engine, now);
+        Ok(())
+    }
+
+    /// Finds the jobs that were made. One that was made, has ended and is forgotten is left out.
+    fn find_jobs(&mut self, engine: &Engine<Lazy>, least: u32) -> Result<(), AllocError> {
+        for number in self.next..=Limits::LAST_JOB_ID {
+            let found = job_numbered(engine, number);
+            if found.is_none() && number > least {
+                return Ok(());
+            }
+            self.next = number.saturating_add(1);
+            if let Some(job) = found {
+                self.add(job)?;
+            }
+        }
+        Ok(())
+    }
+
+    /// Adds a job that was made.
+    fn add(&mut self, job: &Job) -> Result<(), AllocError> {
+        let place = self.jobs.len();
+        self.jobs.push(RecordedJob::new(job))?;
+        self.ids.push(job.id.number())?;
+        self.unfinished.push(place)?;
+        Ok(())
+    }
+
+    /// Notes what was heard.
+    fn hear(&mut self, heard: &[Heard], now: u64) -> Result<(), AllocError> {
+        for one in heard {
+            match one {
+                Heard::Planned => self.stranded.clear(),
+                Heard::Stranded(stranded) => self.stranded.push(*stranded)?,
+                Heard::Began(started) => self.begin(*started, now)?,
+                _ => {}
+            }
+        }
+        Ok(())
+    }
+
+    /// Notes that a device begins a job.
+    fn begin(&mut self, started: Started, now: u64) -> Result<(), AllocError> {
+        let Ok(job) = self.ids.binary_search(&started.job.number()) else {
+            return Ok(());
+        };
+        if let Some(recorded) = self.jobs.get_mut(job) {
+            recorded.begun = true;
+        }
+        self.running.push(self.prints.len())?;
+        self.prints.push(RecordedPrint {
+            job,
+            device: started.device.place(),
+            start: now,
+            end: None,
+        })?;
+        Ok(())
+    }
+
+    /// Notes what the jobs are that weren't finished.
+    fn note_jobs(&mut self, engine: &Engine<Lazy>, now: u64) -> Result<(), AllocError> {
+        for step in 0..self.unfinished.len() {
+            self.note_job(engine, step, now)?;
+        }
+        let jobs = &self.jobs;
+        self.unfinished.retain(|place| is_unfinished(jobs, *place));
+        Ok(())
+    }
+
+    /// Notes what the job at a place of those is that weren't finished.
+    fn note_job(&mut self, engine: &Engine<Lazy>, step: usize, now: u64) -> Result<(), AllocError> {
+        let Some(place) = self.unfinished.get(step).copied() else {
+            return Ok(());
+        };
+        let Some(recorded) = self.jobs.get_mut(place) else {
+            return Ok(());
+        };
+        let Some(job) = engine.job(recorded.id) else {
+            return Ok(());
+        };
+        if recorded.note(self.alloc, job, now)? {
+            self.ready.push(place)?;
+        }
+        Ok(())
+    }
+
+    /// Ends the prints whose devices have let go of their jobs.
+    fn end_prints(&mut self, engine: &Engine<Lazy>, now: u64) {
+        for step in 0..self.running.len() {
+            self.end_print(engine, step, now);
+        }
+        let prints = &self.prints;
+        self.running.retain(|place| is_running(prints, *place));
+    }
+
+    /// Ends the print at a place of those that hadn't ended, if its device has let go of its job.
+    fn end_print(&mut self, engine: &Engine<Lazy>, step: usize, now: u64) {
+        let Some(place) = self.running.get(step).copied() else {
+            return;
+        };
+        let Some(print) = self.prints.get_mut(place) else {
+            return;
+        };
+        if let Some(job) = self.jobs.get(print.job)
+            && !has(engine, print.device, job.id)
+        {
+            print.end = Some(now);
+        }
+    }
+}
+
+/// Whether the job at a place isn't finished.
+fn is_unfinished(jobs: &[RecordedJob], place: usize) -> bool {
+    match jobs.get(place) {
+        Some(job) => !job.state.is_finished(),
+        None => false,
+    }
+}
+
+/// Whether the print at a place hasn't ended.
+fn is_running(prints: &[RecordedPrint], place: usize) -> bool {
+    match prints.get(place) {
+        Some(print) => print.end.is_none(),
+        None => false,
+    }
+}
