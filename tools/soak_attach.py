@@ -1,23 +1,22 @@
 #!/usr/bin/env python3
 """Many jobs through printers' adapters: their memory and the server's, at each tenth of the jobs.
 
-    tools/soak_attach.py PROGRAM SCHEME JOBS [ADAPTERS]      (one adapter, where none is said)
+    tools/soak_attach.py SCHEME JOBS [ADAPTERS]      (one adapter, where none is said)
 
 SCHEME is file, socket, lpd or ipp. A server with a device for each adapter is given jobs of 5,000 bytes, at most
 300 of them unfinished at a time, and `printd attach` prints them: into a folder in memory, to a printer here that
 takes what it is sent, or, with ipp, to tools/clients/ipp_printer.py, which takes a tenth of a second for each. It
 prints the resident memory of all and the adapters' descriptors at each tenth, how many jobs were done and failed,
 and the processor time of the adapters over a minute with nothing to do. It ends with status 1 where a job failed,
-or where memory has grown by more than a twentieth since the first tenth.
+or where memory has grown by more than a twentieth since the first tenth. PRINTD names the program; without it, it
+is the one that ./printd built.
 """
 import contextlib
 import http.client
 import os
 import pathlib
-import re
 import shutil
 import socket
-import subprocess
 import sys
 import tempfile
 import threading
@@ -26,6 +25,7 @@ import time
 TOP = pathlib.Path(__file__).resolve().parent.parent
 sys.path.insert(0, str(TOP / "tools/clients"))
 from ipp_printer import CHARSET, LANGUAGE, attribute  # noqa: E402
+from running import Adapter, Process, Running  # noqa: E402
 
 URI = 0x45
 WAITING = 300
@@ -93,59 +93,23 @@ def free_port():
         return listener.getsockname()[1]
 
 
-class Run:
-    """A program that runs, and what the system says of it."""
+class Counted(Adapter):
+    """An adapter, and how many of its jobs are done or have failed so far."""
 
-    def __init__(self, words, **streams):
-        self.process = subprocess.Popen([str(word) for word in words], **streams)
-
-    def resident(self):
-        """Resident memory, in KiB."""
-        return int(re.search(r"VmRSS:\s+(\d+)", pathlib.Path(f"/proc/{self.process.pid}/status").read_text())[1])
-
-    def seconds(self):
-        """Processor time, in seconds."""
-        return int(pathlib.Path(f"/proc/{self.process.pid}/schedstat").read_text().split()[0]) / 1e9
-
-    def descriptors(self):
-        return len(os.listdir(f"/proc/{self.process.pid}/fd"))
-
-    def end(self):
-        self.process.terminate()
-        self.process.wait(10)
-
-
-class Server(Run):
-    """`printd serve` with a device of each of these names."""
-
-    def __init__(self, program, names, folder):
-        file = folder / "settings.toml"
-        file.write_text(settings(names))
-        words = [program, "serve", "--settings", file, "--ipp", 0, "--lpd", 0, "--devices", 0]
-        super().__init__(words, stdout=subprocess.PIPE, text=True)
-        lines = [self.process.stdout.readline().split() for _ in range(3)]
-        self.ports = {door: int(place.split(":")[-1]) for door, place in lines}
-
-
-class Adapter(Run):
-    """`printd attach`, and how many of its jobs have ended so far."""
-
-    def __init__(self, program, name, server, to, folder):
-        log = folder / f"{name}.log"
-        words = [program, "attach", "--name", name, "--server", f"127.0.0.1:{server.ports['devices']}", "--to", to, "--log"]
-        super().__init__(words, stderr=log.open("w"))
-        self.log, self.done, self.failed = log.open(), 0, 0
+    def __enter__(self):
+        self.lines, self.done, self.failed = self.log.open(), 0, 0
+        return super().__enter__()
 
     def ended(self):
-        """How many jobs are done or have failed."""
-        text = self.log.read()
+        """How many jobs have ended."""
+        text = self.lines.read()
         self.done += text.count(" done ")
         self.failed += text.count(" fail ")
         return self.done + self.failed
 
 
 def target(scheme, name, folder, ends):
-    """What --to is given; what runs behind it is ended by `ends`."""
+    """What --to is given; what runs behind it ends with `ends`."""
     if scheme == "file":
         return f"file:{folder / name}"
     if scheme == "socket":
@@ -153,8 +117,7 @@ def target(scheme, name, folder, ends):
     if scheme == "lpd":
         return f"lpd://127.0.0.1:{printer(take_lpd)}/lab"
     port = free_port()
-    behind = Run([sys.executable, TOP / "tools/clients/ipp_printer.py", port, folder / name])
-    ends.callback(behind.end)
+    ends.enter_context(Process([sys.executable, TOP / "tools/clients/ipp_printer.py", port, folder / name]))
     return f"ipp://127.0.0.1:{port}/printer"
 
 
@@ -169,13 +132,13 @@ def send(door, count):
 
 def reading(server, adapters):
     """The memory of each, and the adapters' descriptors."""
-    memory = [run.resident() for run in (*adapters, server)]
+    memory = [run.resident_kib() for run in (*adapters, server)]
     return memory, [adapter.descriptors() for adapter in adapters]
 
 
 def soak(server, adapters, jobs):
     """Has so many jobs printed: the memory of each at each tenth."""
-    door = http.client.HTTPConnection("127.0.0.1", server.ports["ipp"], timeout=60)
+    door = http.client.HTTPConnection("127.0.0.1", server.ipp, timeout=60)
     begun, sent, ended, memories = time.time(), 0, 0, []
     while ended < jobs:
         sent += send(door, min(jobs - sent, WAITING - (sent - ended)))
@@ -191,24 +154,24 @@ def soak(server, adapters, jobs):
 
 def idle_share(adapters):
     """The part of a processor that each takes over a minute, in percent."""
-    before = [adapter.seconds() for adapter in adapters]
+    before = [adapter.processor_seconds() for adapter in adapters]
     time.sleep(IDLE)
-    return [(adapter.seconds() - early) / IDLE * 100 for adapter, early in zip(adapters, before)]
+    return [(adapter.processor_seconds() - early) / IDLE * 100 for adapter, early in zip(adapters, before)]
 
 
 def main():
-    program, scheme, jobs = sys.argv[1], sys.argv[2], int(sys.argv[3])
-    names = [f"device{number}" for number in range(1, 1 + int(sys.argv[4] if len(sys.argv) > 4 else 1))]
+    scheme, jobs, count = sys.argv[1], int(sys.argv[2]), int(sys.argv[3] if len(sys.argv) > 3 else 1)
+    names = [f"device{number}" for number in range(1, 1 + count)]
     folder = pathlib.Path(tempfile.mkdtemp(dir="/dev/shm"))
     with contextlib.ExitStack() as ends:
         ends.callback(shutil.rmtree, folder)
-        server = Server(program, names, folder)
-        ends.callback(server.end)
+        (folder / "settings.toml").write_text(settings(names))
+        server = ends.enter_context(Running(folder / "settings.toml"))
         targets = [target(scheme, name, folder, ends) for name in names]
         time.sleep(1)
-        adapters = [Adapter(program, name, server, to, folder) for name, to in zip(names, targets)]
+        adapters = [Counted(name, server.devices, to, folder / f"{name}.log") for name, to in zip(names, targets)]
         for adapter in adapters:
-            ends.callback(adapter.end)
+            ends.enter_context(adapter)
         time.sleep(1)
         memories = soak(server, adapters, jobs)
         shares = ", ".join(f"{share:.3f}" for share in idle_share(adapters))

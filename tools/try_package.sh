@@ -90,6 +90,7 @@ inside printd --version
 
 echo "-- lp, to the addresses of IPv4 and IPv6"
 inside timeout 60 printd attach --name window --to file:/run/printed &
+disown
 sleep 1
 print_once 127.0.0.1:631 1
 print_once '[::1]:631' 2

@@ -20,7 +20,7 @@ import time
 import typing
 
 sys.path.insert(0, str(pathlib.Path(__file__).resolve().parent))
-from running import PROGRAM, TOP, Running  # noqa: E402
+from running import TOP, Adapter, Running  # noqa: E402
 
 TESTS = "/usr/share/cups/ipptool"
 BACKENDS = "/usr/lib/cups/backend"
@@ -162,12 +162,9 @@ def main():
     file, kept = folder / "hello.txt", folder / "kept"
     file.write_bytes(CONTENTS)
     with Running(log=open(folder / "server.log", "wb"), words=["--log"]) as server:
-        words = ["attach", "--name", "window", "--server", f"127.0.0.1:{server.devices}", "--to", f"file:{kept}"]
-        device = subprocess.Popen([str(PROGRAM), *words])
-        time.sleep(0.5)
-        fails = play(rows(server, str(file)), kept, folder)
-        device.terminate()
-        device.wait(10)
+        with Adapter("window", server.devices, f"file:{kept}", folder / "adapter.log"):
+            time.sleep(0.5)
+            fails = play(rows(server, str(file)), kept, folder)
     for queue in (cups_queue, rlpr_queue, lprng_queue):
         with Running(log=open(folder / f"{queue.__name__}.log", "wb"), words=["--log"]) as server:
             fails += play(queue(server, str(file)), kept, folder)

@@ -25,7 +25,7 @@ import typing
 
 sys.path.insert(0, str(pathlib.Path(__file__).resolve().parent))
 from ipp_printer import CANCEL_JOB, CHARSET, INTEGER, LANGUAGE, PRINT_JOB, attribute  # noqa: E402
-from running import PROGRAM, TOP, Running  # noqa: E402
+from running import PROGRAM, TOP, Adapter, Process, Running  # noqa: E402
 
 URI = 0x45
 LARGE = 8 << 20
@@ -143,36 +143,18 @@ def ask(server, operation, rest=b"", contents=b""):
     return struct.unpack(">H", door.getresponse().read()[2:4])[0]
 
 
-class Adapter:
-    """`printd attach`, until the end of a `with`."""
+def notes_of(adapter):
+    """What its log says, without the moments, and without what is always there."""
+    lines = [line.partition(" ")[2] for line in adapter.log.read_text().splitlines()]
+    return [line for line in lines if not line.startswith(("job ", "linked"))]
 
-    def __init__(self, folder, port, words):
-        self.words = [str(PROGRAM), "attach", "--name", "window", "--server", f"127.0.0.1:{port}", *words, "--log"]
-        self.log = folder / "adapter.log"
 
-    def __enter__(self):
-        self.process = subprocess.Popen(self.words, stderr=self.log.open("w"))
-        return self
-
-    def __exit__(self, *_):
-        self.process.terminate()
-        self.process.wait(10)
-
-    def notes(self):
-        """What the log says, without the moments, and without what is always there."""
-        lines = [line.partition(" ")[2] for line in self.log.read_text().splitlines()]
-        return [line for line in lines if not line.startswith(("job ", "linked"))]
-
-    def waits_for(self, pattern, seconds=40.0):
-        """The notes, once one of them is so, or it took too long."""
-        end = time.monotonic() + seconds
-        while time.monotonic() < end and not any(re.match(pattern, note) for note in self.notes()):
-            time.sleep(0.05)
-        return self.notes()
-
-    def peak(self):
-        """The most KiB that it had resident."""
-        return int(re.search(r"VmHWM:\s+(\d+)", pathlib.Path(f"/proc/{self.process.pid}/status").read_text())[1])
+def wait_for(adapter, pattern, seconds=40.0):
+    """The notes of its log, once one of them is so, or it took too long."""
+    end = time.monotonic() + seconds
+    while time.monotonic() < end and not any(re.match(pattern, note) for note in notes_of(adapter)):
+        time.sleep(0.05)
+    return notes_of(adapter)
 
 
 def kept(folder, job, to):
@@ -184,15 +166,12 @@ def kept(folder, job, to):
     return contents
 
 
-def start_printer(row, port, folder):
+def printer_of(row, port, folder):
     """The printer of a row, which is there at once or later."""
     words = [sys.executable, str(TOP / "tools/clients" / TOOLS[row.to]), str(port), str(folder / "kept"), row.fault, "pjl" if row.to == "pjl" else "well"]
     if row.late:
         words = ["sh", "-c", f'sleep {row.late}; exec "$@"', "sh", *words]
-    process = subprocess.Popen(words, stdout=subprocess.DEVNULL)
-    while not row.late and not listens(port):
-        time.sleep(0.05)
-    return process
+    return Process(words, stdout=subprocess.DEVNULL)
 
 
 def print_two(server, adapter, row, contents):
@@ -201,23 +180,24 @@ def print_two(server, adapter, row, contents):
     if row.cancels:
         time.sleep(2)
         ask(server, CANCEL_JOB, attribute(INTEGER, b"job-id", 1))
-    adapter.waits_for(r"(done|fail) 1\b")
+    wait_for(adapter, r"(done|fail) 1\b")
     ask(server, PRINT_JOB, contents=contents[:20_000])
-    return adapter.waits_for(r"(done|fail) 2\b")
+    return wait_for(adapter, r"(done|fail) 2\b")
 
 
 def play(row, folder):
     """What came of a row: whether it is as it is wanted, and a text."""
     port = free_port()
     scheme = "socket" if row.to == "pjl" else row.to
-    words = ["--to", f"{scheme}://127.0.0.1:{port}{PATHS[row.to]}", *PATIENCE, *(["--pjl"] if row.to == "pjl" else [])]
+    to = f"{scheme}://127.0.0.1:{port}{PATHS[row.to]}"
+    words = [*PATIENCE, "--pjl"] if row.to == "pjl" else PATIENCE
     contents = bytes(n % 251 for n in range(20_000)) * (row.octets // 20_000)
-    printer = start_printer(row, port, folder)
-    with Running(log=open(folder / "server.log", "wb"), words=["--log"]) as server, Adapter(folder, server.devices, words) as adapter:
-        notes = print_two(server, adapter, row, contents)
-        peak = adapter.peak()
-    printer.terminate()
-    printer.wait(10)
+    with printer_of(row, port, folder), Running(log=open(folder / "server.log", "wb"), words=["--log"]) as server:
+        while not row.late and not listens(port):
+            time.sleep(0.05)
+        with Adapter("window", server.devices, to, folder / "adapter.log", words) as adapter:
+            notes = print_two(server, adapter, row, contents)
+            peak = adapter.peak_kib()
     wanted = [*row.says, "done 2"]
     good = len(notes) == len(wanted) and all(re.fullmatch(one, note) for one, note in zip(wanted, notes))
     for job, document in ((1, contents), (2, contents[:20_000])):
@@ -261,10 +241,10 @@ class LineServer:
 def play_lines(front, closes, says, folder):
     """What an adapter makes of a server that writes these lines."""
     server = LineServer(front, closes)
-    with Adapter(folder, server.port, ["--to", f"file:{folder / 'kept'}"]) as adapter:
-        notes = adapter.waits_for(r"done 1\b")
+    with Adapter("window", server.port, f"file:{folder / 'kept'}", folder / "adapter.log") as adapter:
+        notes = wait_for(adapter, r"done 1\b")
         time.sleep(0.2)
-        peak = adapter.peak()
+        peak = adapter.peak_kib()
     answers = [line for line in server.said if line.startswith((b"DONE", b"FAIL"))]
     printed = (folder / "kept/1-window.txt").read_bytes() if notes[-1:] == ["done 1"] else b""
     good = any(note.startswith(says) for note in notes) and printed == b"hello" and answers == [b"DONE 1"]
