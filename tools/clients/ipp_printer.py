@@ -112,6 +112,24 @@ def read_body(stream):
     stream.readline()
 
 
+def said_of(fault, done):
+    """What is said of a job that has come."""
+    match fault:
+        case "garbage":
+            return b"220 a printer of another kind\r\n" * 100
+        case "closed" | "denied":
+            return b""
+        case "half":
+            return reply(done)[:-20]
+        case "long":
+            return b"HTTP/1.1 200 OK\r\n" + b"x: y\r\n" * 10_000
+        case "huge":
+            return b"HTTP/1.1 200 OK\r\n\r\n" + b"\x01" * 100_000_000
+        case "chunked":
+            return chunked(done)
+    return reply(done)
+
+
 def answer_job(printer, connection, pieces):
     """Takes a job, or does what its fault says."""
     printer.jobs.append((time.time(), 0))
@@ -127,14 +145,9 @@ def answer_job(printer, connection, pieces):
             return
     printer.jobs[-1] = (time.time(), len(taken))
     done = message(0x0507 if fault == "busy" else 0, b"" if fault == "busy" else printer.job(number))
-    said = {
-        "garbage": b"220 a printer of another kind\r\n" * 100, "closed": b"", "half": reply(done)[:-20], "denied": b"",
-        "long": b"HTTP/1.1 200 OK\r\n" + b"x: y\r\n" * 10_000, "huge": b"HTTP/1.1 200 OK\r\n\r\n" + b"\x01" * 100_000_000,
-        "chunked": chunked(done),
-    }
     if fault == "mute":
         time.sleep(3600)
-    connection.sendall(said.get(fault, reply(done)))
+    connection.sendall(said_of(fault, done))
 
 
 def serve(printer, connection):
