@@ -8,7 +8,7 @@ SCHEME is file, socket, lpd or ipp. A server with a device for each adapter is g
 takes what it is sent, or, with ipp, to tools/clients/ipp_printer.py, which takes a tenth of a second for each. It
 prints the resident memory of all and the adapters' descriptors at each tenth, how many jobs were done and failed,
 and the processor time of the adapters over a minute with nothing to do. It ends with status 1 where a job failed,
-or where memory has grown by more than a twentieth since the first tenth. PRINTD names the program; without it, it
+or where memory has grown by more than a twentieth since half of them. PRINTD names the program; without it, it
 is the one that ./printd built.
 """
 import contextlib
@@ -177,7 +177,7 @@ def main():
         shares = ", ".join(f"{share:.3f}" for share in idle_share(adapters))
     done, failed = sum(one.done for one in adapters), sum(one.failed for one in adapters)
     print(f"{scheme}: {done} done, {failed} failed; idle over {IDLE} s, {shares} % of a processor")
-    sys.exit(failed > 0 or any(late > early + early // 20 for early, late in zip(memories[0], memories[-1])))
+    sys.exit(failed > 0 or any(late > early + early // 20 for early, late in zip(memories[len(memories) // 2], memories[-1])))
 
 
 if __name__ == "__main__":

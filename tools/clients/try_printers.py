@@ -71,7 +71,7 @@ ROWS = [
     Row("lpd", "no-control", ["fail 1 refused"]),
     Row("lpd", "no-data", ["fail 1 refused"]),
     Row("lpd", "spoilt", ["fail 1 refused"]),
-    Row("lpd", "early", ["fail 1 refused"]),
+    Row("lpd", "early", ["fail 1 refused"], LARGE),
     Row("lpd", "closed", ["fail 1 broken"], LARGE),
     Row("lpd", "stall", ["fail 1 silent"], LARGE),
     Row("lpd", "mute", ["fail 1 silent"]),
