@@ -13,7 +13,6 @@ import threading
 import time
 
 sys.path.insert(0, str(pathlib.Path(__file__).resolve().parent / "clients"))
-from device import jobs  # noqa: E402
 from running import TOP, Running  # noqa: E402
 
 EARLY = 2000
@@ -34,8 +33,11 @@ class Device(threading.Thread):
         self.done = 0
 
     def run(self):
-        for words, _contents in jobs(self.connection.makefile("rb")):
-            self.connection.sendall(f"DONE {words[1]}\n".encode("ascii"))
+        stream = self.connection.makefile("rb")
+        for line in stream:
+            _job, number, octets, *_rest = line.split()
+            stream.read(int(octets))
+            self.connection.sendall(b"DONE " + number + b"\n")
             self.done += 1
 
 

@@ -1,51 +1,61 @@
 #!/usr/bin/env python3
-"""Many jobs through a printer's adapter: its memory and the server's after a tenth of them and at the end.
+"""Many jobs through printers' adapters: their memory and the server's, at each tenth of the jobs.
 
-    tools/soak_attach.py PROGRAM SCHEME JOBS
+    tools/soak_attach.py SCHEME JOBS [ADAPTERS]      (one adapter, where none is said)
 
-SCHEME is file, socket, lpd or ipp. A server with examples/lab.toml is given jobs of 3,000 bytes, at most 300 of
-them unfinished at a time, and `printd attach` prints them: into a folder in memory, to a printer here that takes
-what it is sent, or, with ipp, to a second server whose device is done at once. It prints how many jobs were done
-and failed, the resident memory of both and the adapter's descriptors at a tenth and at the end, and the
-processor time of the adapter over 20 s with nothing to do.
+SCHEME is file, socket, lpd or ipp. A server with a device for each adapter is given jobs of 5,000 bytes, at most
+300 of them unfinished at a time, and `printd attach` prints them: into a folder in memory, to a printer here that
+takes what it is sent, or, with ipp, to tools/clients/ipp_printer.py, which takes a tenth of a second for each. It
+prints the resident memory of all and the adapters' descriptors at each tenth, how many jobs were done and failed,
+and the processor time of the adapters over a minute with nothing to do. It ends with status 1 where a job failed,
+or where memory has grown by more than a twentieth since half of them. PRINTD names the program; without it, it
+is the one that ./printd built.
 """
+import contextlib
 import http.client
 import os
 import pathlib
-import re
 import shutil
 import socket
-import struct
-import subprocess
 import sys
 import tempfile
 import threading
 import time
 
-SETTINGS = pathlib.Path(__file__).resolve().parent.parent / "examples" / "lab.toml"
+TOP = pathlib.Path(__file__).resolve().parent.parent
+sys.path.insert(0, str(TOP / "tools/clients"))
+from ipp_printer import CHARSET, LANGUAGE, attribute  # noqa: E402
+from running import Adapter, Process, Running  # noqa: E402
+
+URI = 0x45
 WAITING = 300
-
-
-def attribute(tag, name, value):
-    """An attribute, as RFC 8010 spells it."""
-    return bytes([tag]) + struct.pack(">H", len(name)) + name + struct.pack(">H", len(value)) + value
+OCTETS = 5000
+IDLE = 60
 
 
 HEAD = (
     b"\x01\x01\x00\x02\x00\x00\x00\x01\x01"
-    + attribute(0x47, b"attributes-charset", b"utf-8")
-    + attribute(0x48, b"attributes-natural-language", b"en")
-    + attribute(0x45, b"printer-uri", b"ipp://localhost:631/printers/lab")
+    + attribute(CHARSET, b"attributes-charset", b"utf-8")
+    + attribute(LANGUAGE, b"attributes-natural-language", b"en")
+    + attribute(URI, b"printer-uri", b"ipp://localhost:631/printers/lab")
     + b"\x03"
 )
 
 
-def serve(program):
-    """A server, and the port of each of its doors."""
-    words = [program, "serve", "--settings", str(SETTINGS), "--ipp", "0", "--lpd", "0", "--devices", "0"]
-    run = subprocess.Popen(words, stdout=subprocess.PIPE, text=True)
-    lines = [run.stdout.readline().split() for _ in range(3)]
-    return run, {door: int(place.split(":")[-1]) for door, place in lines}
+def device(name):
+    """A device, as settings have it."""
+    media, formats = '["iso_a4_210x297mm"]', '["application/octet-stream"]'
+    return f'[[device]]\nname = "{name}"\nrate_one = 100\nmedia = {media}\nformats = {formats}\n'
+
+
+def settings(names):
+    """The settings of a printer over devices of these names."""
+    listed = ", ".join(f'"{name}"' for name in names)
+    return (
+        'version = 1\nuri_base = "ipp://localhost:631"\n' + "".join(device(name) for name in names)
+        + f'[[printer]]\nname = "lab"\ndevices = [{listed}]\n'
+        + 'media_default = "iso_a4_210x297mm"\nformat_default = "application/octet-stream"\n'
+    )
 
 
 def printer(take):
@@ -78,97 +88,96 @@ def take_lpd(connection):
         connection.sendall(b"\0")
 
 
-def be_device(port):
-    """A device that is done with each job at once."""
-    connection = socket.create_connection(("127.0.0.1", port))
-    connection.sendall(b"HELLO A\nREADY\n")
-
-    def run():
-        stream = connection.makefile("rb")
-        for line in stream:
-            word, *rest = line.split()
-            if word == b"JOB":
-                stream.read(int(rest[1]))
-                connection.sendall(b"DONE " + rest[0] + b"\n")
-
-    threading.Thread(target=run, daemon=True).start()
+def free_port():
+    with socket.create_server(("127.0.0.1", 0)) as listener:
+        return listener.getsockname()[1]
 
 
-def target(program, scheme, folder):
-    """What --to is given, and what runs behind it."""
+class Counted(Adapter):
+    """An adapter, and how many of its jobs are done or have failed so far."""
+
+    def __enter__(self):
+        self.lines, self.done, self.failed = self.log.open(), 0, 0
+        return super().__enter__()
+
+    def ended(self):
+        """How many jobs have ended."""
+        text = self.lines.read()
+        self.done += text.count(" done ")
+        self.failed += text.count(" fail ")
+        return self.done + self.failed
+
+
+def target(scheme, name, folder, ends):
+    """What --to is given; what runs behind it ends with `ends`."""
     if scheme == "file":
-        return f"file:{folder}", []
+        return f"file:{folder / name}"
     if scheme == "socket":
-        return f"socket://127.0.0.1:{printer(take_app_socket)}", []
+        return f"socket://127.0.0.1:{printer(take_app_socket)}"
     if scheme == "lpd":
-        return f"lpd://127.0.0.1:{printer(take_lpd)}/lab", []
-    behind, ports = serve(program)
-    be_device(ports["devices"])
-    return f"ipp://127.0.0.1:{ports['ipp']}/printers/lab", [behind]
-
-
-def resident(run):
-    """Resident memory, in KiB."""
-    return int(re.search(r"VmRSS:\s+(\d+)", pathlib.Path(f"/proc/{run.pid}/status").read_text())[1])
-
-
-def seconds(run):
-    """Processor time, in seconds."""
-    words = pathlib.Path(f"/proc/{run.pid}/stat").read_text().rpartition(")")[2].split()
-    return (int(words[11]) + int(words[12])) / os.sysconf("SC_CLK_TCK")
-
-
-def descriptors(run):
-    return len(os.listdir(f"/proc/{run.pid}/fd"))
+        return f"lpd://127.0.0.1:{printer(take_lpd)}/lab"
+    port = free_port()
+    ends.enter_context(Process([sys.executable, TOP / "tools/clients/ipp_printer.py", port, folder / name]))
+    return f"ipp://127.0.0.1:{port}/printer"
 
 
 def send(door, count):
     """Sends up to so many jobs: how many were taken."""
     for sent in range(count):
-        door.request("POST", "/printers/lab", HEAD + os.urandom(3000), {"Content-Type": "application/ipp"})
+        door.request("POST", "/printers/lab", HEAD + os.urandom(OCTETS), {"Content-Type": "application/ipp"})
         if door.getresponse().read()[2:4] != b"\0\0":
             return sent
     return count
 
 
-def soak(server, adapter, ports, log, jobs):
-    """Has so many jobs printed: what was measured at a tenth of them."""
-    door = http.client.HTTPConnection("127.0.0.1", ports["ipp"], timeout=60)
-    sent, ended, early = 0, 0, None
+def reading(server, adapters):
+    """The memory of each, and the adapters' descriptors."""
+    memory = [run.resident_kib() for run in (*adapters, server)]
+    return memory, [adapter.descriptors() for adapter in adapters]
+
+
+def soak(server, adapters, jobs):
+    """Has so many jobs printed: the memory of each at each tenth."""
+    door = http.client.HTTPConnection("127.0.0.1", server.ipp, timeout=60)
+    begun, sent, ended, memories = time.time(), 0, 0, []
     while ended < jobs:
         sent += send(door, min(jobs - sent, WAITING - (sent - ended)))
         time.sleep(0.2)
-        text = log.read_text()
-        ended = text.count(" done ") + text.count(" fail ")
-        if early is None and ended >= jobs // 10:
-            early = resident(adapter), resident(server), descriptors(adapter)
-    return early
+        ended = sum(adapter.ended() for adapter in adapters)
+        if ended >= jobs * (len(memories) + 1) // 10:
+            memory, descriptors = reading(server, adapters)
+            memories.append(memory)
+            of_adapters = " ".join(str(size) for size in memory[:-1])
+            print(f"{time.time() - begun:6.0f} s {ended:6} jobs: adapters {of_adapters} KiB, server {memory[-1]} KiB, descriptors {descriptors}", flush=True)
+    return memories
+
+
+def idle_share(adapters):
+    """The part of a processor that each takes over a minute, in percent."""
+    before = [adapter.processor_seconds() for adapter in adapters]
+    time.sleep(IDLE)
+    return [(adapter.processor_seconds() - early) / IDLE * 100 for adapter, early in zip(adapters, before)]
 
 
 def main():
-    program, scheme, jobs = sys.argv[1], sys.argv[2], int(sys.argv[3])
+    scheme, jobs, count = sys.argv[1], int(sys.argv[2]), int(sys.argv[3] if len(sys.argv) > 3 else 1)
+    names = [f"device{number}" for number in range(1, 1 + count)]
     folder = pathlib.Path(tempfile.mkdtemp(dir="/dev/shm"))
-    (folder / "printed").mkdir()
-    log = folder / "log"
-    server, ports = serve(program)
-    to, behind = target(program, scheme, folder / "printed")
-    words = [program, "attach", "--name", "A", "--server", f"127.0.0.1:{ports['devices']}", "--to", to, "--log"]
-    adapter = subprocess.Popen(words, stderr=log.open("w"))
-    time.sleep(1)
-    begun = time.time()
-    early = soak(server, adapter, ports, log, jobs)
-    took = time.time() - begun
-    late = resident(adapter), resident(server), descriptors(adapter)
-    before = seconds(adapter)
-    time.sleep(20)
-    idle = (seconds(adapter) - before) / 20 * 100
-    text = log.read_text()
-    print(f"{scheme}: {text.count(' done ')} done, {text.count(' fail ')} failed, in {took:.0f} s")
-    print(f"memory of the adapter {early[0]} to {late[0]} KiB, of the server {early[1]} to {late[1]} KiB")
-    print(f"descriptors of the adapter {early[2]} to {late[2]}; idle, {idle:.2f} % of a processor")
-    for run in [adapter, server, *behind]:
-        run.terminate()
-    shutil.rmtree(folder)
+    with contextlib.ExitStack() as ends:
+        ends.callback(shutil.rmtree, folder)
+        (folder / "settings.toml").write_text(settings(names))
+        server = ends.enter_context(Running(folder / "settings.toml"))
+        targets = [target(scheme, name, folder, ends) for name in names]
+        time.sleep(1)
+        adapters = [Counted(name, server.devices, to, folder / f"{name}.log") for name, to in zip(names, targets)]
+        for adapter in adapters:
+            ends.enter_context(adapter)
+        time.sleep(1)
+        memories = soak(server, adapters, jobs)
+        shares = ", ".join(f"{share:.3f}" for share in idle_share(adapters))
+    done, failed = sum(one.done for one in adapters), sum(one.failed for one in adapters)
+    print(f"{scheme}: {done} done, {failed} failed; idle over {IDLE} s, {shares} % of a processor")
+    sys.exit(failed > 0 or any(late > early + early // 20 for early, late in zip(memories[len(memories) // 2], memories[-1])))
 
 
 if __name__ == "__main__":

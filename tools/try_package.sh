@@ -4,7 +4,6 @@
 # It runs as root; the Debian has namespaces of its own, with no network but the loopback. It needs Debian's
 # debootstrap and cups-client, and the first time a mirror of Debian.
 set -eu -o pipefail
-top=$(cd "$(dirname "$0")/.." && pwd)
 [ $# -ge 1 ] || { sed -n 2,5p "$0" >&2; exit 2; }
 package=$(realpath "$1")
 debian=$(realpath -m "${2:-/var/tmp/printd-debian}")
@@ -41,8 +40,8 @@ rm -rf "$debian/var/log/journal"
 BOOT=yes unshare --net --mount --pid --cgroup --ipc --uts --fork --kill-child "$0" "$@" > /dev/null 2>&1 &
 outside=$!
 disown "$outside"
-printed=$(mktemp -d)
-trap 'kill -KILL "$outside" 2> /dev/null; rm -rf "$printed"' EXIT
+sent=$(mktemp -d)
+trap 'kill -KILL "$outside" 2> /dev/null; rm -rf "$sent"' EXIT
 
 # Waits until a command says what is wanted.
 until_says() {
@@ -68,17 +67,17 @@ inside() {
 
 # Runs apt-get, whose words are shown where it fails.
 install_or_remove() {
-    if ! inside apt-get -y -qq -o Dpkg::Use-Pty=0 "$@" > "$printed/apt.log" 2>&1; then
-        cat "$printed/apt.log" >&2
+    if ! inside apt-get -y -qq -o Dpkg::Use-Pty=0 "$@" > "$sent/apt.log" 2>&1; then
+        cat "$sent/apt.log" >&2
         exit 1
     fi
 }
 
-# Prints a file by a client outside, over the network inside, to a device there.
+# Prints a file by a client outside, over the network inside, to the package's own adapter, which keeps it.
 print_once() {
-    echo "hello $1" > "$printed/sent"
-    nsenter -t "$(first_process)" -n timeout 10 lp -h "$1" -d lab "$printed/sent"
-    until_says "hello $1" cat "$printed/jobs/$2"
+    echo "hello $1" > "$sent/hello"
+    nsenter -t "$(first_process)" -n timeout 10 lp -h "$1" -d lab "$sent/hello"
+    until_says "hello $1" inside cat "/run/printed/$2-window.txt"
 }
 
 until_says running inside systemctl is-system-running
@@ -90,8 +89,8 @@ inside dpkg --verify printd
 inside printd --version
 
 echo "-- lp, to the addresses of IPv4 and IPv6"
-mkdir "$printed/jobs"
-nsenter -t "$(first_process)" -n timeout 60 python3 "$top/tools/clients/device.py" 8632 window "$printed/jobs" &
+inside timeout 60 printd attach --name window --to file:/run/printed &
+disown
 sleep 1
 print_once 127.0.0.1:631 1
 print_once '[::1]:631' 2

@@ -19,7 +19,7 @@ last of them all is well:
     busy         it answers server-error-busy
     aborted      it takes the job, and aborts it
     stuck        it takes the job, and never ends it
-    stopped      it takes the job, and is stopped for three seconds, with a reason of its own
+    stopped      it takes the job, and is stopped for twelve seconds, with a reason of its own
 
 It ends with SIGTERM.
 """
@@ -32,6 +32,8 @@ import time
 
 INTEGER, ENUM, RANGE, KEYWORD, CHARSET, LANGUAGE, FORMAT = 0x21, 0x23, 0x33, 0x44, 0x47, 0x48, 0x49
 PRINT_JOB, CANCEL_JOB, GET_JOB, GET_PRINTER = 0x02, 0x08, 0x09, 0x0B
+# how long a printer is stopped, in seconds
+STOPPED = 12
 
 
 def attribute(tag, name, *values):
@@ -74,7 +76,7 @@ class Printer:
 
     def state(self):
         """The printer's group."""
-        stops = any(self.fault(job) == "stopped" and time.time() < came + 3 for job, (came, _) in enumerate(self.jobs, 1))
+        stops = any(self.fault(job) == "stopped" and time.time() < came + STOPPED for job, (came, _) in enumerate(self.jobs, 1))
         reasons = (b"media-jam", b"toner-low-warning") if stops else (b"toner-empty-warning", b"media-low-report")
         return (
             b"\x04" + attribute(ENUM, b"printer-state", 4) + attribute(KEYWORD, b"printer-state-reasons", *reasons)
@@ -86,8 +88,8 @@ class Printer:
     def job(self, job):
         """A job's group."""
         came, octets = self.jobs[job - 1]
-        fault, passed = self.fault(job), time.time() - came - (3 if self.fault(job) == "stopped" else 0)
-        state = 9 if passed >= octets // 4096 / 10 and fault != "stuck" else 5
+        fault, passed = self.fault(job), time.time() - came - (STOPPED if self.fault(job) == "stopped" else 0)
+        state = 9 if passed >= octets // 4096 / 10 and fault not in ("stuck", "aborted") else 5
         state = self.ended.get(job, 8 if fault == "aborted" and passed > 1 else state)
         pages = attribute(INTEGER, b"job-impressions-completed", max(0, min(int(passed * 10), octets // 4096)))
         return b"\x02" + attribute(INTEGER, b"job-id", job) + attribute(ENUM, b"job-state", state) + pages
@@ -110,6 +112,24 @@ def read_body(stream):
     stream.readline()
 
 
+def said_of(fault, done):
+    """What is said of a job that has come."""
+    match fault:
+        case "garbage":
+            return b"220 a printer of another kind\r\n" * 100
+        case "closed" | "denied":
+            return b""
+        case "half":
+            return reply(done)[:-20]
+        case "long":
+            return b"HTTP/1.1 200 OK\r\n" + b"x: y\r\n" * 10_000
+        case "huge":
+            return b"HTTP/1.1 200 OK\r\n\r\n" + b"\x01" * 100_000_000
+        case "chunked":
+            return chunked(done)
+    return reply(done)
+
+
 def answer_job(printer, connection, pieces):
     """Takes a job, or does what its fault says."""
     printer.jobs.append((time.time(), 0))
@@ -125,14 +145,9 @@ def answer_job(printer, connection, pieces):
             return
     printer.jobs[-1] = (time.time(), len(taken))
     done = message(0x0507 if fault == "busy" else 0, b"" if fault == "busy" else printer.job(number))
-    said = {
-        "garbage": b"220 a printer of another kind\r\n" * 100, "closed": b"", "half": reply(done)[:-20], "denied": b"",
-        "long": b"HTTP/1.1 200 OK\r\n" + b"x: y\r\n" * 10_000, "huge": b"HTTP/1.1 200 OK\r\n\r\n" + b"\x01" * 100_000_000,
-        "chunked": chunked(done),
-    }
     if fault == "mute":
         time.sleep(3600)
-    connection.sendall(said.get(fault, reply(done)))
+    connection.sendall(said_of(fault, done))
 
 
 def serve(printer, connection):

@@ -91,8 +91,6 @@ def serve(connection, fault, taken):
     if fault == "talk":
         connection.sendall(b"nonsense\r\n" * 10000)
     rest_of(connection, taken)
-    if fault == "open":
-        time.sleep(3600)
 
 
 def keep(connection, fault, path):
@@ -101,6 +99,9 @@ def keep(connection, fault, path):
     try:
         with connection:
             serve(connection, fault, taken)
+            path.write_bytes(taken)
+            if fault == "open":
+                time.sleep(3600)
     except OSError as error:
         print(path.name, error, flush=True)
     finally:

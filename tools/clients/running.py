@@ -1,6 +1,7 @@
-"""A server that runs for a while, on ports that are free."""
+"""Programs that run for a while: a server on ports that are free, and a printer's adapter."""
 import os
 import pathlib
+import re
 import subprocess
 import time
 
@@ -8,27 +9,27 @@ TOP = pathlib.Path(__file__).resolve().parents[2]
 PROGRAM = pathlib.Path(os.environ.get("PRINTD", TOP / "crates/printd/out/printd"))
 
 
-class Running:
-    """`printd serve`, until the end of a `with`."""
+class Process:
+    """A program, until the end of a `with`."""
 
-    def __init__(self, settings=TOP / "examples/office.toml", words=(), log=subprocess.DEVNULL):
-        self.words = [str(PROGRAM), "serve", "--settings", str(settings), "--ipp", "0", "--lpd", "0", "--devices", "0", *words]
-        self.log = log
+    def __init__(self, words, **streams):
+        self.words, self.streams = [str(word) for word in words], streams
 
     def __enter__(self):
-        self.process = subprocess.Popen(self.words, stdout=subprocess.PIPE, stderr=self.log, text=True)
-        lines = [self.process.stdout.readline().split() for _ in range(3)]
-        self.ipp, self.lpd, self.devices = (int(port) for _, port in lines)
+        self.process = subprocess.Popen(self.words, **self.streams)
         return self
 
     def __exit__(self, *_):
         self.process.terminate()
         self.process.wait(10)
 
+    def said(self, file):
+        """What the system says of it."""
+        return pathlib.Path(f"/proc/{self.process.pid}/{file}").read_text()
+
     def processor_seconds(self):
         """The processor time that it has used so far."""
-        words = pathlib.Path(f"/proc/{self.process.pid}/stat").read_text().rsplit(") ", 1)[1].split()
-        return (int(words[11]) + int(words[12])) / os.sysconf("SC_CLK_TCK")
+        return int(self.said("schedstat").split()[0]) / 1e9
 
     def descriptors(self):
         """How many descriptors it has open."""
@@ -36,13 +37,37 @@ class Running:
 
     def resident_kib(self):
         """The KiB of memory that it has resident."""
-        for line in pathlib.Path(f"/proc/{self.process.pid}/status").read_text().splitlines():
-            if line.startswith("VmRSS"):
-                return int(line.split()[1])
-        return 0
+        return int(re.search(r"VmRSS:\s+(\d+)", self.said("status"))[1])
+
+    def peak_kib(self):
+        """The most KiB that it had resident."""
+        return int(re.search(r"VmHWM:\s+(\d+)", self.said("status"))[1])
 
     def processor_share(self, seconds):
         """The part of one processor that it uses in so many seconds from now on."""
         before = self.processor_seconds()
         time.sleep(seconds)
         return (self.processor_seconds() - before) / seconds
+
+
+class Running(Process):
+    """`printd serve`."""
+
+    def __init__(self, settings=TOP / "examples/office.toml", words=(), log=subprocess.DEVNULL):
+        doors = ["--ipp", "0", "--lpd", "0", "--devices", "0"]
+        super().__init__([PROGRAM, "serve", "--settings", settings, *doors, *words], stdout=subprocess.PIPE, stderr=log, text=True)
+
+    def __enter__(self):
+        super().__enter__()
+        lines = [self.process.stdout.readline().split() for _ in range(3)]
+        self.ipp, self.lpd, self.devices = (int(port) for _, port in lines)
+        return self
+
+
+class Adapter(Process):
+    """`printd attach`: a device of this name of the server at this port, whose log is this file."""
+
+    def __init__(self, name, port, to, log, words=()):
+        self.log = log
+        words = [PROGRAM, "attach", "--name", name, "--server", f"127.0.0.1:{port}", "--to", to, *words, "--log"]
+        super().__init__(words, stderr=log.open("w"))

@@ -26,7 +26,7 @@ wait_for() {
 room=$(mktemp -d)
 trap 'rm -rf "$room"' EXIT
 chmod 755 "$room"
-mkdir -p "$room/services" "$room/printed"
+mkdir "$room/services"
 "$printd" settings --avahi "$top/examples/printd.toml" > "$room/services/printd.service"
 
 # A machine that has nothing but its loopback, and whose daemons read what is prepared here.
@@ -41,7 +41,7 @@ wait_for grep -q 'successfully established' "$room/avahi.log"
 
 "$printd" serve --settings "$top/examples/printd.toml" --ipp "[::]:631" --lpd "[::]:515" --devices 127.0.0.1:8632 > "$room/ports" &
 wait_for grep -q devices "$room/ports"
-python3 "$top/tools/clients/device.py" 8632 window "$room/printed" &
+"$printd" attach --name window --to "file:$room/printed" &
 
 echo "-- avahi-browse"
 avahi-browse --resolve --terminate --parsable _ipp._tcp | grep '^='
@@ -57,7 +57,7 @@ ipptool -t -f "$room/hello.txt" "$uri" print-job.test
 echo "-- lp"
 host=${uri#ipp://}
 lp -h "${host%%/*}" -d "${uri##*/}" "$room/hello.txt"
-wait_for test -s "$room/printed/2"
-cmp "$room/hello.txt" "$room/printed/1"
-cmp "$room/hello.txt" "$room/printed/2"
+wait_for test -s "$room/printed/2-window.txt"
+cmp "$room/hello.txt" "$room/printed/1-window.txt"
+cmp "$room/hello.txt" "$room/printed/2-window.txt"
 echo "printed what was sent, twice"

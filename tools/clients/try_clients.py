@@ -1,5 +1,6 @@
 #!/usr/bin/env python3
-"""Runs real clients against `printd serve`, with a device that keeps what it gets, and prints a table.
+"""Runs real clients against `printd serve`, with `printd attach` as a device that keeps what it gets, and prints a
+table.
 
     tools/clients/try_clients.py [NAME..]      (all rows, where none is named)
 
@@ -19,7 +20,7 @@ import time
 import typing
 
 sys.path.insert(0, str(pathlib.Path(__file__).resolve().parent))
-from running import TOP, Running  # noqa: E402
+from running import TOP, Adapter, Running  # noqa: E402
 
 TESTS = "/usr/share/cups/ipptool"
 BACKENDS = "/usr/lib/cups/backend"
@@ -113,21 +114,24 @@ def run(words, surroundings, log, seconds=60):
     return "ok" if ended.returncode == 0 else f"status {ended.returncode}"
 
 
+def jobs(kept):
+    """The files of the jobs that are printed, as 7-window.txt; one that is being written has a dot in front."""
+    return list(kept.glob("[0-9]*"))
+
+
 def printed(kept, before, seconds=10.0):
-    """The bytes of the job that came to the device after so many had come, if one does."""
+    """The bytes of the job that was printed after so many, if one is."""
     end = time.monotonic() + seconds
     while time.monotonic() < end:
-        lines = list(kept.glob("*.line"))
-        if len(lines) > before:
-            newest = max(lines, key=lambda line: int(line.stem))
-            return newest.with_suffix("").read_bytes()
+        if len(jobs(kept)) > before:
+            return max(jobs(kept), key=lambda file: int(file.name.split("-")[0])).read_bytes()
         time.sleep(0.05)
     return None
 
 
 def outcome(row, kept, logs, wanted):
     """What came of a row."""
-    before = len(list(kept.glob("*.line")))
+    before = len(jobs(kept))
     file = logs / (row.name.replace(" ", "_").replace(",", "") + ".log")
     with open(file, "wb") as log:
         ended = run(row.words, row.surroundings, log)
@@ -158,11 +162,9 @@ def main():
     file, kept = folder / "hello.txt", folder / "kept"
     file.write_bytes(CONTENTS)
     with Running(log=open(folder / "server.log", "wb"), words=["--log"]) as server:
-        device = subprocess.Popen([sys.executable, str(TOP / "tools/clients/device.py"), str(server.devices), "window", str(kept), "600"])
-        time.sleep(0.5)
-        fails = play(rows(server, str(file)), kept, folder)
-        device.terminate()
-        device.wait(10)
+        with Adapter("window", server.devices, f"file:{kept}", folder / "adapter.log"):
+            time.sleep(0.5)
+            fails = play(rows(server, str(file)), kept, folder)
     for queue in (cups_queue, rlpr_queue, lprng_queue):
         with Running(log=open(folder / f"{queue.__name__}.log", "wb"), words=["--log"]) as server:
             fails += play(queue(server, str(file)), kept, folder)

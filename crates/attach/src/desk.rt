@@ -241,7 +241,7 @@ impl<P: Printer> Desk<P> {
             Heard::LeftOut(left_out) => Ok(self.log.note(Note::LeftOut(left_out))),
             Heard::Unread(breach) => Ok(self.log.note(Note::Unread(breach))),
             Heard::Pages(printed) => self.tell_pages(printed),
-            Heard::Printed => self.finish(rt),
+            Heard::Printed(printed) => self.finish(rt, printed),
             Heard::Failed(breach) => self.fail(rt, breach),
         }
     }
@@ -269,8 +269,12 @@ impl<P: Printer> Desk<P> {
         Ok(())
     }
 
-    /// The printer has printed the job.
-    fn finish<R: Net + Files>(&mut self, rt: &R) -> Result<(), Stop> {
+    /// The printer has printed the job; where it says only now that so many pages are printed, that is
+    /// told first.
+    fn finish<R: Net + Files>(&mut self, rt: &R, printed: Option<u32>) -> Result<(), Stop> {
+        if let Some(printed) = printed {
+            self.tell_pages(printed)?;
+        }
         let report = self.attachment.finish();
         self.printer.drop_job(rt);
         self.answer(report, Breach::Broken)

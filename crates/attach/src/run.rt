@@ -7,7 +7,9 @@ use crate::log::Log;
 use crate::plan::{Plan, Target};
 use ipp_printer::IppPrinter;
 use mio::{Events, Poll, Token};
-use printers::{AppSocket, Caller, Folder, Ipp, Lpd, Pjl, Place, Printer, Session};
+use printers::{
+    AppSocket, Caller, Folder, Ipp, Lpd, NetworkPrinter, Pjl, Place, Printer, Protocol, Session,
+};
 use std::alloc::Global;
 use std::io;
 use std::io::Write;
@@ -70,28 +72,35 @@ pub fn attach<R: Net + Files + Clock, L: Write, F: Write>(
             run(alloc, rt, device, printer, log, figures)
         }
         Target::AppSocket(place) if pjl => {
-            let printer = Pjl::new(alloc, session(alloc, place, timeout));
+            let printer = network_printer(alloc, place, timeout, Pjl::new(alloc));
             run(alloc, rt, device, printer, log, figures)
         }
         Target::AppSocket(place) => {
-            let printer = AppSocket::new(session(alloc, place, timeout), linger);
+            let printer = network_printer(alloc, place, timeout, AppSocket::new(linger));
             run(alloc, rt, device, printer, log, figures)
         }
         Target::Lpd(place, queue) => {
-            let printer = Lpd::new(alloc, session(alloc, place, timeout), queue, printer_name);
+            let lpd = Lpd::new(alloc, queue, printer_name);
+            let printer = network_printer(alloc, place, timeout, lpd);
             run(alloc, rt, device, printer, log, figures)
         }
         Target::Ipp(place, address) => {
-            let ipp = IppPrinter::new(alloc, address);
-            let printer = Ipp::new(session(alloc, place, timeout), ipp, format);
+            let ipp = Ipp::new(IppPrinter::new(alloc, address), format);
+            let printer = network_printer(alloc, place, timeout, ipp);
             run(alloc, rt, device, printer, log, figures)
         }
     }
 }
 
-/// The connection to a printer at this place.
-fn session(alloc: Global, place: Place, timeout: u64) -> Session {
-    Session::new(Caller::new(alloc, place, PRINTER), timeout)
+/// A printer at this place that speaks a protocol, and may be silent for so many ms.
+fn network_printer<P: Protocol>(
+    alloc: Global,
+    place: Place,
+    timeout: u64,
+    protocol: P,
+) -> NetworkPrinter<P> {
+    let caller = Caller::new(alloc, place, PRINTER);
+    NetworkPrinter::new(Session::new(caller, timeout), protocol)
 }
 
 /// Makes the adapter of a device and its printer, and has it take its turns.

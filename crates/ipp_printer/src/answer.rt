@@ -1,5 +1,8 @@
 //! What a whole reply says.
-use crate::told::ReplyBreach;
+ghost use Rattle.std.specs.Prelude.{◌≡◌};
+ghost use Rattle.ipp_printer.specs.Told.{is_completed, is_printed, more_than, pages_due, pages_told};
+
+use crate::told::{ReplyBreach, Told};
 use http_replies::ReplyReader;
 use ipp_client::{is_successful, number_in, reply_in};
 use ipp_codec::{GroupTag, MessageView};
@@ -24,6 +27,35 @@ pub(crate) struct JobAnswer {
     pub(crate) state: JobState,
     /// How many impressions are printed, where it says so.
     pub(crate) impressions: Option<u32>,
+}
+
+impl JobAnswer {
+    /// What is told of it, where it was told before that so many impressions are printed: those that are
+    /// more now, also where the job is completed by it.
+    pub(crate) fn told(self, before: u32) -> Told
+        ensures pages { pages_told result ≡ pages_due self before }
+        ensures printed { is_printed result ≡ is_completed self.state }
+    {
+        let pages = more_than(before, self.impressions);
+        match self.state {
+            JobState::Goes => match pages {
+                Some(count) => Told::Pages(count),
+                None => Told::Nothing,
+            },
+            JobState::Completed => Told::Printed(pages),
+            JobState::GivenUp => Told::Failed(ReplyBreach::GivenUp),
+        }
+    }
+}
+
+/// How many impressions are printed, where they are more than before.
+fn more_than(before: u32, impressions: Option<u32>) -> Option<u32>
+    ensures { result ≡ more_than before impressions }
+{
+    match impressions {
+        Some(count) if count > before => Some(count),
+        _ => None,
+    }
 }
 
 /// The message of a reply that says that the operation was done.

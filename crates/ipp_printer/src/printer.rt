@@ -12,14 +12,17 @@ use ipp_client::{
     ask_of_job, ask_of_printer, cancel_job, is_stopped, loaded_media, print_job, reply_in,
 };
 use ipp_codec::EncodeFault;
+use pauses::Pauses;
 use std::alloc::{AllocError, Global};
 use text::drop_front;
 
 /// How long the printer's state isn't asked again, in ms.
 const BETWEEN_STATES: u64 = 10_000;
 
-/// How long a job isn't asked for again, in ms.
-const BETWEEN_JOBS: u64 = 1_000;
+/// How long a job isn't asked for after it is sent, and how long at most after it was asked for, in ms.
+const FIRST_LOOK: u64 = 125;
+
+const BETWEEN_LOOKS: u64 = 1_000;
 
 /// How many octets a chunk has at most.
 const CHUNK: usize = 65_536;
@@ -61,7 +64,8 @@ pub struct IppPrinter {
     /// The body of the printer's last reply of its state.
     state: Option<Vec<u8>>,
     ask_at: u64,
-    follow_at: u64,
+    /// When the job is asked for.
+    looks: Pauses,
     impressions: u32,
     stopped: bool,
     /// Its state couldn't be asked when that was last tried.
@@ -85,7 +89,7 @@ impl IppPrinter {
             chunk: 0,
             state: None,
             ask_at: 0,
-            follow_at: 0,
+            looks: Pauses::new(FIRST_LOOK, BETWEEN_LOOKS),
             impressions: 0,
             stopped: false,
             unread: false,
@@ -98,6 +102,7 @@ impl IppPrinter {
     pub fn begin(&mut self, order: &JobOrder) {
         self.wish = JobWish::of(self.alloc, order);
         self.stage = Stage::Waits;
+        self.looks = Pauses::new(FIRST_LOOK, BETWEEN_LOOKS);
         self.impressions = 0;
         self.left_out = None;
     }
@@ -128,7 +133,7 @@ impl IppPrinter {
             return Task::Ask;
         }
         match self.stage {
-            Stage::Printing(job) if now >= self.follow_at => Task::Follow(job),
+            Stage::Printing(job) if self.looks.is_due(now) => Task::Follow(job),
             Stage::Waits if self.state.is_some() && has_front(attachment) => Task::Print,
             _ => Task::Nothing,
         }
@@ -347,7 +352,7 @@ impl IppPrinter {
         match job_answer(&self.reader) {
             Ok(answer) => self.heed(job, answer, now),
             Err(ReplyBreach::Fault(ReplyFault::Ended)) => {
-                self.follow_at = now.saturating_add(BETWEEN_JOBS);
+                self.looks.tried(now);
                 Told::Nothing
             }
             Err(breach) => {
@@ -361,25 +366,16 @@ impl IppPrinter {
     fn heed(&mut self, job: i32, answer: JobAnswer, now: u64) -> Told {
         self.stage = Stage::None;
         match answer.state {
-            JobState::Completed => Told::Printed,
-            JobState::GivenUp => self.fail(ReplyBreach::GivenUp, now),
             JobState::Goes => {
                 self.stage = Stage::Printing(job);
-                self.follow_at = now.saturating_add(BETWEEN_JOBS);
-                self.tell_pages(answer.impressions)
+                self.looks.tried(now);
             }
+            JobState::GivenUp => self.ask_at = now,
+            JobState::Completed => {}
         }
-    }
-
-    /// Tells how many impressions are printed, where they are more than before.
-    fn tell_pages(&mut self, impressions: Option<u32>) -> Told {
-        match impressions {
-            Some(count) if count > self.impressions => {
-                self.impressions = count;
-                Told::Pages(count)
-            }
-            _ => Told::Nothing,
-        }
+        let told = answer.told(self.impressions);
+        self.impressions = self.impressions.max(answer.impressions.unwrap_or(0));
+        told
     }
 
     /// The job has failed: the printer's state is asked at once.
@@ -405,7 +401,7 @@ impl IppPrinter {
                 true
             }
             Task::Follow(_) => {
-                self.follow_at = now.saturating_add(BETWEEN_JOBS);
+                self.looks.tried(now);
                 silent
             }
             Task::Cancel(_) => {
@@ -429,7 +425,7 @@ impl IppPrinter {
     pub fn pause(&self, now: u64) -> u64 {
         let ask = self.ask_at.saturating_sub(now);
         match self.stage {
-            Stage::Printing(_) => ask.min(self.follow_at.saturating_sub(now)),
+            Stage::Printing(_) => ask.min(self.looks.left(now)),
             _ => ask,
         }
     }

@@ -63,7 +63,8 @@ pub enum Told {
     Pages(u32),
     /// This of the job isn't asked for.
     LeftOut(LeftOut),
-    Printed,
+    /// The job is printed; where it wasn't told yet that so many impressions are, how many.
+    Printed(Option<u32>),
     /// The job can't be printed.
     Failed(ReplyBreach),
     /// Its state can't be asked.

@@ -1,15 +1,20 @@
 //! A peer that is connected to, again and again.
 use crate::link::Link;
 use crate::place::Place;
-use crate::retry::Retry;
 use mio::event::Event;
 use mio::{Poll, Token};
+use pauses::Pauses;
 use std::alloc::Global;
 use std::io;
 use std::net::Net;
 
 /// How long a connection may take to come about, in ms.
 const CONNECTING: u64 = 20_000;
+
+/// The first pause after a try that failed, and the longest, in ms.
+const FIRST_PAUSE: u64 = 1_000;
+
+const LONGEST_PAUSE: u64 = 30_000;
 
 /// What became of a peer in a turn.
 #[derive(Clone, Copy, Debug, PartialEq, Eq)]
@@ -30,7 +35,8 @@ pub struct Caller {
     alloc: Global,
     place: Place,
     token: Token,
-    retry: Retry,
+    /// When it is tried again.
+    tries: Pauses,
     /// How many tries failed since there was a connection.
     failures: u32,
     /// Which of its addresses is tried: the next after each failure.
@@ -48,7 +54,7 @@ impl Caller {
             alloc,
             place,
             token,
-            retry: Retry::new(),
+            tries: Pauses::new(FIRST_PAUSE, LONGEST_PAUSE),
             failures: 0,
             choice: 0,
             link: None,
@@ -77,7 +83,7 @@ impl Caller {
                 let is_open = link.is_open();
                 self.heed(is_open, now)
             }
-            None if !self.retry.is_due(now) => Reached::Not,
+            None if !self.tries.is_due(now) => Reached::Not,
             None => match self.begin(net, poll) {
                 Ok(link) => {
                     self.link = Some(link);
@@ -115,7 +121,7 @@ impl Caller {
     /// A try failed.
     fn miss(&mut self, now: u64) -> Reached {
         self.link = None;
-        self.retry.failed(now);
+        self.tries.tried(now);
         self.failures = self.failures.saturating_add(1);
         self.choice = self.choice.wrapping_add(1);
         if self.failures == 1 {
@@ -134,25 +140,25 @@ impl Caller {
     pub fn close(&mut self) {
         self.link = None;
         self.open = false;
-        self.retry = Retry::new();
+        self.tries = Pauses::new(FIRST_PAUSE, LONGEST_PAUSE);
     }
 
     /// Closes the connection, which has broken; the next try is made after a pause.
     pub fn lose(&mut self, now: u64) {
         self.link = None;
         self.open = false;
-        self.retry.failed(now);
+        self.tries.tried(now);
     }
 
     /// The peer has said something: it is there, and the pauses begin anew.
     pub fn heard(&mut self) {
-        self.retry = Retry::new();
+        self.tries = Pauses::new(FIRST_PAUSE, LONGEST_PAUSE);
     }
 
     /// The ms until the next try, where there is no connection.
     pub fn pause(&self, now: u64) -> Option<u64> {
         match &self.link {
-            None => Some(self.retry.left(now)),
+            None => Some(self.tries.left(now)),
             Some(_) if !self.open => Some(CONNECTING.saturating_sub(now.saturating_sub(
                 self.since,
             ))),

@@ -122,7 +122,7 @@ impl Printer for Folder {
                 let renamed = fs::rename(rt, sheet.beside.as_str(), sheet.whole.as_str());
                 take_all(attachment);
                 match renamed {
-                    Ok(()) => Heard::Printed,
+                    Ok(()) => Heard::Printed(None),
                     Err(_) => Heard::Failed(Breach::Unwritten),
                 }
             }

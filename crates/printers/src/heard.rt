@@ -56,8 +56,8 @@ pub enum Heard {
     LeftOut(LeftOut),
     /// Its state can't be asked.
     Unread(ReplyBreach),
-    /// It has printed the job.
-    Printed,
+    /// It has printed the job; where it says only now that so many pages are printed, how many.
+    Printed(Option<u32>),
     /// It can't print the job.
     Failed(Breach),
 }

@@ -1,17 +1,10 @@
-//! A printer that speaks LPD (RFC 1179): a job is a control file and a data file, each acknowledged.
-use crate::heard::{Breach, Heard, NO_MEMORY};
-use crate::printer::Printer;
-use crate::session::{Moved, Session, Stage};
+//! LPD (RFC 1179): a job is a control file and a data file, each acknowledged.
+use crate::heard::{Breach, Heard};
+use crate::protocol::Protocol;
+use crate::session::{CALLS, Moved, Session};
 use attachment::Attachment;
 use device_orders::JobOrder;
-use mio::Poll;
-use mio::event::Event;
 use std::alloc::{AllocError, Global};
-use std::net::Net;
-use std::rt::Files;
-
-/// How many calls to the printer a turn makes at most.
-const CALLS: u32 = 64;
 
 /// The host that the names of files end in.
 const HOST: &str = "printd";
@@ -31,11 +24,10 @@ enum Part {
     End,
 }
 
-/// A printer that speaks LPD.
+/// LPD, as a client of a printer's queue speaks it.
 #[derive(Drop)]
 pub struct Lpd {
     alloc: Global,
-    session: Session,
     queue: String,
     /// The device that the jobs come from.
     name: String,
@@ -48,11 +40,10 @@ pub struct Lpd {
 }
 
 impl Lpd {
-    /// A printer's queue that is connected to for each job, which comes from the device of this name.
-    pub fn new(alloc: Global, session: Session, queue: String, name: String) -> Lpd {
+    /// The jobs go to this queue, and come from the device of this name.
+    pub fn new(alloc: Global, queue: String, name: String) -> Lpd {
         Lpd {
             alloc,
-            session,
             queue,
             name,
             job: 0,
@@ -63,33 +54,11 @@ impl Lpd {
         }
     }
 
-    /// The connection has come about: the first part is to be written.
-    fn open(&mut self, heard: Heard) -> Result<Heard, AllocError> {
-        self.go_on(Part::Queue)?;
-        Ok(heard)
-    }
-
-    /// Hears what the printer acknowledges, and sends it what is due.
-    fn exchange(&mut self, attachment: &mut Attachment, now: u64) -> Result<Heard, AllocError> {
-        for _ in 0..CALLS {
-            match self.hear(now)? {
-                Heard::Nothing => {}
-                heard => return Ok(heard),
-            }
-            match self.send(attachment, now)? {
-                Moved::Bytes(_) => {}
-                Moved::Broken | Moved::End => return Ok(Heard::Failed(Breach::Broken)),
-                Moved::Nothing => return Ok(self.session.wait(now)),
-            }
-        }
-        Ok(Heard::Nothing)
-    }
-
     /// Hears the next octet that the printer says, which acknowledges a part that is written, or refuses
     /// it.
-    fn hear(&mut self, now: u64) -> Result<Heard, AllocError> {
+    fn hear(&mut self, session: &mut Session, now: u64) -> Result<Heard, AllocError> {
         let mut buffer = [0u8; 1];
-        match self.session.read(&mut buffer, now) {
+        match session.read(&mut buffer, now) {
             Moved::Nothing => Ok(Heard::Nothing),
             Moved::End | Moved::Broken => Ok(Heard::Failed(Breach::Broken)),
             Moved::Bytes(_) if buffer[0] != 0 => Ok(Heard::Failed(Breach::Refused)),
@@ -108,7 +77,7 @@ impl Lpd {
             Part::Control => Part::DataHead,
             Part::DataHead => Part::Data,
             Part::Data => return Ok(Heard::Failed(Breach::Refused)),
-            Part::End => return Ok(Heard::Printed),
+            Part::End => return Ok(Heard::Printed(None)),
         };
         self.go_on(next)?;
         Ok(Heard::Nothing)
@@ -163,55 +132,58 @@ impl Lpd {
     }
 
     /// Sends some of the part; behind the data their end.
-    fn send(&mut self, attachment: &mut Attachment, now: u64) -> Result<Moved, AllocError> {
+    fn send(
+        &mut self,
+        session: &mut Session,
+        attachment: &mut Attachment,
+        now: u64,
+    ) -> Result<Moved, AllocError> {
         if self.part == Part::Data {
             if !attachment.is_copy_sent() {
-                return Ok(self.session.send_due(attachment, now));
+                return Ok(session.send_due(attachment, now));
             }
             attachment.end_copy();
             self.go_on(Part::End)?;
         }
-        Ok(self.session.write_front(&mut self.output, now))
+        Ok(session.write_front(&mut self.output, now))
     }
 }
 
-impl Printer for Lpd {
+impl Protocol for Lpd {
     fn begin(&mut self, order: &JobOrder) {
         self.job = order.job.number();
         self.octets = order.octets;
         self.copies = order.copies;
     }
 
-    fn turn<R: Net + Files>(
+    /// The first part is to be written.
+    fn open(&mut self, _attachment: &Attachment, heard: Heard) -> Result<Heard, AllocError> {
+        self.go_on(Part::Queue)?;
+        Ok(heard)
+    }
+
+    /// Hears what the printer acknowledges, and sends it what is due.
+    fn exchange(
         &mut self,
-        rt: &R,
-        poll: &Poll,
+        session: &mut Session,
         attachment: &mut Attachment,
         now: u64,
-    ) -> Heard {
-        let has_job = attachment.job().is_some();
-        let heard = match self.session.reach(rt, poll, has_job, now) {
-            Stage::Waits(heard) => Ok(heard),
-            Stage::Opened(heard) => self.open(heard),
-            Stage::Open => self.exchange(attachment, now),
-        };
-        heard.unwrap_or(NO_MEMORY)
+    ) -> Result<Heard, AllocError> {
+        for _ in 0..CALLS {
+            match self.hear(session, now)? {
+                Heard::Nothing => {}
+                heard => return Ok(heard),
+            }
+            match self.send(session, attachment, now)? {
+                Moved::Bytes(_) => {}
+                Moved::Broken | Moved::End => return Ok(Heard::Failed(Breach::Broken)),
+                Moved::Nothing => return Ok(session.wait(now)),
+            }
+        }
+        Ok(Heard::Nothing)
     }
 
-    fn told(&mut self, event: &Event) {
-        self.session.told(event);
-    }
-
-    fn drop_job<F: Files>(&mut self, _files: &F) {
+    fn drop_job(&mut self) {
         self.output.clear();
-        self.session.close();
-    }
-
-    fn has_worked(&self) -> bool {
-        self.session.has_worked()
-    }
-
-    fn pause(&self, now: u64, has_job: bool) -> Option<u64> {
-        self.session.pause(now, has_job, self.session.timeout())
     }
 }

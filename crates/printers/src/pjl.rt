@@ -1,25 +1,15 @@
-//! A printer that speaks AppSocket and PJL: a job is wrapped in PJL, and the printer tells of it.
+//! AppSocket and PJL: a job is wrapped in PJL, and the printer tells of it.
 ghost use Rattle.std.specs.Prelude.{◌≤◌, IfOk, length};
 
-use crate::heard::{Breach, Heard, NO_MEMORY};
-use crate::printer::Printer;
-use crate::session::{Moved, Session, Stage};
+use crate::heard::{Breach, Heard};
+use crate::protocol::Protocol;
+use crate::session::{CALLS, Moved, PIECE, Session};
 use attachment::Attachment;
 use base_types::Sides;
 use device_orders::JobOrder;
-use mio::Poll;
-use mio::event::Event;
 use pjl_status::{Status, StatusReader};
 use std::alloc::{AllocError, Global};
-use std::net::Net;
-use std::rt::Files;
 use text::drop_front;
-
-/// How many calls to the printer a turn makes at most.
-const CALLS: u32 = 64;
-
-/// How many bytes of what it says are read at a time.
-const PIECE: usize = 1024;
 
 /// The first code of a printer that needs someone: a cover is open, paper is out or jammed.
 const NEEDS_SOMEONE: u32 = 40_000;
@@ -33,11 +23,10 @@ enum Part {
     Nothing,
 }
 
-/// A printer that speaks AppSocket and PJL.
+/// AppSocket and PJL, as a printer speaks them.
 #[derive(Drop)]
 pub struct Pjl {
     alloc: Global,
-    session: Session,
     reader: StatusReader,
     job: u32,
     copies: u32,
@@ -52,11 +41,10 @@ pub struct Pjl {
 }
 
 impl Pjl {
-    /// A printer that is connected to for each job.
-    pub fn new(alloc: Global, session: Session) -> Pjl {
+    /// There is no job yet.
+    pub fn new(alloc: Global) -> Pjl {
         Pjl {
             alloc,
-            session,
             reader: StatusReader::new(alloc),
             job: 0,
             copies: 1,
@@ -68,39 +56,11 @@ impl Pjl {
         }
     }
 
-    /// The connection has come about: the head is to be written.
-    fn open(&mut self, heard: Heard) -> Result<Heard, AllocError> {
-        self.reader = StatusReader::new(self.alloc);
-        self.input.clear();
-        self.output = self.head()?;
-        self.part = Part::Head;
-        Ok(heard)
-    }
-
-    /// Hears the printer, and sends it what is due.
-    fn exchange(&mut self, attachment: &mut Attachment, now: u64) -> Result<Heard, AllocError> {
-        match self.hear(now)? {
-            Heard::Nothing => {}
-            heard => return Ok(heard),
-        }
-        for _ in 0..CALLS {
-            match self.send(attachment, now)? {
-                Moved::Bytes(_) => {}
-                Moved::Nothing => break,
-                Moved::End | Moved::Broken => return Ok(Heard::Failed(Breach::Broken)),
-            }
-        }
-        if self.stopped {
-            self.session.rest(now);
-        }
-        Ok(self.session.wait(now))
-    }
-
     /// Hears the next that the printer says of a job, a page or itself.
-    fn hear(&mut self, now: u64) -> Result<Heard, AllocError> {
+    fn hear(&mut self, session: &mut Session, now: u64) -> Result<Heard, AllocError> {
         if self.input.is_empty() {
             let mut buffer = [0u8; PIECE];
-            match self.session.read(&mut buffer, now) {
+            match session.read(&mut buffer, now) {
                 Moved::Bytes(count) => self.input.extend_from_slice(&buffer[..count])?,
                 Moved::Nothing => return Ok(Heard::Nothing),
                 Moved::End | Moved::Broken => return Ok(Heard::Failed(Breach::Broken)),
@@ -122,7 +82,12 @@ impl Pjl {
     }
 
     /// Sends some of the part.
-    fn send(&mut self, attachment: &mut Attachment, now: u64) -> Result<Moved, AllocError> {
+    fn send(
+        &mut self,
+        session: &mut Session,
+        attachment: &mut Attachment,
+        now: u64,
+    ) -> Result<Moved, AllocError> {
         if self.output.is_empty() {
             match self.part {
                 Part::Head => self.part = Part::Data,
@@ -132,13 +97,13 @@ impl Pjl {
         }
         if self.part == Part::Data {
             if !attachment.is_copy_sent() {
-                return Ok(self.session.send_due(attachment, now));
+                return Ok(session.send_due(attachment, now));
             }
             attachment.end_copy();
             self.output = self.foot()?;
             self.part = Part::Foot;
         }
-        Ok(self.session.write_front(&mut self.output, now))
+        Ok(session.write_front(&mut self.output, now))
     }
 
     /// What stands before a job: that the printer is to tell of it, and how it is printed.
@@ -166,55 +131,63 @@ impl Pjl {
     }
 }
 
-impl Printer for Pjl {
+impl Protocol for Pjl {
     fn begin(&mut self, order: &JobOrder) {
         self.job = order.job.number();
         self.copies = order.copies;
         self.sides = order.sides;
     }
 
-    /// A printer that isn't listened to any more is taken to run.
-    fn turn<R: Net + Files>(
+    /// A printer that isn't listened to is taken to run.
+    fn wait(&mut self, _session: &Session, heard: Heard, _now: u64) -> Heard {
+        let stopped = std::mem::replace(&mut self.stopped, false);
+        match heard {
+            Heard::Nothing if stopped => Heard::Runs,
+            heard => heard,
+        }
+    }
+
+    /// The head is to be written.
+    fn open(&mut self, _attachment: &Attachment, heard: Heard) -> Result<Heard, AllocError> {
+        self.reader = StatusReader::new(self.alloc);
+        self.input.clear();
+        self.output = self.head()?;
+        self.part = Part::Head;
+        Ok(heard)
+    }
+
+    fn exchange(
         &mut self,
-        rt: &R,
-        poll: &Poll,
+        session: &mut Session,
         attachment: &mut Attachment,
         now: u64,
-    ) -> Heard {
-        let has_job = attachment.job().is_some();
-        if !has_job && self.stopped {
-            self.stopped = false;
-            return Heard::Runs;
+    ) -> Result<Heard, AllocError> {
+        match self.hear(session, now)? {
+            Heard::Nothing => {}
+            heard => return Ok(heard),
         }
-        let heard = match self.session.reach(rt, poll, has_job, now) {
-            Stage::Waits(heard) => Ok(heard),
-            Stage::Opened(heard) => self.open(heard),
-            Stage::Open => self.exchange(attachment, now),
-        };
-        heard.unwrap_or(NO_MEMORY)
+        for _ in 0..CALLS {
+            match self.send(session, attachment, now)? {
+                Moved::Bytes(_) => {}
+                Moved::Nothing => break,
+                Moved::End | Moved::Broken => return Ok(Heard::Failed(Breach::Broken)),
+            }
+        }
+        if self.stopped {
+            session.rest(now);
+        }
+        Ok(session.wait(now))
     }
 
-    fn told(&mut self, event: &Event) {
-        self.session.told(event);
-    }
-
-    fn drop_job<F: Files>(&mut self, _files: &F) {
+    fn drop_job(&mut self) {
         self.part = Part::Nothing;
         self.output.clear();
         self.input.clear();
-        self.session.close();
     }
 
-    /// What was read and isn't heard yet is work too.
-    fn has_worked(&self) -> bool {
-        self.session.has_worked() || !self.input.is_empty()
-    }
-
-    fn pause(&self, now: u64, has_job: bool) -> Option<u64> {
-        if !has_job && self.stopped {
-            return Some(0);
-        }
-        self.session.pause(now, has_job, self.session.timeout())
+    /// What was read and isn't heard yet is gone on with.
+    fn goes_on(&self) -> bool {
+        !self.input.is_empty()
     }
 }
 
@@ -242,7 +215,7 @@ fn read_front(
 fn heard_of(status: Status, part: Part, stopped: bool) -> Heard {
     match status {
         Status::Page(page) => Heard::Pages(page),
-        Status::JobEnded if part == Part::Nothing => Heard::Printed,
+        Status::JobEnded if part == Part::Nothing => Heard::Printed(None),
         Status::JobEnded => Heard::Failed(Breach::Broken),
         Status::Device(code) => match (code >= NEEDS_SOMEONE, stopped) {
             (true, false) => Heard::Stops,

@@ -1,4 +1,7 @@
 //! The connection to a printer, while it has a job.
+ghost use Rattle.std.specs.Prelude.{ℕ, ◌≡◌, ◌⊎◌, List};
+ghost use Rattle.std.specs.Io.{WritesAtMost};
+ghost use Rattle.printers.specs.declared.session.Moved.TheVariants.{End, Nothing};
 ghost use Rattle.printers.specs.Moved.{MovesAtMost};
 
 use crate::caller::{Caller, Reached};
@@ -7,8 +10,15 @@ use crate::link::has_to_wait;
 use attachment::Attachment;
 use mio::Poll;
 use mio::event::Event;
+use std::io;
 use std::net::Net;
 use text::drop_front;
+
+/// How many calls to a printer a turn makes at most.
+pub(crate) const CALLS: u32 = 64;
+
+/// How many bytes of what it says are read at a time.
+pub(crate) const PIECE: usize = 1024;
 
 /// How far a printer is reached.
 #[derive(Clone, Copy)]
@@ -98,16 +108,8 @@ impl Session {
         let Some(link) = self.caller.link() else {
             return Moved::Broken;
         };
-        match link.read(buffer) {
-            Ok(0) => Moved::End,
-            Ok(count) => {
-                self.last = now;
-                self.worked = true;
-                Moved::Bytes(count)
-            }
-            Err(error) if has_to_wait(&error) => Moved::Nothing,
-            Err(_) => Moved::Broken,
-        }
+        let read = link.read(buffer);
+        self.heed(read, Moved::End, now)
     }
 
     /// Writes some bytes, where there are any.
@@ -120,8 +122,17 @@ impl Session {
         if bytes.is_empty() {
             return Moved::Nothing;
         }
-        match link.write(bytes) {
-            Ok(0) => Moved::Nothing,
+        let written = link.write(bytes);
+        self.heed(written, Moved::Nothing, now)
+    }
+
+    /// Heeds what a call moved: of no byte it means this.
+    fn heed(&mut self, call: io::Result<usize>, none: Moved, now: u64) -> Moved
+        requires { none ≡ End ⊎ none ≡ Nothing }
+        ensures { (bytes : List ℕ) → WritesAtMost call bytes → MovesAtMost result bytes }
+    {
+        match call {
+            Ok(0) => none,
             Ok(count) => {
                 self.last = now;
                 self.worked = true;
@@ -165,13 +176,13 @@ impl Session {
         moved
     }
 
-    /// Ends the writing side: whether that could be done.
-    pub(crate) fn end_writing(&mut self, now: u64) -> bool {
+    /// Ends the writing side.
+    pub(crate) fn end_writing(&mut self, now: u64) -> Moved {
         self.last = now;
         self.worked = true;
         match self.caller.link() {
-            Some(link) => link.end_writing().is_ok(),
-            None => false,
+            Some(link) if link.end_writing().is_ok() => Moved::Nothing,
+            _ => Moved::Broken,
         }
     }
 
