@@ -170,10 +170,10 @@ def serve(printer, connection):
 
 
 def serve_quietly(printer, connection):
-    """The same, though the other side goes away."""
+    """The same, though the other side goes away, in the middle of a chunk too."""
     try:
         serve(printer, connection)
-    except OSError as error:
+    except (OSError, ValueError) as error:
         print(error, flush=True)
 
 

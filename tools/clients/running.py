@@ -67,7 +67,15 @@ class Running(Process):
 class Adapter(Process):
     """`printd attach`: a device of this name of the server at this port, whose log is this file."""
 
-    def __init__(self, name, port, to, log, words=()):
+    def __init__(self, name, port, to, log, words=(), command=(PROGRAM, "attach"), **streams):
         self.log = log
-        words = [PROGRAM, "attach", "--name", name, "--server", f"127.0.0.1:{port}", "--to", to, *words, "--log"]
-        super().__init__(words, stderr=log.open("w"))
+        words = [*command, "--name", name, "--server", f"127.0.0.1:{port}", "--to", to, *words, "--log"]
+        super().__init__(words, stderr=log.open("w"), **streams)
+
+
+class EndingAdapter(Adapter):
+    """The same by `printd-attach`, which ends in order with SIGTERM."""
+
+    def __init__(self, name, port, to, log, words=()):
+        command = (TOP / "examples/printd-attach",)
+        super().__init__(name, port, to, log, words, command, env={**os.environ, "PRINTD": str(PROGRAM)})

@@ -6,7 +6,8 @@
 In a row a server (`printd serve`) and a printer of its own (printer.py, lpd_printer.py, ipp_printer.py) have an
 adapter between them. A first job meets the fault of the row, and a second one has to be printed byte for byte
 by the same adapter. Then servers that misbehave: the lines that one writes to an adapter are no lines of a
-server, or are cut; on the connection after that it brings a job. Then words that make no sense. The last column
+server, or are cut; on the connection after that it brings a job. Then adapters that are told to end (SIGTERM to
+printd-attach): the server has to hear of the job in hand. Then words that make no sense. The last column
 is the most memory that the adapter had. Ends with status 1 where a row isn't as it is wanted here. PRINTD names
 the program; without it, it is the one that ./printd built.
 """
@@ -25,7 +26,7 @@ import typing
 
 sys.path.insert(0, str(pathlib.Path(__file__).resolve().parent))
 from ipp_printer import CANCEL_JOB, CHARSET, INTEGER, LANGUAGE, PRINT_JOB, attribute  # noqa: E402
-from running import PROGRAM, TOP, Adapter, Process, Running  # noqa: E402
+from running import PROGRAM, TOP, Adapter, EndingAdapter, Process, Running  # noqa: E402
 
 URI = 0x45
 LARGE = 8 << 20
@@ -105,6 +106,19 @@ LINES = [
     (b"\0\xff" * 100_000, False, "refused"),
     (b"JOB 1 500 1 1 iso_a4_210x297mm\nhello", True, "fail 1 unlinked"),
     (b"CANCEL 7\n", True, "unlinked"),
+]
+
+HALF_A_JOB = b"JOB 1 2000000 1 1 iso_a4_210x297mm\n" + bytes(1_000_000)
+WHOLE_JOB = b"JOB 1 2000000 1 1 iso_a4_210x297mm\n" + bytes(2_000_000)
+# how the printer is spoken to, what it does, what the server writes, and what has to be answered, once SIGTERM comes
+ENDS = [
+    ("socket", "well", b"", []),
+    ("socket", "well", HALF_A_JOB, [b"FAIL 1"]),
+    ("socket", "stall", WHOLE_JOB, [b"FAIL 1"]),
+    ("pjl", "mute", WHOLE_JOB, [b"FAIL 1"]),
+    ("lpd", "mute", WHOLE_JOB, [b"FAIL 1"]),
+    ("ipp", "well", HALF_A_JOB, [b"FAIL 1"]),
+    ("ipp", "mute", WHOLE_JOB, [b"FAIL 1"]),
 ]
 
 WORDS = [
@@ -189,8 +203,7 @@ def print_two(server, adapter, row, contents):
 def play(row, folder):
     """What came of a row: whether it is as it is wanted, and a text."""
     port = free_port()
-    scheme = "socket" if row.to == "pjl" else row.to
-    to = f"{scheme}://127.0.0.1:{port}{PATHS[row.to]}"
+    to = address_of(row.to, port)
     words = [*PATIENCE, "--pjl"] if row.to == "pjl" else PATIENCE
     contents = bytes(n % 251 for n in range(20_000)) * (row.octets // 20_000)
     with printer_of(row, port, folder), Running(log=open(folder / "server.log", "wb"), words=["--log"]) as server:
@@ -252,6 +265,39 @@ def play_lines(front, closes, says, folder):
     return good, ", ".join(notes), peak
 
 
+def address_of(to, port):
+    """The target of an adapter whose printer listens there."""
+    return f"{'socket' if to == 'pjl' else to}://127.0.0.1:{port}{PATHS[to]}"
+
+
+def wait_for_line(adapter, text, seconds=20.0):
+    """Waits until the log has this text, or it took too long."""
+    end = time.monotonic() + seconds
+    while time.monotonic() < end and text not in adapter.log.read_text():
+        time.sleep(0.05)
+
+
+def play_end(to, fault, front, wanted, folder):
+    """What an adapter does that is told to end, while its server has written this."""
+    port, server = free_port(), LineServer(front, False)
+    words = ["--timeout", "60", *(["--pjl"] if to == "pjl" else [])]
+    with printer_of(Row(to, fault, []), port, folder):
+        while not listens(port):
+            time.sleep(0.05)
+        with EndingAdapter("window", server.port, address_of(to, port), folder / "adapter.log", words) as adapter:
+            wait_for_line(adapter, " job 1 " if front else " linked")
+            time.sleep(1)
+            begun = time.monotonic()
+            adapter.process.terminate()
+            status = adapter.process.wait(60)
+            took = time.monotonic() - begun
+    time.sleep(0.2)
+    answers = [line for line in server.said if line.startswith((b"DONE", b"FAIL"))]
+    notes = notes_of(adapter)
+    good = status == 0 and took < 10 and answers == wanted and notes[-1:] == ["ended"]
+    return good, f"status {status} after {took:.1f} s, {', '.join(notes)}", 0
+
+
 def play_words(words):
     """What a command line without sense comes to."""
     ended = subprocess.run([str(PROGRAM), "attach", *words, "--turns", "1"], capture_output=True, text=True, timeout=60)
@@ -267,6 +313,9 @@ def rows():
     for front, closes, says in LINES:
         name = f"server writes {front[:24]!r}" + (", closes" if closes else "")
         yield name, lambda folder, line=(front, closes, says): play_lines(*line, folder)
+    for to, fault, front, wanted in ENDS:
+        what = "idle" if not front else "half a job" if front is HALF_A_JOB else "a job"
+        yield f"SIGTERM, {what}, {to} {fault}", lambda folder, end=(to, fault, front, wanted): play_end(*end, folder)
     for words in WORDS:
         yield "words " + " ".join(words), lambda _folder, words=words: play_words(words)
 

@@ -335,6 +335,31 @@ impl<P: Printer> Desk<P> {
         }
     }
 
+    /// Gives the job in hand up, since the adapter ends.
+    pub(crate) fn give_up<F: Files>(&mut self, files: &F, now: u64) {
+        self.log.set_now(now);
+        self.figures.leave();
+        let report = self.attachment.fail();
+        self.printer.drop_job(files);
+        if let Some(report) = report {
+            self.tell_given_up(&report);
+        }
+        self.log.note(Note::Ended);
+    }
+
+    /// Tells the server that a job is given up. Where there is no memory for that, the server aborts it.
+    fn tell_given_up(&mut self, report: &Report) {
+        if let Report::Fail { job } = report {
+            self.log.note(Note::GivenUp(*job));
+        }
+        let _said = self.line.say(report);
+    }
+
+    /// Writes what is still to be said to the server, and hears no more of it: whether the server is there.
+    pub(crate) fn take_leave(&mut self) -> bool {
+        self.line.take_leave()
+    }
+
     /// The connection to the server is of no use any more: the server aborts the job.
     fn unlink<R: Net + Files>(&mut self, rt: &R, breach: Breach, now: u64) {
         if let Some(job) = self.attachment.job() {

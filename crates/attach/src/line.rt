@@ -12,6 +12,9 @@ use text::drop_front;
 /// How many bytes are read at a time.
 const PIECE: usize = 65_536;
 
+/// How many pieces are passed over in a turn at most, once nothing more is said.
+const LAST_PIECES: u32 = 64;
+
 /// What came of the server.
 #[derive(Clone, Copy)]
 pub(crate) enum Came {
@@ -121,6 +124,28 @@ impl ServerLine {
             Err(error) if has_to_wait(&error) => Ok(false),
             Err(_) => Err(Came::End),
         }
+    }
+
+    /// Writes what is still to be written, ends its side of the connection behind that, and passes over what
+    /// comes: whether the server may still say something.
+    pub(crate) fn take_leave(&mut self) -> bool {
+        if self.flush().is_err() {
+            return false;
+        }
+        let Some(link) = self.caller.link() else {
+            return false;
+        };
+        if self.output.is_empty() && link.end_writing().is_err() {
+            return false;
+        }
+        for _ in 0..LAST_PIECES {
+            match link.read(&mut self.buffer) {
+                Ok(0) => return false,
+                Ok(_) => {}
+                Err(error) => return has_to_wait(&error),
+            }
+        }
+        true
     }
 
     /// The ms until it has something to do by itself.

@@ -29,6 +29,10 @@ pub(crate) enum Note {
     Began { job: u32, octets: u32, copies: u32 },
     Done(u32),
     Failed(u32, Breach),
+    /// The job is given up, since the adapter ends.
+    GivenUp(u32),
+    /// The adapter ends, since its input has.
+    Ended,
 }
 
 impl fmt::Display for Note {
@@ -41,6 +45,7 @@ impl fmt::Display for Note {
             Note::PrinterBack => "printer back",
             Note::PrinterStopped => "printer stopped",
             Note::PrinterRuns => "printer runs",
+            Note::Ended => "ended",
             Note::Refused(fault) => return write!(f, "refused {fault}"),
             Note::JobTooEarly(job) => {
                 return write!(f, "refused job {job} before the last was answered");
@@ -54,6 +59,7 @@ impl fmt::Display for Note {
             } => return write!(f, "job {job} {octets} {copies}"),
             Note::Done(job) => return write!(f, "done {job}"),
             Note::Failed(job, breach) => return write!(f, "fail {job} {breach}"),
+            Note::GivenUp(job) => return write!(f, "fail {job} ended"),
         })
     }
 }

@@ -51,6 +51,8 @@ pub struct Plan {
     pub logs: bool,
     /// Whether the printer's rates and its setup are measured and written.
     pub measures: bool,
+    /// Whether it ends when its standard input does.
+    pub until_closed: bool,
 }
 
 /// The words that say what an adapter is to do.
@@ -69,6 +71,7 @@ pub struct PlanWords<'a> {
     pub turns: u64,
     pub logs: bool,
     pub measures: bool,
+    pub until_closed: bool,
 }
 
 /// Which of the words makes no sense.
@@ -115,6 +118,7 @@ pub fn read_plan(alloc: Global, words: PlanWords<'_>) -> Result<Plan, WordFault>
         turns: words.turns,
         logs: words.logs,
         measures: words.measures,
+        until_closed: words.until_closed,
     })
 }
 

@@ -6,7 +6,8 @@ use crate::line::ServerLine;
 use crate::log::Log;
 use crate::plan::{Plan, Target};
 use ipp_printer::IppPrinter;
-use mio::{Events, Poll, Token};
+use mio::unix::SourceFd;
+use mio::{Events, Interest, Poll, Token};
 use printers::{
     AppSocket, Caller, Folder, Ipp, Lpd, NetworkPrinter, Pjl, Place, Printer, Protocol, Session,
 };
@@ -14,6 +15,7 @@ use std::alloc::Global;
 use std::io;
 use std::io::Write;
 use std::net::Net;
+use std::os::fd::RawFd;
 use std::rt::Files;
 use std::time::{Clock, Duration, Instant};
 
@@ -22,15 +24,27 @@ const SERVER: Token = Token(0);
 
 const PRINTER: Token = Token(1);
 
+/// What waits tell of standard input under, and its descriptor.
+const INPUT: Token = Token(2);
+
+const STANDARD_INPUT: RawFd = 0;
+
+/// How long an adapter that ends hears the server at most, in ms, and how long it waits at a time.
+const LEAVING: u64 = 2_000;
+
+const LEAVING_PAUSE: u64 = 50;
+
 /// How many sockets a wait tells of at most.
 const EVENTS: usize = 8;
 
-/// Which device an adapter is, where its server is, how many turns it takes, and what it writes.
+/// Which device an adapter is, where its server is, how many turns it takes, whether it ends with its input, and
+/// what it writes.
 #[derive(Drop)]
 struct Device {
     name: String,
     server: Place,
     turns: u64,
+    until_closed: bool,
     logs: bool,
     measures: bool,
 }
@@ -58,11 +72,13 @@ pub fn attach<R: Net + Files + Clock, L: Write, F: Write>(
         turns,
         logs,
         measures,
+        until_closed,
     } = plan;
     let device = Device {
         name,
         server,
         turns,
+        until_closed,
         logs,
         measures,
     };
@@ -112,34 +128,68 @@ fn run<P: Printer, R: Net + Files + Clock, L: Write, F: Write>(
     log: &mut L,
     figures: &mut F,
 ) -> io::Result<()> {
+    let mut poll = Poll::new(rt)?;
+    if device.until_closed {
+        poll.registry()
+            .register(&mut SourceFd(&STANDARD_INPUT), INPUT, Interest::READABLE)?;
+    }
     let line = ServerLine::new(alloc, Caller::new(alloc, device.server, SERVER))?;
     let logs = Log::new(alloc, device.logs);
     let measures = Figures::new(alloc, device.measures);
     let mut desk = Desk::new(alloc, device.name, line, printer, logs, measures);
-    take_turns(alloc, rt, &mut desk, device.turns, log, figures)
+    take_turns(alloc, rt, &mut desk, &mut poll, device.turns, log, figures)
 }
 
-/// Takes so many turns, with waits between them.
+/// Takes so many turns, with waits between them, or those up to the end of the input.
 fn take_turns<P: Printer, R: Net + Files + Clock, L: Write, F: Write>(
     alloc: Global,
     rt: &R,
     desk: &mut Desk<P>,
+    poll: &mut Poll,
     turns: u64,
     log: &mut L,
     figures: &mut F,
 ) -> io::Result<()> {
-    let mut poll = Poll::new(rt)?;
     let mut events = Events::with_capacity(alloc, EVENTS)?;
     let start = Instant::now(rt)?;
     for _ in 0..turns {
         let now = millis_since(rt, &start)?;
-        desk.turn(rt, &poll, now);
+        desk.turn(rt, poll, now);
         let _logged = log.write_all(&desk.take_log());
         let _written = figures.write_all(&desk.take_figures());
         poll.poll(&mut events, Some(Duration::from_millis(desk.pause(now))))?;
-        for event in events.iter() {
-            desk.told(event);
+        if tell(desk, &events) {
+            desk.give_up(rt, now);
+            let left = leave(desk, poll, &mut events);
+            let _last_logged = log.write_all(&desk.take_log());
+            return left;
         }
+    }
+    Ok(())
+}
+
+/// Tells what a wait told: whether the input has ended.
+fn tell<P: Printer>(desk: &mut Desk<P>, events: &Events<Global>) -> bool {
+    let mut ended = false;
+    for event in events.iter() {
+        ended |= event.token() == INPUT && event.is_read_closed();
+        desk.told(event);
+    }
+    ended
+}
+
+/// Says the last to the server, and waits until that has ended the connection too, for a while at most.
+fn leave<P: Printer>(
+    desk: &mut Desk<P>,
+    poll: &mut Poll,
+    events: &mut Events<Global>,
+) -> io::Result<()> {
+    for _ in 0..LEAVING / LEAVING_PAUSE {
+        if !desk.take_leave() {
+            return Ok(());
+        }
+        poll.poll(events, Some(Duration::from_millis(LEAVING_PAUSE)))?;
+        tell(desk, events);
     }
     Ok(())
 }

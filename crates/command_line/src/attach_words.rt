@@ -27,6 +27,8 @@ pub struct Attaching<'a> {
     pub log: bool,
     /// Whether the printer's rates and its setup are measured and written.
     pub measure: bool,
+    /// Whether it ends when its standard input does.
+    pub until_closed: bool,
 }
 
 /// An option with one value.
@@ -141,6 +143,13 @@ fn measure<'a>(alloc: Global) -> Arg<'a> {
         .help("Write the printer's rates and its setup for the settings, after each job")
 }
 
+fn until_closed<'a>(alloc: Global) -> Arg<'a> {
+    Arg::new(alloc, "until-closed")
+        .long("until-closed")
+        .action(ArgAction::SetTrue)
+        .help("Give the job in hand up and end once standard input, a pipe, is closed")
+}
+
 /// The command that attaches a printer.
 pub(crate) fn attach_command<'a>(alloc: Global) -> Result<Command<'a>, AllocError> {
     Command::new(alloc, "attach")
@@ -155,7 +164,8 @@ pub(crate) fn attach_command<'a>(alloc: Global) -> Result<Command<'a>, AllocErro
         .arg(pjl(alloc))?
         .arg(turns(alloc))?
         .arg(log(alloc))?
-        .arg(measure(alloc))
+        .arg(measure(alloc))?
+        .arg(until_closed(alloc))
 }
 
 /// What the words of the command say.
@@ -172,5 +182,6 @@ pub(crate) fn attach_words<'a>(found: &ArgMatches<'a>) -> Option<Attaching<'a>> 
         turns: found.get_one::<u64>("turns").unwrap_or(u64::MAX),
         log: found.get_flag("log"),
         measure: found.get_flag("measure"),
+        until_closed: found.get_flag("until-closed"),
     })
 }

@@ -22,6 +22,7 @@ pub(crate) fn run_attach(
         turns: attaching.turns,
         logs: attaching.log,
         measures: attaching.measure,
+        until_closed: attaching.until_closed,
     };
     let plan = read_plan(rt.alloc(), words).map_err(|fault| refuse(rt, fault, words))?;
     let mut errors = rt.stderr();

@@ -87,7 +87,7 @@ impl Link {
     }
 
     /// Nothing more will be written.
-    pub(crate) fn end_writing(&self) -> io::Result<()> {
+    pub fn end_writing(&self) -> io::Result<()> {
         self.stream.shutdown(Shutdown::Write)
     }
 }

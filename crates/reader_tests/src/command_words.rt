@@ -63,11 +63,11 @@ const READ: [(&str, &str); 21] = [
     ),
     (
         "printd attach --name window --to file:printed",
-        "Attach(Attaching { name: \"window\", server: \"127.0.0.1:8632\", to: \"file:printed\", format: None, ms_per_page: 0, linger: 30, timeout: 300, pjl: false, turns: 18446744073709551615, log: false, measure: false })",
+        "Attach(Attaching { name: \"window\", server: \"127.0.0.1:8632\", to: \"file:printed\", format: None, ms_per_page: 0, linger: 30, timeout: 300, pjl: false, turns: 18446744073709551615, log: false, measure: false, until_closed: false })",
     ),
     (
-        "printd attach --name a --to lpd://b/c --server d:1 --format application/pdf --ms-per-page 2 --linger 3 --timeout 4 --pjl --turns 5 --log --measure",
-        "Attach(Attaching { name: \"a\", server: \"d:1\", to: \"lpd://b/c\", format: Some(\"application/pdf\"), ms_per_page: 2, linger: 3, timeout: 4, pjl: true, turns: 5, log: true, measure: true })",
+        "printd attach --name a --to lpd://b/c --server d:1 --format application/pdf --ms-per-page 2 --linger 3 --timeout 4 --pjl --turns 5 --log --measure --until-closed",
+        "Attach(Attaching { name: \"a\", server: \"d:1\", to: \"lpd://b/c\", format: Some(\"application/pdf\"), ms_per_page: 2, linger: 3, timeout: 4, pjl: true, turns: 5, log: true, measure: true, until_closed: true })",
     ),
 ];
 
