@@ -1,7 +1,8 @@
 -- Where a reader stands after a piece, a line, or a fault.
 use Rattle.std.specs.Prelude.{ℕ, ◌≡◌, ◌==◌, ◌+◌, ◌<◌, ◌≤◌, Bool, true, false, List, [], ◌∷◌, ◌++◌, length, take, drop, Option, Some, None, IsSome, Result, Ok, Err, OnOk}
 use Rattle.std.proofs.Common.{rules, arith, refl, subst, sym, ap, ◌∙◌}
-use Rattle.std.proofs.lemmas.List.{append-nil, drop-append-le, take-append-le, length-drop}
+use Rattle.std.proofs.lemmas.List.{append-nil, drop-append-le, take-append-le, length-append, length-drop}
+use Rattle.std.proofs.Math.Seq.{take-append_seam}
 use Rattle.std.proofs.lemmas.List.Quantifiers.{position-Some}
 use Rattle.std.specs.declared.alloc.AllocError.{AllocError}
 use Rattle.base_types.specs.declared.limits.TheConstants.Limits.{DEVICE_LINE_BYTES}
@@ -221,3 +222,23 @@ hears_rest stream coming given reader stands =
 
 pub first_stays : (stream more : List ℕ) (first : List ReportRecord) → SaysFirst stream first → (later : Heard) × (device_reports (stream ++ more) ≡ with_front first later)
 first_stays stream more first x = (heard_in x.next (texts_of (x.left ++ more)), heard_leads false stream more first x.next x.left x.leads)
+
+-- all that a stream says begins with what it says first
+begins_so : (stream : List ℕ) (first : List ReportRecord) → SaysFirst stream first → (later : Heard) × (device_reports stream ≡ with_front first later)
+begins_so stream first x =
+    let all = first_stays stream [] first x in
+    (all.0, subst (λ (b : List ℕ). device_reports b ≡ with_front first all.0) (append-nil stream) all.1)
+
+pub first_one : (stream : List ℕ) (one other : List ReportRecord) → SaysFirst stream one → SaysFirst stream other → length one ≡ length other → one ≡ other
+first_one stream one other x y long =
+    let a = begins_so stream one x in
+    let b = begins_so stream other y in
+    let all : one ++ a.0.reports ≡ other ++ b.0.reports = ap (λ (h : Heard). h.reports) (sym a.1 ∙ b.1) in
+    sym (take-append_seam one a.0.reports) ∙ ap (λ (r : List ReportRecord). take (length one) r) all ∙ ap (λ n. take n (other ++ b.0.reports)) long ∙ take-append_seam other b.0.reports
+
+pub none_follows : (stream : List ℕ) (reports : List ReportRecord) (said : ReportRecord) (ending : Ending) → SaysFirst stream (reports ++ said ∷ []) → device_reports stream ≡ record { reports = reports; ending = ending } → ⊥
+none_follows stream reports said ending x is =
+    let a = begins_so stream (reports ++ said ∷ []) x in
+    let all : (reports ++ said ∷ []) ++ a.0.reports ≡ reports = ap (λ (h : Heard). h.reports) (sym a.1 ∙ is) in
+    let long : length ((reports ++ said ∷ []) ++ a.0.reports) ≡ length reports = ap (λ (r : List ReportRecord). length r) all in
+    omega (arith, long, length-append (reports ++ said ∷ []) a.0.reports, length-append reports (said ∷ []))

@@ -107,6 +107,14 @@ Answers old (Err OutOfMemory) new = new ≡ old
 abbrev pub FirstStays : Type 0
 FirstStays = (stream more : List ℕ) (first : List ReportRecord) → SaysFirst stream first → (later : Heard) × (device_reports (stream ++ more) ≡ with_front first later)
 
+-- of one length a stream says one list of reports first, also where more may come
+abbrev pub FirstIsOne : Type 0
+FirstIsOne = (stream : List ℕ) (one other : List ReportRecord) → SaysFirst stream one → SaysFirst stream other → length one ≡ length other → one ≡ other
+
+-- a stream says no report behind all of its reports
+abbrev pub NoneFollows : Type 0
+NoneFollows = (stream : List ℕ) (reports : List ReportRecord) (said : ReportRecord) (ending : Ending) → SaysFirst stream (reports ++ said ∷ []) → device_reports stream ≡ record { reports = reports; ending = ending } → ⊥
+
 -- whatever comes yet, the whole stream says what a reader has given, and then what it will hear
 abbrev pub HearsTheRest : Type 0
 HearsTheRest = (stream coming : List ℕ) (given : List ReportRecord) (reader : LinkState) → Stands stream given reader → device_reports (stream ++ coming) ≡ with_front given (ahead reader coming)
