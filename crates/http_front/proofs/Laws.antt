@@ -1,7 +1,7 @@
 -- A stream says one thing, and what it says stays at the front where more comes.
 use Rattle.std.specs.Prelude.{ℕ, suc, zero, ◌≡◌, ◌+◌, ◌==◌, ◌≤◌, nat_le, if◌then◌else◌, Bool, true, false, MatchBool, List, [], ◌∷◌, ◌++◌, length, map, take, drop, Option, Some, None, Result, Ok, Err}
 use Rattle.std.proofs.Common.{arith, refl, subst, sym, ap, ◌∙◌, inl, inr}
-use Rattle.std.proofs.lemmas.List.{append_assoc, take-append-le, drop-append-le}
+use Rattle.std.proofs.lemmas.List.{append_assoc, length-append, take-append-le, drop-append-le}
 use Rattle.httparse.specs.Grammar.{RequestHead, ChunkLine, chunk_size}
 use Rattle.httparse.specs.Spans.{name_and_value}
 use Rattle.httparse.proofs.GrammarLemmas.{request_unique}
@@ -200,3 +200,20 @@ says_one (suc n) (suc m) awaited bytes given said x y =
     let same = goes_is _ _ _ _ _ _ (front_one awaited bytes (Goes x.0 x.1 x.2) (Goes y.0 y.1 y.2) x.4 y.4) in
     let tail : SaysIn m x.2 x.1 y.3 = subst (λ a. SaysIn m a x.1 y.3) (sym same.2) (subst (λ b. SaysIn m y.2 b y.3) (sym same.1) y.6) in
     x.5 ∙ ap (λ s. s ++ x.3) same.0 ∙ ap (λ s. y.0 ++ s) (says_one n m x.2 x.1 x.3 y.3 x.6 tail) ∙ sym y.5
+
+none_of : (said : List Said) → length said ≡ 0 → said ≡ []
+none_of [] same = refl
+none_of (one ∷ more) same = absurd (omega (arith, same))
+
+-- of one length bytes say one thing first
+pub leads_one : (n m : ℕ) (awaited : Awaited) (bytes : List ℕ) (one other : List Said) (next : Awaited) (left : List ℕ) (after : Awaited) (behind : List ℕ) → LeadsIn n awaited bytes one next left → LeadsIn m awaited bytes other after behind → length one ≡ length other → one ≡ other
+leads_one zero m awaited bytes one other next left after behind x y same = x.0 ∙ sym (none_of other (sym same ∙ ap (λ (s : List Said). length s) x.0))
+leads_one (suc n) zero awaited bytes one other next left after behind x y same = none_of one (same ∙ ap (λ (s : List Said). length s) y.0) ∙ sym y.0
+leads_one (suc n) (suc m) awaited bytes one other next left after behind x y same =
+    let front = goes_is _ _ _ _ _ _ (front_one awaited bytes (Goes x.0 x.1 x.2) (Goes y.0 y.1 y.2) x.4 y.4) in
+    let tail : LeadsIn m x.2 x.1 y.3 after behind = subst (λ a. LeadsIn m a x.1 y.3 after behind) (sym front.2) (subst (λ b. LeadsIn m y.2 b y.3 after behind) (sym front.1) y.6) in
+    let is : one ≡ y.0 ++ x.3 = x.5 ∙ ap (λ s. s ++ x.3) front.0 in
+    let long : length one ≡ length y.0 + length x.3 = ap (λ (s : List Said). length s) is ∙ length-append y.0 x.3 in
+    let long' : length other ≡ length y.0 + length y.3 = ap (λ (s : List Said). length s) y.5 ∙ length-append y.0 y.3 in
+    let later : length x.3 ≡ length y.3 = omega (arith, long, long', same) in
+    is ∙ ap (λ s. y.0 ++ s) (leads_one n m x.2 x.1 x.3 y.3 next left after behind x.6 tail later) ∙ sym y.5

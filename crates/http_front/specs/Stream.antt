@@ -173,6 +173,10 @@ pub record SaysFirst (stream : List ℕ) (said : List Said) : Type 0 where
 abbrev pub FirstStays : Type 0
 FirstStays = (stream more : List ℕ) (first said : List Said) → SaysFirst stream first → Exchanges (stream ++ more) said → (later : List Said) × (said ≡ first ++ later)
 
+-- of one length a stream says one thing first, also where it says nothing as a whole yet
+abbrev pub FirstIsOne : Type 0
+FirstIsOne = (stream : List ℕ) (one other : List Said) → SaysFirst stream one → SaysFirst stream other → length one ≡ length other → one ≡ other
+
 -- a reader: the part of a body that it lends, the bytes that it hasn't read, and what it awaits
 pub record HttpState : Type 0 where
   pub part : List ℕ

@@ -1,11 +1,16 @@
 //! Laws of the exchanges. Their functions do nothing: their contracts are what they are for.
-ghost use Rattle.http_front.specs.Stream.{SaysOne, StaysInFront, FirstStays, HearsTheRest};
+ghost use Rattle.http_front.specs.Stream.{SaysOne, StaysInFront, FirstIsOne, FirstStays, HearsTheRest};
 ghost use Rattle.http_front.specs.Order.{SaysInOrder};
 
 /// A stream says one thing, and that stays at the front where more comes.
 pub fn one_saying()
     ensures one { SaysOne }
     ensures front { StaysInFront }
+{}
+
+/// Of one length a stream says one thing first.
+pub fn one_front()
+    ensures { FirstIsOne }
 {}
 
 /// What a stream says is in the order of exchanges, and nothing follows the last.
