@@ -183,6 +183,24 @@ stays_in a bytes more (said ∷ first) b left (told ∷ items) ending x y =
     let later = stays_in (awaited_after said) x.0 more first b left items ending x.2 tail in
     (later.0, ap (λ s. s ∷ items) same.0 ∙ ap (λ i. said ∷ i) later.1)
 
+-- of one length bytes say one list of items first
+pub leads_one : (a : Awaited) (bytes : List ℕ) (one other : List ItemRecord) (b c : Awaited) (left behind : List ℕ) → Leads a bytes one b left → Leads a bytes other c behind → length one ≡ length other → one ≡ other
+leads_one a bytes [] [] b c left behind x y long = refl
+leads_one a bytes [] (told ∷ other) b c left behind x y long = absurd (omega (arith, long))
+leads_one a bytes (said ∷ one) [] b c left behind x y long = absurd (omega (arith, long))
+leads_one a bytes (said ∷ one) (told ∷ other) b c left behind x y long =
+    let same = gives_rest told said y.0 x.0 (sym y.1 ∙ x.1) in
+    let tail : Leads (awaited_after said) x.0 other c behind = subst (λ (s : ItemRecord). Leads (awaited_after s) x.0 other c behind) same.0 (subst (λ (r : List ℕ). Leads (awaited_after told) r other c behind) same.1 y.2) in
+    let later = leads_one (awaited_after said) x.0 one other b c left behind x.2 tail (omega (arith, long)) in
+    ap (λ s. s ∷ one) (sym same.0) ∙ ap (λ i. told ∷ i) later
+
+-- none stands behind all of them
+pub none_follows : (a : Awaited) (bytes : List ℕ) (items : List ItemRecord) (said : ItemRecord) (b : Awaited) (left : List ℕ) (ending : Ending) → Leads a bytes (items ++ said ∷ []) b left → Hears a bytes items ending → ⊥
+none_follows a bytes [] said b left ending x y = ends_no (front_of a bytes) ending said x.0 y x.1
+none_follows a bytes (told ∷ items) said b left ending x y =
+    let same = gives_rest told told y.0 x.0 (sym y.1 ∙ x.1) in
+    none_follows (awaited_after told) x.0 items said b left ending x.2 (subst (λ (r : List ℕ). Hears (awaited_after told) r items ending) same.1 y.2)
+
 -- ---- every stream says something
 
 abbrev SaysSo : Awaited → List ℕ → Type 0

@@ -141,6 +141,14 @@ FaultStays = (stream more : List ℕ) (given : List ItemRecord) (fault : LpdFaul
 abbrev pub FirstStays : Type 0
 FirstStays = (stream more : List ℕ) (first items : List ItemRecord) (ending : Ending) → SaysFirst stream first → LpdItems (stream ++ more) items ending → (later : List ItemRecord) × (items ≡ first ++ later)
 
+-- of one length a stream says one list of items first, also where more may come
+abbrev pub FirstIsOne : Type 0
+FirstIsOne = (stream : List ℕ) (one other : List ItemRecord) → SaysFirst stream one → SaysFirst stream other → length one ≡ length other → one ≡ other
+
+-- a stream says no item behind all of its items
+abbrev pub NoneFollows : Type 0
+NoneFollows = (stream : List ℕ) (items : List ItemRecord) (said : ItemRecord) (ending : Ending) → SaysFirst stream (items ++ said ∷ []) → LpdItems stream items ending → ⊥
+
 -- whatever comes yet, the whole stream says what a reader has given, and then what it will hear
 abbrev pub HearsTheRest : Type 0
 HearsTheRest =

@@ -1,10 +1,16 @@
 //! Laws of what a stream says. Their functions do nothing: their contracts are what they are for.
-ghost use Rattle.lpd_reader.specs.Stream.{SaysOne, SaysSome, StaysInFront, FaultStays, FirstStays, HearsTheRest};
+ghost use Rattle.lpd_reader.specs.Stream.{SaysOne, SaysSome, StaysInFront, FaultStays, FirstIsOne, NoneFollows, FirstStays, HearsTheRest};
 
 /// A stream says something, and one thing.
 pub fn one_saying()
     ensures some { SaysSome }
     ensures one { SaysOne }
+{}
+
+/// Of one length a stream says one list of items first, and none behind all of its items.
+pub fn one_front()
+    ensures one { FirstIsOne }
+    ensures last { NoneFollows }
 {}
 
 /// What a stream says stays at the front where more comes, and a fault is the last.

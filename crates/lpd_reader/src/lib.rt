@@ -22,5 +22,5 @@ mod words;
 pub use control::{Control, ControlError, ControlFault, Print, PrintFormat, read_control};
 pub use fault::{LpdError, LpdFault};
 pub use item::{FileHead, FileKind, LpdCommand, LpdItem};
-pub use law::{given_first, one_saying, said_stays};
+pub use law::{given_first, one_front, one_saying, said_stays};
 pub use reader::LpdReader;
