@@ -2,3 +2,4 @@ pub mod Status
 pub mod Target
 pub mod Event
 pub mod Reply
+pub mod SameEvent
