@@ -8,3 +8,4 @@ pub mod Asking
 pub mod Connections
 pub mod Fits
 pub mod Slots
+pub mod Choice

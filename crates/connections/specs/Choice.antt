@@ -1,0 +1,67 @@
+-- What a connection asks next is fixed by its entry, but for two choices: how long the part of a body is that is taken, and where memory is refused.
+use Rattle.std.specs.Prelude.{ℕ, ◌≡◌, List, length, Option, Some, None}
+use Rattle.base_types.specs.Report.{report_of}
+use Rattle.settings_file.specs.Settings.{ServerSettings}
+use Rattle.http_front.specs.declared.item.HttpItem.{HttpItem}
+use Rattle.http_front.specs.declared.item.HttpItem.TheVariants as item
+use Rattle.events.specs.SameEvent.{SameEvent}
+use Rattle.connections.specs.declared.ask.Ask.{Ask}
+use Rattle.connections.specs.declared.ask.Ask.TheVariants as ask
+use Rattle.connections.specs.declared.ask.Growth.{Growth}
+use Rattle.connections.specs.declared.ask.Part.{Part}
+use Rattle.connections.specs.declared.step.Step.{Step}
+use Rattle.connections.specs.Entry.{Talk, Http as OfIpp, Queue as OfLpd, Link as OfDevice, Entry}
+use Rattle.connections.specs.Asking.{Hears, AsksNext}
+
+-- ---- the choices
+
+-- how long the part of a body is that an item brings
+abbrev pub part_taken : HttpItem → List ℕ → Option ℕ
+part_taken (item.Head closes) part = None
+part_taken item.Continue part = None
+part_taken item.BodyPart part = Some (length part)
+part_taken item.BodyEnd part = None
+part_taken (item.Refuse refusal) part = None
+
+abbrev pub part_heard : (settings : ServerSettings) (talk : Talk) (e : Entry) (comes : Step) (mid : Entry) → Hears settings talk e comes mid → Option ℕ
+part_heard settings (OfIpp said closes body) e comes mid next = part_taken next.item next.part
+part_heard settings (OfLpd items session) e comes mid next = None
+part_heard settings (OfDevice reports device) e comes mid next = None
+
+-- how long the part of a body is that is taken, where one is
+abbrev pub part_of : {settings : ServerSettings} {what : Ask} {e new : Entry} → AsksNext settings what e new → Option ℕ
+part_of {settings} {e} asks = part_heard settings e.talk e asks.comes asks.mid asks.hears
+
+-- for what memory is refused, as something is asked
+pub data Loss : Type 0 where
+  OfGrowth : Growth → Loss
+  OfPart : Part → Loss
+  -- to read a whole body
+  OfBody : Loss
+
+abbrev pub lost_of : Ask → Option Loss
+lost_of ask.Nothing = None
+lost_of (ask.Broke growth) = Some (OfGrowth growth)
+lost_of (ask.Event client event) = None
+lost_of (ask.Unread request) = Some OfBody
+lost_of (ask.Lost part) = Some (OfPart part)
+lost_of (ask.Hello device name) = None
+lost_of (ask.Report device report) = None
+lost_of (ask.Stranger name) = None
+lost_of (ask.Fault device) = None
+
+-- ---- what is asked
+
+-- two asks say the same
+abbrev pub SameAsk : Ask → Ask → Type 0
+SameAsk (ask.Event client event) (ask.Event other said) = (client ≡ other) × SameEvent event said
+SameAsk (ask.Report device report) (ask.Report other said) = (device ≡ other) × (report_of report ≡ report_of said)
+SameAsk one other = one ≡ other
+
+-- ---- laws
+
+-- what is asked next, and the entry after it, are one where the choices are
+abbrev pub AsksOne : Type 0
+AsksOne =
+    (settings : ServerSettings) (e : Entry) (what said : Ask) (new after : Entry) (one : AsksNext settings what e new) (other : AsksNext settings said e after)
+    → part_of one ≡ part_of other → lost_of what ≡ lost_of said → SameAsk what said × (new ≡ after)
