@@ -1,8 +1,12 @@
--- An event leads to one state and one reply.
-use Rattle.std.proofs.Common.{◌≡◌, ℕ, true, false, List, [], Option, None, Some, Result, Ok, Err, refl, sym, subst, ◌∙◌, max, slice_get}
+-- An event leads to one state and one reply, and so do two events that say the same.
+use Rattle.std.proofs.Common.{◌≡◌, ℕ, true, false, List, [], Option, None, Some, Result, Ok, Err, refl, sym, subst, ◌∙◌, max, slice_get, ap}
 use Rattle.std.specs.Prelude.{MatchOption, MatchResult}
+use Rattle.std.specs.Global.{Vec}
 use Rattle.ipp_codec.specs.Message.{IppAttribute, IppGroup}
+use Rattle.base_types.specs.Device.{Device}
 use Rattle.base_types.specs.declared.report.Report.{Report}
+use Rattle.base_types.specs.declared.report.Report.TheVariants as Says
+use Rattle.base_types.specs.Report.{report_of}
 use Rattle.spool.specs.Document.{DocumentRecord}
 use Rattle.job_objects.specs.declared.job_change.JobChange.{JobChange}
 use Rattle.job_objects.specs.declared.job_change.JobChange.TheVariants as Change
@@ -12,16 +16,26 @@ use Rattle.events.specs.declared.event.Event.TheVariants as Is
 use Rattle.events.specs.declared.event.HoldUntil.{HoldUntil}
 use Rattle.events.specs.declared.event.HoldUntil.TheVariants.{NoHold, Indefinite, Unsupported}
 use Rattle.events.specs.declared.event.JobRequest.{JobRequest}
+use Rattle.events.specs.declared.event.SubmitFiles.{SubmitFiles}
 use Rattle.events.specs.declared.queue.ListQueue.{ListQueue}
+use Rattle.events.specs.declared.queue.QueueListing.{QueueListing}
+use Rattle.events.specs.declared.queue.RemoveJobs.{RemoveJobs}
 use Rattle.events.specs.declared.reply.Answer.{Answer}
 use Rattle.events.specs.declared.reply.Answer.TheVariants.{Ipp, Lpd, Nothing}
 use Rattle.events.specs.declared.reply.LpdAnswer.{LpdAnswer}
 use Rattle.events.specs.declared.reply.LpdAnswer.TheVariants.{Taken, Queue, NoQueue}
 use Rattle.events.specs.declared.reply.Reply.{Reply}
+use Rattle.events.specs.Event.{is_query}
 use Rattle.events.specs.Reply.{IsAnswer, Replies, AnswersLpd}
+use Rattle.events.specs.SameEvent.{SameFiles, SameList, SameRemoval, SameEvent}
+use Rattle.events.proofs.Sames.{by_report, OfEach, by_same}
 use Rattle.queues.specs.Queue.{queue_of}
-use Rattle.print_room.specs.State.{State}
-use Rattle.print_room.specs.Report.{Reports}
+use Rattle.queues.specs.Listing.{ShowsQueue, entries_of}
+use Rattle.queues.specs.Removal.{removed_jobs}
+use Rattle.print_room.specs.Activity.{job_on}
+use Rattle.print_room.specs.Jobs.{canceling_each}
+use Rattle.print_room.specs.State.{State, holding, with_device}
+use Rattle.print_room.specs.Report.{documents_out, jobs_after, state_after, Reports}
 use Rattle.dispatcher.specs.declared.checks.Refusal.{Refusal}
 use Rattle.dispatcher.specs.Answers.{Refuses, Shows}
 use Rattle.dispatcher.specs.Checks.{named_job, named_printer}
@@ -33,9 +47,10 @@ use Rattle.dispatcher.specs.CancelJob.{canceled_of, CancelsIt}
 use Rattle.dispatcher.specs.HoldJob.{changed_of, ChangesIt, ChangesJob, HoldsUntil}
 use Rattle.dispatcher.specs.PausePrinter.{paused_of, PausesIt}
 use Rattle.dispatcher.specs.GetJobs.{wanted_of}
-use Rattle.dispatcher.specs.SubmitFiles.{filed_of, FilesJob, FilesNothing}
-use Rattle.dispatcher.specs.ListQueue.{IsListed, ListsIt, ListsNothing}
-use Rattle.dispatcher.specs.Step.{Step, StepAt}
+use Rattle.dispatcher.specs.SubmitFiles.{filed_of, FilesJob, FilesNothing, SubmitsFiles}
+use Rattle.dispatcher.specs.ListQueue.{IsListed, ListsIt, ListsNothing, ListsQueue}
+use Rattle.dispatcher.specs.RemoveJobs.{cancels_of_each, told_of, RemovesJobs}
+use Rattle.dispatcher.specs.Step.{Step, StepAt, TakesNoMemory, TakesNoMemoryAt}
 use Rattle.dispatcher.specs.OneStep.{SameLpdAnswer, SameAnswer, SameReply, SameEnd}
 
 -- ---- what is answered
@@ -185,5 +200,116 @@ at_once Is.Tick now old one new other new' a b = record {
   reply_is = record { answer = same_as Nothing one.answer other.answer a.unanswered b.unanswered; cancels = a.cancels ∙ sym b.cancels; documents = a.documents ∙ sym b.documents };
 }
 
-pub same_end : (old : State) (event : Event) (moment : ℕ) (one : Reply) (new : State) (other : Reply) (new' : State) → Step old event moment one new → Step old event moment other new' → SameEnd one new other new'
-same_end old event moment one new other new' a b = at_once event (max moment old.last) old one new other new' a b
+-- ---- two events that say the same
+
+-- a job of files
+filed_same : (one other : SubmitFiles) → SameFiles one other → (now : ℕ) (old : State) → filed_of one now old ≡ filed_of other now old
+filed_same one other same now old = rw (same.queue, same.owner, same.name, same.documents) refl
+
+files_as : (one other : SubmitFiles) → SameFiles one other → (now : ℕ) (old : State) (reply : Reply) (new : State) → SubmitsFiles now other old reply new → SubmitsFiles now one old reply new
+files_as one other same now old reply new b =
+    subst (λ r. MatchOption r (FilesNothing now old reply new) (λ job. FilesJob now old job reply new)) (sym (filed_same one other same now old)) b
+
+-- a queue to list
+shows_as : (one other : ListQueue) → SameList one other → (now place : ℕ) (old : State) (listing : QueueListing) → ShowsQueue now place other old listing → ShowsQueue now place one old listing
+shows_as one other same now place old listing b = record {
+  form = b.form ∙ sym same.form;
+  name = b.name ∙ sym same.queue;
+  state_is = b.state_is;
+  jobs = b.jobs ∙ ap (λ (xs : List (List ℕ)). entries_of now place xs old) (sym same.operands);
+}
+
+listed_as : (one other : ListQueue) → SameList one other → (now place : ℕ) (old : State) (answer : Answer) → IsListed now place other old answer → IsListed now place one old answer
+listed_as one other same now place old (Lpd (Queue listing)) b = shows_as one other same now place old listing b
+listed_as one other same now place old (Lpd (Taken taken)) b = absurd b
+listed_as one other same now place old (Lpd NoQueue) b = absurd b
+listed_as one other same now place old (Ipp answer) b = absurd b
+listed_as one other same now place old Nothing b = absurd b
+
+lists_at : (one other : ListQueue) → SameList one other → (now : ℕ) (old : State) (r : Option ℕ) (reply : Reply) (new : State)
+    → MatchOption r (ListsNothing now old reply new) (λ place. ListsIt now old other place reply new) → MatchOption r (ListsNothing now old reply new) (λ place. ListsIt now old one place reply new)
+lists_at one other same now old None reply new b = b
+lists_at one other same now old (Some place) reply new b = record { answer = listed_as one other same now place old reply.answer b.answer; cancels = b.cancels; documents = b.documents; state = b.state }
+
+lists_as : (one other : ListQueue) → SameList one other → (now : ℕ) (old : State) (reply : Reply) (new : State) → ListsQueue now other old reply new → ListsQueue now one old reply new
+lists_as one other same now old reply new b =
+    subst (λ (queue : List ℕ). MatchOption (queue_of queue old) (ListsNothing now old reply new) (λ place. ListsIt now old one place reply new)) (sym same.queue)
+    (lists_at one other same now old (queue_of other.queue old) reply new b)
+
+-- jobs to remove
+removed_same : (one other : RemoveJobs) → SameRemoval one other → (old : State) → removed_jobs one old ≡ removed_jobs other old
+removed_same one other same old = rw (same.queue, same.agent, same.operands) refl
+
+told_same : (one other : RemoveJobs) → SameRemoval one other → (old : State) → told_of one old ≡ told_of other old
+told_same one other same old = ap (λ (ids : List ℕ). cancels_of_each ids old) (removed_same one other same old)
+
+removes_as : (one other : RemoveJobs) → SameRemoval one other → (now : ℕ) (old : State) (reply : Reply) (new : State) → RemovesJobs now other old reply new → RemovesJobs now one old reply new
+removes_as one other same now old reply new b = record {
+  unanswered = b.unanswered;
+  cancels = b.cancels ∙ sym (told_same one other same old);
+  documents = b.documents;
+  state = b.state ∙ ap (λ (agent : List ℕ). canceling_each now agent (removed_jobs other old) old) (sym same.agent) ∙ ap (λ (ids : List ℕ). canceling_each now one.agent ids old) (sym (removed_same one other same old));
+}
+
+-- a report
+abbrev ReportsAs : ℕ → ℕ → State → Report → Report → Type 0
+ReportsAs now place old one other = (documents : List DocumentRecord) (new : State) → Reports now place other old documents new → Reports now place one old documents new
+
+media_as : (now place : ℕ) (old : State) (one other : Vec (List ℕ)) → one.items ≡ other.items → ReportsAs now place old (Says.Media one) (Says.Media other)
+media_as now place old one other same documents new b = at_device (slice_get old.devices place) b
+  where
+    at_device : (r : Option Device)
+        → MatchOption r ((new ≡ record old { last = now }) × (documents ≡ [])) (λ device. (new ≡ state_after now place (Says.Media other) device old) × (documents ≡ documents_out (job_on device.activity) None old.spool.jobs))
+        → MatchOption r ((new ≡ record old { last = now }) × (documents ≡ [])) (λ device. (new ≡ state_after now place (Says.Media one) device old) × (documents ≡ documents_out (job_on device.activity) None old.spool.jobs))
+    at_device None b = b
+    at_device (Some device) b = (b.0 ∙ held_same device, b.1)
+      where
+        held_same : (device : Device) → state_after now place (Says.Media other) device old ≡ state_after now place (Says.Media one) device old
+        held_same device = ap (λ (held : List (List ℕ)). record old { last = now; devices = with_device place (holding held) old.devices; spool = record old.spool { jobs = jobs_after now (job_on device.activity) None old.spool.jobs } }) (sym same)
+
+reports_as : (now place : ℕ) (old : State) (one other : Report) → report_of one ≡ report_of other → ReportsAs now place old one other
+reports_as now place old one other same = by_report (ReportsAs now place old) (λ report documents new b. b) (media_as now place old) one other same
+
+-- ---- whatever says the same
+
+abbrev EndsAs : Event → Event → Type 0
+EndsAs one other = (now : ℕ) (old : State) (reply : Reply) (new : State) (said : Reply) (after : State) → StepAt one now old reply new → StepAt other now old said after → SameEnd reply new said after
+
+ends_as : (one other : Event) → ((now : ℕ) (old : State) (said : Reply) (after : State) → StepAt other now old said after → StepAt one now old said after) → EndsAs one other
+ends_as one other same now old reply new said after a b = at_once one now old reply new said after a (same now old said after b)
+
+each_end : OfEach EndsAs
+each_end = record {
+  equal = λ event. ends_as event event (λ now old said after b. b);
+  files = λ one other same. ends_as (Is.SubmitFiles one) (Is.SubmitFiles other) (files_as one other same);
+  lists = λ one other same. ends_as (Is.ListQueue one) (Is.ListQueue other) (lists_as one other same);
+  removes = λ one other same. ends_as (Is.RemoveJobs one) (Is.RemoveJobs other) (removes_as one other same);
+  reports = λ device one other same. ends_as (Is.Report device one) (Is.Report device other)
+      (λ now old said after b. record { unanswered = b.unanswered; cancels = b.cancels; reports = reports_as now device old one other same said.documents.items after b.reports });
+}
+
+pub same_end : (old : State) (one other : Event) (moment : ℕ) (reply : Reply) (new : State) (said : Reply) (after : State) → SameEvent one other → Step old one moment reply new → Step old other moment said after → SameEnd reply new said after
+same_end old one other moment reply new said after same = by_same EndsAs each_end one other same (max moment old.last) old reply new said after
+
+-- what only asks, and what is acted on without memory
+
+pub same_query : (one other : Event) → SameEvent one other → is_query one ≡ is_query other
+same_query one other same =
+    by_same (λ one other. is_query one ≡ is_query other)
+    (record { equal = λ event. refl; files = λ one other same. refl; lists = λ one other same. refl; removes = λ one other same. refl; reports = λ device one other same. refl })
+    one other same
+
+abbrev NeedsAs : Event → Event → Type 0
+NeedsAs one other = (now : ℕ) (old : State) → TakesNoMemoryAt one now old → TakesNoMemoryAt other now old
+
+each_need : OfEach NeedsAs
+each_need = record {
+  equal = λ event now old none. none;
+  files = λ one other same now old none. sym (filed_same one other same now old) ∙ none;
+  lists = λ one other same now old none. ap (λ (queue : List ℕ). queue_of queue old) (sym same.queue) ∙ none;
+  removes = λ one other same now old none. sym (told_same one other same old) ∙ none;
+  reports = λ device one other same now old none. tt;
+}
+
+pub same_needs : (one other : Event) (moment : ℕ) (old : State) → SameEvent one other → TakesNoMemory one moment old → TakesNoMemory other moment old
+same_needs one other moment old same = by_same NeedsAs each_need one other same (max moment old.last) old

@@ -1,6 +1,6 @@
 //! What holds of every state, and what every state after this one keeps, however it comes about; that an
-//! event leads to one state; that a Send-Document is answered its job as it is then. The functions do
-//! nothing: their contracts are what they are for.
+//! event leads to one state, as does any that says the same; that a Send-Document is answered its job as it
+//! is then. The functions do nothing: their contracts are what they are for.
 ghost use Rattle.std.specs.Prelude.{ℕ, ◌≡◌, [], List, Ok, Option};
 ghost use Rattle.prices.specs.Plan.{PlanRecord};
 ghost use Rattle.print_room.specs.declared.started.Started.{Started};
@@ -13,10 +13,12 @@ ghost use Rattle.events.specs.declared.event.Event.TheVariants as Is;
 ghost use Rattle.events.specs.declared.event.SendDocument.{SendDocument};
 ghost use Rattle.events.specs.declared.reply.Reply.{Reply};
 ghost use Rattle.events.specs.declared.status.Status.TheVariants as Went;
+ghost use Rattle.events.specs.Event.{is_query};
 ghost use Rattle.events.specs.Reply.{Replies};
+ghost use Rattle.events.specs.SameEvent.{SameEvent};
 ghost use Rattle.dispatcher.specs.declared.send_document.Sent.{Sent};
 ghost use Rattle.dispatcher.specs.SendDocument.{IsShown, sent_of};
-ghost use Rattle.dispatcher.specs.Step.{Step};
+ghost use Rattle.dispatcher.specs.Step.{Step, TakesNoMemory};
 ghost use Rattle.dispatcher.specs.Keeping.{StepKeeps};
 ghost use Rattle.dispatcher.specs.OneStep.{SameEnd};
 
@@ -53,7 +55,13 @@ impl<P: Planner + Drop> Core<P> {
     }
 }
 
-/// An event that comes at a state and a moment leads to at most one state and one reply.
+/// What comes at a state and a moment leads to at most one state and one reply, by whichever event says it.
 pub fn one_step()
-    ensures { (old : State) (event : Event) (moment : ℕ) (reply : Reply) (new : State) (said : Reply) (other : State) → Step old event moment reply new → Step old event moment said other → SameEnd reply new said other }
+    ensures { (old : State) (one other : Event) (moment : ℕ) (reply : Reply) (new : State) (said : Reply) (after : State) → SameEvent one other → Step old one moment reply new → Step old other moment said after → SameEnd reply new said after }
+{}
+
+/// Of two events that say the same both only ask or neither does, and both take memory or neither does.
+pub fn same_needs()
+    ensures query { (one other : Event) → SameEvent one other → is_query one ≡ is_query other }
+    ensures memory { (one other : Event) (moment : ℕ) (old : State) → SameEvent one other → TakesNoMemory one moment old → TakesNoMemory other moment old }
 {}

@@ -38,7 +38,7 @@ mod submit_files;
 mod validate_job;
 
 pub use dispatch::Dispatched;
-pub use law::one_step;
+pub use law::{one_step, same_needs};
 pub use listener::{DeviceRefusal, Listener, Place};
 pub use outcome::Outcome;
 pub use print_room::Started;
