@@ -1,3 +1,4 @@
 pub mod Readers
 pub mod Loads
 pub mod Entries
+pub mod Choices
