@@ -1,7 +1,7 @@
 //! The checks of a request, in their order: its printer or its job, its document's form, its template,
 //! whether who asks may, whether the job's state allows it, and whether there is room for it. None takes
 //! memory.
-ghost use Rattle.std.specs.Prelude.{◌≡◌, ◌==◌, ◌&&◌, Ok, Err, MatchResult, length, not, option_map};
+ghost use Rattle.std.specs.Prelude.{◌≡◌, Ok, Err, MatchResult, option_map};
 ghost use Rattle.std.specs.Option.{option_copied, option_and_then};
 ghost use Rattle.spool.specs.Jobs.{job_at};
 ghost use Rattle.dispatcher.specs.Checks.{by_operator, format_asked, format_of, is_compressed, named_job, named_printer, printer_of_job, refused, room_for, status_of, unsupported_asked};
@@ -205,20 +205,13 @@ pub(crate) fn unsupported_asked(
 {
     let mut unsupported = template;
     unsupported.make_unsupported(alloc, offer);
-    if breaks_fidelity(fidelity, &unsupported) {
+    if unsupported.breaks_fidelity(fidelity) {
         return Err(Refusal {
             status: Status::AttributesNotSupported,
             unsupported,
         });
     }
     Ok(unsupported)
-}
-
-/// Whether a request that wants its template to the letter is refused for what isn't supported.
-fn breaks_fidelity(fidelity: bool, unsupported: &RequestAttributes) -> bool
-    ensures { result ≡ (fidelity && not (length unsupported.now == 0)) }
-{
-    fidelity && !unsupported.is_empty()
 }
 
 /// Whether there is room for a job of so many octets.

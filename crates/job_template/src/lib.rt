@@ -2,9 +2,9 @@
 //!
 //! [`template_of`] and [`medium_of`] give what the group asks of the job, with the defaults in place
 //! of what isn't there or isn't supported; [`RequestAttributes::make_unsupported`] gives what is
-//! returned to the client. Each attribute has one value, but `finishings` may have several. That of
-//! several attributes of a name the first acts is seen to where the request is read. Whether a
-//! request is refused for what isn't supported is no business of this crate.
+//! returned to the client, and [`RequestAttributes::breaks_fidelity`] whether the request is refused for it.
+//! Each attribute has one value, but `finishings` may have several. That of several attributes of a name
+//! the first acts is seen to where the request is read.
 //!
 //! Its rows are traces of `play_examples`.
 #![tactic(auto)]

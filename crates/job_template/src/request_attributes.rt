@@ -1,5 +1,5 @@
 //! The attributes of a request's job group, and what of them is returned (RFC 8011, section 4.1.7).
-ghost use Rattle.std.specs.Prelude.{◌≡◌, ◌==◌, [], map, filter, not, length};
+ghost use Rattle.std.specs.Prelude.{◌≡◌, ◌==◌, ◌&&◌, [], map, filter, not, length};
 ghost use Rattle.std.specs.List.{AllByRecursion};
 ghost use Rattle.std.specs.Option.{option_copied};
 ghost use Rattle.ipp_codec.specs.Grammar.{IsAttribute};
@@ -69,6 +69,14 @@ impl RequestAttributes {
         ensures { result ≡ (length self.now == 0) }
     {
         self.attributes.is_empty()
+    }
+
+    /// Whether a request is refused for these, which of it aren't supported: it is, if it wants its job
+    /// group to the letter (RFC 8011, section 4.2.1.1).
+    pub fn breaks_fidelity(&self, fidelity: bool) -> bool
+        ensures { result ≡ (fidelity && not (length self.now == 0)) }
+    {
+        fidelity && !self.is_empty()
     }
 
     /// The one of a name.
