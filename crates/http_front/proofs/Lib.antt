@@ -6,3 +6,4 @@ pub mod Laws
 pub mod Feeding
 pub mod Orders
 pub mod Replies
+pub mod Saying

@@ -6,3 +6,4 @@ pub mod Head
 pub mod Stream
 pub mod Reply
 pub mod Order
+pub mod Written

@@ -1,6 +1,7 @@
 //! Laws of the exchanges. Their functions do nothing: their contracts are what they are for.
 ghost use Rattle.http_front.specs.Stream.{SaysOne, StaysInFront, FirstIsOne, FirstStays, HearsTheRest};
 ghost use Rattle.http_front.specs.Order.{SaysInOrder};
+ghost use Rattle.http_front.specs.Written.{LengthSays, ChunksSay};
 
 /// A stream says one thing, and that stays at the front where more comes.
 pub fn one_saying()
@@ -23,4 +24,11 @@ pub fn exchanges_in_order()
 pub fn given_first()
     ensures first { FirstStays }
     ensures rest { HearsTheRest }
+{}
+
+/// What a client writes is what its stream says: a head of a length and as many bytes, or a head and a body
+/// in chunks, however it is cut, with extensions and a trailer.
+pub fn written_is_said()
+    ensures length { LengthSays }
+    ensures chunks { ChunksSay }
 {}
