@@ -22,9 +22,9 @@ use Rattle.replies.specs.Reply.{refusal_bytes}
 use Rattle.server.specs.Ledger.{Ledger, opening_ledger}
 use Rattle.server.specs.Law.{IsOneEvent, IsNoEvent, IsServed, IsAtMostOne}
 use Rattle.dispatcher.specs.Notes.{Note, Tells}
-use Rattle.server.specs.Polls.{Happening, Told}
-use Rattle.server.specs.Turn.{Outcome as Given, Replied, BadRequest, OutOfMemory, Deed, DoesDeed, Served_body, Reported, Ticked, Trace, Runs}
-use Rattle.server.proofs.Laws.{at_most_one}
+use Rattle.server.specs.Polls.{Happening, Polled, Told, Chosen, seen}
+use Rattle.server.specs.Turn.{Outcome as Given, Replied, BadRequest, OutOfMemory, Deed, Served_body, Reported, Ticked, Trace, Allows}
+use Rattle.server.proofs.Laws.{deed_seen, none_seen, seen_apart}
 use Rattle.streams.specs.Said.{Said, said_after}
 use Rattle.traces.specs.declared.line.Line.{Line}
 use Rattle.traces.specs.declared.line.Line.TheVariants as Form
@@ -75,20 +75,18 @@ then_runs texts names (timed ∷ events) (outcome ∷ outcomes) before heard lat
 then_runs texts names [] (outcome ∷ outcomes) before heard later old mid new none runs = absurd none
 then_runs texts names (timed ∷ events) [] before heard later old mid new none runs = absurd none
 
--- ---- the deeds of a server, apart
-
-apart : (here there : Trace) (old new : Ledger) → Runs (here ++ there) old new → (mid : Ledger) × Runs here old mid × Runs there mid new
-apart [] there old new runs = (old, refl, runs)
-apart (deed ∷ here) there old new (next, does, runs) = let parts = apart here there next new runs in (parts.0, (next, does, parts.1), parts.2)
-
-one_deed : (deed : Deed) (old new : Ledger) → Runs (deed ∷ []) old new → DoesDeed deed old new
-one_deed deed old new (mid, does, same) = subst (DoesDeed deed old) (sym same) does
-
 -- ---- what is printed of an event
 
 notes_text : (texts : Bool) (names : List (List ℕ)) (notes : List Note) → happenings_text texts names (map Told notes) ≡ concat (map (note_text texts names) notes)
 notes_text texts names [] = refl
 notes_text texts names (note ∷ notes) = ap (λ t. note_text texts names note ++ t) (notes_text texts names notes)
+
+-- of what isn't seen nothing is printed
+seen_text : (texts : Bool) (names : List (List ℕ)) (hs : List Happening) → happenings_text texts names (seen hs) ≡ happenings_text texts names hs
+seen_text texts names [] = refl
+seen_text texts names (Polled poll ∷ hs) = seen_text texts names hs
+seen_text texts names (Told note ∷ hs) = ap (λ t. note_text texts names note ++ t) (seen_text texts names hs)
+seen_text texts names (Chosen choice ∷ hs) = seen_text texts names hs
 
 -- an event, what it does, and what is printed after its reply
 record Happened (texts : Bool) (names : List (List ℕ)) (event : Event) (moment : ℕ) (reply : Reply) (old : State) (text : List ℕ) (new : State) : Type 0 where
@@ -103,7 +101,7 @@ one_event texts names event moment reply old hs new it =
       part = record { events = record { event = event; moment = moment } ∷ []; outcomes = it.outcome ∷ []; heard = heard };
       is_one = record { outcome = it.outcome; heard = heard; answered = it.answered; whole = it.whole; is = refl };
       does = (new, heard, (it.notes, it.handled, prints texts names [] it.notes), (refl, refl));
-      printed = ap (happenings_text texts names) it.told ∙ notes_text texts names it.notes;
+      printed = sym (seen_text texts names hs) ∙ ap (happenings_text texts names) it.told ∙ notes_text texts names it.notes;
     }
 
 -- ---- a body
@@ -118,7 +116,7 @@ record BodyMeant (texts : Bool) (names : List (List ℕ)) (asked : Asked) (momen
 
 -- a body that is no event changes nothing
 silent : (texts : Bool) (names : List (List ℕ)) (asked : Asked) (moment : ℕ) (line : List ℕ) (old : State) (hs : List Happening) (new : State) → BodyMeans asked moment nothing line → IsNoEvent old hs new → BodyMeant texts names asked moment old (line ++ happenings_text texts names hs) new
-silent texts names asked moment line old hs new means (none, same) = record { part = nothing; answer = line; means = means; does = (same, refl); printed = ap (λ h. line ++ happenings_text texts names h) none }
+silent texts names asked moment line old hs new means (none, same) = record { part = nothing; answer = line; means = means; does = (same, refl); printed = ap (λ t. line ++ t) (sym (seen_text texts names hs)) ∙ ap (λ h. line ++ happenings_text texts names h) none }
 
 line_of : (line : List ℕ) (answer given : Given) → answer ≡ given → IsReplyLine answer line → IsReplyLine given line
 line_of line answer given same replies = subst (λ o. IsReplyLine o line) same replies
@@ -165,12 +163,12 @@ says_same : (names : List (List ℕ)) (text : List ℕ) (place : ℕ) (one other
 says_same names text place one other same is = record { name = is.name; line = is.line; cut = is.cut; known = is.known; heard = is.heard ∙ ap (λ (r : ReportRecord). Some r) (sym same) }
 
 -- the one deed of a line
-deed_of : (deeds : Trace) (deed : Deed) (old new : Ledger) → deeds ≡ deed ∷ [] → Runs deeds old new → IsAtMostOne deed old.core new.core
-deed_of deeds deed old new is runs = at_most_one deed old new (one_deed deed old new (subst (λ d. Runs d old new) is runs))
+deed_of : (deeds : Trace) (deed : Deed) (old new : Ledger) → deeds ≡ deed ∷ [] → Allows deeds old new → IsAtMostOne deed old.core new.core
+deed_of deeds deed old new is runs = deed_seen deed old new (subst (λ d. Allows d old new) is runs)
 
-line_meant : (texts : Bool) (names : List (List ℕ)) (bytes : List ℕ) (line : Line) (old : Standing) (deeds : Trace) (text : List ℕ) (new : Standing) (a b : Ledger) → IsOfNoConnection line → IsLine names bytes line → Plays texts names line old deeds text new → Runs deeds a b → IsMeant texts names bytes old a.core text new b.core
+line_meant : (texts : Bool) (names : List (List ℕ)) (bytes : List ℕ) (line : Line) (old : Standing) (deeds : Trace) (text : List ℕ) (new : Standing) (a b : Ledger) → IsOfNoConnection line → IsLine names bytes line → Plays texts names line old deeds text new → Allows deeds a b → IsMeant texts names bytes old a.core text new b.core
 line_meant texts names bytes (Form.At moment) old deeds text new a b plain is (none, empty, next) runs =
-    let same : b ≡ a = subst (λ d. Runs d a b) none runs in
+    let same : b ≡ a = none_seen a b (subst (λ d. Allows d a b) none runs) in
     record { line = Form.At moment; is = is; part = nothing; answer = []; means = (refl, refl); does = (ap (λ (l : Ledger). l.core) same, refl); moment = ap (λ (s : Standing). s.moment) next; printed = empty }
 line_meant texts names bytes (Form.Ipp body) old deeds text new a b plain is (serves, same) runs =
     let served = deed_of deeds (Served_body old.moment body.items serves.answer serves.happenings) a b serves.does runs (some_line serves.answer serves.line serves.replies) in
@@ -216,12 +214,12 @@ record AreMeant (texts : Bool) (names : List (List ℕ)) (number : ℕ) (lines :
 abbrev IsPlain : List (List ℕ) → List ℕ → Type 0
 IsPlain names bytes = (line : Line) → IsLine names bytes line → IsOfNoConnection line
 
-lines_meant : (texts : Bool) (names : List (List ℕ)) (number : ℕ) (lines : List (List ℕ)) (old : Standing) (deeds : Trace) (said : Said) (a b : Ledger) → SpeaksOfNoConnection names lines → LinesPlay texts names number lines old deeds said → Runs deeds a b → AreMeant texts names number lines old.moment a.core said
+lines_meant : (texts : Bool) (names : List (List ℕ)) (number : ℕ) (lines : List (List ℕ)) (old : Standing) (deeds : Trace) (said : Said) (a b : Ledger) → SpeaksOfNoConnection names lines → LinesPlay texts names number lines old deeds said → Allows deeds a b → AreMeant texts names number lines old.moment a.core said
 lines_meant texts names number [] old deeds said a b plain (none, ends) runs = record { part = nothing; new = a.core; run = (refl, refl); printed = (refl, ends) }
 lines_meant texts names number (bytes ∷ more) old deeds said a b plain (inl (bad, none, refused)) runs =
     record { part = nothing; new = a.core; run = (refl, refl); printed = inl (is_none names bytes old (All-head (IsPlain names) bytes more plain) bad, refl, refused) }
 lines_meant texts names number (bytes ∷ more) old deeds said a b plain (inr (line, here, text, new, there, rest, is, may, plays, later, whole, printed)) runs =
-    let parts = apart here there a b (subst (λ d. Runs d a b) whole runs) in
+    let parts = seen_apart here there a b (subst (λ d. Allows d a b) whole runs) in
     let meant = line_meant texts names bytes line old here text new a parts.0 (All-head (IsPlain names) bytes more plain line is) is plays parts.1 in
     let run = lines_meant texts names (suc number) more new there rest parts.0 b (All-tail (IsPlain names) bytes more plain) later parts.2 in
     record {

@@ -3,7 +3,7 @@ use Rattle.std.proofs.Common.{◌≡◌, ℕ, Bool, true, false, List, [], ◌�
 use Rattle.std.specs.Prelude.{◌||◌}
 use Rattle.std.specs.Option.{ForSome}
 use Rattle.std.proofs.lemmas.Option.{none-some}
-use Rattle.server.specs.Polls.{Happening, Polled, Told, Leads, both, alone}
+use Rattle.server.specs.Polls.{Happening, Polled, Told, Chosen, Leads, both, alone}
 use Rattle.replay.specs.declared.wire.TraceWire.{TraceWire}
 use Rattle.replay.specs.Log.{LogRecord, Hears, note_text, happening_text, happenings_text}
 use Rattle.replay.specs.Wire.{WirePolls, PeersSee, any_stirs, happening_stirs}
@@ -23,6 +23,7 @@ leads_append moves a b c (h ∷ hs) ks p q = (p.0, p.1, leads_append moves p.0 b
 abbrev Listens : LogRecord → Happening → LogRecord → Type 0
 Listens old (Polled poll) new = new ≡ old
 Listens old (Told note) new = Hears old note new
+Listens old (Chosen choice) new = ⊥
 
 -- what a log has heard of happenings, if it has lost nothing
 pub record HasHeard (old : LogRecord) (hs : List Happening) (new : LogRecord) : Type 0 where
@@ -36,6 +37,7 @@ added text (Some before) after is = (before, refl, cc (sym is))
 -- one happening is heard
 heard_one : (old : LogRecord) (h : Happening) (new : LogRecord) → Listens old h new → (new ≡ record old { heard = new.heard }) × ForSome new.heard (λ text. (before : List ℕ) × (old.heard ≡ Some before) × (text ≡ before ++ happening_text old.texts old.names h))
 heard_one old (Polled poll) new same = subst (λ n. (n ≡ record old { heard = n.heard }) × ForSome n.heard (λ text. (before : List ℕ) × (old.heard ≡ Some before) × (text ≡ before ++ []))) (sym same) (refl, λ text is. (text, is, sym (append-nil text)))
+heard_one old (Chosen choice) new none = absurd none
 heard_one old (Told note) new (inl kept) = subst (λ n. (n ≡ record old { heard = n.heard }) × ForSome n.heard (λ text. (before : List ℕ) × (old.heard ≡ Some before) × (text ≡ before ++ note_text old.texts old.names note))) (sym kept) (refl, λ text is. added (note_text old.texts old.names note) old.heard text is)
 heard_one old (Told note) new (inr lost) = subst (λ n. (n ≡ record old { heard = n.heard }) × ForSome n.heard (λ text. (before : List ℕ) × (old.heard ≡ Some before) × (text ≡ before ++ note_text old.texts old.names note))) (sym lost) (refl, λ text is. absurd (none-some text is))
 
@@ -56,6 +58,7 @@ heard_all old new (h ∷ hs) (mid, first, later) =
 listens_alone : (old : LogRecord) (h : Happening) (new : LogRecord) → alone Hears old h new → Listens old h new
 listens_alone old (Polled poll) new none = absurd none
 listens_alone old (Told note) new hears = hears
+listens_alone old (Chosen choice) new none = absurd none
 
 -- without a wire
 pub heard_alone : (old new : LogRecord) (hs : List Happening) → Leads (alone Hears) old hs new → HasHeard old hs new
@@ -64,6 +67,7 @@ heard_alone old new hs leads = heard_all old new hs (leads_as (alone Hears) List
 listens_beside : (old : TraceWire × LogRecord) (h : Happening) (new : TraceWire × LogRecord) → both WirePolls Hears old h new → Listens old.1 h new.1
 listens_beside old (Polled poll) new (moved, same) = same
 listens_beside old (Told note) new (hears, same) = hears
+listens_beside old (Chosen choice) new none = absurd none
 
 -- beside a wire
 pub heard_beside : (old new : TraceWire × LogRecord) (hs : List Happening) → Leads (both WirePolls Hears) old hs new → HasHeard old.1 hs new.1
@@ -82,6 +86,7 @@ all_heard old new after hs text told none some is =
 abbrev WireSees : TraceWire → Happening → TraceWire → Type 0
 WireSees old (Polled poll) new = WirePolls old poll new
 WireSees old (Told note) new = new ≡ old
+WireSees old (Chosen choice) new = ⊥
 
 -- what polls have moved, if all were prompt, and whether one came to something
 pub record HasMoved (old : TraceWire) (hs : List Happening) (new : TraceWire) : Type 0 where
@@ -98,6 +103,7 @@ or_assoc false b c = refl
 
 moved_one : (old : TraceWire) (h : Happening) (new : TraceWire) → WireSees old h new → (new.stirred ≡ (old.stirred || happening_stirs h)) × (new.failed ≡ false → (old.failed ≡ false) × PeersSee old.memory.peers.items h new.memory.peers.items)
 moved_one old (Polled poll) new polls = (polls.stirred, λ fine. let before = polls.prompt fine in (before.0, (polls.moves, before.1)))
+moved_one old (Chosen choice) new none = absurd none
 moved_one old (Told note) new same = (ap (λ (w : TraceWire). w.stirred) same ∙ or_false old.stirred, λ fine. (ap (λ (w : TraceWire). w.failed) (sym same) ∙ fine, ap (λ (w : TraceWire). w.memory.peers.items) same))
 
 moved_all : (old new : TraceWire) (hs : List Happening) → Leads WireSees old hs new → HasMoved old hs new
@@ -119,6 +125,7 @@ moved_all old new (h ∷ hs) (mid, first, later) =
 sees_beside : (old : TraceWire × LogRecord) (h : Happening) (new : TraceWire × LogRecord) → both WirePolls Hears old h new → WireSees old.0 h new.0
 sees_beside old (Polled poll) new (moved, same) = moved
 sees_beside old (Told note) new (hears, same) = same
+sees_beside old (Chosen choice) new none = absurd none
 
 pub moved_beside : (old new : TraceWire × LogRecord) (hs : List Happening) → Leads (both WirePolls Hears) old hs new → HasMoved old.0 hs new.0
 moved_beside old new hs leads = moved_all old.0 new.0 hs (leads_as (both WirePolls Hears) WireSees (λ s. s.0) sees_beside old new hs leads)

@@ -1,7 +1,7 @@
 -- A log: what was printed of what an engine tells.
 use Rattle.std.specs.Prelude.{ℕ, ◌≡◌, ◌⊎◌, Bool, List, [], ◌∷◌, ◌++◌, Option, None, option_map}
 use Rattle.dispatcher.specs.Notes.{Note, Planned, Canceled, DeviceRefused, Refused}
-use Rattle.server.specs.Polls.{Happening, Polled, Told}
+use Rattle.server.specs.Polls.{Happening, Polled, Told, Chosen}
 use Rattle.transcripts.specs.Printed.{dispatch_lines, cancel_line}
 
 -- whether the texts of plans are asked for, the names of the devices, and what was heard, unless memory was refused
@@ -27,6 +27,7 @@ Hears old note new =
 abbrev pub happening_text : Bool → List (List ℕ) → Happening → List ℕ
 happening_text texts names (Polled poll) = []
 happening_text texts names (Told note) = note_text texts names note
+happening_text texts names (Chosen choice) = []
 
 abbrev pub happenings_text : Bool → List (List ℕ) → List Happening → List ℕ
 happenings_text texts names [] = []

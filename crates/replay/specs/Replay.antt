@@ -8,7 +8,7 @@ use Rattle.settings_file.specs.Fault.{not_toml}
 use Rattle.settings_file.specs.Reading.{settings_of}
 use Rattle.print_room.specs.Opening.{opening}
 use Rattle.server.specs.Ledger.{Ledger, opening_ledger}
-use Rattle.server.specs.Turn.{Trace, Runs}
+use Rattle.server.specs.Turn.{Trace, Allows}
 use Rattle.streams.specs.declared.exit_status.ExitStatus.{ExitStatus}
 use Rattle.streams.specs.declared.exit_status.ExitStatus.TheVariants as Ends
 use Rattle.streams.specs.Input.{IsWhole, GaveMore}
@@ -28,7 +28,7 @@ pub record LinesGive (texts : Bool) (settings : ServerSettings) (number : ℕ) (
   pub deeds : Trace
   pub ledger : Ledger
   pub plays : LinesPlay texts (device_names settings) number lines start deeds said
-  pub runs : Runs deeds (opening_ledger (opening settings 1)) ledger
+  pub runs : Allows deeds (opening_ledger (opening settings 1)) ledger
 
 -- ---- a trace
 

@@ -5,7 +5,7 @@ use Rattle.wires.specs.declared.wire.Answer.{Answer}
 use Rattle.wires.specs.declared.wire.Answer.TheVariants.{Done, Waiting, End, Fault}
 use Rattle.wires.specs.Peer.{PeerState}
 use Rattle.wires.specs.Poll.{Poll, Accepts, Reads, Writes, Closes}
-use Rattle.server.specs.Polls.{Happening, Polled, Told}
+use Rattle.server.specs.Polls.{Happening, Polled, Told, Chosen}
 use Rattle.wires.specs.Memory.{PeersMove}
 use Rattle.replay.specs.declared.wire.TraceWire.{TraceWire}
 
@@ -49,10 +49,12 @@ pub record WirePolls (old : TraceWire) (poll : Poll) (new : TraceWire) : Type 0 
 abbrev pub PeersSee : List PeerState → Happening → List PeerState → Type 0
 PeersSee old (Polled poll) new = PeersMove old poll new × IsPrompt old poll
 PeersSee old (Told note) new = new ≡ old
+PeersSee old (Chosen choice) new = ⊥
 
 abbrev pub happening_stirs : Happening → Bool
 happening_stirs (Polled poll) = stirs poll
 happening_stirs (Told note) = false
+happening_stirs (Chosen choice) = false
 
 -- whether some poll came to something
 abbrev pub any_stirs : List Happening → Bool

@@ -1,5 +1,5 @@
 -- What connections ask, and what comes of it.
-use Rattle.std.proofs.Common.{◌≡◌, ◌<◌, arith, ℕ, [], refl, sym, ◌∙◌, ap, subst, Option, Some, None, inl, inr}
+use Rattle.std.proofs.Common.{◌≡◌, ◌<◌, arith, ℕ, List, [], ◌∷◌, refl, sym, ◌∙◌, ap, subst, Option, Some, None, inl, inr}
 use Rattle.std.specs.Prelude.{slice_index_or}
 use Rattle.print_room.specs.State.{State}
 use Rattle.wires.specs.Poll.{Poll}
@@ -11,15 +11,18 @@ use Rattle.connections.specs.Asking.{AsksNext, Asking}
 use Rattle.connections.specs.Connections.{load}
 use Rattle.connections.specs.Fits.{FitsConnection, Becomes}
 use Rattle.connections.specs.Slots.{Slots, OnSlot, AsksAt, work_at}
-use Rattle.server.specs.Polls.{Happening, both, alone}
+use Rattle.server.specs.Polls.{Happening, Chosen, both, alone}
+use Rattle.server.specs.Polls as As
+use Rattle.server.specs.Rel.{Then}
 use Rattle.server.specs.Ledger.{with_entry}
-use Rattle.server.specs.Acting.{Does, ActsNext}
+use Rattle.connections.specs.Choice.{part_of, lost_of}
+use Rattle.server.specs.Acting.{Asks, Does, ActsNext}
 use Rattle.server.specs.Closing.{Settles}
 use Rattle.server.specs.Polling.{Acts, IsHeardAt}
 use Rattle.server.specs.State.{EngineState, with_slots}
 use Rattle.server.specs.Stands.{Fits, Aside, AsksBy}
 use Rattle.server.specs.Stands as Stands
-use Rattle.server.proofs.Steps.{does_then, does_with, aloud}
+use Rattle.server.proofs.Steps.{does_then, does_with, aloud, seen_as, seen_then}
 use Rattle.server.proofs.Slots.{set_there, quiet_at, work_there}
 use Rattle.server.proofs.Places.{found, absent, fits_set}
 use Rattle.server.proofs.Reading.{fits_still}
@@ -48,7 +51,7 @@ something_asked a slots key asked on =
           let became = on.changes.1 f.entry f.fits in
           let asks : AsksNext l.core.settings asked.ask f.entry became.0 = subst (λ (s : State). AsksNext s.settings asked.ask f.entry became.0) (sym fits.core) became.1 in (
             with_entry key became.0 l,
-            record { entry = f.entry; new = became.0; there = f.there; its = on.changes.0 ∙ f.fits.id; asks = asks; still = refl; after = refl },
+            (Chosen (As.Asked (part_of asks) (lost_of asked.ask)) ∷ [], refl, record { entry = f.entry; new = became.0; there = f.there; its = on.changes.0 ∙ f.fits.id; asks = asks; chosen = refl; after = refl }),
             fits_set l a slots key on.before on.after became.0 fits on.there on.slots became.2,
           );
       less = (
@@ -78,7 +81,7 @@ acts polled told w w' n n' n'' a b c d moment key asked asks does settled =
       stands = λ l fits.
           let s = asks.stands l fits in
           let r = does.stands s.0 s.2 in
-          (r.0, (asked.id, asked.ask, record { mid = s.0; front = []; back = does.happenings; whole = refl; first = s.1; second = r.1 }), r.2);
+          (r.0, seen_as (Then (Asks key asked.id asked.ask) (Does moment key asked.id asked.ask)) (ActsNext moment key) l does.happenings r.0 (λ hs it. (asked.id, asked.ask, it)) (seen_then (Asks key asked.id asked.ask) (Does moment key asked.id asked.ask) l [] s.0 does.happenings r.0 s.1 r.1), r.2);
     } in
     does_then (both polled told) (ActsNext moment key) (Settles moment) (w, n) (w, n') (w', n'') a c d (does_with polled told (ActsNext moment key) w n n' a c acted) (aloud (both polled told) (Settles moment) (w, n') (w', n'') c d settled)
 

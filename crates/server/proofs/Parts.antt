@@ -42,9 +42,11 @@ use Rattle.connections.specs.declared.ask.Part.{Part}
 use Rattle.connections.specs.declared.ask.Part.TheVariants as part
 use Rattle.connections.specs.Entry.{Entry, opening_entry, device_of, closes_of, given_up, reading, waiting}
 use Rattle.connections.specs.Steps.{http_status}
-use Rattle.server.specs.Polls.{Happening, Polled, Told}
-use Rattle.server.specs.Ledger.{Ledger, Fate, Drained, Broken, with_new}
-use Rattle.server.specs.Rel.{Rel, Nothing, Polls, Tells, Then, If, Or, Times, Many, Each}
+use Rattle.connections.specs.Choice.{part_of, lost_of}
+use Rattle.server.specs.Polls.{Happening, Polled, Told, Choice, Found, On, Opened, Rested, Looked, Chosen}
+use Rattle.server.specs.Polls as As
+use Rattle.server.specs.Ledger.{Ledger, Fate, Drained, Broken, with_entry, with_new}
+use Rattle.server.specs.Rel.{Rel, Nothing, Polls, Tells, Chooses, Then, If, Or, Times, Many, Each}
 use Rattle.server.specs.Keeping.{Sets, Breaks, Keeps, KeepsReplyAt, KeepsReply, KeepsStatus}
 use Rattle.server.specs.Happening.{Happens, Unanswered}
 use Rattle.server.specs.Closing as Closing
@@ -56,7 +58,7 @@ use Rattle.server.specs.Polling.{Opens, AcceptsAs, AcceptsOne, AcceptsAt, Acts, 
 use Rattle.server.specs.Turn as Between
 use Rattle.server.specs.Turn.{Ticks, is_tick_due, TicksIfDue, Covers, Round, Turn, has_refusal, Deed, Turned, Served_body, Reported, Ticked, DoesDeed}
 use Rattle.server.specs.Law.{core_notes, IsWhole, moment_of, happenings_of}
-use Rattle.server.proofs.Speaking.{only_notes, Calmly, calm_nothing, calm_then, calm_if, calm_or, calm_refusal, calm_sets, calm_drops, calm_breaks, calm_keeps, IsOther, Happened, happened_notes, happened, happened_then, whole_light, whole_told}
+use Rattle.server.proofs.Speaking.{only_notes, Calmly, calm_nothing, calm_choice, calm_then, calm_if, calm_or, calm_refusal, calm_sets, calm_drops, calm_breaks, calm_keeps, IsOther, Happened, happened_notes, happened, happened_then, whole_light, whole_told}
 
 -- the core stays, and so does what was closed; the core tells nothing
 pub record IsCalm (l : Ledger) (hs : List Happening) (l' : Ledger) : Type 0 where
@@ -120,7 +122,7 @@ ticked moment l hs l' it =
 -- ---- answers
 
 pub calm_answers : (request : ℕ) (reply : Option Reply) (bytes : List ℕ) → Calmly (Between.Answers request reply bytes)
-calm_answers request (Some reply) bytes l hs l' (inl (are, it)) = calm_nothing l hs l' it
+calm_answers request (Some reply) bytes l hs l' (inl (are, it)) = calm_choice Found l hs l' it
 calm_answers request (Some reply) bytes l hs l' (inr it) = calm_refusal At.Reply None refl l hs l' it
 calm_answers request None bytes l hs l' it = calm_refusal At.Event None refl l hs l' it
 
@@ -141,7 +143,7 @@ calm_lost : (key id request : ℕ) (query : Bool) → Calmly (Asked.LosesReply k
 calm_lost key id request query = calm_then (calm_refusal At.Reply (Some id) refl) (calm_if query (KeepsStatus key TemporaryError request) (Breaks key) (calm_status key TemporaryError request) (calm_breaks key))
 
 calm_replies : (key id request : ℕ) (query : Bool) (answer : Answer) → Calmly (Asked.RepliesWith key id request query answer)
-calm_replies key id request query (answered.Ipp answer) l hs l' (inl (bytes, are, it)) = calm_reply key bytes l hs l' it
+calm_replies key id request query (answered.Ipp answer) l hs l' (inl (bytes, are, it)) = calm_then (calm_choice Found) (calm_reply key bytes) l hs l' it
 calm_replies key id request query (answered.Ipp answer) l hs l' (inr it) = calm_lost key id request query l hs l' it
 calm_replies key id request query (answered.Lpd answer) l hs l' it = calm_nothing l hs l' it
 calm_replies key id request query answered.Nothing l hs l' it = calm_nothing l hs l' it
@@ -151,7 +153,7 @@ calm_answer key id request query (Some reply) = calm_replies key id request quer
 calm_answer key id request query None = calm_dropped key id request
 
 calm_shows : (key id : ℕ) (text : List ℕ) → Calmly (Asked.Shows key id text)
-calm_shows key id text = calm_or (calm_keeps key text) (calm_then (calm_refusal At.Reply (Some id) refl) (calm_breaks key))
+calm_shows key id text = calm_or (calm_then (calm_choice Found) (calm_keeps key text)) (calm_then (calm_refusal At.Reply (Some id) refl) (calm_breaks key))
 
 calm_told : (key id : ℕ) (answer : LpdAnswer) → Calmly (Asked.IsTold key id answer)
 calm_told key id (shown.Taken taken) = calm_keeps key (ack_of (shown.Taken taken) ∷ [])
@@ -236,6 +238,9 @@ module _ (moment : ℕ) (P : Rel) (k : Holds moment P) where
   polls_in : (poll : Poll) → Within P (Polls poll)
   polls_in poll = same_in (Polled poll ∷ []) refl
 
+  chooses_in : (choice : Choice) → Within P (Chooses choice)
+  chooses_in choice = calmly_in (calm_choice choice)
+
   sets_in : (key : ℕ) (e : Entry) → Within P (Sets key e)
   sets_in key e = calmly_in (calm_sets key e)
 
@@ -299,7 +304,7 @@ module _ (moment : ℕ) (P : Rel) (k : Holds moment P) where
 
   greets_in : (key id device : ℕ) (name : List ℕ) → Within P (Greeting.Greets moment key id device name)
   greets_in key id device name l hs l' (inl (absent, it)) = reported_in device (reported.Hello name) l hs l' it
-  greets_in key id device name l hs l' (inr (inl (other, ended, it))) = then_in (gives_way_in other) (then_in (gone_in (Some device)) (reported_in device (reported.Hello name))) l hs l' it
+  greets_in key id device name l hs l' (inr (inl (other, ended, it))) = then_in (chooses_in (On other)) (then_in (gives_way_in other) (then_in (gone_in (Some device)) (reported_in device (reported.Hello name)))) l hs l' it
   greets_in key id device name l hs l' (inr (inr (other, is, it))) = then_in (gives_way_in key) (turned_away_in id (why.Connected device)) l hs l' it
 
   does_in : (key id : ℕ) (what : Ask) → Within P (Acting.Does moment key id what)
@@ -314,7 +319,7 @@ module _ (moment : ℕ) (P : Rel) (k : Holds moment P) where
   does_in key id (ask.Fault device) = turned_away_in id (why.Fault device)
 
   asks_in : (key id : ℕ) (what : Ask) → Within P (Acting.Asks key id what)
-  asks_in key id what l hs l' it = sets_in key it.new l hs l' (it.still, it.after)
+  asks_in key id what l hs l' it = k.calm l hs l' (calm_as (Chosen (As.Asked (part_of it.asks) (lost_of what)) ∷ []) (with_entry key it.new l) l hs l' refl refl refl (it.chosen, it.after))
 
   -- ---- reads
 
@@ -322,7 +327,7 @@ module _ (moment : ℕ) (P : Rel) (k : Holds moment P) where
   acts_next_in key l hs l' (id, what, it) = then_in (asks_in key id what) (does_in key id what) l hs l' it
 
   serves_in : (key : ℕ) → Within P (Serves moment key)
-  serves_in key l hs l' it = many_in (Acts moment key) (then_in (acts_next_in key) settles_in) l hs l' it.0
+  serves_in key l hs l' it = then_in (many_in (Acts moment key) (then_in (acts_next_in key) settles_in)) (chooses_in Rested) l hs l' it.0
 
   fed_whole_in : (key : ℕ) (e : Entry) (bytes : List ℕ) → Within P (FedWhole moment key e bytes)
   fed_whole_in key e bytes = or_in (then_in (sets_in key (reading bytes e)) (serves_in key)) (then_in (calmly_in (calm_drops At.Feed key e refl)) settles_in)
@@ -345,7 +350,7 @@ module _ (moment : ℕ) (P : Rel) (k : Holds moment P) where
 
   reads_at_in : (key : ℕ) (o : Option Entry) → Within P (ReadsAt moment key o)
   reads_at_in key None = nothing_in
-  reads_at_in key (Some e) = if_in (is_read e) (ReadsOpen moment key e) Nothing (λ l hs l' it. reads_as_in key e it.0 l hs l' it.1) nothing_in
+  reads_at_in key (Some e) = if_in (is_read e) (ReadsOpen moment key e) Nothing (λ l hs l' it. reads_as_in key e it.0 l hs l' it.2) nothing_in
 
   reads_one_in : (key : ℕ) → Within P (ReadsOne moment key)
   reads_one_in key l hs l' it = reads_at_in key (l.entries key) l hs l' it
@@ -375,7 +380,7 @@ module _ (moment : ℕ) (P : Rel) (k : Holds moment P) where
   ends_one_in key l hs l' it = ends_at_in key (l.entries key) l hs l' it
 
   opens_in : (door : Door) (id : ℕ) → Within P (Opens door id)
-  opens_in door id l hs l' (inl (key, free, none, after)) = k.calm l hs l' (calm_as [] (with_new key (opening_entry door id) l) l hs l' refl refl refl (none, after))
+  opens_in door id l hs l' (inl (key, free, none, after)) = k.calm l hs l' (calm_as (Chosen (Opened key) ∷ []) (with_new key (opening_entry door id) l) l hs l' refl refl refl (none, after))
   opens_in door id l hs l' (inr it) = same_in (Told (Refused At.Accept (Some id)) ∷ Polled (Closes id) ∷ []) refl l hs l' it
 
   accepts_as_in : (door : Door) (answer : WireAnswer ℕ) → Within P (AcceptsAs door answer)
@@ -392,7 +397,7 @@ module _ (moment : ℕ) (P : Rel) (k : Holds moment P) where
 
   round_in : Within P (Round moment)
   round_in l hs l' (n, it) =
-      then_in {R = Covers n} (λ a ks b is. nothing_in a ks b is.1)
+      then_in {R = Covers n} (λ a ks b is. chooses_in (Looked n) a ks b is.1)
       (then_in (each_in n (ReadsOne moment) reads_one_in) (then_in (each_in n (WritesOne moment) writes_one_in) (each_in n (EndsOne moment) ends_one_in)))
       l hs l' it
 
@@ -407,11 +412,11 @@ module _ (moment : ℕ) (P : Rel) (k : Holds moment P) where
 
   asked_in : (asked : Asked) (served : Between.Outcome) → Within P (Between.BodyAsks moment asked served)
   asked_in asks.TooShort served l hs l' (is, it) = nothing_in l hs l' it
-  asked_in (asks.Refused status request) served l hs l' (is, it) = or_in nothing_in (calmly_in (calm_refusal At.Reply None refl)) l hs l' it
+  asked_in (asks.Refused status request) served l hs l' (is, it) = or_in (chooses_in Found) (calmly_in (calm_refusal At.Reply None refl)) l hs l' it
   asked_in (asks.Event request event) served l hs l' (bytes, is, it) = body_event_in request event bytes l hs l' it
 
   body_in : (body : List ℕ) (served : Between.Outcome) → Within P (Between.BodyComes moment body served)
-  body_in body served l hs l' (inl (asked, is, it)) = asked_in asked served l hs l' it
+  body_in body served l hs l' (inl (asked, is, it)) = then_in (chooses_in Found) (asked_in asked served) l hs l' it
   body_in body served l hs l' (inr it) = calmly_in (calm_refusal At.Event None refl) l hs l' it
 
   serves_body_in : (body : List ℕ) (answer : Between.Outcome) → Within P (Between.Serves moment body answer)

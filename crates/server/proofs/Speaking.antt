@@ -16,15 +16,15 @@ use Rattle.dispatcher.specs.declared.listener.Place.TheVariants as At
 use Rattle.dispatcher.specs.Notes.{Note, Planned, Canceled, DeviceRefused, Refused}
 use Rattle.dispatcher.specs.Run.{reply_of, cancels_told, Handles}
 use Rattle.dispatcher.specs.Step.{TakesNoMemory}
-use Rattle.server.specs.Polls.{Happening, Polled, Told}
+use Rattle.server.specs.Polls.{Happening, Polled, Told, Choice, Found, On, Chosen, seen}
 use Rattle.server.specs.Ledger.{Ledger, with_entry, job_bytes}
-use Rattle.server.specs.Rel.{Rel, Nothing, Tells, Then, If, Or, EachOf}
+use Rattle.server.specs.Rel.{Rel, Nothing, Tells, Chooses, Then, If, Or, EachOf}
 use Rattle.server.specs.Keeping.{Sets, BreaksAt, Breaks, Drops, KeepsOpen, KeepsAt, KeepsWhere, Keeps, KeepsOn}
-use Rattle.server.specs.Happening.{Sends, SendsAll, Starts, StartsAll, Orders, Happens}
+use Rattle.server.specs.Happening.{found_by, Sends, SendsAll, Starts, StartsAll, Orders, Happens}
 use Rattle.server.specs.Turn.{has_refusal}
 use Rattle.server.specs.Law.{refusal_note, core_note, core_notes, IsWhole}
-use Rattle.server.proofs.Steps.{refusals_append, right_false}
-use Rattle.server.proofs.Happening.{refused_of}
+use Rattle.server.proofs.Steps.{refusals_append, right_false, seen_append}
+use Rattle.server.proofs.Happening.{found_unseen, notes_seen, refused_of}
 use Rattle.connections.specs.Entry.{Entry, broken, owing, needs_memory}
 
 -- ---- what is told
@@ -61,6 +61,7 @@ OnlyRefusals (Told (Canceled cancel) ∷ hs) = ⊥
 OnlyRefusals (Told (DeviceRefused id why) ∷ hs) = ⊥
 OnlyRefusals (Told (Refused place id) ∷ hs) = IsOther place id × OnlyRefusals hs
 OnlyRefusals (Polled poll ∷ hs) = ⊥
+OnlyRefusals (Chosen choice ∷ hs) = OnlyRefusals hs
 
 only_append : (hs ks : List Happening) → OnlyRefusals hs → OnlyRefusals ks → OnlyRefusals (hs ++ ks)
 only_append [] ks p q = q
@@ -69,6 +70,7 @@ only_append (Told (Canceled cancel) ∷ hs) ks p q = absurd p
 only_append (Told (DeviceRefused id why) ∷ hs) ks p q = absurd p
 only_append (Told (Refused place id) ∷ hs) ks p q = (p.0, only_append hs ks p.1 q)
 only_append (Polled poll ∷ hs) ks p q = absurd p
+only_append (Chosen choice ∷ hs) ks p q = only_append hs ks p q
 
 -- the core tells none of them
 pub only_notes : (hs : List Happening) → OnlyRefusals hs → core_notes hs ≡ []
@@ -78,15 +80,17 @@ only_notes (Told (Canceled cancel) ∷ hs) p = absurd p
 only_notes (Told (DeviceRefused id why) ∷ hs) p = absurd p
 only_notes (Told (Refused place id) ∷ hs) p = ap (λ (ns : List Note). ns ++ core_notes hs) p.0 ∙ only_notes hs p.1
 only_notes (Polled poll ∷ hs) p = absurd p
+only_notes (Chosen choice ∷ hs) p = only_notes hs p
 
--- where none was refused nothing was told
-only_none : (hs : List Happening) → OnlyRefusals hs → has_refusal hs ≡ false → hs ≡ []
+-- where none was refused nothing is seen
+only_none : (hs : List Happening) → OnlyRefusals hs → has_refusal hs ≡ false → seen hs ≡ []
 only_none [] p none = refl
 only_none (Told (Planned plan started) ∷ hs) p none = absurd p
 only_none (Told (Canceled cancel) ∷ hs) p none = absurd p
 only_none (Told (DeviceRefused id why) ∷ hs) p none = absurd p
 only_none (Told (Refused place id) ∷ hs) p none = let both : true ≡ false = none in absurd (cc)
 only_none (Polled poll ∷ hs) p none = absurd p
+only_none (Chosen choice ∷ hs) p none = only_none hs p none
 
 -- ---- what leaves the core as it is
 
@@ -126,6 +130,9 @@ calm_if false R S f g l hs l' it = g l hs l' it
 pub calm_refusal : (place : Place) (id : Option ℕ) → IsOther place id → Calmly (Tells (Refused place id))
 calm_refusal place id other l hs l' it = calm_by (Told (Refused place id) ∷ []) l l hs l' (other, tt) refl refl it
 
+pub calm_choice : (choice : Choice) → Calmly (Chooses choice)
+calm_choice choice l hs l' it = calm_by (Chosen choice ∷ []) l l hs l' tt refl refl it
+
 pub calm_sets : (key : ℕ) (e : Entry) → Calmly (Sets key e)
 calm_sets key e l hs l' it = calm_by [] (with_entry key e l) l hs l' tt refl refl it
 
@@ -140,7 +147,9 @@ pub calm_breaks : (key : ℕ) → Calmly (Breaks key)
 calm_breaks key l hs l' it = breaks_at key (l.entries key) l hs l' it
 
 keeps_open : (grows : Bool) (key : ℕ) (bytes : List ℕ) (e : Entry) → Calmly (KeepsOpen grows key bytes e)
-keeps_open grows key bytes e = calm_if grows (Or (Sets key (owing bytes e)) (Drops At.Keep key e)) (Sets key (owing bytes e)) (calm_or (calm_sets key (owing bytes e)) (calm_drops At.Keep key e refl)) (calm_sets key (owing bytes e))
+keeps_open grows key bytes e =
+    calm_if grows (Or (Then (Chooses Found) (Sets key (owing bytes e))) (Drops At.Keep key e)) (Sets key (owing bytes e))
+    (calm_or (calm_then (calm_choice Found) (calm_sets key (owing bytes e))) (calm_drops At.Keep key e refl)) (calm_sets key (owing bytes e))
 
 keeps_at : (grows : Entry → Bool) (key : ℕ) (bytes : List ℕ) (o : Option Entry) → Calmly (KeepsAt grows key bytes o)
 keeps_at grows key bytes None = calm_nothing
@@ -153,7 +162,7 @@ pub calm_keeps : (key : ℕ) (bytes : List ℕ) → Calmly (Keeps key bytes)
 calm_keeps key bytes = calm_where (needs_memory bytes) key bytes
 
 pub calm_keeps_on : (device : ℕ) (bytes : List ℕ) → Calmly (KeepsOn device bytes)
-calm_keeps_on device bytes l hs l' (inl (key, is, it)) = calm_where (λ e. true) key bytes l hs l' it
+calm_keeps_on device bytes l hs l' (inl (key, is, it)) = calm_then (calm_choice (On key)) (calm_where (λ e. true) key bytes) l hs l' it
 calm_keeps_on device bytes l hs l' (inr (none, it)) = calm_nothing l hs l' it
 
 -- ---- an event
@@ -200,20 +209,31 @@ pub record Happened (moment : ℕ) (event : Event) (outcome : Outcome) (l : Ledg
   pub later : List Happening
   pub handled : Handles moment event l.core outcome notes l'.core
   pub closed : l'.closed ≡ l.closed
-  pub whole : hs ≡ map Told notes ++ later
+  pub whole : hs ≡ found_by outcome ++ (map Told notes ++ later)
   pub only : OnlyRefusals later
+
+-- the core tells nothing of memory that is found
+found_notes : (outcome : Outcome) (hs : List Happening) → core_notes (found_by outcome ++ hs) ≡ core_notes hs
+found_notes Dropped hs = refl
+found_notes (Queried reply) hs = refl
+found_notes (Undispatched reply) hs = refl
+found_notes (Idle reply) hs = refl
+found_notes (Dispatched reply) hs = refl
 
 -- just this is what the core tells
 pub happened_notes : (moment : ℕ) (event : Event) (outcome : Outcome) (l : Ledger) (hs : List Happening) (l' : Ledger) (it : Happened moment event outcome l hs l') → core_notes hs ≡ it.notes
 happened_notes moment event outcome l hs l' it =
-    ap core_notes it.whole ∙ (notes_append (map Told it.notes) it.later
+    ap core_notes it.whole ∙ (found_notes outcome (map Told it.notes ++ it.later) ∙ (notes_append (map Told it.notes) it.later
     ∙ (ap (λ (ns : List Note). core_notes (map Told it.notes) ++ ns) (only_notes it.later it.only)
-    ∙ (append-nil (core_notes (map Told it.notes)) ∙ told_back moment event l.core outcome it.notes l'.core it.handled)))
+    ∙ (append-nil (core_notes (map Told it.notes)) ∙ told_back moment event l.core outcome it.notes l'.core it.handled))))
 
 -- and where nothing was refused, that is all
-pub happened_whole : (moment : ℕ) (event : Event) (outcome : Outcome) (l : Ledger) (hs : List Happening) (l' : Ledger) (it : Happened moment event outcome l hs l') → has_refusal hs ≡ false → hs ≡ map Told it.notes
+pub happened_whole : (moment : ℕ) (event : Event) (outcome : Outcome) (l : Ledger) (hs : List Happening) (l' : Ledger) (it : Happened moment event outcome l hs l') → has_refusal hs ≡ false → seen hs ≡ map Told it.notes
 happened_whole moment event outcome l hs l' it none =
-    it.whole ∙ (ap (λ (ks : List Happening). map Told it.notes ++ ks) (only_none it.later it.only (none_after hs (map Told it.notes) it.later it.whole none)) ∙ append-nil (map Told it.notes))
+    let rest : has_refusal (map Told it.notes ++ it.later) ≡ false = none_after hs (found_by outcome) (map Told it.notes ++ it.later) it.whole none in
+    let silent : seen it.later ≡ [] = only_none it.later it.only (none_after (map Told it.notes ++ it.later) (map Told it.notes) it.later refl rest) in
+    ap seen it.whole ∙ (found_unseen outcome (map Told it.notes ++ it.later) ∙ (seen_append (map Told it.notes) it.later
+    ∙ (ap (λ (ks : List Happening). ks ++ seen it.later) (notes_seen it.notes) ∙ (ap (λ (ks : List Happening). map Told it.notes ++ ks) silent ∙ append-nil (map Told it.notes)))))
 
 pub happened : (moment : ℕ) (event : Event) (outcome : Outcome) (l : Ledger) (hs : List Happening) (l' : Ledger) → Happens moment event outcome l hs l' → Happened moment event outcome l hs l'
 happened moment event outcome l hs l' it =
@@ -225,7 +245,7 @@ happened moment event outcome l hs l' it =
       later = it.back;
       handled = subst (λ (s : State). Handles moment event l.core outcome made.notes s) (sym core) made.handles;
       closed = rest.closed ∙ ap (λ (x : Ledger). x.closed) made.after;
-      whole = it.whole ∙ ap (λ (ks : List Happening). ks ++ it.back) made.told;
+      whole = it.whole ∙ (ap (λ (ks : List Happening). ks ++ it.back) made.told ∙ append_assoc (found_by outcome) (map Told made.notes) it.back);
       only = rest.only;
     }
 
@@ -239,7 +259,8 @@ happened_then moment event outcome Q calm l hs l' it =
       later = one.later ++ it.back;
       handled = subst (λ (s : State). Handles moment event l.core outcome one.notes s) (sym rest.core) one.handled;
       closed = rest.closed ∙ one.closed;
-      whole = it.whole ∙ (ap (λ (ks : List Happening). ks ++ it.back) one.whole ∙ append_assoc (map Told one.notes) one.later it.back);
+      whole = it.whole ∙ (ap (λ (ks : List Happening). ks ++ it.back) one.whole ∙ (append_assoc (found_by outcome) (map Told one.notes ++ one.later) it.back
+          ∙ ap (λ (ks : List Happening). found_by outcome ++ ks) (append_assoc (map Told one.notes) one.later it.back)));
       only = only_append one.later it.back one.only rest.only;
     }
 
@@ -247,7 +268,7 @@ happened_then moment event outcome Q calm l hs l' it =
 
 undispatched_never : {A : Type 0} → (moment : ℕ) (event : Event) (reply : Reply) (l : Ledger) (hs : List Happening) (l' : Ledger) → Happened moment event (Undispatched reply) l hs l' → has_refusal hs ≡ false → A
 undispatched_never moment event reply l hs l' it none =
-    never (has_refusal (map Told it.notes)) (refused_of moment event l.core (Undispatched reply) it.notes l'.core it.handled) (none_before hs (map Told it.notes) it.later it.whole none)
+    never (has_refusal (map Told it.notes)) (refused_of moment event l.core (Undispatched reply) it.notes l'.core it.handled) (none_before (map Told it.notes ++ it.later) (map Told it.notes) it.later refl (none_after hs (found_by (Undispatched reply)) (map Told it.notes ++ it.later) it.whole none))
 
 -- an event that takes no memory is answered
 pub whole_light : (moment : ℕ) (event : Event) (outcome : Outcome) (l : Ledger) (hs : List Happening) (l' : Ledger) → Happened moment event outcome l hs l' → TakesNoMemory event moment l.core → has_refusal hs ≡ false → IsWhole outcome

@@ -1,5 +1,5 @@
 -- What a connection asks, and what comes of it.
-use Rattle.std.specs.Prelude.{ℕ, ◌≡◌, List, [], Some}
+use Rattle.std.specs.Prelude.{ℕ, ◌≡◌, List, [], ◌∷◌, Some}
 use Rattle.events.specs.declared.event.Event.TheVariants as Is
 use Rattle.dispatcher.specs.declared.listener.DeviceRefusal.TheVariants as why
 use Rattle.dispatcher.specs.declared.listener.Place.{Place}
@@ -13,7 +13,8 @@ use Rattle.connections.specs.declared.ask.Part.{Part}
 use Rattle.connections.specs.declared.ask.Part.TheVariants.{File, Job}
 use Rattle.connections.specs.Entry.{Entry}
 use Rattle.connections.specs.Asking.{AsksNext}
-use Rattle.server.specs.Polls.{Happening}
+use Rattle.connections.specs.Choice.{part_of, lost_of}
+use Rattle.server.specs.Polls.{Happening, Asked, Chosen}
 use Rattle.server.specs.Ledger.{Ledger, with_entry}
 use Rattle.server.specs.Rel.{Rel, Nothing, Tells, Then}
 use Rattle.server.specs.Happening.{Unanswered}
@@ -36,7 +37,7 @@ pub record Asks (key id : ℕ) (what : Ask) (l : Ledger) (hs : List Happening) (
   pub there : l.entries key ≡ Some entry
   pub its : id ≡ entry.id
   pub asks : AsksNext l.core.settings what entry new
-  pub still : hs ≡ []
+  pub chosen : hs ≡ Chosen (Asked (part_of asks) (lost_of what)) ∷ []
   pub after : l' ≡ with_entry key new l
 
 -- what comes of it

@@ -18,7 +18,8 @@ use Rattle.replies.specs.Reply.{IsReply}
 use Rattle.replies.specs.QueueText.{ack_of, text_of}
 use Rattle.connections.specs.declared.ask.Client.{Client}
 use Rattle.connections.specs.declared.ask.Client.TheVariants as client
-use Rattle.server.specs.Rel.{Rel, Nothing, Tells, Then, If, Or}
+use Rattle.server.specs.Polls.{Found}
+use Rattle.server.specs.Rel.{Rel, Nothing, Tells, Chooses, Then, If, Or}
 use Rattle.server.specs.Keeping.{Breaks, Keeps, KeepsReply, KeepsStatus}
 use Rattle.server.specs.Happening.{Happens}
 
@@ -41,7 +42,7 @@ ipp_answer Says.Nothing = None
 -- the answer's bytes become due
 abbrev pub RepliesWith : ℕ → ℕ → ℕ → Bool → Answer → Rel
 RepliesWith key id request query (Says.Ipp answer) l hs l' =
-    ((bytes : List ℕ) × IsReply answer request bytes × KeepsReply key bytes l hs l') ⊎ LosesReply key id request query l hs l'
+    ((bytes : List ℕ) × IsReply answer request bytes × Then (Chooses Found) (KeepsReply key bytes) l hs l') ⊎ LosesReply key id request query l hs l'
 RepliesWith key id request query (Says.Lpd answer) l hs l' = Nothing l hs l'
 RepliesWith key id request query Says.Nothing l hs l' = Nothing l hs l'
 
@@ -58,7 +59,7 @@ Declines place key id = Then (Tells (Refused place (Some id))) (Keeps key (1 ∷
 
 -- a text becomes due; where memory for it is refused the connection closes without a byte
 abbrev pub Shows : ℕ → ℕ → List ℕ → Rel
-Shows key id text = Or (Keeps key text) (Then (Tells (Refused At.Reply (Some id))) (Breaks key))
+Shows key id text = Or (Then (Chooses Found) (Keeps key text)) (Then (Tells (Refused At.Reply (Some id))) (Breaks key))
 
 abbrev pub IsTold : ℕ → ℕ → LpdAnswer → Rel
 IsTold key id (Shown.Taken taken) = Keeps key (ack_of (Shown.Taken taken) ∷ [])

@@ -7,8 +7,9 @@ use Rattle.events.specs.declared.event.Event.TheVariants as Is
 use Rattle.dispatcher.specs.declared.listener.DeviceRefusal.TheVariants as why
 use Rattle.dispatcher.specs.Notes.{DeviceRefused}
 use Rattle.connections.specs.Entry.{Entry, device_of, given_up}
+use Rattle.server.specs.Polls.{On}
 use Rattle.server.specs.Ledger.{Ledger}
-use Rattle.server.specs.Rel.{Rel, Nothing, Tells as Says, Then}
+use Rattle.server.specs.Rel.{Rel, Nothing, Tells as Says, Chooses, Then}
 use Rattle.server.specs.Keeping.{Sets, IsDevice}
 use Rattle.server.specs.Happening.{Unanswered}
 use Rattle.server.specs.Closing.{IsGone}
@@ -51,5 +52,5 @@ TakesOver moment old device name = Then (GivesWay old) (Then (IsGone moment (Som
 abbrev pub Greets : ℕ → ℕ → ℕ → ℕ → List ℕ → Rel
 Greets moment key id device name l hs l' =
     (IsAlone device key l × SaysName moment device name l hs l')
-    ⊎ (((other : ℕ) × HasOther true device key other l × TakesOver moment other device name l hs l')
+    ⊎ (((other : ℕ) × HasOther true device key other l × Then (Chooses (On other)) (TakesOver moment other device name) l hs l')
     ⊎ ((other : ℕ) × HasOther false device key other l × Then (GivesWay key) (Says (DeviceRefused id (why.Connected device))) l hs l'))

@@ -18,7 +18,7 @@ use Rattle.requests.specs.declared.asked.Asked.TheVariants as asks
 use Rattle.requests.specs.Asked.{Asks}
 use Rattle.replies.specs.Reply.{refusal_bytes}
 use Rattle.dispatcher.specs.Notes.{Note, Planned, Canceled, DeviceRefused, Refused}
-use Rattle.server.specs.Polls.{Happening, Polled, Told}
+use Rattle.server.specs.Polls.{Happening, Polled, Told, Chosen, seen}
 use Rattle.connections.specs.declared.ask.Ask.{Ask}
 use Rattle.connections.specs.declared.ask.Ask.TheVariants as ask
 use Rattle.connections.specs.Entry.{Entry, waiting, owing}
@@ -42,6 +42,7 @@ core_note (Told (Canceled cancel)) = Canceled cancel ∷ []
 core_note (Told (DeviceRefused id why)) = []
 core_note (Told (Refused place id)) = refusal_note place id
 core_note (Polled poll) = []
+core_note (Chosen choice) = []
 
 -- all that the core tells, in order
 abbrev pub core_notes : List Happening → List Note
@@ -103,11 +104,11 @@ pub record IsOneEvent (moment : ℕ) (event : Event) (reply : Reply) (old : Stat
   pub answered : reply_of outcome ≡ Some reply
   pub whole : IsWhole outcome
   pub handled : Handles moment event old outcome notes new
-  pub told : hs ≡ map Told notes
+  pub told : seen hs ≡ map Told notes
 
 -- no event came, and nothing happened
 abbrev pub IsNoEvent : State → List Happening → State → Type 0
-IsNoEvent old hs new = (hs ≡ []) × (new ≡ old)
+IsNoEvent old hs new = (seen hs ≡ []) × (new ≡ old)
 
 -- what a body that was read is to the core, and what it is answered
 abbrev pub IsServed : ℕ → Asked → Answer → State → List Happening → State → Type 0

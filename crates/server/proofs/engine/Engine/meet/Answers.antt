@@ -3,10 +3,10 @@ use Rattle.connections.specs.Slots.{ended_at}
 use Rattle.dispatcher.specs.declared.listener.DeviceRefusal.TheVariants as why
 use Rattle.dispatcher.specs.Notes.{DeviceRefused}
 use Rattle.server.specs.Greeting.{GivesWay}
-use Rattle.server.specs.Polls.{alone}
+use Rattle.server.specs.Polls.{On, alone}
 use Rattle.server.specs.Rel.{Rel, Tells, Then}
 use Rattle.server.specs.State.{EngineState}
-use Rattle.server.proofs.Steps.{aside_as, aside_then, aside_from}
+use Rattle.server.proofs.Steps.{aside_as, aside_chosen, aside_then, aside_from}
 use Rattle.server.proofs.Happening.{device_as_there, gives_way_to, tells}
 use Rattle.server.proofs.engine.Engine.meet.Goals as goal
 
@@ -14,7 +14,7 @@ pub returns-then-has_ended : goal.returns-then-has_ended
 returns-then-has_ended g c =
     aside_as (alone g.N.Listener.told) _ _ _ _ _ _
     (λ l hs l' fits fits' it. inr (inl (c.args.other, (c.requires.apart, device_as_there l c.args.self.now c.args.device c.args.other true fits c.requires.is (ap (λ (e : EngineState). ended_at e.slots c.args.other) (sym c.self.view_is) ∙ (sym c.has_ended.ensures ∙ c.if-has_ended.true))), it)))
-    c.take_over.ensures
+    (aside_chosen (alone g.N.Listener.told) (On c.args.other) _ _ _ _ _ c.take_over.ensures)
 
 pub returns-else-has_ended : goal.returns-else-has_ended
 returns-else-has_ended g c =

@@ -1,0 +1,6 @@
+use Rattle.std.proofs.Common.{rules}
+use Rattle.server.proofs.Turning.{starts}
+use Rattle.server.proofs.engine.Engine.new.Goals as goal
+
+pub returns : goal.returns
+returns g c = starts _ _ (search rules)
