@@ -2,7 +2,7 @@
 ghost use Rattle.std.specs.Prelude.{ℕ};
 ghost use Rattle.prices.specs.Plan.{PlanRecord};
 ghost use Rattle.print_room.specs.GoodPlan.{IsGoodPlan};
-ghost use Rattle.written_plans.specs.Passes.{PassesAsText};
+ghost use Rattle.promises.specs.Passes.{PassesAsText};
 
 use dispatcher::Core;
 use planners::Planner;

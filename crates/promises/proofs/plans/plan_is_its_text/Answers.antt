@@ -1,8 +1,8 @@
 use Rattle.print_room.specs.State.{State}
 use Rattle.plan_text.proofs.Back.{plan_back}
-use Rattle.written_plans.specs.Passes.{named_plan}
-use Rattle.written_plans.proofs.Range.{good_in_range}
-use Rattle.written_plans.proofs.law.plan_is_its_text.Goals as goal
+use Rattle.promises.specs.Passes.{named_plan}
+use Rattle.promises.proofs.Range.{good_in_range}
+use Rattle.promises.proofs.plans.plan_is_its_text.Goals as goal
 
 pub returns : goal.returns
 returns g c = λ now plan good.

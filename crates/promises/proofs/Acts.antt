@@ -1,0 +1,241 @@
+-- Connections are closed, and what they ask comes about, in one way.
+use Rattle.std.proofs.Common.{◌≡◌, ◌<◌, arith, ℕ, zero, suc, Bool, true, false, List, [], ◌∷◌, ◌++◌, refl, sym, ◌∙◌, ap, subst, Option, Some, None, inl, inr}
+use Rattle.base_types.specs.declared.report.Report.{Report}
+use Rattle.base_types.specs.declared.report.Report.TheVariants as report
+use Rattle.base_types.specs.Report.{ReportRecord, report_of}
+use Rattle.settings_file.specs.Settings.{ServerSettings}
+use Rattle.events.specs.declared.event.Event.{Event}
+use Rattle.events.specs.declared.event.Event.TheVariants as Is
+use Rattle.dispatcher.specs.declared.listener.DeviceRefusal.TheVariants as why
+use Rattle.dispatcher.specs.Notes.{DeviceRefused, Refused}
+use Rattle.connections.specs.declared.ask.Ask.{Ask}
+use Rattle.connections.specs.declared.ask.Ask.TheVariants as ask
+use Rattle.connections.specs.declared.ask.Client.{Client}
+use Rattle.connections.specs.Entry.{Entry, device_of, given_up}
+use Rattle.connections.specs.Asking.{AsksNext}
+use Rattle.events.specs.SameEvent.{SameEvent}
+use Rattle.connections.specs.Choice.{Loss, part_of, lost_of, SameAsk, AsksOne}
+use Rattle.server.specs.Polls.{Happening, Polled, Told, Choice, On, Rested, Chosen}
+use Rattle.server.specs.Polls as As
+use Rattle.server.specs.Ledger.{Ledger, Fate, Broken, with_entry}
+use Rattle.server.specs.Rel.{Tells as Says, Chooses, Then}
+use Rattle.server.specs.Keeping.{IsDevice}
+use Rattle.server.specs.Happening.{Unanswered}
+use Rattle.server.specs.Closing.{Leaves, IsGone, ClosesAs, IsBroken, ClosesFirst, NoneBroken, Settles}
+use Rattle.server.specs.Greeting.{Tells, IsDeviceAs, IsAlone, HasOther, GivesWayAt, GivesWay, TakesOver, Greets}
+use Rattle.server.specs.Acting.{place_of, place_of_part, Asks, Does, ActsNext}
+use Rattle.promises.specs.OneLedger.{StepsOnce, SameQueries}
+use Rattle.promises.proofs.Alike.{Alike, Fixed, fixed_nothing, fixed_tells, fixed_chooses, alike_then, first_one, same_choice, choice_one, then_one, apart, BeginsAs, begins_just, Begins, begins_chooses, begins_then, is_choice, fixed_until}
+use Rattle.promises.proofs.Due.{fixed_sets}
+use Rattle.promises.proofs.Events.{unanswered_alike, fixed_report}
+use Rattle.promises.proofs.Answers.{fixed_dropped, fixed_declines, same_answered}
+
+-- ---- closings
+
+same_entry : (o : Option Entry) (e d : Entry) → o ≡ Some e → o ≡ Some d → e ≡ d
+same_entry o e d p q = cc
+
+same_number : (n m : ℕ) → (n < m → ⊥) → (m < n → ⊥) → n ≡ m
+same_number zero zero a b = refl
+same_number zero (suc m) a b = absurd (a (omega arith))
+same_number (suc n) zero a b = absurd (b (omega arith))
+same_number (suc n) (suc m) a b = ap suc (same_number n m (λ less. a (omega (arith, less))) (λ less. b (omega (arith, less))))
+
+fixed_leaves : (fate : Fate) (key : ℕ) (e : Entry) → Fixed (Leaves fate key e)
+fixed_leaves fate key e = record { one = λ l hs rest a ks more b same p q. (p.0 ∙ sym q.0, p.2 ∙ sym q.2) }
+
+broken_there : (l : Ledger) (key : ℕ) (e : Entry) → l.entries key ≡ Some e → e.broken ≡ true → IsBroken (l.entries key)
+broken_there l key e there is = subst (λ (o : Option Entry). IsBroken o) (sym there) is
+
+-- an event says the same as itself
+pub same_self : (event : Event) → SameEvent event event
+same_self (Is.SubmitFiles request) = record { queue = refl; owner = refl; name = refl; documents = refl }
+same_self (Is.ListQueue request) = record { queue = refl; form = refl; operands = refl }
+same_self (Is.RemoveJobs request) = record { queue = refl; agent = refl; operands = refl }
+same_self (Is.Report device report) = (refl, refl)
+same_self event = refl
+
+module _ (steps : StepsOnce) (queries : SameQueries) (asks : AsksOne) where
+  fixed_gone : (moment : ℕ) (device : Option ℕ) → Fixed (IsGone moment device)
+  fixed_gone moment None = fixed_nothing
+  fixed_gone moment (Some device) = fixed_report steps moment device report.Gone
+
+  pub fixed_closes_as : (moment : ℕ) (fate : Fate) (key : ℕ) (e : Entry) → Fixed (ClosesAs moment fate key e)
+  fixed_closes_as moment fate key e = alike_then (fixed_leaves fate key e) (fixed_gone moment (device_of e.talk))
+
+  closes_first : (moment : ℕ) (l : Ledger) (hs rest : List Happening) (a : Ledger) (ks more : List Happening) (b : Ledger) → hs ++ rest ≡ ks ++ more → ClosesFirst moment l hs a → ClosesFirst moment l ks b → (hs ≡ ks) × (a ≡ b)
+  closes_first moment l hs rest a ks more b e p q =
+      let key : p.key ≡ q.key = same_number p.key q.key (λ less. q.first p.key less (broken_there l p.key p.entry p.there p.is_broken)) (λ less. p.first q.key less (broken_there l q.key q.entry q.there q.is_broken)) in
+      let entry : p.entry ≡ q.entry = same_entry (l.entries q.key) p.entry q.entry (subst (λ (k : ℕ). l.entries k ≡ Some p.entry) key p.there) q.there in
+      let closes : ClosesAs moment Broken p.key p.entry l ks b = subst (λ (k : ℕ). ClosesAs moment Broken k p.entry l ks b) (sym key) (subst (λ (x : Entry). ClosesAs moment Broken q.key x l ks b) (sym entry) q.closes) in
+      (fixed_closes_as moment Broken p.key p.entry).one l hs rest a ks more b e p.closes closes
+
+  none_closes : (moment : ℕ) (l : Ledger) (hs : List Happening) (a : Ledger) → NoneBroken l → ClosesFirst moment l hs a → ⊥
+  none_closes moment l hs a none it = none it.key (broken_there l it.key it.entry it.there it.is_broken)
+
+  pub fixed_settles : (moment : ℕ) → Fixed (Settles moment)
+  fixed_settles moment = fixed_until (ClosesFirst moment) NoneBroken (record { one = closes_first moment }) (none_closes moment)
+
+  -- ---- devices that say their names
+
+  gives_way_at : (key : ℕ) (o : Option Entry) → Fixed (GivesWayAt key o)
+  gives_way_at key None = fixed_nothing
+  gives_way_at key (Some e) = fixed_sets key (given_up e)
+
+  fixed_gives_way : (key : ℕ) → Fixed (GivesWay key)
+  fixed_gives_way key = record { one = λ l hs rest a ks more b e p q. (gives_way_at key (l.entries key)).one l hs rest a ks more b e p q }
+
+  fixed_takes_over : (moment old device : ℕ) (name : List ℕ) → Fixed (TakesOver moment old device name)
+  fixed_takes_over moment old device name = alike_then (fixed_gives_way old) (alike_then (fixed_gone moment (Some device)) (fixed_report steps moment device (report.Hello name)))
+
+  silent_at : (key : ℕ) (o : Option Entry) (l : Ledger) (hs : List Happening) (a : Ledger) → GivesWayAt key o l hs a → hs ≡ []
+  silent_at key None l hs a it = it.0
+  silent_at key (Some e) l hs a it = it.0
+
+  turned_away : (key id device : ℕ) → Fixed (Then (GivesWay key) (Says (DeviceRefused id (why.Connected device))))
+  turned_away key id device = alike_then (fixed_gives_way key) (fixed_tells (DeviceRefused id (why.Connected device)))
+
+  turned_first : (key id device : ℕ) (l : Ledger) (hs : List Happening) (a : Ledger) → Then (GivesWay key) (Says (DeviceRefused id (why.Connected device))) l hs a → BeginsAs is_choice false hs
+  turned_first key id device l hs a it =
+      begins_just is_choice false (Told (DeviceRefused id (why.Connected device))) [] hs refl (it.whole ∙ (ap (λ (xs : List Happening). xs ++ it.back) (silent_at key (l.entries key) l it.front it.mid it.first) ∙ it.second.0))
+
+  taken_first : (moment other device : ℕ) (name : List ℕ) (l : Ledger) (hs : List Happening) (a : Ledger) → Then (Chooses (On other)) (TakesOver moment other device name) l hs a → BeginsAs is_choice true hs
+  taken_first moment other device name l hs a it = (begins_then is_choice true (Chooses (On other)) (TakesOver moment other device name) (begins_chooses is_choice true (On other) refl)).begins l hs a it
+
+  as_device : (ended : Bool) (device : ℕ) (o : Option Entry) → IsDeviceAs ended device o → IsDevice device o
+  as_device ended device None is = absurd is
+  as_device ended device (Some e) is = is.0
+
+  not_alone : {A : Type 0} → (ended : Bool) (device key other : ℕ) (l : Ledger) → IsAlone device key l → HasOther ended device key other l → A
+  not_alone ended device key other l alone it = absurd (alone other it.0 (as_device ended device (l.entries other) it.1))
+
+  same_on : (key other : ℕ) → On key ≡ On other → key ≡ other
+  same_on key other same = cc
+
+  greets : (moment key id device : ℕ) (name : List ℕ) (l : Ledger) (hs rest : List Happening) (a : Ledger) (ks more : List Happening) (b : Ledger) → hs ++ rest ≡ ks ++ more → Greets moment key id device name l hs a → Greets moment key id device name l ks b → (hs ≡ ks) × (a ≡ b)
+  greets moment key id device name l hs rest a ks more b e (inl (alone, p)) (inl (lone, q)) = (fixed_report steps moment device (report.Hello name)).one l hs rest a ks more b e p q
+  greets moment key id device name l hs rest a ks more b e (inl (alone, p)) (inr (inl (other, is, q))) = not_alone true device key other l alone is
+  greets moment key id device name l hs rest a ks more b e (inl (alone, p)) (inr (inr (other, is, q))) = not_alone false device key other l alone is
+  greets moment key id device name l hs rest a ks more b e (inr (inl (other, is, p))) (inl (alone, q)) = not_alone true device key other l alone is
+  greets moment key id device name l hs rest a ks more b e (inr (inr (other, is, p))) (inl (alone, q)) = not_alone false device key other l alone is
+  greets moment key id device name l hs rest a ks more b e (inr (inl (old, is, p))) (inr (inl (other, its, q))) =
+      let same : old ≡ other = same_on old other (choice_one (On old) (On other) (TakesOver moment old device name) (TakesOver moment other device name) l hs rest a ks more b e p q) in
+      (alike_then (fixed_chooses (On old)) (fixed_takes_over moment old device name)).one l hs rest a ks more b e p (subst (λ (k : ℕ). Then (Chooses (On k)) (TakesOver moment k device name) l ks b) (sym same) q)
+  greets moment key id device name l hs rest a ks more b e (inr (inl (old, is, p))) (inr (inr (other, its, q))) = apart is_choice hs rest ks more e (taken_first moment old device name l hs a p) (turned_first key id device l ks b q)
+  greets moment key id device name l hs rest a ks more b e (inr (inr (old, is, p))) (inr (inl (other, its, q))) = apart is_choice ks more hs rest (sym e) (taken_first moment other device name l ks b q) (turned_first key id device l hs a p)
+  greets moment key id device name l hs rest a ks more b e (inr (inr (old, is, p))) (inr (inr (other, its, q))) = (turned_away key id device).one l hs rest a ks more b e p q
+
+  pub same_report : (moment device other : ℕ) (one said : Report) → device ≡ other → report_of one ≡ report_of said → Alike (Unanswered moment (Is.Report device one)) (Unanswered moment (Is.Report other said))
+  same_report moment device other one said same says = unanswered_alike steps moment (Is.Report device one) (Is.Report other said) (same, says) refl (λ s. tt) (λ s. tt)
+
+  pub fixed_reports : (moment device : ℕ) (said : ReportRecord) → Fixed (Tells moment device said)
+  fixed_reports moment device said = record { one = λ l hs rest a ks more b e (one, is, p) (other, its, q). (same_report moment device device one other refl (is ∙ sym its)).one l hs rest a ks more b e p q }
+
+  -- ---- what a connection asks
+
+  same_events : (moment key id : ℕ) (who other : Client) (event said : Event) → who ≡ other → SameEvent event said → Alike (Does moment key id (ask.Event who event)) (Does moment key id (ask.Event other said))
+  same_events moment key id who other event said same says =
+      subst (λ (c : Client). Alike (Does moment key id (ask.Event who event)) (Does moment key id (ask.Event c said))) same (same_answered steps moment key id who event said says (queries event said says))
+
+  fixed_does : (moment key id : ℕ) (what : Ask) → Fixed (Does moment key id what)
+  fixed_does moment key id ask.Nothing = fixed_nothing
+  fixed_does moment key id (ask.Broke growth) = fixed_tells (Refused (place_of growth) (Some id))
+  fixed_does moment key id (ask.Event who event) = same_events moment key id who who event event refl (same_self event)
+  fixed_does moment key id (ask.Unread request) = fixed_dropped key id request
+  fixed_does moment key id (ask.Lost part) = fixed_declines (place_of_part part) key id
+  fixed_does moment key id (ask.Hello device name) = record { one = greets moment key id device name }
+  fixed_does moment key id (ask.Report device said) = fixed_report steps moment device said
+  fixed_does moment key id (ask.Stranger name) = fixed_tells (DeviceRefused id (why.UnknownName name))
+  fixed_does moment key id (ask.Fault device) = fixed_tells (DeviceRefused id (why.Fault device))
+
+  as_one : (moment key id : ℕ) (what said : Ask) → what ≡ said → Alike (Does moment key id what) (Does moment key id said)
+  as_one moment key id what said same = subst (λ (x : Ask). Alike (Does moment key id what) (Does moment key id x)) same (fixed_does moment key id what)
+
+  same_does : (moment key id : ℕ) (what said : Ask) → SameAsk what said → Alike (Does moment key id what) (Does moment key id said)
+  same_does moment key id (ask.Event who event) (ask.Event other heard) same = same_events moment key id who other event heard same.0 same.1
+  same_does moment key id (ask.Report device one) (ask.Report other heard) same = same_report moment device other one heard same.0 same.1
+  same_does moment key id ask.Nothing said same = as_one moment key id ask.Nothing said same
+  same_does moment key id (ask.Broke growth) said same = as_one moment key id (ask.Broke growth) said same
+  same_does moment key id (ask.Unread request) said same = as_one moment key id (ask.Unread request) said same
+  same_does moment key id (ask.Lost part) said same = as_one moment key id (ask.Lost part) said same
+  same_does moment key id (ask.Hello device name) said same = as_one moment key id (ask.Hello device name) said same
+  same_does moment key id (ask.Stranger name) said same = as_one moment key id (ask.Stranger name) said same
+  same_does moment key id (ask.Fault device) said same = as_one moment key id (ask.Fault device) said same
+  same_does moment key id (ask.Event who event) ask.Nothing same = cc
+  same_does moment key id (ask.Event who event) (ask.Broke growth) same = cc
+  same_does moment key id (ask.Event who event) (ask.Unread request) same = cc
+  same_does moment key id (ask.Event who event) (ask.Lost part) same = cc
+  same_does moment key id (ask.Event who event) (ask.Hello device name) same = cc
+  same_does moment key id (ask.Event who event) (ask.Report device heard) same = cc
+  same_does moment key id (ask.Event who event) (ask.Stranger name) same = cc
+  same_does moment key id (ask.Event who event) (ask.Fault device) same = cc
+  same_does moment key id (ask.Report device one) ask.Nothing same = cc
+  same_does moment key id (ask.Report device one) (ask.Broke growth) same = cc
+  same_does moment key id (ask.Report device one) (ask.Event who event) same = cc
+  same_does moment key id (ask.Report device one) (ask.Unread request) same = cc
+  same_does moment key id (ask.Report device one) (ask.Lost part) same = cc
+  same_does moment key id (ask.Report device one) (ask.Hello other name) same = cc
+  same_does moment key id (ask.Report device one) (ask.Stranger name) same = cc
+  same_does moment key id (ask.Report device one) (ask.Fault other) same = cc
+
+  -- what one entry asks is one, where the choices are
+  asked_one : (settings : ServerSettings) (o : Option Entry) (e d : Entry) (what said : Ask) (new after : Entry) → o ≡ Some e → o ≡ Some d → (one : AsksNext settings what e new) (other : AsksNext settings said d after)
+      → part_of one ≡ part_of other → lost_of what ≡ lost_of said → SameAsk what said × (new ≡ after)
+  asked_one settings o e d what said new after there is one other part lost =
+      (subst (λ (x : Entry). (it : AsksNext settings said x after) → part_of one ≡ part_of it → lost_of what ≡ lost_of said → SameAsk what said × (new ≡ after)) (same_entry o e d there is) (asks settings e what said new after one))
+      other part lost
+
+  same_asked : (part other : Option ℕ) (loss lost : Option Loss) → As.Asked part loss ≡ As.Asked other lost → (part ≡ other) × (loss ≡ lost)
+  same_asked part other loss lost same = (cc, cc)
+
+  -- one ask, of one number
+  record OneAsk (id : ℕ) (what : Ask) (other : ℕ) (said : Ask) : Type 0 where
+    ids : id ≡ other
+    says : SameAsk what said
+
+  asks_one : (key id other : ℕ) (what said : Ask) (l : Ledger) (hs rest : List Happening) (a : Ledger) (ks more : List Happening) (b : Ledger) → hs ++ rest ≡ ks ++ more → Asks key id what l hs a → Asks key other said l ks b → OneAsk id what other said × (hs ≡ ks) × (a ≡ b)
+  asks_one key id other what said l hs rest a ks more b e p q =
+      let left = part_of p.asks in
+      let right = part_of q.asks in
+      let choice : As.Asked left (lost_of what) ≡ As.Asked right (lost_of said) = same_choice (As.Asked left (lost_of what)) (As.Asked right (lost_of said)) (first_one (Chosen (As.Asked left (lost_of what))) (Chosen (As.Asked right (lost_of said))) hs rest ks more [] [] e p.chosen q.chosen) in
+      let chosen = same_asked left right (lost_of what) (lost_of said) choice in
+      let one = asked_one l.core.settings (l.entries key) p.entry q.entry what said p.new q.new p.there q.there p.asks q.asks chosen.0 chosen.1 in
+      let entry : p.entry ≡ q.entry = same_entry (l.entries key) p.entry q.entry p.there q.there in (
+        record { ids = p.its ∙ (ap (λ (x : Entry). x.id) entry ∙ sym q.its); says = one.0 },
+        p.chosen ∙ (ap (λ (c : Choice). Chosen c ∷ []) choice ∙ sym q.chosen),
+        p.after ∙ (ap (λ (x : Entry). with_entry key x l) one.1 ∙ sym q.after),
+      )
+
+  acts_one : (moment key : ℕ) (l : Ledger) (hs rest : List Happening) (a : Ledger) (ks more : List Happening) (b : Ledger) → hs ++ rest ≡ ks ++ more → ActsNext moment key l hs a → ActsNext moment key l ks b → (hs ≡ ks) × (a ≡ b)
+  acts_one moment key l hs rest a ks more b e (id, what, p) (other, said, q) =
+      let it = then_one (Asks key id what) (Asks key other said) (Does moment key id what) (Does moment key other said) l hs rest a ks more b e p q
+      (λ left right both. asks_one key id other what said l p.front left p.mid q.front right q.mid both p.first q.first)
+      (λ one. subst (λ (x : ℕ). Alike (Does moment key id what) (Does moment key x said)) one.ids (same_does moment key id what said one.says)) in
+      (it.1, it.2)
+
+  pub fixed_acts_next : (moment key : ℕ) → Fixed (ActsNext moment key)
+  fixed_acts_next moment key = record { one = acts_one moment key }
+
+-- a connection asks once more, or nothing more
+abbrev pub asked_now : Choice → Bool
+asked_now (As.Asked part loss) = true
+asked_now As.Found = false
+asked_now (As.Opened key) = false
+asked_now (As.On key) = false
+asked_now As.Rested = false
+asked_now (As.Looked keys) = false
+
+abbrev pub is_asked : Happening → Bool
+is_asked (Polled poll) = false
+is_asked (Told note) = false
+is_asked (Chosen choice) = asked_now choice
+
+pub asked_first : (moment key : ℕ) → Begins is_asked true (ActsNext moment key)
+asked_first moment key = record {
+  begins = λ l hs a (id, what, p). begins_just is_asked true (Chosen (As.Asked (part_of p.first.asks) (lost_of what))) p.back hs refl (p.whole ∙ ap (λ (xs : List Happening). xs ++ p.back) p.first.chosen);
+}
+
+pub chosen_first : (moment key : ℕ) → Begins is_choice true (ActsNext moment key)
+chosen_first moment key = record {
+  begins = λ l hs a (id, what, p). begins_just is_choice true (Chosen (As.Asked (part_of p.first.asks) (lost_of what))) p.back hs refl (p.whole ∙ ap (λ (xs : List Happening). xs ++ p.back) p.first.chosen);
+}

@@ -1,0 +1,316 @@
+-- What a connection asks comes about.
+use Rattle.std.proofs.Common.{◌≡◌, ◌≢◌, ℕ, Bool, true, false, List, [], ◌∷◌, ◌++◌, refl, sym, ◌∙◌, ap, subst, append-nil, Option, Some, None, ◌⊎◌, inl, inr}
+use Rattle.std.specs.Prelude.{◌==◌, ◌||◌, if◌then◌else◌}
+use Rattle.std.specs.List.{flat_map}
+use Rattle.std.proofs.lemmas.List.Elements.{All-cons, All-nil}
+use Rattle.settings_file.specs.Settings.{ServerSettings}
+use Rattle.print_room.specs.State.{State}
+use Rattle.events.specs.declared.event.Event.{Event}
+use Rattle.events.specs.Event.{is_query}
+use Rattle.dispatcher.specs.Notes.{Note, Refused}
+use Rattle.dispatcher.specs.Run.{reply_of}
+use Rattle.connections.specs.declared.ask.Ask.{Ask}
+use Rattle.connections.specs.declared.ask.Ask.TheVariants as ask
+use Rattle.connections.specs.declared.ask.Client.{Client}
+use Rattle.connections.specs.declared.ask.Growth.TheVariants as growth
+use Rattle.connections.specs.declared.step.Step.{Step}
+use Rattle.connections.specs.declared.step.Step.TheVariants as step
+use Rattle.connections.specs.Steps.{no_memory, due_bytes}
+use Rattle.connections.specs.Entry.{Talk, Http, Queue, Link, Entry, closes_of}
+use Rattle.connections.specs.Asking.{Hears, StepsTo}
+use Rattle.server.specs.Polls.{Happening, Rested}
+use Rattle.server.specs.Ledger.{Ledger}
+use Rattle.server.specs.Rel.{Nothing, Tells, Chooses, Many}
+use Rattle.server.specs.Keeping.{IsDevice}
+use Rattle.server.specs.Closing.{Settles}
+use Rattle.server.specs.Answering as Ans
+use Rattle.server.specs.Acting.{place_of, place_of_part, Asks, Does, ActsNext}
+use Rattle.server.specs.Polling.{Acts, Serves}
+use Rattle.server.specs.Law.{core_notes}
+use Rattle.promises.specs.Orders.{Handled, AreHandled, AreAt, due_by}
+use Rattle.promises.proofs.Typing.{EventOf, typed}
+use Rattle.promises.specs.Answers.{Act, ClientTalk, IsNext, IsOwed, IsStateOf, asked_by}
+use Rattle.promises.proofs.Sending.{Counts, due_at, IsFresh, IsClient, same_key, other_key, is_key, Ordered, notes_append, calm_sets, Good, one_entry, not_key, client_none, client_fresh, no_true, counts_device, ordered_then, sent_by}
+use Rattle.promises.proofs.Handling.{happened, CameAs, Goes, goes_then, goes_calm, TalkedAs, Went, talked_still, one_handled, none_closed}
+use Rattle.promises.proofs.Giving.{calms_chooses, Gave, gave_still, gives_nothing, at_aside, at_here, Just_these, Loose, given, No_memory, gives_dropped, gives_declines, gives_answers}
+use Rattle.promises.proofs.Moving.{Moves, moves_calm, moves_then, moves_many, moves_settles}
+use Rattle.promises.proofs.Stepping.{IsClientAsk, silent_growth, silent_part, device_does, IsClientStep, client_hears, DeviceAsks, device_hears}
+use Rattle.promises.proofs.Naming.{Just, greets}
+
+-- ---- what is asked comes about
+
+pub not_broken : (over is : Bool) → (over || is) ≡ false → is ≡ false
+not_broken true is none = cc
+not_broken false is none = none
+
+-- what comes of a client's step: what the core handled, and the bytes that are due by it behind these
+pub record Acted (moment key : ℕ) (comes : Step) (new : Entry) (base : List ℕ) (l : Ledger) (hs : List Happening) (l' : Ledger) : Type 0 where
+  pub handled : List Handled
+  pub sent : ℕ → List ℕ
+  pub run : AreHandled l.core handled l'.core
+  pub timed : AreAt moment handled
+  pub told : core_notes hs ≡ flat_map (λ (it : Handled). it.notes) handled
+  pub sends : (device : ℕ) (before : List ℕ) → due_by device before handled ≡ before ++ sent device
+  pub others : (k : ℕ) → k ≢ key → Ordered sent (l.entries k) (l'.entries k)
+  pub aside : (k : ℕ) → k ≢ key → asked_by k handled ≡ []
+  pub client : IsClient (l'.entries key)
+  pub closed : l'.closed ≡ l.closed
+  pub here : (e : Entry) → l'.entries key ≡ Some e → ClientTalk e.talk → e.broken ≡ false → (e.talk ≡ new.talk) × ((bytes : List ℕ) × IsOwed (closes_of new.talk) comes (asked_by key handled) bytes × (e.due ≡ base ++ bytes))
+
+-- where the core handles nothing
+pub acted_calm : (moment key : ℕ) (comes : Step) (new : Entry) (base : List ℕ) (Q : Bool → List ℕ → Type 0) (l : Ledger) (hs : List Happening) (l' : Ledger) → l.entries key ≡ Some new → ClientTalk new.talk
+    → ((bytes : List ℕ) → new.broken ≡ false → Q (closes_of new.talk) bytes → (given : List ℕ) × IsOwed (closes_of new.talk) comes [] given × (new.due ++ bytes ≡ base ++ given)) → Gave key Q l hs l' → Acted moment key comes new base l hs l'
+acted_calm moment key comes new base Q l hs l' there client owed g = record {
+  handled = [];
+  sent = λ device. [];
+  run = g.core;
+  timed = All-nil (λ (it : Handled). it.moment ≡ moment);
+  told = g.notes;
+  sends = λ device before. sym (append-nil before);
+  others = g.others;
+  aside = λ k apart. refl;
+  client = g.client (subst IsClient (sym there) client);
+  closed = g.closed;
+  here = λ e is of sound.
+      let it = g.here e is of sound in
+      let this : new ≡ it.0 = one_entry new it.0 (sym there ∙ it.1) in
+      let given = owed it.4.0 (ap (λ (x : Entry). x.broken) this ∙ it.3) (subst (λ (x : Entry). Q (closes_of x.talk) it.4.0) (sym this) it.4.1) in
+      (sym it.2 ∙ ap (λ (x : Entry). x.talk) (sym this), (given.0, given.1, it.4.2 ∙ (ap (λ (x : Entry). x.due ++ it.4.0) (sym this) ∙ given.2)));
+}
+
+-- where it handles the client's event
+pub acted_event : (moment key id : ℕ) (who : Client) (event : Event) (last : Bool) (new : Entry) (l : Ledger) (hs : List Happening) (l' : Ledger) → EventOf who event → Good l → l.entries key ≡ Some new → ClientTalk new.talk → Ans.IsAnswered moment key id who event l hs l'
+    → Acted moment key (step.Asks (ask.Event who event) last) new new.due l hs l'
+acted_event moment key id who event last new l hs l' own good there client (outcome, it) =
+    let one = happened moment event outcome l it.front it.mid good it.first in
+    let g = gives_answers key id who (is_query event) (reply_of outcome) it.mid it.back l' it.second in
+    let h = one_handled moment event outcome it.front it.mid None (Some key) in
+    record {
+      handled = h ∷ [];
+      sent = sent_by outcome it.mid.core;
+      run = (tt, one.handles, g.core);
+      timed = All-cons (λ (x : Handled). x.moment ≡ moment) h [] refl (All-nil (λ (x : Handled). x.moment ≡ moment));
+      told = ap core_notes it.whole ∙ (notes_append it.front it.back ∙ ap (λ (ns : List Note). core_notes it.front ++ ns) g.notes);
+      sends = λ device before. refl;
+      others = λ k apart. more k (ordered_then (sent_by outcome it.mid.core) (λ device. []) (l.entries k) (it.mid.entries k) (l'.entries k) (one.each k) (g.others k apart));
+      aside = λ k apart. ap (λ (t : Bool). (if t then h ∷ [] else []) ++ []) (not_key key k (λ same. apart (sym same)));
+      client = g.client ((one.each key).client (subst IsClient (sym there) client));
+      closed = g.closed ∙ one.closed;
+      here = λ e is of sound.
+          let gave = g.here e is of sound in
+          let was = (one.each key).stays gave.0 gave.1 (subst ClientTalk (sym gave.2) of) gave.3 in
+          let this : new ≡ was.0 = one_entry new was.0 (sym there ∙ was.1) in
+          let talk : new.talk ≡ gave.0.talk = ap (λ (x : Entry). x.talk) this ∙ was.2 in (
+            sym gave.2 ∙ sym talk,
+            (
+              gave.4.0,
+              (h, ap (λ (t : Bool). (if t then h ∷ [] else []) ++ []) (is_key key), refl, given (closes_of new.talk) who (reply_of outcome) gave.4.0 (typed who moment event l.core outcome (core_notes it.front) it.mid.core own one.handles) (subst (λ (x : Talk). Loose (closes_of x) who (reply_of outcome) gave.4.0) (sym talk) gave.4.1)),
+              gave.4.2 ∙ ap (λ (due : List ℕ). due ++ gave.4.0) (sym was.4 ∙ ap (λ (x : Entry). x.due) (sym this)),
+            ),
+          );
+    }
+  where
+    more : (k : ℕ) → Ordered (λ device. sent_by outcome it.mid.core device ++ []) (l.entries k) (l'.entries k) → Ordered (sent_by outcome it.mid.core) (l.entries k) (l'.entries k)
+    more k o = record {
+      counts = λ device is. let c = o.counts device is in (c.0, c.1 ∙ ap (λ (bytes : List ℕ). due_at (l.entries k) ++ bytes) (append-nil (sent_by outcome it.mid.core device)));
+      device = o.device;
+      fresh = o.fresh;
+      client = o.client;
+      stays = o.stays;
+    }
+
+pub acted_asks : (moment key id : ℕ) (what : Ask) (last : Bool) (new : Entry) (l : Ledger) (hs : List Happening) (l' : Ledger) → IsClientAsk what → Good l → l.entries key ≡ Some new → ClientTalk new.talk → Does moment key id what l hs l' → Acted moment key (step.Asks what last) new new.due l hs l'
+acted_asks moment key id ask.Nothing last new l hs l' is good there client it = absurd is
+acted_asks moment key id (ask.Broke growth) last new l hs l' is good there client it = absurd is
+acted_asks moment key id (ask.Event who event) last new l hs l' is good there client it = acted_event moment key id who event last new l hs l' is good there client it
+acted_asks moment key id (ask.Unread request) last new l hs l' is good there client it =
+    acted_calm moment key (step.Asks (ask.Unread request) last) new new.due (No_memory request) l hs l' there client (λ bytes sound these. (bytes, (refl, these), refl)) (gives_dropped key id request l hs l' it)
+acted_asks moment key id (ask.Lost part) last new l hs l' is good there client it =
+    acted_calm moment key (step.Asks (ask.Lost part) last) new new.due (Just_these (1 ∷ [])) l hs l' there client (λ bytes sound these. (bytes, (refl, these), refl)) (gives_declines (place_of_part part) key id (silent_part part id) l hs l' it)
+acted_asks moment key id (ask.Hello device name) last new l hs l' is good there client it = absurd is
+acted_asks moment key id (ask.Report device report) last new l hs l' is good there client it = absurd is
+acted_asks moment key id (ask.Stranger name) last new l hs l' is good there client it = absurd is
+acted_asks moment key id (ask.Fault device) last new l hs l' is good there client it = absurd is
+
+-- of any step of a client
+pub acted_by : (moment key id : ℕ) (comes : Step) (m new : Entry) (what : Ask) (l : Ledger) (hs : List Happening) (l' : Ledger) → IsClientStep comes → StepsTo comes m what new → ClientTalk m.talk → Good l → l.entries key ≡ Some new → Does moment key id what l hs l' → Acted moment key comes new m.due l hs l'
+acted_by moment key id (step.Due due last) m new what l hs l' fine (inl (is, after)) client good there it =
+    let nothing : Nothing l hs l' = subst (λ (a : Ask). Does moment key id a l hs l') is it in
+    acted_calm moment key (step.Due due last) new m.due (Just_these []) l hs l' there (subst (λ (x : Entry). ClientTalk x.talk) (sym after) client)
+    (λ bytes sound none. (due_bytes due, (refl, refl), ap (λ (more : List ℕ). new.due ++ more) none ∙ (append-nil new.due ∙ ap (λ (x : Entry). x.due) after))) (gives_nothing key (Just_these []) (λ closes. refl) l hs l' nothing)
+acted_by moment key id (step.Due due last) m new what l hs l' fine (inr (is, needs, after)) client good there it =
+    let told : Tells (Refused (place_of growth.Output) (Some id)) l hs l' = subst (λ (a : Ask). Does moment key id a l hs l') is it in
+    acted_calm moment key (step.Due due last) new m.due (Just_these []) l hs l' there (subst (λ (x : Entry). ClientTalk x.talk) (sym after) client)
+    (λ bytes sound none. absurd (no_true new.broken (ap (λ (x : Entry). x.broken) after) sound)) (gave_still key (Just_these []) l hs l' (ap core_notes told.0 ∙ silent_growth growth.Output id) told.1 (λ closes. refl))
+acted_by moment key id (step.Asks asked last) m new what l hs l' fine (is, after) client good there it =
+    let a = acted_asks moment key id asked last new l hs l' fine good there (subst (λ (x : Entry). ClientTalk x.talk) (sym after) client) (subst (λ (a : Ask). Does moment key id a l hs l') is it) in
+    subst (λ (due : List ℕ). Acted moment key (step.Asks asked last) new due l hs l') (ap (λ (x : Entry). x.due) after) a
+acted_by moment key id (step.Breaks asked) m new what l hs l' fine (is, after) client good there it =
+    let told : Tells (Refused (place_of growth.Input) (Some id)) l hs l' = subst (λ (a : Ask). Does moment key id a l hs l') (is ∙ fine) it in
+    acted_calm moment key (step.Breaks asked) new m.due (Just_these []) l hs l' there (subst (λ (x : Entry). ClientTalk x.talk) (sym after) client)
+    (λ bytes sound none. absurd (no_true new.broken (ap (λ (x : Entry). x.broken) after) sound)) (gave_still key (Just_these []) l hs l' (ap core_notes told.0 ∙ silent_growth growth.Input id) told.1 (λ closes. refl))
+
+-- the next of a client's stream, as an act has it
+pub next_of : (settings : ServerSettings) (talk : Talk) (e : Entry) (comes : Step) (mid : Entry) → ClientTalk talk → e.talk ≡ talk → IsClientStep comes → Hears settings talk e comes mid → (mid.due ≡ e.due) × ((comes ≡ no_memory) ⊎ IsNext settings talk comes mid.talk)
+next_of settings (Http said closes body) e comes mid client is fine next = (ap (λ (x : Entry). x.due) next.after, inr (record { item = next.item; part = next.part; comes = next.comes; is = ap (λ (x : Entry). x.talk) next.after }))
+next_of settings (Queue items session) e comes mid client is fine (inl next) =
+    (ap (λ (x : Entry). x.due) next.after, inr (inl (record { said = next.said; session_after = next.session_after; comes = next.comes; is = ap (λ (x : Entry). x.talk) next.after })))
+next_of settings (Queue items session) e comes mid client is fine (inr (inl next)) = (ap (λ (x : Entry). x.due) next.after, inr (inr (next.comes, ap (λ (x : Entry). x.talk) next.after ∙ is)))
+next_of settings (Queue items session) e comes mid client is fine (inr (inr next)) = (ap (λ (x : Entry). x.due) next.1, inl next.0)
+next_of settings (Link reports device) e comes mid client is fine next = absurd client
+
+pub steps_talk : (comes : Step) (mid new : Entry) (what : Ask) → StepsTo comes mid what new → new.talk ≡ mid.talk
+steps_talk (step.Due due last) mid new what (inl is) = ap (λ (x : Entry). x.talk) is.1
+steps_talk (step.Due due last) mid new what (inr is) = ap (λ (x : Entry). x.talk) is.2
+steps_talk (step.Asks it last) mid new what is = ap (λ (x : Entry). x.talk) is.1
+steps_talk (step.Breaks it) mid new what is = ap (λ (x : Entry). x.talk) is.1
+
+pub not_given : (closes : Bool) (asked : List Handled) (bytes : List ℕ) (comes : Step) → comes ≡ no_memory → IsOwed closes comes asked bytes → ⊥
+not_given closes asked bytes comes is owed = subst (λ (s : Step). IsOwed closes s asked bytes) is owed
+
+pub same_state : (core : State) (handled : List Handled) → IsStateOf core core handled
+same_state core [] = refl
+same_state core (it ∷ later) = inl refl
+
+pub client_acts : (moment key id : ℕ) (what : Ask) (l : Ledger) (front : List Happening) (mid : Ledger) (back : List Happening) (l' : Ledger) (hs : List Happening) → hs ≡ front ++ back → Good l
+    → (a : Asks key id what l front mid) → ClientTalk a.entry.talk → Does moment key id what mid back l' → Goes moment l hs l'
+client_acts moment key id what l front mid back l' hs whole good a client does = record {
+  handled = acted.handled;
+  good = record { one = λ device k other p q. one device k other (k == key) refl (other == key) refl p q; fresh = λ k. fresh k (k == key) refl };
+  run = subst (λ (s : State). AreHandled s acted.handled l'.core) core acted.run;
+  timed = acted.timed;
+  told = ap core_notes whole ∙ (notes_append front back ∙ (ap (λ (ns : List Note). ns ++ core_notes back) (ap core_notes a.chosen) ∙ acted.told));
+  came = λ k device counts. came k device (k == key) refl counts;
+  talks = λ k e is of sound. talks k e (k == key) refl is of sound;
+  closed = none_closed l acted.handled l' (acted.closed ∙ ap (λ (x : Ledger). x.closed) a.after);
+}
+  where
+    core : mid.core ≡ l.core
+    core = ap (λ (x : Ledger). x.core) a.after
+
+    heard_so : IsClientStep a.asks.comes × ClientTalk a.asks.mid.talk
+    heard_so = client_hears l.core.settings a.entry.talk a.entry a.asks.comes a.asks.mid client client a.asks.hears
+
+    new_talk : a.new.talk ≡ a.asks.mid.talk
+    new_talk = steps_talk a.asks.comes a.asks.mid a.new what a.asks.steps
+
+    set : mid.entries key ≡ Some a.new
+    set = ap (λ (x : Ledger). x.entries key) a.after ∙ at_here key a.new l.entries
+
+    beside : (k : ℕ) → k ≢ key → mid.entries k ≡ l.entries k
+    beside k apart = ap (λ (x : Ledger). x.entries k) a.after ∙ at_aside key a.new l.entries k apart
+
+    of_client : IsClient (mid.entries key)
+    of_client = subst IsClient (sym set) (subst ClientTalk (sym new_talk) heard_so.1)
+
+    good_mid : Good mid
+    good_mid = record {
+      one = λ device k other p q. one_mid device k other (k == key) refl (other == key) refl p q;
+      fresh = λ k. fresh_mid k (k == key) refl;
+    }
+      where
+        no_device : (device : ℕ) (o : Option Entry) → IsClient o → IsDevice device o → ⊥
+        no_device device None of is = is
+        no_device device (Some e) of is = client_none e.talk device of is
+
+        here : (k : ℕ) → (k == key) ≡ true → IsClient (mid.entries k)
+        here k same = subst (λ (j : ℕ). IsClient (mid.entries j)) (sym (same_key k key same)) of_client
+
+        one_mid : (device k other : ℕ) (s : Bool) → (k == key) ≡ s → (t : Bool) → (other == key) ≡ t → IsDevice device (mid.entries k) → IsDevice device (mid.entries other) → k ≡ other
+        one_mid device k other true is t its p q = absurd (no_device device (mid.entries k) (here k is) p)
+        one_mid device k other false is true its p q = absurd (no_device device (mid.entries other) (here other its) q)
+        one_mid device k other false is false its p q =
+            good.one device k other (subst (λ (o : Option Entry). IsDevice device o) (beside k (other_key k key is)) p) (subst (λ (o : Option Entry). IsDevice device o) (beside other (other_key other key its)) q)
+
+        fresh_client : (o : Option Entry) → IsClient o → IsFresh o
+        fresh_client None of = tt
+        fresh_client (Some e) of = client_fresh e.talk e of
+
+        fresh_mid : (k : ℕ) (t : Bool) → (k == key) ≡ t → IsFresh (mid.entries k)
+        fresh_mid k true is = fresh_client (mid.entries k) (here k is)
+        fresh_mid k false is = subst IsFresh (sym (beside k (other_key k key is))) (good.fresh k)
+
+    acted : Acted moment key a.asks.comes a.new a.asks.mid.due mid back l'
+    acted = acted_by moment key id a.asks.comes a.asks.mid a.new what mid back l' heard_so.0 a.asks.steps heard_so.1 good_mid set does
+
+    ordered : (k : ℕ) → k ≢ key → Ordered acted.sent (l.entries k) (l'.entries k)
+    ordered k apart = subst (λ (o : Option Entry). Ordered acted.sent o (l'.entries k)) (beside k apart) (acted.others k apart)
+
+    last : (k : ℕ) → (k == key) ≡ true → IsClient (l'.entries k)
+    last k same = subst (λ (j : ℕ). IsClient (l'.entries j)) (sym (same_key k key same)) acted.client
+
+    no_name : (device : ℕ) (o : Option Entry) → IsClient o → IsDevice device o → ⊥
+    no_name device None of is = is
+    no_name device (Some e) of is = client_none e.talk device of is
+
+    one : (device k other : ℕ) (s : Bool) → (k == key) ≡ s → (t : Bool) → (other == key) ≡ t → IsDevice device (l'.entries k) → IsDevice device (l'.entries other) → k ≡ other
+    one device k other true is t its p q = absurd (no_name device (l'.entries k) (last k is) p)
+    one device k other false is true its p q = absurd (no_name device (l'.entries other) (last other its) q)
+    one device k other false is false its p q = good.one device k other ((ordered k (other_key k key is)).device device p) ((ordered other (other_key other key its)).device device q)
+
+    fresh_last : (o : Option Entry) → IsClient o → IsFresh o
+    fresh_last None of = tt
+    fresh_last (Some e) of = client_fresh e.talk e of
+
+    fresh : (k : ℕ) (t : Bool) → (k == key) ≡ t → IsFresh (l'.entries k)
+    fresh k true is = fresh_last (l'.entries k) (last k is)
+    fresh k false is = (ordered k (other_key k key is)).fresh (good.fresh k)
+
+    came : (k device : ℕ) (t : Bool) → (k == key) ≡ t → Counts device (l'.entries k) → CameAs device acted.handled (l.entries k) (l'.entries k)
+    came k device true is counts = absurd (no_name device (l'.entries k) (last k is) (counts_device device (l'.entries k) counts))
+    came k device false is counts = let it = (ordered k (other_key k key is)).counts device counts in inl (it.0, it.1 ∙ sym (acted.sends device (due_at (l.entries k))))
+
+    went : (e : Entry) → l'.entries key ≡ Some e → ClientTalk e.talk → e.broken ≡ false → (a.asks.comes ≡ no_memory) ⊎ IsNext l.core.settings a.entry.talk a.asks.comes a.asks.mid.talk → a.asks.mid.due ≡ a.entry.due → Went l.core key acted.handled (l.entries key) e
+    went e is of sound (inl none) due = let it = acted.here e is of sound in absurd (not_given (closes_of a.new.talk) (asked_by key acted.handled) it.1.0 a.asks.comes none it.1.1)
+    went e is of sound (inr next) due =
+        let it = acted.here e is of sound in
+        let act : Act = record { before = a.entry.talk; after = a.new.talk; what = a.asks.comes; asked = asked_by key acted.handled; bytes = it.1.0; state = l.core } in
+        record {
+          before = a.entry;
+          there = a.there;
+          client = client;
+          sound = not_broken a.entry.over a.entry.broken a.asks.counts;
+          acts = act ∷ [];
+          are = (refl, record { next = subst (λ (t : Talk). IsNext l.core.settings a.entry.talk a.asks.comes t) (sym new_talk) next; owed = it.1.1 }, it.0);
+          states = All-cons (λ (x : Act). IsStateOf x.state l.core acted.handled) act [] (same_state l.core acted.handled) (All-nil (λ (x : Act). IsStateOf x.state l.core acted.handled));
+          asked = sym (append-nil (asked_by key acted.handled));
+          due = it.1.2 ∙ (ap (λ (bytes : List ℕ). bytes ++ it.1.0) due ∙ ap (λ (bytes : List ℕ). a.entry.due ++ bytes) (sym (append-nil it.1.0)));
+        }
+
+    heard_next : (a.asks.mid.due ≡ a.entry.due) × ((a.asks.comes ≡ no_memory) ⊎ IsNext l.core.settings a.entry.talk a.asks.comes a.asks.mid.talk)
+    heard_next = next_of l.core.settings a.entry.talk a.entry a.asks.comes a.asks.mid client refl heard_so.0 a.asks.hears
+
+    talks : (k : ℕ) (e : Entry) (t : Bool) → (k == key) ≡ t → l'.entries k ≡ Some e → ClientTalk e.talk → e.broken ≡ false → TalkedAs l.core k acted.handled (l.entries k) e
+    talks k e true same is of sound =
+        let at : k ≡ key = same_key k key same in
+        subst (λ (j : ℕ). TalkedAs l.core j acted.handled (l.entries j) e) (sym at) (inl (went e (subst (λ (j : ℕ). l'.entries j ≡ Some e) at is) of sound heard_next.1 heard_next.0))
+    talks k e false same is of sound = talked_still l.core k acted.handled (l.entries k) (l'.entries k) (ordered k (other_key k key same)).stays (acted.aside k (other_key k key same)) e is of sound
+
+pub device_acts : (moment key id : ℕ) (what : Ask) (l : Ledger) (front : List Happening) (mid : Ledger) (back : List Happening) (l' : Ledger) (hs : List Happening) → hs ≡ front ++ back → Good l
+    → (a : Asks key id what l front mid) → DeviceAsks what a.entry a.new → Does moment key id what mid back l' → Goes moment l hs l'
+device_acts moment key id what l front mid back l' hs whole good a (inl (is, sent)) does =
+    let first = goes_calm moment l front mid good (calm_sets key a.entry a.new l front mid a.there sent (ap core_notes a.chosen) a.after) in
+    goes_then moment l front mid back l' hs whole first (device_does moment key id what mid back l' is first.good does)
+device_acts moment key id what l front mid back l' hs whole good a (inr names) does =
+    let sound : a.entry.broken ≡ false = not_broken a.entry.over a.entry.broken a.asks.counts in
+    let none : a.entry.due ≡ [] = names.fresh (subst IsFresh a.there (good.fresh key)) sound in
+    let just : Just key names.device names.name a.entry a.new l front mid =
+    record { good = good; silent = ap core_notes a.chosen; there = a.there; after = a.after; named = names.after; fresh = names.open_talk; due = names.due ∙ none; link = names.link } in
+    greets moment key id names.device names.name a.entry a.new l front mid back l' hs whole just (subst (λ (it : Ask). Does moment key id it mid back l') names.asks does)
+
+pub acts_by : (moment key id : ℕ) (what : Ask) (l : Ledger) (front : List Happening) (mid : Ledger) (back : List Happening) (l' : Ledger) (hs : List Happening) → hs ≡ front ++ back → Good l
+    → (a : Asks key id what l front mid) → (talk : Talk) → a.entry.talk ≡ talk → Does moment key id what mid back l' → Goes moment l hs l'
+acts_by moment key id what l front mid back l' hs whole good a (Http said closes body) is does = client_acts moment key id what l front mid back l' hs whole good a (subst ClientTalk (sym is) tt) does
+acts_by moment key id what l front mid back l' hs whole good a (Queue items session) is does = client_acts moment key id what l front mid back l' hs whole good a (subst ClientTalk (sym is) tt) does
+acts_by moment key id what l front mid back l' hs whole good a (Link reports device) is does =
+    device_acts moment key id what l front mid back l' hs whole good a
+    (device_hears l.core.settings reports device a.entry a.asks.comes a.asks.mid what a.new is (subst (λ (t : Talk). Hears l.core.settings t a.entry a.asks.comes a.asks.mid) is a.asks.hears) a.asks.steps) does
+
+pub moves_acts_next : (moment key : ℕ) → Moves moment (ActsNext moment key)
+moves_acts_next moment key l hs l' good (id, what, it) = acts_by moment key id what l it.front it.mid it.back l' hs it.whole good it.first it.first.entry.talk refl it.second
+
+pub moves_acts : (moment key : ℕ) → Moves moment (Acts moment key)
+moves_acts moment key = moves_then moment (ActsNext moment key) (Settles moment) (moves_acts_next moment key) (moves_settles moment)
+
+pub moves_serves : (moment key : ℕ) → Moves moment (Serves moment key)
+moves_serves moment key l hs l' good it = moves_then moment (Many (Acts moment key)) (Chooses Rested) (moves_many moment (Acts moment key) (moves_acts moment key)) (moves_calm moment (Chooses Rested) (calms_chooses Rested)) l hs l' good it.0

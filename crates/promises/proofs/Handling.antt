@@ -1,0 +1,550 @@
+-- What the core handles between one ledger and the next, and what is due on devices' connections by it.
+use Rattle.std.proofs.Common.{◌≡◌, ◌≢◌, ◌<◌, ◌+◌, arith, ℕ, zero, suc, Bool, true, false, List, [], ◌∷◌, ◌++◌, refl, sym, ◌∙◌, ap, subst, append-nil, Option, Some, None, ◌⊎◌, inl, inr, append_assoc, All}
+use Rattle.std.specs.Prelude.{◌==◌, ◌||◌, if◌then◌else◌, map, max, slice_get, option_to_list, MatchOption}
+use Rattle.std.specs.List.{flat_map}
+use Rattle.std.proofs.lemmas.Grind.{flat_map-append}
+use Rattle.std.proofs.lemmas.List.Elements.{All-append, All-cons, All-nil, All-weaker}
+use Rattle.base_types.specs.Device.{Device}
+use Rattle.base_types.specs.declared.device.Activity.{Activity}
+use Rattle.base_types.specs.declared.device.Activity.TheVariants.{Running, Stopped}
+use Rattle.base_types.specs.declared.report.Report.TheVariants as report
+use Rattle.prices.specs.declared.plan.PlannedClass.{PlannedClass}
+use Rattle.prices.specs.Way.{queue_of}
+use Rattle.print_room.specs.declared.started.Started.{Started}
+use Rattle.print_room.specs.State.{State, with_device}
+use Rattle.print_room.specs.Activity.{stopped_at, idle, job_on}
+use Rattle.print_room.specs.Report.{Reports, refitted, state_after, documents_out, said_of_job}
+use Rattle.print_room.specs.Dispatch.{is_free, first_of, first_of_queue, or_next, starts_from}
+use Rattle.spool.specs.Document.{DocumentRecord}
+use Rattle.events.specs.declared.event.Event.{Event}
+use Rattle.events.specs.declared.event.Event.TheVariants as Is
+use Rattle.events.specs.declared.reply.Cancel.{Cancel}
+use Rattle.dispatcher.specs.declared.outcome.Outcome.{Outcome}
+use Rattle.dispatcher.specs.declared.outcome.Outcome.TheVariants.{Dropped, Queried, Undispatched, Idle, Dispatched}
+use Rattle.dispatcher.specs.declared.listener.Place.TheVariants as At
+use Rattle.dispatcher.specs.Notes.{Note, Planned, Canceled, Refused}
+use Rattle.dispatcher.specs.Run.{cancels_told, Handles}
+use Rattle.connections.specs.Entry.{Talk, Entry, opening_talk, device_of}
+use Rattle.server.specs.Polls.{Happening, Told}
+use Rattle.server.specs.Ledger.{Ledger, at_key, job_bytes, Fate}
+use Rattle.server.specs.Keeping.{IsDevice}
+use Rattle.server.specs.Happening.{Happens, found_by}
+use Rattle.server.specs.Law.{core_notes}
+use Rattle.promises.specs.Answers.{Act, ClientTalk, AreActs, IsStateOf, is_asked, asked_by, IsAnswered}
+use Rattle.promises.specs.Orders.{Handled, AreHandled, AreAt, cancel_for, start_for, orders_of, names, due_by}
+use Rattle.promises.proofs.Sending.{Counts, due_at, IsFresh, counts_device, same_key, not_key, Ordered, Calm, Good, good_sent, notes_append, sent_by, orders, Stays}
+
+-- ---- what is told of an event
+
+told_cancels : (cancels : List Cancel) → core_notes (map Told (map Canceled cancels)) ≡ map Canceled cancels
+told_cancels [] = refl
+told_cancels (cancel ∷ cancels) = ap (λ (ns : List Note). Canceled cancel ∷ ns) (told_cancels cancels)
+
+map_told : (notes more : List Note) → map Told (notes ++ more) ≡ map Told notes ++ map Told more
+map_told [] more = refl
+map_told (note ∷ notes) more = ap (λ (hs : List Happening). Told note ∷ hs) (map_told notes more)
+
+told_then : (cancels : List Cancel) (last : List Note) → core_notes (map Told last) ≡ last → core_notes (map Told (map Canceled cancels ++ last)) ≡ map Canceled cancels ++ last
+told_then cancels last is =
+    ap core_notes (map_told (map Canceled cancels) last) ∙ (notes_append (map Told (map Canceled cancels)) (map Told last) ∙ (ap (λ (ns : List Note). ns ++ core_notes (map Told last)) (told_cancels cancels) ∙ ap (λ (ns : List Note). map Canceled cancels ++ ns) is))
+
+told_as : (notes said : List Note) → notes ≡ said → core_notes (map Told said) ≡ said → core_notes (map Told notes) ≡ notes
+told_as notes said same is = subst (λ (ns : List Note). core_notes (map Told ns) ≡ ns) (sym same) is
+
+told_notes : (moment : ℕ) (event : Event) (old : State) (outcome : Outcome) (notes : List Note) (new : State) → Handles moment event old outcome notes new → core_notes (map Told notes) ≡ notes
+told_notes moment event old Dropped notes new it = told_as notes [] it.1 refl
+told_notes moment event old (Queried reply) notes new it = told_as notes (cancels_told reply) it.2 (told_cancels reply.cancels.items)
+told_notes moment event old (Undispatched reply) notes new it = told_as notes (cancels_told reply ++ Refused At.Dispatch None ∷ []) it.3 (told_then reply.cancels.items (Refused At.Dispatch None ∷ []) refl)
+told_notes moment event old (Idle reply) notes new (asks, mid, step, rest, same) = told_as notes (cancels_told reply ++ Planned None [] ∷ []) same (told_then reply.cancels.items (Planned None [] ∷ []) refl)
+told_notes moment event old (Dispatched reply) notes new (asks, mid, step, plan, rest, same) =
+    told_as notes (cancels_told reply ++ Planned (Some plan) new.begun ∷ []) same (told_then reply.cancels.items (Planned (Some plan) new.begun ∷ []) refl)
+
+found_silent : (outcome : Outcome) → core_notes (found_by outcome) ≡ []
+found_silent Dropped = refl
+found_silent (Queried reply) = refl
+found_silent (Undispatched reply) = refl
+found_silent (Idle reply) = refl
+found_silent (Dispatched reply) = refl
+
+-- ---- an event
+
+-- one event came to the core, and this was sent
+pub record Handles_one (moment : ℕ) (event : Event) (outcome : Outcome) (l : Ledger) (hs : List Happening) (l' : Ledger) : Type 0 where
+  pub handles : Handles moment event l.core outcome (core_notes hs) l'.core
+  pub each : (key : ℕ) → Ordered (sent_by outcome l'.core) (l.entries key) (l'.entries key)
+  pub closed : l'.closed ≡ l.closed
+
+pub happened : (moment : ℕ) (event : Event) (outcome : Outcome) (l : Ledger) (hs : List Happening) (l' : Ledger) → Good l → Happens moment event outcome l hs l' → Handles_one moment event outcome l hs l'
+happened moment event outcome l hs l' good it =
+    let d = it.first in
+    let entries : it.mid.entries ≡ l.entries = ap (λ (x : Ledger). x.entries) d.after in
+    let core : it.mid.core ≡ d.state = ap (λ (x : Ledger). x.core) d.after in
+    let good_mid : Good it.mid = subst Good (sym d.after) (record { one = good.one; fresh = good.fresh }) in
+    let s = orders outcome it.mid it.back l' good_mid it.second in
+    let told : core_notes it.front ≡ d.notes =
+    ap core_notes d.told ∙ (notes_append (found_by outcome) (map Told d.notes) ∙ (ap (λ (ns : List Note). ns ++ core_notes (map Told d.notes)) (found_silent outcome) ∙ told_notes moment event l.core outcome d.notes d.state d.handles)) in
+    let all : core_notes hs ≡ d.notes = ap core_notes it.whole ∙ (notes_append it.front it.back ∙ (ap (λ (ns : List Note). core_notes it.front ++ ns) s.notes ∙ (append-nil (core_notes it.front) ∙ told))) in
+    record {
+      handles = subst (λ (c : State). Handles moment event l.core outcome (core_notes hs) c) (sym (s.core ∙ core)) (subst (λ (ns : List Note). Handles moment event l.core outcome ns d.state) (sym all) d.handles);
+      each = λ key.
+          subst (λ (c : State). Ordered (sent_by outcome c) (l.entries key) (l'.entries key)) (sym s.core)
+          (subst (λ (entries : ℕ → Option Entry). Ordered (sent_by outcome it.mid.core) (entries key) (l'.entries key)) entries (s.each key));
+      closed = s.closed ∙ ap (λ (x : Ledger). x.closed) d.after;
+    }
+
+-- ---- several
+
+-- whether a device said its name on a connection by one of these
+abbrev pub has_named : ℕ → List Handled → Bool
+has_named device [] = false
+has_named device (it ∷ later) = names device it.named || has_named device later
+
+-- on a device's connection is due what was due, and what was sent since; or all since its name
+abbrev pub CameAs : ℕ → List Handled → Option Entry → Option Entry → Type 0
+CameAs device handled x y = (Counts device x × (due_at y ≡ due_by device (due_at x) handled)) ⊎ ((has_named device handled ≡ true) × (due_at y ≡ due_by device [] handled))
+
+-- ---- what clients are answered by them
+
+-- a client's connection went on from another by these acts
+pub record Went (core : State) (key : ℕ) (handled : List Handled) (x : Option Entry) (e : Entry) : Type 0 where
+  pub before : Entry
+  pub there : x ≡ Some before
+  pub client : ClientTalk before.talk
+  pub sound : before.broken ≡ false
+  pub acts : List Act
+  pub are : AreActs before.talk acts e.talk
+  pub states : All (λ (a : Act). IsStateOf a.state core handled) acts
+  pub asked : asked_by key handled ≡ flat_map (λ (a : Act). a.asked) acts
+  pub due : e.due ≡ before.due ++ flat_map (λ (a : Act). a.bytes) acts
+
+-- or it was accepted since
+abbrev pub TalkedAs : State → ℕ → List Handled → Option Entry → Entry → Type 0
+TalkedAs core key handled x e = Went core key handled x e ⊎ IsAnswered core key handled e
+
+acts_append : (before mid after : Talk) (acts more : List Act) → AreActs before acts mid → AreActs mid more after → AreActs before (acts ++ more) after
+acts_append before mid after [] more same are = subst (λ (t : Talk). AreActs t more after) same are
+acts_append before mid after (a ∷ acts) more (is, act, rest) are = (is, act, acts_append a.after mid after acts more rest are)
+
+asked_append : (key : ℕ) (first later : List Handled) → asked_by key (first ++ later) ≡ asked_by key first ++ asked_by key later
+asked_append key [] later = refl
+asked_append key (it ∷ first) later =
+    ap (λ (its : List Handled). (if is_asked key it.asked then it ∷ [] else []) ++ its) (asked_append key first later) ∙ sym (append_assoc (if is_asked key it.asked then it ∷ [] else []) (asked_by key first) (asked_by key later))
+
+-- a state of a run is one of a longer run
+state_more : (state core : State) (first later : List Handled) → IsStateOf state core first → IsStateOf state core (first ++ later)
+state_more state core [] [] is = is
+state_more state core [] (it ∷ later) is = inl is
+state_more state core (it ∷ first) later (inl is) = inl is
+state_more state core (it ∷ first) later (inr is) = inr (state_more state it.state first later is)
+
+state_behind : (state core mid : State) (first later : List Handled) → AreHandled core first mid → IsStateOf state mid later → IsStateOf state core (first ++ later)
+state_behind state core mid [] later same is = subst (λ (s : State). IsStateOf state s later) same is
+state_behind state core mid (it ∷ first) later (naming, handles, run) is = inr (state_behind state it.state mid first later run is)
+
+states_more : (core : State) (first later : List Handled) (acts : List Act) → All (λ (a : Act). IsStateOf a.state core first) acts → All (λ (a : Act). IsStateOf a.state core (first ++ later)) acts
+states_more core first later acts all = All-weaker (λ (a : Act). IsStateOf a.state core first) (λ (a : Act). IsStateOf a.state core (first ++ later)) (λ a is. state_more a.state core first later is) acts all
+
+states_behind : (core mid : State) (first later : List Handled) (acts : List Act) → AreHandled core first mid → All (λ (a : Act). IsStateOf a.state mid later) acts → All (λ (a : Act). IsStateOf a.state core (first ++ later)) acts
+states_behind core mid first later acts run all = All-weaker (λ (a : Act). IsStateOf a.state mid later) (λ (a : Act). IsStateOf a.state core (first ++ later)) (λ a is. state_behind a.state core mid first later run is) acts all
+
+asked_joined : (key : ℕ) (first later : List Handled) (acts more : List Act) → asked_by key first ≡ flat_map (λ (a : Act). a.asked) acts → asked_by key later ≡ flat_map (λ (a : Act). a.asked) more → asked_by key (first ++ later) ≡ flat_map (λ (a : Act). a.asked) (acts ++ more)
+asked_joined key first later acts more p q =
+    asked_append key first later ∙ (ap (λ (its : List Handled). its ++ asked_by key later) p ∙ (ap (λ (its : List Handled). flat_map (λ (a : Act). a.asked) acts ++ its) q ∙ sym (flat_map-append (λ (a : Act). a.asked) acts more)))
+
+due_joined : (before mid after : List ℕ) (acts more : List Act) → mid ≡ before ++ flat_map (λ (a : Act). a.bytes) acts → after ≡ mid ++ flat_map (λ (a : Act). a.bytes) more → after ≡ before ++ flat_map (λ (a : Act). a.bytes) (acts ++ more)
+due_joined before mid after acts more p q =
+    q ∙ (ap (λ (bytes : List ℕ). bytes ++ flat_map (λ (a : Act). a.bytes) more) p ∙ (append_assoc before (flat_map (λ (a : Act). a.bytes) acts) (flat_map (λ (a : Act). a.bytes) more) ∙ ap (λ (bytes : List ℕ). before ++ bytes) (sym (flat_map-append (λ (a : Act). a.bytes) acts more))))
+
+pub talked_then : (core mid : State) (key : ℕ) (first later : List Handled) (x y : Option Entry) (e : Entry) → AreHandled core first mid → TalkedAs mid key later y e → ((d : Entry) → y ≡ Some d → ClientTalk d.talk → d.broken ≡ false → TalkedAs core key first x d) → TalkedAs core key (first ++ later) x e
+talked_then core mid key first later x y e run (inr a) before = inr (record {
+  earlier = first ++ a.earlier;
+  since = a.since;
+  whole = ap (λ (its : List Handled). first ++ its) a.whole ∙ sym (append_assoc first a.earlier a.since);
+  door = a.door;
+  acts = a.acts;
+  are = a.are;
+  states = states_behind core mid first later a.acts run a.states;
+  asked = a.asked;
+  due = a.due;
+})
+talked_then core mid key first later x y e run (inl w) before = by (before w.before w.there w.client w.sound)
+  where
+    by : TalkedAs core key first x w.before → TalkedAs core key (first ++ later) x e
+    by (inl v) = inl (record {
+      before = v.before;
+      there = v.there;
+      client = v.client;
+      sound = v.sound;
+      acts = v.acts ++ w.acts;
+      are = acts_append v.before.talk w.before.talk e.talk v.acts w.acts v.are w.are;
+      states = All-append (λ (a : Act). IsStateOf a.state core (first ++ later)) v.acts w.acts (states_more core first later v.acts v.states) (states_behind core mid first later w.acts run w.states);
+      asked = asked_joined key first later v.acts w.acts v.asked w.asked;
+      due = due_joined v.before.due w.before.due e.due v.acts w.acts v.due w.due;
+    })
+    by (inr b) = inr (record {
+      earlier = b.earlier;
+      since = b.since ++ later;
+      whole = ap (λ (its : List Handled). its ++ later) b.whole ∙ append_assoc b.earlier b.since later;
+      door = b.door;
+      acts = b.acts ++ w.acts;
+      are = acts_append (opening_talk b.door) w.before.talk e.talk b.acts w.acts b.are w.are;
+      states = All-append (λ (a : Act). IsStateOf a.state core (first ++ later)) b.acts w.acts (states_more core first later b.acts b.states) (states_behind core mid first later w.acts run w.states);
+      asked = asked_joined key b.since later b.acts w.acts b.asked w.asked;
+      due = due_joined [] w.before.due e.due b.acts w.acts b.due w.due;
+    })
+
+-- it is what it was, where these events weren't asked on it
+pub talked_still : (core : State) (key : ℕ) (handled : List Handled) (x y : Option Entry) → Stays x y → asked_by key handled ≡ [] → (e : Entry) → y ≡ Some e → ClientTalk e.talk → e.broken ≡ false → TalkedAs core key handled x e
+talked_still core key handled x y stays none e is client sound =
+    let d = stays e is client sound in
+    inl (record {
+      before = d.0;
+      there = d.1;
+      client = subst ClientTalk (sym d.2) client;
+      sound = d.3;
+      acts = [];
+      are = sym d.2;
+      states = All-nil (λ (a : Act). IsStateOf a.state core handled);
+      asked = none;
+      due = sym d.4 ∙ sym (append-nil d.0.due);
+    })
+
+-- ---- connections that were closed
+
+-- what was due on a connection when it was closed, unless it broke: by the events until then
+pub record ClosedAs (l : Ledger) (handled : List Handled) (e : Entry) : Type 0 where
+  pub key : ℕ
+  pub before : List Handled
+  pub behind : List Handled
+  pub whole : handled ≡ before ++ behind
+  pub came : (device : ℕ) → device_of e.talk ≡ Some device → e.broken ≡ false → CameAs device before (l.entries key) (Some e)
+  pub talks : ClientTalk e.talk → e.broken ≡ false → TalkedAs l.core key before (l.entries key) e
+
+pub record AllClosed (l : Ledger) (handled : List Handled) (l' : Ledger) : Type 0 where
+  pub more : List (Entry × Fate)
+  pub closed : l'.closed ≡ l.closed ++ more
+  pub each : All (λ (it : Entry × Fate). ClosedAs l handled it.0) more
+
+-- none was
+pub none_closed : (l : Ledger) (handled : List Handled) (l' : Ledger) → l'.closed ≡ l.closed → AllClosed l handled l'
+none_closed l handled l' same = record { more = []; closed = same ∙ sym (append-nil l.closed); each = All-nil (λ (it : Entry × Fate). ClosedAs l handled it.0) }
+
+-- the core handled these, at one moment
+pub record Goes (moment : ℕ) (l : Ledger) (hs : List Happening) (l' : Ledger) : Type 0 where
+  pub handled : List Handled
+  pub good : Good l'
+  pub run : AreHandled l.core handled l'.core
+  pub timed : AreAt moment handled
+  pub told : core_notes hs ≡ flat_map (λ (it : Handled). it.notes) handled
+  pub came : (key device : ℕ) → Counts device (l'.entries key) → CameAs device handled (l.entries key) (l'.entries key)
+  pub talks : (key : ℕ) (e : Entry) → l'.entries key ≡ Some e → ClientTalk e.talk → e.broken ≡ false → TalkedAs l.core key handled (l.entries key) e
+  pub closed : AllClosed l handled l'
+
+pub due_append : (device : ℕ) (before : List ℕ) (first later : List Handled) → due_by device before (first ++ later) ≡ due_by device (due_by device before first) later
+due_append device before [] later = refl
+due_append device before (it ∷ first) later = due_append device ((if names device it.named then [] else before) ++ orders_of device it) first later
+
+pub named_append : (device : ℕ) (first later : List Handled) → has_named device (first ++ later) ≡ has_named device first || has_named device later
+named_append device [] later = refl
+named_append device (it ∷ first) later = ap (λ (t : Bool). names device it.named || t) (named_append device first later) ∙ or_assoc (names device it.named) (has_named device first) (has_named device later)
+  where
+    or_assoc : (x y z : Bool) → x || (y || z) ≡ (x || y) || z
+    or_assoc true y z = refl
+    or_assoc false y z = refl
+
+-- where a device said its name, what was due before doesn't count
+pub due_named : (device : ℕ) (before other : List ℕ) (handled : List Handled) → has_named device handled ≡ true → due_by device before handled ≡ due_by device other handled
+due_named device before other [] is = cc
+due_named device before other (it ∷ later) is = by_name (names device it.named) (λ rest. due_named device (before ++ orders_of device it) (other ++ orders_of device it) later rest) is
+  where
+    by_name : (t : Bool) → (has_named device later ≡ true → due_by device (before ++ orders_of device it) later ≡ due_by device (other ++ orders_of device it) later) → t || has_named device later ≡ true → due_by device ((if t then [] else before) ++ orders_of device it) later ≡ due_by device ((if t then [] else other) ++ orders_of device it) later
+    by_name true rest is = refl
+    by_name false rest is = rest is
+
+or_right : (x y : Bool) → y ≡ true → x || y ≡ true
+or_right true y is = refl
+or_right false y is = is
+
+or_left : (x y : Bool) → x ≡ true → x || y ≡ true
+or_left true y is = refl
+or_left false y is = cc
+
+pub came_then : (device : ℕ) (first later : List Handled) (x y z : Option Entry) → CameAs device later y z → (Counts device y → CameAs device first x y) → CameAs device (first ++ later) x z
+came_then device first later x y z (inr (named, due)) before =
+    inr (named_append device first later ∙ or_right (has_named device first) (has_named device later) named, due ∙ (due_named device [] (due_by device [] first) later named ∙ sym (due_append device [] first later)))
+came_then device first later x y z (inl (counts, due)) before = by_first (before counts)
+  where
+    by_first : CameAs device first x y → CameAs device (first ++ later) x z
+    by_first (inl (was, is)) = inl (was, due ∙ (ap (λ (bytes : List ℕ). due_by device bytes later) is ∙ sym (due_append device (due_at x) first later)))
+    by_first (inr (named, is)) =
+        inr (named_append device first later ∙ or_left (has_named device first) (has_named device later) named, due ∙ (ap (λ (bytes : List ℕ). due_by device bytes later) is ∙ sym (due_append device [] first later)))
+
+pub handled_append : (old mid new : State) (first later : List Handled) → AreHandled old first mid → AreHandled mid later new → AreHandled old (first ++ later) new
+handled_append old mid new [] later same rest = subst (λ (s : State). AreHandled s later new) same rest
+handled_append old mid new (it ∷ first) later (naming, handles, more) rest = (naming, handles, handled_append it.state mid new first later more rest)
+
+-- closed before more comes, or after this
+closed_more : (l : Ledger) (first later : List Handled) (e : Entry) → ClosedAs l first e → ClosedAs l (first ++ later) e
+closed_more l first later e c = record {
+  key = c.key;
+  before = c.before;
+  behind = c.behind ++ later;
+  whole = ap (λ (its : List Handled). its ++ later) c.whole ∙ append_assoc c.before c.behind later;
+  came = c.came;
+  talks = c.talks;
+}
+
+closed_behind : (l mid : Ledger) (first later : List Handled) (e : Entry) → AreHandled l.core first mid.core → ((key device : ℕ) → Counts device (mid.entries key) → CameAs device first (l.entries key) (mid.entries key))
+    → ((key : ℕ) (d : Entry) → mid.entries key ≡ Some d → ClientTalk d.talk → d.broken ≡ false → TalkedAs l.core key first (l.entries key) d) → ClosedAs mid later e → ClosedAs l (first ++ later) e
+closed_behind l mid first later e run came talks c = record {
+  key = c.key;
+  before = first ++ c.before;
+  behind = c.behind;
+  whole = ap (λ (its : List Handled). first ++ its) c.whole ∙ sym (append_assoc first c.before c.behind);
+  came = λ device named sound. came_then device first c.before (l.entries c.key) (mid.entries c.key) (Some e) (c.came device named sound) (came c.key device);
+  talks = λ client sound. talked_then l.core mid.core c.key first c.before (l.entries c.key) (mid.entries c.key) e run (c.talks client sound) (λ d there of unbroken. talks c.key d there of unbroken);
+}
+
+pub all_closed_then : (l mid l' : Ledger) (first later : List Handled) → AreHandled l.core first mid.core → ((key device : ℕ) → Counts device (mid.entries key) → CameAs device first (l.entries key) (mid.entries key))
+    → ((key : ℕ) (d : Entry) → mid.entries key ≡ Some d → ClientTalk d.talk → d.broken ≡ false → TalkedAs l.core key first (l.entries key) d) → AllClosed l first mid → AllClosed mid later l' → AllClosed l (first ++ later) l'
+all_closed_then l mid l' first later run came talks p q = record {
+  more = p.more ++ q.more;
+  closed = q.closed ∙ (ap (λ (xs : List (Entry × Fate)). xs ++ q.more) p.closed ∙ append_assoc l.closed p.more q.more);
+  each = All-append (λ (it : Entry × Fate). ClosedAs l (first ++ later) it.0) p.more q.more
+      (All-weaker (λ (it : Entry × Fate). ClosedAs l first it.0) (λ (it : Entry × Fate). ClosedAs l (first ++ later) it.0) (λ it c. closed_more l first later it.0 c) p.more p.each)
+      (All-weaker (λ (it : Entry × Fate). ClosedAs mid later it.0) (λ (it : Entry × Fate). ClosedAs l (first ++ later) it.0) (λ it c. closed_behind l mid first later it.0 run came talks c) q.more q.each);
+}
+
+pub goes_then : (moment : ℕ) (l : Ledger) (front : List Happening) (mid : Ledger) (back : List Happening) (l' : Ledger) (hs : List Happening) → hs ≡ front ++ back → Goes moment l front mid → Goes moment mid back l' → Goes moment l hs l'
+goes_then moment l front mid back l' hs whole p q = record {
+  handled = p.handled ++ q.handled;
+  good = q.good;
+  run = handled_append l.core mid.core l'.core p.handled q.handled p.run q.run;
+  timed = All-append (λ (it : Handled). it.moment ≡ moment) p.handled q.handled p.timed q.timed;
+  told = ap core_notes whole ∙ (notes_append front back ∙ (ap (λ (ns : List Note). ns ++ core_notes back) p.told ∙ (ap (λ (ns : List Note). flat_map (λ (it : Handled). it.notes) p.handled ++ ns) q.told ∙ sym (flat_map-append (λ (it : Handled). it.notes) p.handled q.handled))));
+  came = λ key device counts. came_then device p.handled q.handled (l.entries key) (mid.entries key) (l'.entries key) (q.came key device counts) (p.came key device);
+  talks = λ key e is client sound. talked_then l.core mid.core key p.handled q.handled (l.entries key) (mid.entries key) e p.run (q.talks key e is client sound) (λ d there of unbroken. p.talks key d there of unbroken);
+  closed = all_closed_then l mid l' p.handled q.handled p.run p.came p.talks p.closed q.closed;
+}
+
+pub goes_calm : (moment : ℕ) (l : Ledger) (hs : List Happening) (l' : Ledger) → Good l → Calm l hs l' → Goes moment l hs l'
+goes_calm moment l hs l' good calm = record {
+  handled = [];
+  good = good_sent (λ device. []) l hs l' calm good;
+  run = calm.core;
+  timed = All-nil (λ (it : Handled). it.moment ≡ moment);
+  told = calm.notes;
+  came = λ key device counts. let it = (calm.each key).counts device counts in inl (it.0, it.1 ∙ append-nil (due_at (l.entries key)));
+  talks = λ key. talked_still l.core key [] (l.entries key) (l'.entries key) (calm.each key).stays refl;
+  closed = none_closed l [] l' calm.closed;
+}
+
+-- from one connection under a key to the next, also where a client's came or was closed: no device notices
+pub record Plain (x y : Option Entry) : Type 0 where
+  pub counts : (device : ℕ) → Counts device y → Counts device x × (due_at y ≡ due_at x)
+  pub device : (device : ℕ) → IsDevice device y → IsDevice device x
+  pub fresh : IsFresh x → IsFresh y
+
+by_test : (t : Bool) (x o y : Option Entry) → (t ≡ true → Plain x o) → (t ≡ false → Plain x y) → Plain x (if t then o else y)
+by_test true x o y p q = p refl
+by_test false x o y p q = q refl
+
+plain_at : (key : ℕ) (o : Option Entry) (entries : ℕ → Option Entry) → Plain (entries key) o → (other : ℕ) → Plain (entries other) (at_key key o entries other)
+plain_at key o entries here other =
+    by_test (other == key) (entries other) o (entries other) (λ is. subst (λ (k : ℕ). Plain (entries k) o) (sym (same_key other key is)) here) (λ is. record { counts = λ device counts. (counts, refl); device = λ device named. named; fresh = λ fresh. fresh })
+
+-- a connection came, or was closed
+pub goes_plain : (moment key : ℕ) (o : Option Entry) (l : Ledger) (hs : List Happening) (l' : Ledger) → Good l → core_notes hs ≡ [] → l'.core ≡ l.core → l'.entries ≡ at_key key o l.entries → Plain (l.entries key) o
+    → ((e : Entry) → o ≡ Some e → ClientTalk e.talk → e.broken ≡ false → TalkedAs l.core key [] (l.entries key) e) → AllClosed l [] l' → Goes moment l hs l'
+goes_plain moment key o l hs l' good silent core after here talks closed = record {
+  handled = [];
+  good = record {
+    one = λ device k other p q. good.one device k other ((each k).device device p) ((each other).device device q);
+    fresh = λ k. (each k).fresh (good.fresh k);
+  };
+  run = core;
+  timed = All-nil (λ (it : Handled). it.moment ≡ moment);
+  told = silent;
+  came = λ k device counts. inl ((each k).counts device counts);
+  talks = λ k e is. talked k e (k == key) refl (subst (λ (entries : ℕ → Option Entry). entries k ≡ Some e) after is);
+  closed = closed;
+}
+  where
+    talked : (k : ℕ) (e : Entry) (t : Bool) → (k == key) ≡ t → (if t then o else l.entries k) ≡ Some e → ClientTalk e.talk → e.broken ≡ false → TalkedAs l.core k [] (l.entries k) e
+    talked k e true same is client sound = subst (λ (j : ℕ). TalkedAs l.core j [] (l.entries j) e) (sym (same_key k key same)) (talks e is client sound)
+    talked k e false same is client sound = talked_still l.core k [] (l.entries k) (l.entries k) (λ f there of unbroken. (f, there, refl, unbroken, refl)) refl e is client sound
+
+    each : (k : ℕ) → Plain (l.entries k) (l'.entries k)
+    each k = subst (λ (entries : ℕ → Option Entry). Plain (l.entries k) (entries k)) (sym after) (plain_at key o l.entries here k)
+
+-- one event, as the core has it
+abbrev pub one_handled : (moment : ℕ) (event : Event) (outcome : Outcome) (hs : List Happening) (l' : Ledger) (named asked : Option ℕ) → Handled
+one_handled moment event outcome hs l' named asked = record { moment = moment; event = event; outcome = outcome; notes = core_notes hs; state = l'.core; named = named; asked = asked }
+
+good_one : (moment : ℕ) (event : Event) (outcome : Outcome) (l : Ledger) (hs : List Happening) (l' : Ledger) → Good l → Handles_one moment event outcome l hs l' → Good l'
+good_one moment event outcome l hs l' good it = record {
+  one = λ device key other p q. good.one device key other ((it.each key).device device p) ((it.each other).device device q);
+  fresh = λ key. (it.each key).fresh (good.fresh key);
+}
+
+pub goes_event : (moment : ℕ) (event : Event) (outcome : Outcome) (l : Ledger) (hs : List Happening) (l' : Ledger) → Good l → Handles_one moment event outcome l hs l' → Goes moment l hs l'
+goes_event moment event outcome l hs l' good it = record {
+  handled = one_handled moment event outcome hs l' None None ∷ [];
+  good = good_one moment event outcome l hs l' good it;
+  run = (tt, it.handles, refl);
+  timed = All-cons (λ (h : Handled). h.moment ≡ moment) (one_handled moment event outcome hs l' None None) [] refl (All-nil (λ (h : Handled). h.moment ≡ moment));
+  told = sym (append-nil (core_notes hs));
+  came = λ key device counts. inl ((it.each key).counts device counts);
+  talks = λ key. talked_still l.core key (one_handled moment event outcome hs l' None None ∷ []) (l.entries key) (l'.entries key) (it.each key).stays refl;
+  closed = none_closed l (one_handled moment event outcome hs l' None None ∷ []) l' it.closed;
+}
+
+-- ---- a device's name
+
+-- The device of a connection is to say its name: nothing is due on it, and of all others it is as it was or grew.
+pub record Awaits (moment device key : ℕ) (l : Ledger) (hs : List Happening) (l' : Ledger) : Type 0 where
+  pub handled : List Handled
+  pub good : Good l'
+  pub run : AreHandled l.core handled l'.core
+  pub timed : AreAt moment handled
+  pub told : core_notes hs ≡ flat_map (λ (it : Handled). it.notes) handled
+  pub only : (other : ℕ) → IsDevice device (l'.entries other) → other ≡ key
+  pub due : Counts device (l'.entries key) → due_at (l'.entries key) ≡ []
+  pub came : (other of : ℕ) → (device == of) ≡ false → Counts of (l'.entries other) → CameAs of handled (l.entries other) (l'.entries other)
+  pub talks : (other : ℕ) (e : Entry) → l'.entries other ≡ Some e → ClientTalk e.talk → e.broken ≡ false → TalkedAs l.core other handled (l.entries other) e
+  pub closed : l'.closed ≡ l.closed
+
+-- an event that sends nothing to it
+pub awaits_event : (moment device key : ℕ) (event : Event) (outcome : Outcome) (l : Ledger) (front : List Happening) (mid : Ledger) (back : List Happening) (l' : Ledger) (hs : List Happening) → hs ≡ front ++ back
+    → Awaits moment device key l front mid → Handles_one moment event outcome mid back l' → sent_by outcome l'.core device ≡ [] → Awaits moment device key l hs l'
+awaits_event moment device key event outcome l front mid back l' hs whole p it none =
+    let q = goes_event moment event outcome mid back l' p.good it in
+    record {
+      handled = p.handled ++ q.handled;
+      good = q.good;
+      run = handled_append l.core mid.core l'.core p.handled q.handled p.run q.run;
+      timed = All-append (λ (h : Handled). h.moment ≡ moment) p.handled q.handled p.timed q.timed;
+      told = ap core_notes whole ∙ (notes_append front back ∙ (ap (λ (ns : List Note). ns ++ core_notes back) p.told ∙ (ap (λ (ns : List Note). flat_map (λ (h : Handled). h.notes) p.handled ++ ns) q.told ∙ sym (flat_map-append (λ (h : Handled). h.notes) p.handled q.handled))));
+      only = λ other is. p.only other ((it.each other).device device is);
+      due = λ counts.
+          let was = (it.each key).counts device counts in
+          was.1 ∙ (ap (λ (bytes : List ℕ). bytes ++ sent_by outcome l'.core device) (p.due was.0) ∙ none);
+      came = λ other of apart counts. came_then of p.handled q.handled (l.entries other) (mid.entries other) (l'.entries other) (q.came other of counts) (p.came other of apart);
+      talks = λ other e is client sound. talked_then l.core mid.core other p.handled q.handled (l.entries other) (mid.entries other) e p.run (q.talks other e is client sound) (λ d there of unbroken. p.talks other d there of unbroken);
+      closed = it.closed ∙ p.closed;
+    }
+
+-- it says its name
+pub awaits_named : (moment device key : ℕ) (name : List ℕ) (outcome : Outcome) (l : Ledger) (front : List Happening) (mid : Ledger) (back : List Happening) (l' : Ledger) (hs : List Happening) → hs ≡ front ++ back
+    → Awaits moment device key l front mid → Handles_one moment (Is.Report device (report.Hello name)) outcome mid back l' → Goes moment l hs l'
+awaits_named moment device key name outcome l front mid back l' hs whole p it = record {
+  handled = p.handled ++ last ∷ [];
+  good = good_one moment (Is.Report device (report.Hello name)) outcome mid back l' p.good it;
+  run = handled_append l.core mid.core l'.core p.handled (last ∷ []) p.run ((name, refl), it.handles, refl);
+  timed = All-append (λ (h : Handled). h.moment ≡ moment) p.handled (last ∷ []) p.timed (All-cons (λ (h : Handled). h.moment ≡ moment) last [] refl (All-nil (λ (h : Handled). h.moment ≡ moment)));
+  told = ap core_notes whole ∙ (notes_append front back ∙ (ap (λ (ns : List Note). ns ++ core_notes back) p.told ∙ (ap (λ (ns : List Note). flat_map (λ (h : Handled). h.notes) p.handled ++ ns) (sym (append-nil (core_notes back))) ∙ sym (flat_map-append (λ (h : Handled). h.notes) p.handled (last ∷ [])))));
+  came = λ other of counts. by other of counts (device == of) refl;
+  talks = λ other e is client sound.
+      talked_then l.core mid.core other p.handled (last ∷ []) (l.entries other) (mid.entries other) e p.run (talked_still mid.core other (last ∷ []) (mid.entries other) (l'.entries other) (it.each other).stays refl e is client sound)
+      (λ d there of unbroken. p.talks other d there of unbroken);
+  closed = none_closed l (p.handled ++ last ∷ []) l' (it.closed ∙ p.closed);
+}
+  where
+    last : Handled
+    last = one_handled moment (Is.Report device (report.Hello name)) outcome back l' (Some device) None
+
+    -- the name is this device's, or another's
+    name_test : (of : ℕ) (t : Bool) (before : List ℕ) → (device == of) ≡ t → due_by of before (last ∷ []) ≡ (if t then [] else before) ++ sent_by outcome l'.core of
+    name_test of t before same = ap (λ (s : Bool). (if s then [] else before) ++ sent_by outcome l'.core of) same
+
+    is_named : (of : ℕ) → (device == of) ≡ true → has_named of (p.handled ++ last ∷ []) ≡ true
+    is_named of same = named_append of p.handled (last ∷ []) ∙ or_right (has_named of p.handled) (has_named of (last ∷ [])) (or_left (device == of) false same)
+
+    by : (other of : ℕ) → Counts of (l'.entries other) → (t : Bool) → (device == of) ≡ t → CameAs of (p.handled ++ last ∷ []) (l.entries other) (l'.entries other)
+    by other of counts true same =
+        let was = (it.each other).counts of counts in
+        let this : Counts device (mid.entries other) = subst (λ (d : ℕ). Counts d (mid.entries other)) (sym (same_key device of same)) was.0 in
+        let here : other ≡ key = p.only other (counts_device device (mid.entries other) this) in
+        let none : due_at (mid.entries other) ≡ [] = subst (λ (k : ℕ). due_at (mid.entries k) ≡ []) (sym here) (p.due (subst (λ (k : ℕ). Counts device (mid.entries k)) here this)) in
+        let sent : due_at (l'.entries other) ≡ sent_by outcome l'.core of = was.1 ∙ ap (λ (bytes : List ℕ). bytes ++ sent_by outcome l'.core of) none in
+        inr (is_named of same, sent ∙ (sym (name_test of true (due_by of [] p.handled) same) ∙ sym (due_append of [] p.handled (last ∷ []))))
+    by other of counts false same =
+        let was = (it.each other).counts of counts in
+        came_then of p.handled (last ∷ []) (l.entries other) (mid.entries other) (l'.entries other) (inl (was.0, was.1 ∙ sym (name_test of false (due_at (mid.entries other)) same))) (p.came other of same)
+
+-- ---- a device that is gone is sent nothing
+
+first_at : (classes : List PlannedClass) (place : ℕ) (start : Started) → first_of classes place ≡ Some start → start.device ≡ place
+first_at [] place start is = cc
+first_at (class ∷ classes) place start is = by_queue (queue_of class.priced.way place) (λ later. first_at classes place start later) is
+  where
+    by_queue : (jobs : List ℕ) → (first_of classes place ≡ Some start → start.device ≡ place) → or_next (first_of_queue class place jobs) (first_of classes place) ≡ Some start → start.device ≡ place
+    by_queue [] later is = later is
+    by_queue (job ∷ jobs) later is = cc
+
+start_elsewhere : (state : State) (device place : ℕ) (o : Option Started) → ((start : Started) → o ≡ Some start → start.device ≡ place) → place ≢ device → flat_map (start_for device state) (option_to_list o) ≡ []
+start_elsewhere state device place None at apart = refl
+start_elsewhere state device place (Some start) at apart = ap (λ (t : Bool). (if t then job_bytes state start.job else []) ++ []) (not_key start.device device (λ same. apart (sym (at start refl) ∙ same)))
+
+first_if : (t : Bool) (classes : List PlannedClass) (place : ℕ) (start : Started) → (if t then first_of classes place else None) ≡ Some start → start.device ≡ place
+first_if true classes place start is = first_at classes place start is
+first_if false classes place start is = cc
+
+-- the starts of one device, and of those behind it
+starts_cons : (state : State) (now : ℕ) (classes : List PlannedClass) (place : ℕ) (it : Device) (devices : List Device) (device : ℕ)
+    → flat_map (start_for device state) (option_to_list (if is_free now it then first_of classes place else None)) ≡ [] → flat_map (start_for device state) (starts_from now classes (suc place) devices) ≡ [] → flat_map (start_for device state) (starts_from now classes place (it ∷ devices)) ≡ []
+starts_cons state now classes place it devices device head rest =
+    flat_map-append (start_for device state) (option_to_list (if is_free now it then first_of classes place else None)) (starts_from now classes (suc place) devices)
+    ∙ (ap (λ (bytes : List ℕ). bytes ++ flat_map (start_for device state) (starts_from now classes (suc place) devices)) head ∙ rest)
+
+beside : (state : State) (now : ℕ) (classes : List PlannedClass) (place : ℕ) (it : Device) (device : ℕ) → place ≢ device → flat_map (start_for device state) (option_to_list (if is_free now it then first_of classes place else None)) ≡ []
+beside state now classes place it device apart = start_elsewhere state device place (if is_free now it then first_of classes place else None) (first_if (is_free now it) classes place) apart
+
+beyond : (state : State) (now : ℕ) (classes : List PlannedClass) (place : ℕ) (devices : List Device) (device : ℕ) → device < place → flat_map (start_for device state) (starts_from now classes place devices) ≡ []
+beyond state now classes place [] device less = refl
+beyond state now classes place (it ∷ devices) device less =
+    starts_cons state now classes place it devices device (beside state now classes place it device (λ same. omega (arith, less, same))) (beyond state now classes (suc place) devices device (omega (arith, less)))
+
+-- none begins on a device that isn't free
+none_begins : (state : State) (now : ℕ) (classes : List PlannedClass) (change : Device → Device) → ((it : Device) → is_free now (change it) ≡ false) → (place device at : ℕ) (devices : List Device) → at ≡ place + device
+    → flat_map (start_for at state) (starts_from now classes place (with_device device change devices)) ≡ []
+none_begins state now classes change never place zero at [] is = refl
+none_begins state now classes change never place (suc device) at [] is = refl
+none_begins state now classes change never place zero at (it ∷ devices) is =
+    starts_cons state now classes place (change it) devices at (ap (λ (t : Bool). flat_map (start_for at state) (option_to_list (if t then first_of classes place else None))) (never it)) (beyond state now classes (suc place) devices at (omega (arith, is)))
+none_begins state now classes change never place (suc device) at (it ∷ devices) is =
+    starts_cons state now classes place it (with_device device change devices) at (beside state now classes place it at (λ same. omega (arith, is, same))) (none_begins state now classes change never (suc place) device at devices (omega (arith, is)))
+
+-- nor at a place that no device has
+none_there : (state : State) (now : ℕ) (classes : List PlannedClass) (place device at : ℕ) (devices : List Device) → at ≡ place + device → slice_get devices device ≡ None → flat_map (start_for at state) (starts_from now classes place devices) ≡ []
+none_there state now classes place device at [] is none = refl
+none_there state now classes place zero at (it ∷ devices) is none = cc
+none_there state now classes place (suc device) at (it ∷ devices) is none =
+    starts_cons state now classes place it devices at (beside state now classes place it at (λ same. omega (arith, is, same))) (none_there state now classes (suc place) device at devices (omega (arith, is)) none)
+
+gone_never_free : (now later : ℕ) (activity : Activity) (it : Device) → is_free later (refitted now report.Gone (stopped_at now (idle activity)) it) ≡ false
+gone_never_free now later (Running printing) it = refl
+gone_never_free now later (Stopped interrupted) it = refl
+
+gone_begins : (state : State) (now later device : ℕ) (classes : List PlannedClass) (old mid : State) (documents : List DocumentRecord) → Reports now device report.Gone old documents mid → flat_map (start_for device state) (starts_from later classes 0 mid.devices) ≡ []
+gone_begins state now later device classes old mid documents is = by (slice_get old.devices device) refl is
+  where
+    by : (o : Option Device) → slice_get old.devices device ≡ o
+        → MatchOption o ((mid ≡ record old { last = now }) × (documents ≡ [])) (λ it. (mid ≡ state_after now device report.Gone it old) × (documents ≡ documents_out (job_on it.activity) (said_of_job report.Gone it.activity) old.spool.jobs))
+        → flat_map (start_for device state) (starts_from later classes 0 mid.devices) ≡ []
+    by None there same = subst (λ (devices : List Device). flat_map (start_for device state) (starts_from later classes 0 devices) ≡ []) (sym (ap (λ (s : State). s.devices) same.0)) (none_there state later classes 0 device device old.devices (omega arith) there)
+    by (Some it) there same =
+        subst (λ (devices : List Device). flat_map (start_for device state) (starts_from later classes 0 devices) ≡ []) (sym (ap (λ (s : State). s.devices) same.0))
+        (none_begins state later classes (refitted now report.Gone (stopped_at now (idle it.activity))) (gone_never_free now later it.activity) 0 device device old.devices (omega arith))
+
+no_cancel : (device : ℕ) (cancels : List Cancel) (starts : List Started) (state : State) → cancels ≡ [] → flat_map (start_for device state) starts ≡ [] → flat_map (cancel_for device) cancels ++ flat_map (start_for device state) starts ≡ []
+no_cancel device cancels starts state none begins = ap (λ (xs : List Cancel). flat_map (cancel_for device) xs ++ flat_map (start_for device state) starts) none ∙ begins
+
+pub gone_sends_none : (moment device : ℕ) (old : State) (outcome : Outcome) (notes : List Note) (new : State) → Handles moment (Is.Report device report.Gone) old outcome notes new → sent_by outcome new device ≡ []
+gone_sends_none moment device old Dropped notes new it = refl
+gone_sends_none moment device old (Queried reply) notes new it = no_cancel device reply.cancels.items [] new it.1.cancels refl
+gone_sends_none moment device old (Undispatched reply) notes new it = no_cancel device reply.cancels.items [] new it.1.cancels refl
+gone_sends_none moment device old (Idle reply) notes new (asks, mid, step, rest, same) = no_cancel device reply.cancels.items [] new step.cancels refl
+gone_sends_none moment device old (Dispatched reply) notes new (asks, mid, step, plan, rest, same) =
+    no_cancel device reply.cancels.items new.begun new step.cancels
+    (subst (λ (starts : List Started). flat_map (start_for device new) starts ≡ []) (sym rest.2) (gone_begins new (max moment old.last) (max moment mid.last) device plan.classes old mid reply.documents.items step.reports))

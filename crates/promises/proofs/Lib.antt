@@ -1,0 +1,20 @@
+mod Range
+pub mod Alike
+pub mod Due
+pub mod Events
+pub mod Answers
+pub mod Acts
+pub mod Turns
+pub mod Calls
+pub mod Typing
+pub mod Sending
+pub mod Handling
+pub mod Giving
+pub mod Moving
+pub mod Stepping
+pub mod Naming
+pub mod Coming
+pub mod Linking
+pub mod Sparing
+pub mod Carrying
+pub mod Hearing

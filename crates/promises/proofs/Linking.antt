@@ -1,0 +1,316 @@
+-- A turn, a call between turns, and a trace: what is due on the connections of devices and clients by them.
+use Rattle.std.proofs.Common.{◌≡◌, ℕ, Bool, true, false, List, [], ◌∷◌, ◌++◌, length, take, refl, sym, ◌∙◌, ap, subst, Option, Some, None, inl, inr, All}
+use Rattle.std.specs.Prelude.{nat_lt}
+use Rattle.std.specs.List.{flat_map}
+use Rattle.std.proofs.lemmas.Grind.{flat_map-append}
+use Rattle.std.proofs.lemmas.List.Elements.{All-nil, All-weaker}
+use Rattle.base_types.specs.declared.limits.TheConstants.Limits.{CONNECTIONS}
+use Rattle.print_room.specs.State.{State}
+use Rattle.events.specs.declared.event.Event.TheVariants as Is
+use Rattle.events.specs.declared.reply.Reply.{Reply}
+use Rattle.dispatcher.specs.declared.listener.Place.TheVariants as At
+use Rattle.dispatcher.specs.Notes.{Note}
+use Rattle.dispatcher.specs.Run.{reply_of}
+use Rattle.requests.specs.declared.asked.Asked.{Asked}
+use Rattle.requests.specs.declared.asked.Asked.TheVariants as asked
+use Rattle.wires.specs.Poll.{Poll, Accepts, Reads, Writes}
+use Rattle.wires.specs.declared.wire.Answer.{Answer as WireAnswer}
+use Rattle.wires.specs.declared.wire.Answer.TheVariants as wire
+use Rattle.wires.specs.declared.wire.Door.{Door}
+use Rattle.wires.specs.declared.wire.Door.TheVariants.{Ipp, Lpd, Devices}
+use Rattle.connections.specs.Session.{heard}
+use Rattle.connections.specs.Entry.{Entry, opening_entry, broken, reading, waiting}
+use Rattle.connections.specs.Asking.{IsHeard}
+use Rattle.server.specs.Polls.{Happening, Found, Looked}
+use Rattle.server.specs.Ledger.{Ledger, Fate, Drained, opening_ledger}
+use Rattle.server.specs.Rel.{Rel, Nothing, Polls, Chooses, Then, If, Each}
+use Rattle.server.specs.Keeping.{Sets, Breaks, Drops}
+use Rattle.server.specs.Happening.{now_at, Happens, Unanswered}
+use Rattle.server.specs.Closing.{ClosesAs, Settles}
+use Rattle.server.specs.Polling.{Opens, AcceptsAs, AcceptsOne, AcceptsAt, FedWhole, FeedsAt, FeedsOne, Fails, ReadsAs, ReadsOpen, ReadsAt, is_read, ReadsOne, WritesAs, WritesOpen, WritesAt, WritesOne, is_done, EndsAt, EndsOne}
+use Rattle.server.specs.Turn as Between
+use Rattle.server.specs.Turn.{Ticks, Notes, is_tick_due, TicksIfDue, Covers, Rounds, Round, Turn, BodyAsks, BodyComes, Deed, Turned, Served_body, Reported, Ticked, Trace, DoesDeed, Runs}
+use Rattle.server.specs.Law.{core_notes, moment_of, happenings_of, happenings_in}
+use Rattle.promises.specs.Orders.{Handled, AreHandled, AreOf, due_by, AreSent, WasSent}
+use Rattle.promises.specs.Answers.{Act, ClientTalk, IsStateOf, IsAnswered, WasAnswered, AreAnswered}
+use Rattle.promises.proofs.Sending.{Counts, due_at, Ordered, ordered_still, ordered_keeps, Calm, notes_append, calm_still, calm_sets, breaking, Good, one_entry}
+use Rattle.promises.proofs.Handling.{Plain, goes_plain, CameAs, Goes, handled_append, came_then, goes_then, goes_calm, TalkedAs, talked_then, talked_still, ClosedAs, AllClosed, none_closed, all_closed_then}
+use Rattle.promises.proofs.Giving.{Calms, calms_nothing, calms_chooses, calms_refusal, calms_breaks}
+use Rattle.promises.proofs.Moving.{Moves, moves_calm, moves_then, moves_if, moves_each, moves_happens, moves_unanswered, closes_at, moves_settles}
+use Rattle.promises.proofs.Coming.{moves_serves}
+
+-- ---- reads
+
+-- a connection changes in what no device notices
+abbrev pub Keeping : Entry → Entry → Type 0
+Keeping d e = (e.talk ≡ d.talk) × (e.broken ≡ d.broken) × (e.due ≡ d.due)
+
+pub moves_sets : (moment key : ℕ) (d e : Entry) (l : Ledger) (hs : List Happening) (l' : Ledger) → Good l → l.entries key ≡ Some d → Keeping d e → Sets key e l hs l' → Goes moment l hs l'
+moves_sets moment key d e l hs l' good there keeps it = goes_calm moment l hs l' good (calm_sets key d e l hs l' there (ordered_keeps d e keeps.0 keeps.1 keeps.2) (ap core_notes it.0) it.1)
+
+pub moves_drops : (moment key : ℕ) (e : Entry) (l : Ledger) (hs : List Happening) (l' : Ledger) → Good l → l.entries key ≡ Some e → Drops At.Feed key e l hs l' → Goes moment l hs l'
+moves_drops moment key e l hs l' good there it = goes_calm moment l hs l' good (calm_sets key e (broken e) l hs l' there (breaking e) (ap core_notes it.0) it.1)
+
+pub fed_whole : (moment key : ℕ) (e : Entry) (bytes : List ℕ) (l : Ledger) (hs : List Happening) (l' : Ledger) → Good l → l.entries key ≡ Some e → FedWhole moment key e bytes l hs l' → Goes moment l hs l'
+fed_whole moment key e bytes l hs l' good there (inl it) =
+    let first = moves_sets moment key e (reading bytes e) l it.front it.mid good there (refl, refl, refl) it.first in
+    goes_then moment l it.front it.mid it.back l' hs it.whole first (moves_serves moment key it.mid it.back l' first.good it.second)
+fed_whole moment key e bytes l hs l' good there (inr it) =
+    let first = moves_drops moment key e l it.front it.mid good there it.first in
+    goes_then moment l it.front it.mid it.back l' hs it.whole first (moves_settles moment it.mid it.back l' first.good it.second)
+
+pub fed_open : (t : Bool) (moment key : ℕ) (e : Entry) (bytes : List ℕ) (l : Ledger) (hs : List Happening) (l' : Ledger) → Good l → l.entries key ≡ Some e → If t (Sets key e) (FedWhole moment key e bytes) l hs l' → Goes moment l hs l'
+fed_open true moment key e bytes l hs l' good there it = moves_sets moment key e e l hs l' good there (refl, refl, refl) it
+fed_open false moment key e bytes l hs l' good there it = fed_whole moment key e bytes l hs l' good there it
+
+pub feeds_at : (moment key : ℕ) (bytes : List ℕ) (o : Option Entry) (l : Ledger) (hs : List Happening) (l' : Ledger) → Good l → l.entries key ≡ o → FeedsAt moment key bytes o l hs l' → Goes moment l hs l'
+feeds_at moment key bytes None l hs l' good there it = goes_calm moment l hs l' good (calms_nothing l hs l' it)
+feeds_at moment key bytes (Some e) l hs l' good there it = fed_open e.over moment key e bytes l hs l' good there it
+
+pub moves_feeds : (moment key : ℕ) (bytes : List ℕ) → Moves moment (FeedsOne moment key bytes)
+moves_feeds moment key bytes l hs l' good it = feeds_at moment key bytes (l.entries key) l hs l' good refl it
+
+pub moves_fails : (moment key : ℕ) → Moves moment (Fails moment key)
+moves_fails moment key = moves_then moment (Breaks key) (Settles moment) (moves_calm moment (Breaks key) (calms_breaks key)) (moves_settles moment)
+
+pub calms_poll : (R : Rel) → ((l : Ledger) (hs : List Happening) (l' : Ledger) → R l hs l' → (core_notes hs ≡ []) × (l' ≡ l)) → Calms R
+calms_poll R is l hs l' it = let same = is l hs l' it in calm_still l hs l' same.0 same.1
+
+pub polled_then : (moment : ℕ) (R : Rel) (l : Ledger) (hs : List Happening) (l' : Ledger) → Good l → (poll : Poll) → (it : Then (Polls poll) R l hs l') → ((mid : Ledger) → mid ≡ l → R mid it.back l' → Goes moment mid it.back l') → Goes moment l hs l'
+polled_then moment R l hs l' good poll it goes =
+    goes_then moment l it.front it.mid it.back l' hs it.whole (goes_calm moment l it.front it.mid good (calm_still l it.front it.mid (ap core_notes it.first.0) it.first.1)) (goes it.mid it.first.1 it.second)
+
+pub good_at : (l mid : Ledger) → mid ≡ l → Good l → Good mid
+good_at l mid same good = subst Good (sym same) good
+
+pub reads_as : (moment key : ℕ) (e : Entry) (answer : WireAnswer (List ℕ)) (l : Ledger) (hs : List Happening) (l' : Ledger) → Good l → l.entries key ≡ Some e → ReadsAs moment key e answer l hs l' → Goes moment l hs l'
+reads_as moment key e (wire.Done bytes) l hs l' good there it = polled_then moment (FeedsOne moment key bytes) l hs l' good (Reads e.id (wire.Done bytes)) it (λ mid same more. moves_feeds moment key bytes mid it.back l' (good_at l mid same good) more)
+reads_as moment key e wire.Waiting l hs l' good there it = goes_calm moment l hs l' good (calm_still l hs l' (ap core_notes it.0) it.1)
+reads_as moment key e wire.End l hs l' good there it =
+    polled_then moment (Sets key (record e { ended = true })) l hs l' good (Reads e.id wire.End) it
+    (λ mid same more. moves_sets moment key e (record e { ended = true }) mid it.back l' (good_at l mid same good) (ap (λ (x : Ledger). x.entries key) same ∙ there) (refl, refl, refl) more)
+reads_as moment key e wire.Fault l hs l' good there it = polled_then moment (Fails moment key) l hs l' good (Reads e.id wire.Fault) it (λ mid same more. moves_fails moment key mid it.back l' (good_at l mid same good) more)
+
+pub reads_if : (t : Bool) (moment key : ℕ) (e : Entry) (l : Ledger) (hs : List Happening) (l' : Ledger) → Good l → l.entries key ≡ Some e → If t (ReadsOpen moment key e) Nothing l hs l' → Goes moment l hs l'
+reads_if true moment key e l hs l' good there (answer, piece, it) = reads_as moment key e answer l hs l' good there it
+reads_if false moment key e l hs l' good there it = goes_calm moment l hs l' good (calms_nothing l hs l' it)
+
+pub reads_at : (moment key : ℕ) (o : Option Entry) (l : Ledger) (hs : List Happening) (l' : Ledger) → Good l → l.entries key ≡ o → ReadsAt moment key o l hs l' → Goes moment l hs l'
+reads_at moment key None l hs l' good there it = goes_calm moment l hs l' good (calms_nothing l hs l' it)
+reads_at moment key (Some e) l hs l' good there it = reads_if (is_read e) moment key e l hs l' good there it
+
+pub moves_reads : (moment key : ℕ) → Moves moment (ReadsOne moment key)
+moves_reads moment key l hs l' good it = reads_at moment key (l.entries key) l hs l' good refl it
+
+-- ---- writes, and closings that are not at once
+
+pub writes_as : (moment key : ℕ) (e : Entry) (offered : List ℕ) (answer : WireAnswer ℕ) (l : Ledger) (hs : List Happening) (l' : Ledger) → Good l → l.entries key ≡ Some e → WritesAs moment key e offered answer l hs l' → Goes moment l hs l'
+writes_as moment key e offered (wire.Done n) l hs l' good there it =
+    polled_then moment (Sets key (record e { taken = e.taken ++ take n offered })) l hs l' good (Writes e.id offered (wire.Done n)) it
+    (λ mid same more. moves_sets moment key e (record e { taken = e.taken ++ take n offered }) mid it.back l' (good_at l mid same good) (ap (λ (x : Ledger). x.entries key) same ∙ there) (refl, refl, refl) more)
+writes_as moment key e offered wire.Waiting l hs l' good there it = goes_calm moment l hs l' good (calm_still l hs l' (ap core_notes it.0) it.1)
+writes_as moment key e offered wire.End l hs l' good there it = polled_then moment (Fails moment key) l hs l' good (Writes e.id offered wire.End) it (λ mid same more. moves_fails moment key mid it.back l' (good_at l mid same good) more)
+writes_as moment key e offered wire.Fault l hs l' good there it = polled_then moment (Fails moment key) l hs l' good (Writes e.id offered wire.Fault) it (λ mid same more. moves_fails moment key mid it.back l' (good_at l mid same good) more)
+
+pub writes_if : (t : Bool) (moment key : ℕ) (e : Entry) (l : Ledger) (hs : List Happening) (l' : Ledger) → Good l → l.entries key ≡ Some e → If t (WritesOpen moment key e) Nothing l hs l' → Goes moment l hs l'
+writes_if true moment key e l hs l' good there (offered, front, answer, it) = writes_as moment key e offered answer l hs l' good there it
+writes_if false moment key e l hs l' good there it = goes_calm moment l hs l' good (calms_nothing l hs l' it)
+
+pub writes_at : (moment key : ℕ) (o : Option Entry) (l : Ledger) (hs : List Happening) (l' : Ledger) → Good l → l.entries key ≡ o → WritesAt moment key o l hs l' → Goes moment l hs l'
+writes_at moment key None l hs l' good there it = goes_calm moment l hs l' good (calms_nothing l hs l' it)
+writes_at moment key (Some e) l hs l' good there it = writes_if (nat_lt 0 (length (waiting e))) moment key e l hs l' good there it
+
+pub moves_writes : (moment key : ℕ) → Moves moment (WritesOne moment key)
+moves_writes moment key l hs l' good it = writes_at moment key (l.entries key) l hs l' good refl it
+
+pub ends_if : (t : Bool) (moment key : ℕ) (e : Entry) (l : Ledger) (hs : List Happening) (l' : Ledger) → Good l → l.entries key ≡ Some e → If t (Then (ClosesAs moment Drained key e) (Settles moment)) Nothing l hs l' → Goes moment l hs l'
+ends_if true moment key e l hs l' good there it =
+    let first = closes_at moment Drained key e l it.front it.mid good there it.first in
+    goes_then moment l it.front it.mid it.back l' hs it.whole first (moves_settles moment it.mid it.back l' first.good it.second)
+ends_if false moment key e l hs l' good there it = goes_calm moment l hs l' good (calms_nothing l hs l' it)
+
+pub ends_at : (moment key : ℕ) (o : Option Entry) (l : Ledger) (hs : List Happening) (l' : Ledger) → Good l → l.entries key ≡ o → EndsAt moment key o l hs l' → Goes moment l hs l'
+ends_at moment key None l hs l' good there it = goes_calm moment l hs l' good (calms_nothing l hs l' it)
+ends_at moment key (Some e) l hs l' good there it = ends_if (is_done e) moment key e l hs l' good there it
+
+pub moves_ends : (moment key : ℕ) → Moves moment (EndsOne moment key)
+moves_ends moment key l hs l' good it = ends_at moment key (l.entries key) l hs l' good refl it
+
+-- ---- accepts
+
+pub opening_plain : (door : Door) (id : ℕ) (x : Option Entry) → x ≡ None → Plain x (Some (opening_entry door id))
+opening_plain Ipp id x is = record { counts = λ device counts. cc; device = λ device named. cc; fresh = λ fresh. tt }
+opening_plain Lpd id x is = record { counts = λ device counts. cc; device = λ device named. cc; fresh = λ fresh. tt }
+opening_plain Devices id x is = record { counts = λ device counts. cc; device = λ device named. cc; fresh = λ fresh none. refl }
+
+-- a client's connection begins with nothing said, asked or due
+pub opening_talks : (core : State) (door : Door) (id key : ℕ) (x : Option Entry) (e : Entry) → Some (opening_entry door id) ≡ Some e → ClientTalk e.talk → e.broken ≡ false → TalkedAs core key [] x e
+opening_talks core door id key x e is of sound =
+    let this : opening_entry door id ≡ e = one_entry (opening_entry door id) e is in
+    inr (record {
+      earlier = [];
+      since = [];
+      whole = refl;
+      door = door;
+      acts = [];
+      are = ap (λ (y : Entry). y.talk) (sym this);
+      states = All-nil (λ (a : Act). IsStateOf a.state core []);
+      asked = refl;
+      due = ap (λ (y : Entry). y.due) (sym this);
+    })
+
+pub moves_opens : (moment : ℕ) (door : Door) (id : ℕ) → Moves moment (Opens door id)
+moves_opens moment door id l hs l' good (inl (key, free, is, after)) =
+    goes_plain moment key (Some (opening_entry door id)) l hs l' good (ap core_notes is) (ap (λ (x : Ledger). x.core) after) (ap (λ (x : Ledger). x.entries) after) (opening_plain door id (l.entries key) free) (opening_talks l.core door id key (l.entries key)) (none_closed l [] l' (ap (λ (x : Ledger). x.closed) after))
+moves_opens moment door id l hs l' good (inr it) = goes_calm moment l hs l' good (calm_still l hs l' (ap core_notes it.0) it.1)
+
+pub accepts_as : (moment : ℕ) (door : Door) (answer : WireAnswer ℕ) → Moves moment (AcceptsAs door answer)
+accepts_as moment door (wire.Done id) l hs l' good it =
+    polled_then moment (Opens door id) l hs l' good (Accepts door (wire.Done id)) it (λ mid same more. moves_opens moment door id mid it.back l' (good_at l mid same good) more)
+accepts_as moment door wire.Waiting l hs l' good it = goes_calm moment l hs l' good (calm_still l hs l' (ap core_notes it.0) it.1)
+accepts_as moment door wire.End l hs l' good it = goes_calm moment l hs l' good (calm_still l hs l' (ap core_notes it.0) it.1)
+accepts_as moment door wire.Fault l hs l' good it = goes_calm moment l hs l' good (calm_still l hs l' (ap core_notes it.0) it.1)
+
+pub moves_accepts : (moment : ℕ) (door : Door) → Moves moment (AcceptsAt door)
+moves_accepts moment door l hs l' good it =
+    moves_if moment (nat_lt l.count CONNECTIONS) (AcceptsOne door) Nothing (λ a ks b fine one. accepts_as moment door one.0 a ks b fine one.1) (moves_calm moment Nothing calms_nothing) l hs l' good it
+
+-- ---- turns, and calls between them
+
+pub notes_good : (now : ℕ) (l : Ledger) (hs : List Happening) (l' : Ledger) → Notes now l hs l' → Calm l hs l'
+notes_good now l hs l' it = record {
+  core = ap (λ (x : Ledger). x.core) it.1;
+  closed = ap (λ (x : Ledger). x.closed) it.1;
+  notes = ap core_notes it.0;
+  each = λ key. subst (λ (x : Ledger). Ordered (λ d. []) (l.entries key) (x.entries key)) (sym it.1) (ordered_still (l.entries key));
+}
+
+pub moves_ticks : (moment : ℕ) → Moves moment (Ticks moment)
+moves_ticks moment l hs l' good it = moves_then moment (Notes (now_at moment l)) (Unanswered moment Is.Tick) (moves_calm moment (Notes (now_at moment l)) (notes_good (now_at moment l))) (moves_unanswered moment Is.Tick) l hs l' good it
+
+pub moves_tick : (moment : ℕ) → Moves moment (TicksIfDue moment)
+moves_tick moment l hs l' good it =
+    moves_if moment (is_tick_due moment l) (Then (Ticks moment) (Settles moment)) Nothing (moves_then moment (Ticks moment) (Settles moment) (moves_ticks moment) (moves_settles moment)) (moves_calm moment Nothing calms_nothing) l hs l' good it
+
+pub covers_calm : (n : ℕ) → Calms (Covers n)
+covers_calm n l hs l' it = calms_chooses (Looked n) l hs l' it.1
+
+pub moves_round : (moment : ℕ) → Moves moment (Round moment)
+moves_round moment l hs l' good (n, it) =
+    moves_then moment (Covers n) (Then (Each n (ReadsOne moment)) (Then (Each n (WritesOne moment)) (Each n (EndsOne moment)))) (moves_calm moment (Covers n) (covers_calm n))
+    (moves_then moment (Each n (ReadsOne moment)) (Then (Each n (WritesOne moment)) (Each n (EndsOne moment))) (moves_each moment n (ReadsOne moment) (moves_reads moment))
+    (moves_then moment (Each n (WritesOne moment)) (Each n (EndsOne moment)) (moves_each moment n (WritesOne moment) (moves_writes moment)) (moves_each moment n (EndsOne moment) (moves_ends moment)))) l hs l' good it
+
+pub moves_turn : (moment : ℕ) → Moves moment (Turn moment)
+moves_turn moment =
+    moves_then moment (Settles moment) (Then (TicksIfDue moment) (Then (AcceptsAt Ipp) (Then (AcceptsAt Lpd) (Then (AcceptsAt Devices) (Round moment))))) (moves_settles moment)
+    (moves_then moment (TicksIfDue moment) (Then (AcceptsAt Ipp) (Then (AcceptsAt Lpd) (Then (AcceptsAt Devices) (Round moment)))) (moves_tick moment)
+    (moves_then moment (AcceptsAt Ipp) (Then (AcceptsAt Lpd) (Then (AcceptsAt Devices) (Round moment))) (moves_accepts moment Ipp)
+    (moves_then moment (AcceptsAt Lpd) (Then (AcceptsAt Devices) (Round moment)) (moves_accepts moment Lpd) (moves_then moment (AcceptsAt Devices) (Round moment) (moves_accepts moment Devices) (moves_round moment)))))
+
+pub between_answers : (request : ℕ) (reply : Option Reply) (bytes : List ℕ) → Calms (Between.Answers request reply bytes)
+between_answers request (Some reply) bytes l hs l' (inl (are, it)) = calms_chooses Found l hs l' it
+between_answers request (Some reply) bytes l hs l' (inr it) = calms_refusal At.Reply None refl l hs l' it
+between_answers request None bytes l hs l' it = calms_refusal At.Event None refl l hs l' it
+
+pub body_asks : (moment : ℕ) (it : Asked) (served : Between.Outcome) → Moves moment (BodyAsks moment it served)
+body_asks moment asked.TooShort served l hs l' good it = goes_calm moment l hs l' good (calms_nothing l hs l' it.1)
+body_asks moment (asked.Refused status request) served l hs l' good (is, inl it) = goes_calm moment l hs l' good (calms_chooses Found l hs l' it)
+body_asks moment (asked.Refused status request) served l hs l' good (is, inr it) = goes_calm moment l hs l' good (calms_refusal At.Reply None refl l hs l' it)
+body_asks moment (asked.Event request event) served l hs l' good (bytes, is, (outcome, it)) =
+    moves_then moment (Happens moment event outcome) (Between.Answers request (reply_of outcome) bytes) (moves_happens moment event outcome) (moves_calm moment (Between.Answers request (reply_of outcome) bytes) (between_answers request (reply_of outcome) bytes)) l hs l' good it
+
+pub body_comes : (moment : ℕ) (body : List ℕ) (served : Between.Outcome) → Moves moment (BodyComes moment body served)
+body_comes moment body served l hs l' good (inl (it, asks, comes)) =
+    moves_then moment (Chooses Found) (BodyAsks moment it served) (moves_calm moment (Chooses Found) (calms_chooses Found)) (body_asks moment it served) l hs l' good comes
+body_comes moment body served l hs l' good (inr it) = goes_calm moment l hs l' good (calms_refusal At.Event None refl l hs l' it)
+
+pub moves_deed : (deed : Deed) (l l' : Ledger) → Good l → DoesDeed deed l l' → Goes (moment_of deed) l (happenings_of deed) l'
+moves_deed (Turned moment hs) l l' good it = moves_turn moment l hs l' good it
+moves_deed (Served_body moment body answer hs) l l' good (served, same, it) = body_comes moment body served l hs l' good it
+moves_deed (Reported moment device said hs) l l' good (what, same, it) = moves_unanswered moment (Is.Report device what) l hs l' good it
+moves_deed (Ticked moment hs) l l' good it = moves_ticks moment l hs l' good it
+
+-- ---- traces
+
+pub record GoesOn_in (trace : Trace) (l l' : Ledger) : Type 0 where
+  pub handled : List Handled
+  pub good : Good l'
+  pub timed : AreOf trace handled
+  pub run : AreHandled l.core handled l'.core
+  pub told : core_notes (happenings_in trace) ≡ flat_map (λ (it : Handled). it.notes) handled
+  pub came : (key device : ℕ) → Counts device (l'.entries key) → CameAs device handled (l.entries key) (l'.entries key)
+  pub talks : (key : ℕ) (e : Entry) → l'.entries key ≡ Some e → ClientTalk e.talk → e.broken ≡ false → TalkedAs l.core key handled (l.entries key) e
+  pub closed : AllClosed l handled l'
+
+pub goes_on : (trace : Trace) (l l' : Ledger) → Good l → Runs trace l l' → GoesOn_in trace l l'
+goes_on [] l l' good same = record {
+  handled = [];
+  good = subst Good (sym same) good;
+  timed = refl;
+  run = ap (λ (x : Ledger). x.core) same;
+  told = refl;
+  came = λ key device counts. inl (subst (λ (x : Ledger). Counts device (x.entries key)) same counts, ap (λ (x : Ledger). due_at (x.entries key)) same);
+  talks = λ key. talked_still l.core key [] (l.entries key) (l'.entries key) (λ f is of sound. (f, subst (λ (x : Ledger). x.entries key ≡ Some f) same is, refl, sound, refl)) refl;
+  closed = none_closed l [] l' (ap (λ (x : Ledger). x.closed) same);
+}
+goes_on (deed ∷ deeds) l l' good (mid, does, runs) =
+    let first = moves_deed deed l mid good does in
+    let later = goes_on deeds mid l' first.good runs in
+    record {
+      handled = first.handled ++ later.handled;
+      good = later.good;
+      timed = (first.handled, later.handled, refl, first.timed, later.timed);
+      run = handled_append l.core mid.core l'.core first.handled later.handled first.run later.run;
+      told = notes_append (happenings_of deed) (happenings_in deeds)
+          ∙ (ap (λ (ns : List Note). ns ++ core_notes (happenings_in deeds)) first.told ∙ (ap (λ (ns : List Note). flat_map (λ (it : Handled). it.notes) first.handled ++ ns) later.told ∙ sym (flat_map-append (λ (it : Handled). it.notes) first.handled later.handled)));
+      came = λ key device counts. came_then device first.handled later.handled (l.entries key) (mid.entries key) (l'.entries key) (later.came key device counts) (first.came key device);
+      talks = λ key e is of sound. talked_then l.core mid.core key first.handled later.handled (l.entries key) (mid.entries key) e first.run (later.talks key e is of sound) (λ d there client unbroken. first.talks key d there client unbroken);
+      closed = all_closed_then l mid l' first.handled later.handled first.run first.came first.talks first.closed later.closed;
+    }
+
+pub opening_good : (opening : State) → Good (opening_ledger opening)
+opening_good opening = record { one = λ device key other p q. absurd p; fresh = λ key. tt }
+
+-- ---- the laws
+
+module _ (opening : State) (trace : Trace) (l : Ledger) (runs : Runs trace (opening_ledger opening) l) where
+  all : GoesOn_in trace (opening_ledger opening) l
+  all = goes_on trace (opening_ledger opening) l (opening_good opening) runs
+
+  due_since : (x o : Option Entry) (handled : List Handled) (device : ℕ) → x ≡ None → CameAs device handled x o → due_at o ≡ due_by device [] handled
+  due_since x o handled device none (inl (counts, due)) = absurd (subst (λ (y : Option Entry). Counts device y) none counts)
+  due_since x o handled device none (inr (called, due)) = due
+
+  answered_since : (x : Option Entry) (key : ℕ) (handled : List Handled) (e : Entry) → x ≡ None → TalkedAs opening key handled x e → IsAnswered opening key handled e
+  answered_since x key handled e none (inl went) = absurd (nothing x went.before none went.there)
+    where
+      nothing : (y : Option Entry) (d : Entry) → y ≡ None → y ≡ Some d → ⊥
+      nothing y d p q = cc
+  answered_since x key handled e none (inr answered) = answered
+
+  pub are_sent : AreSent opening trace l
+  are_sent = record {
+    handled = all.handled;
+    timed = all.timed;
+    run = all.run;
+    told = all.told;
+    due = λ key e device there named sound.
+        sym (ap due_at there) ∙ due_since None (l.entries key) all.handled device refl (all.came key device (subst (λ (o : Option Entry). Counts device o) (sym there) (named, sound)));
+    closed = subst (λ (closed : List (Entry × Fate)). All (λ (it : Entry × Fate). WasSent all.handled it.0) closed) (sym all.closed.closed)
+        (All-weaker (λ (it : Entry × Fate). ClosedAs (opening_ledger opening) all.handled it.0) (λ (it : Entry × Fate). WasSent all.handled it.0)
+        (λ it c device named sound. (c.before, c.behind, c.whole, due_since None (Some it.0) c.before device refl (c.came device named sound))) all.closed.more all.closed.each);
+  }
+
+  pub are_answered : ((key : ℕ) (e : Entry) → l.entries key ≡ Some e → IsHeard e) → AreAnswered opening trace l
+  are_answered heard = record {
+    handled = all.handled;
+    timed = all.timed;
+    run = all.run;
+    told = all.told;
+    answered = λ key e there client sound. answered_since None key all.handled e refl (all.talks key e there client sound);
+    heard = heard;
+    closed = subst (λ (closed : List (Entry × Fate)). All (λ (it : Entry × Fate). WasAnswered opening all.handled it.0) closed) (sym all.closed.closed)
+        (All-weaker (λ (it : Entry × Fate). ClosedAs (opening_ledger opening) all.handled it.0) (λ (it : Entry × Fate). WasAnswered opening all.handled it.0)
+        (λ it c client sound. (c.key, c.before, c.behind, c.whole, answered_since None c.key c.before it.0 refl (c.talks client sound))) all.closed.more all.closed.each);
+  }

@@ -1,0 +1,216 @@
+-- A device says its name on a connection.
+use Rattle.std.proofs.Common.{◌≡◌, ◌≢◌, ℕ, Bool, true, false, List, [], ◌++◌, refl, sym, ◌∙◌, ap, subst, append_assoc, append-nil, Option, Some, None, ◌⊎◌, inl, inr}
+use Rattle.std.specs.Prelude.{◌==◌, if◌then◌else◌}
+use Rattle.std.proofs.lemmas.List.Elements.{All-nil}
+use Rattle.base_types.specs.declared.report.Report.TheVariants as report
+use Rattle.events.specs.declared.event.Event.TheVariants as Is
+use Rattle.dispatcher.specs.Notes.{Note}
+use Rattle.connections.specs.Steps.{silent}
+use Rattle.connections.specs.Entry.{Talk, Http, Queue, Link, Entry, device_of, given_up, unnamed}
+use Rattle.server.specs.Polls.{Happening}
+use Rattle.server.specs.Ledger.{Ledger, at_key, with_entry}
+use Rattle.server.specs.Keeping.{IsDevice}
+use Rattle.server.specs.Greeting.{IsDeviceAs, IsAlone, GivesWayAt, Greets}
+use Rattle.server.specs.Law.{core_notes}
+use Rattle.promises.specs.Orders.{Handled}
+use Rattle.promises.specs.Answers.{ClientTalk}
+use Rattle.promises.proofs.Sending.{Counts, due_at, FreshTalk, IsFresh, same_key, other_key, Ordered, ordered_still, ordered_broken, ordered_given_up, notes_append, Good, one_entry, client_none}
+use Rattle.promises.proofs.Handling.{happened, CameAs, Goes, goes_calm, Awaits, awaits_event, awaits_named, gone_sends_none, TalkedAs, talked_still}
+use Rattle.promises.proofs.Giving.{at_here}
+
+-- ---- a device says its name
+
+-- what is under a key, where another connection is there, and elsewhere
+pub at_cases : (key : ℕ) (new : Entry) (entries : ℕ → Option Entry) (k : ℕ) → ((k ≡ key) × (at_key key (Some new) entries k ≡ Some new)) ⊎ ((k ≢ key) × (at_key key (Some new) entries k ≡ entries k))
+at_cases key new entries k = by (k == key) refl
+  where
+    by : (t : Bool) → (k == key) ≡ t → ((k ≡ key) × (at_key key (Some new) entries k ≡ Some new)) ⊎ ((k ≢ key) × (at_key key (Some new) entries k ≡ entries k))
+    by true is = inl (same_key k key is, ap (λ (t : Bool). if t then Some new else entries k) is)
+    by false is = inr (other_key k key is, ap (λ (t : Bool). if t then Some new else entries k) is)
+
+-- one connection is this one, which has the device's name; of the others none has, and nothing was sent on them
+pub record Alone (device key : ℕ) (new : Entry) (l l' : Ledger) : Type 0 where
+  pub core : l'.core ≡ l.core
+  pub closed : l'.closed ≡ l.closed
+  pub each : (k : ℕ) → ((k ≡ key) × (l'.entries k ≡ Some new)) ⊎ ((k ≢ key) × Ordered (λ d. []) (l.entries k) (l'.entries k) × (IsDevice device (l'.entries k) → ⊥))
+
+pub other_device : (o : Option ℕ) (device of : ℕ) → o ≡ Some device → o ≡ Some of → (device == of) ≡ false → ⊥
+other_device o device of p q apart = other_key device of apart cc
+
+pub awaits : (moment device key : ℕ) (e new : Entry) (l : Ledger) (hs : List Happening) (l' : Ledger) → Good l → core_notes hs ≡ [] → device_of new.talk ≡ Some device → FreshTalk new.talk new → new.due ≡ [] → Alone device key new l l' → Awaits moment device key l hs l'
+awaits moment device key e new l hs l' good silent named fresh due alone = record {
+  handled = [];
+  good = record { one = λ d k o p q. one d k o p q (alone.each k) (alone.each o); fresh = λ k. fresh_at k (alone.each k) };
+  run = alone.core;
+  timed = All-nil (λ (it : Handled). it.moment ≡ moment);
+  told = silent;
+  only = λ other is. only other is (alone.each other);
+  due = λ counts. due_here (alone.each key);
+  came = λ other of apart counts. came other of apart counts (alone.each other);
+  talks = λ other f is of sound. talks other f is of sound (alone.each other);
+  closed = alone.closed;
+}
+  where
+    Each : ℕ → Type 0
+    Each k = ((k ≡ key) × (l'.entries k ≡ Some new)) ⊎ ((k ≢ key) × Ordered (λ d. []) (l.entries k) (l'.entries k) × (IsDevice device (l'.entries k) → ⊥))
+
+    is_new : (d k : ℕ) → l'.entries k ≡ Some new → IsDevice d (l'.entries k) → d ≡ device
+    is_new d k here is = let its : device_of new.talk ≡ Some d = subst (λ (o : Option Entry). IsDevice d o) here is in cc
+
+    one : (d k o : ℕ) → IsDevice d (l'.entries k) → IsDevice d (l'.entries o) → Each k → Each o → k ≡ o
+    one d k o p q (inl (here, is)) (inl (there, its)) = here ∙ sym there
+    one d k o p q (inl (here, is)) (inr (apart, sent, none)) = absurd (none (subst (λ (x : ℕ). IsDevice x (l'.entries o)) (is_new d k is p) q))
+    one d k o p q (inr (apart, sent, none)) (inl (there, its)) = absurd (none (subst (λ (x : ℕ). IsDevice x (l'.entries k)) (is_new d o its q) p))
+    one d k o p q (inr (apart, sent, none)) (inr (aside, more, never)) = good.one d k o (sent.device d p) (more.device d q)
+
+    fresh_at : (k : ℕ) → Each k → IsFresh (l'.entries k)
+    fresh_at k (inl (here, is)) = subst IsFresh (sym is) fresh
+    fresh_at k (inr (apart, sent, none)) = sent.fresh (good.fresh k)
+
+    only : (other : ℕ) → IsDevice device (l'.entries other) → Each other → other ≡ key
+    only other is (inl (here, its)) = here
+    only other is (inr (apart, sent, none)) = absurd (none is)
+
+    due_here : Each key → due_at (l'.entries key) ≡ []
+    due_here (inl (here, is)) = ap due_at is ∙ due
+    due_here (inr (apart, sent, none)) = absurd (apart refl)
+
+    came : (other of : ℕ) → (device == of) ≡ false → Counts of (l'.entries other) → Each other → CameAs of [] (l.entries other) (l'.entries other)
+    came other of apart counts (inl (here, is)) = absurd (other_device (device_of new.talk) device of named (subst (λ (o : Option Entry). Counts of o) is counts).0 apart)
+    came other of apart counts (inr (aside, sent, none)) = let it = sent.counts of counts in inl (it.0, it.1 ∙ append-nil (due_at (l.entries other)))
+
+    talks : (other : ℕ) (f : Entry) → l'.entries other ≡ Some f → ClientTalk f.talk → f.broken ≡ false → Each other → TalkedAs l.core other [] (l.entries other) f
+    talks other f is of sound (inl (here, its)) = absurd (client_none new.talk device (subst ClientTalk (sym (ap (λ (x : Entry). x.talk) (one_entry new f (sym its ∙ is)))) of) named)
+    talks other f is of sound (inr (aside, sent, none)) = talked_still l.core other [] (l.entries other) (l'.entries other) sent.stays refl f is of sound
+
+pub unnamed_device : (talk : Talk) (device : ℕ) → device_of (unnamed talk) ≡ Some device → ⊥
+unnamed_device (Http said closes body) device is = cc
+unnamed_device (Queue items session) device is = cc
+unnamed_device (Link reports other) device is = cc
+
+pub as_device : (ended : Bool) (device : ℕ) (o : Option Entry) → IsDeviceAs ended device o → IsDevice device o
+as_device ended device None is = absurd is
+as_device ended device (Some e) is = is.0
+
+-- it has no other connection
+pub alone_now : (device key : ℕ) (new : Entry) (l l' : Ledger) → l' ≡ with_entry key new l → IsAlone device key l' → Alone device key new l l'
+alone_now device key new l l' after alone = record {
+  core = ap (λ (x : Ledger). x.core) after;
+  closed = ap (λ (x : Ledger). x.closed) after;
+  each = λ k. by k (at_cases key new l.entries k);
+}
+  where
+    here : (k : ℕ) → l'.entries k ≡ at_key key (Some new) l.entries k
+    here k = ap (λ (x : Ledger). x.entries k) after
+
+    by : (k : ℕ) → ((k ≡ key) × (at_key key (Some new) l.entries k ≡ Some new)) ⊎ ((k ≢ key) × (at_key key (Some new) l.entries k ≡ l.entries k)) → ((k ≡ key) × (l'.entries k ≡ Some new)) ⊎ ((k ≢ key) × Ordered (λ d. []) (l.entries k) (l'.entries k) × (IsDevice device (l'.entries k) → ⊥))
+    by k (inl (same, is)) = inl (same, here k ∙ is)
+    by k (inr (apart, is)) = inr (apart, subst (λ (o : Option Entry). Ordered (λ d. []) (l.entries k) o) (sym (here k ∙ is)) (ordered_still (l.entries k)), alone k apart)
+
+-- its other connection gives way
+pub alone_then : (device key old : ℕ) (new other : Entry) (l mid l' : Ledger) → Good l → mid ≡ with_entry key new l → old ≢ key → mid.entries old ≡ Some other → IsDevice device (mid.entries old) → l' ≡ with_entry old (given_up other) mid → Alone device key new l l'
+alone_then device key old new other l mid l' good begun apart there is after = record {
+  core = ap (λ (x : Ledger). x.core) after ∙ ap (λ (x : Ledger). x.core) begun;
+  closed = ap (λ (x : Ledger). x.closed) after ∙ ap (λ (x : Ledger). x.closed) begun;
+  each = λ k. by k (at_cases old (given_up other) mid.entries k) (at_cases key new l.entries k);
+}
+  where
+    here : (k : ℕ) → l'.entries k ≡ at_key old (Some (given_up other)) mid.entries k
+    here k = ap (λ (x : Ledger). x.entries k) after
+
+    before : (k : ℕ) → mid.entries k ≡ at_key key (Some new) l.entries k
+    before k = ap (λ (x : Ledger). x.entries k) begun
+
+    was : ((old ≡ key) × (at_key key (Some new) l.entries old ≡ Some new)) ⊎ ((old ≢ key) × (at_key key (Some new) l.entries old ≡ l.entries old)) → l.entries old ≡ Some other
+    was (inl (same, its)) = absurd (apart same)
+    was (inr (aside, its)) = sym its ∙ (sym (before old) ∙ there)
+
+    stood : l.entries old ≡ Some other
+    stood = was (at_cases key new l.entries old)
+
+    by : (k : ℕ) → ((k ≡ old) × (at_key old (Some (given_up other)) mid.entries k ≡ Some (given_up other))) ⊎ ((k ≢ old) × (at_key old (Some (given_up other)) mid.entries k ≡ mid.entries k))
+        → ((k ≡ key) × (at_key key (Some new) l.entries k ≡ Some new)) ⊎ ((k ≢ key) × (at_key key (Some new) l.entries k ≡ l.entries k)) → ((k ≡ key) × (l'.entries k ≡ Some new)) ⊎ ((k ≢ key) × Ordered (λ d. []) (l.entries k) (l'.entries k) × (IsDevice device (l'.entries k) → ⊥))
+    by k (inl (same, its)) (inl (one, two)) = absurd (apart (sym same ∙ one))
+    by k (inl (same, its)) (inr (aside, two)) =
+        inr (
+          aside,
+          subst (λ (o : Option Entry). Ordered (λ d. []) o (l'.entries k)) (sym (ap l.entries same ∙ stood)) (subst (λ (o : Option Entry). Ordered (λ d. []) (Some other) o) (sym (here k ∙ its)) (ordered_given_up other)),
+          λ named. unnamed_device other.talk device (subst (λ (o : Option Entry). IsDevice device o) (here k ∙ its) named),
+        )
+    by k (inr (apart_old, its)) (inl (one, two)) = inl (one, here k ∙ (its ∙ (before k ∙ two)))
+    by k (inr (apart_old, its)) (inr (aside, two)) =
+        let same : l'.entries k ≡ l.entries k = here k ∙ (its ∙ (before k ∙ two)) in
+        inr (
+          aside,
+          subst (λ (o : Option Entry). Ordered (λ d. []) (l.entries k) o) (sym same) (ordered_still (l.entries k)),
+          λ named. apart_old (good.one device k old (subst (λ (o : Option Entry). IsDevice device o) same named) (subst (λ (o : Option Entry). IsDevice device o) (there ∙ sym stood) is)),
+        )
+
+pub gives_way_at : (key : ℕ) (o : Option Entry) (e : Entry) (l : Ledger) (hs : List Happening) (l' : Ledger) → o ≡ Some e → GivesWayAt key o l hs l' → (hs ≡ []) × (l' ≡ with_entry key (given_up e) l)
+gives_way_at key None e l hs l' is it = cc
+gives_way_at key (Some d) e l hs l' is it = let same : d ≡ e = cc in (it.0, it.1 ∙ ap (λ (x : Entry). with_entry key (given_up x) l) same)
+
+pub device_there : (device : ℕ) (o : Option Entry) → IsDevice device o → (e : Entry) × (o ≡ Some e)
+device_there device None is = absurd is
+device_there device (Some e) is = (e, refl)
+
+-- the connection under the key has just said the name of this device
+pub record Just (key device : ℕ) (name : List ℕ) (e new : Entry) (l : Ledger) (hs : List Happening) (mid : Ledger) : Type 0 where
+  pub good : Good l
+  pub silent : core_notes hs ≡ []
+  pub there : l.entries key ≡ Some e
+  pub after : mid ≡ with_entry key new l
+  pub named : device_of new.talk ≡ Some device
+  pub fresh : FreshTalk new.talk new
+  pub due : new.due ≡ []
+  pub link : ClientTalk e.talk → ⊥
+
+pub greets : (moment key id device : ℕ) (name : List ℕ) (e new : Entry) (l : Ledger) (front : List Happening) (mid : Ledger) (back : List Happening) (l' : Ledger) (hs : List Happening) → hs ≡ front ++ back
+    → Just key device name e new l front mid → Greets moment key id device name mid back l' → Goes moment l hs l'
+greets moment key id device name e new l front mid back l' hs whole just (inl (alone, (outcome, it))) =
+    let waits = awaits moment device key e new l front mid just.good just.silent just.named just.fresh just.due (alone_now device key new l mid just.after alone) in
+    awaits_named moment device key name outcome l front mid back l' hs whole waits (happened moment (Is.Report device (report.Hello name)) outcome mid back l' waits.good it)
+greets moment key id device name e new l front mid back l' hs whole just (inr (inl (old, has, it))) =
+    let begun : it.mid ≡ mid = it.first.1 in
+    let over = it.second in
+    let is_old : IsDevice device (mid.entries old) = as_device true device (mid.entries old) has.1 in
+    let found = device_there device (mid.entries old) is_old in
+    let way = gives_way_at old (it.mid.entries old) found.0 it.mid over.front over.mid (ap (λ (x : Ledger). x.entries old) begun ∙ found.1) over.first in
+    let after : over.mid ≡ with_entry old (given_up found.0) mid = way.1 ∙ ap (λ (x : Ledger). with_entry old (given_up found.0) x) begun in
+    let alone = alone_then device key old new found.0 l mid over.mid just.good just.after has.0 found.1 is_old after in
+    let quiet : core_notes (front ++ (it.front ++ over.front)) ≡ [] =
+    notes_append front (it.front ++ over.front) ∙ (ap (λ (ns : List Note). ns ++ core_notes (it.front ++ over.front)) just.silent ∙ (notes_append it.front over.front ∙ (ap (λ (ns : List Note). ns ++ core_notes over.front) (ap core_notes it.first.0) ∙ ap core_notes way.0))) in
+    let waits = awaits moment device key e new l (front ++ (it.front ++ over.front)) over.mid just.good quiet just.named just.fresh just.due alone in
+    let ends = over.second in
+    let gone = happened moment (Is.Report device report.Gone) ends.first.0 over.mid ends.front ends.mid waits.good ends.first.1 in
+    let none = gone_sends_none moment device over.mid.core ends.first.0 (core_notes ends.front) ends.mid.core gone.handles in
+    let still = awaits_event moment device key (Is.Report device report.Gone) ends.first.0 l (front ++ (it.front ++ over.front)) over.mid ends.front ends.mid ((front ++ (it.front ++ over.front)) ++ ends.front) refl waits gone none in
+    let last = happened moment (Is.Report device (report.Hello name)) ends.second.0 ends.mid ends.back l' still.good ends.second.1 in
+    awaits_named moment device key name ends.second.0 l ((front ++ (it.front ++ over.front)) ++ ends.front) ends.mid ends.back l' hs (whole ∙ joined it.front over.front ends.front ends.back back it.back over.back it.whole over.whole ends.whole) still last
+  where
+    joined : (a b c d back rest more : List Happening) → back ≡ a ++ rest → rest ≡ b ++ more → more ≡ c ++ d → front ++ back ≡ ((front ++ (a ++ b)) ++ c) ++ d
+    joined a b c d back rest more p q r =
+        ap (λ (xs : List Happening). front ++ xs) (p ∙ (ap (λ (xs : List Happening). a ++ xs) (q ∙ ap (λ (xs : List Happening). b ++ xs) r) ∙ sym (append_assoc a b (c ++ d))))
+        ∙ (sym (append_assoc front (a ++ b) (c ++ d)) ∙ sym (append_assoc (front ++ (a ++ b)) c d))
+greets moment key id device name e new l front mid back l' hs whole just (inr (inr (old, has, it))) =
+    let here : mid.entries key ≡ Some new = ap (λ (x : Ledger). x.entries key) just.after ∙ at_here key new l.entries in
+    let way = gives_way_at key (mid.entries key) new mid it.front it.mid here it.first in
+    let ended : l' ≡ with_entry key (given_up new) mid = it.second.1 ∙ way.1 in
+    let quiet : core_notes back ≡ [] = ap core_notes it.whole ∙ (notes_append it.front it.back ∙ (ap (λ (ns : List Note). ns ++ core_notes it.back) (ap core_notes way.0) ∙ ap core_notes it.second.0)) in
+    let silent_all : core_notes hs ≡ [] = ap core_notes whole ∙ (notes_append front back ∙ (ap (λ (ns : List Note). ns ++ core_notes back) just.silent ∙ quiet)) in
+    goes_calm moment l hs l' just.good (record {
+      core = ap (λ (x : Ledger). x.core) ended ∙ ap (λ (x : Ledger). x.core) just.after;
+      closed = ap (λ (x : Ledger). x.closed) ended ∙ ap (λ (x : Ledger). x.closed) just.after;
+      notes = silent_all;
+      each = λ k. by ended k (at_cases key (given_up new) mid.entries k) (at_cases key new l.entries k);
+    })
+  where
+    by : l' ≡ with_entry key (given_up new) mid → (k : ℕ) → ((k ≡ key) × (at_key key (Some (given_up new)) mid.entries k ≡ Some (given_up new))) ⊎ ((k ≢ key) × (at_key key (Some (given_up new)) mid.entries k ≡ mid.entries k))
+        → ((k ≡ key) × (at_key key (Some new) l.entries k ≡ Some new)) ⊎ ((k ≢ key) × (at_key key (Some new) l.entries k ≡ l.entries k)) → Ordered (λ d. []) (l.entries k) (l'.entries k)
+    by ended k (inl (same, its)) second =
+        subst (λ (o : Option Entry). Ordered (λ d. []) o (l'.entries k)) (sym (ap l.entries same ∙ just.there))
+        (subst (λ (o : Option Entry). Ordered (λ d. []) (Some e) o) (sym (ap (λ (x : Ledger). x.entries k) ended ∙ its))
+        (ordered_broken (λ d. []) e (given_up new) refl (λ d is. absurd (unnamed_device new.talk d is)) (λ client. absurd (just.link client))))
+    by ended k (inr (apart, its)) (inl (same, two)) = absurd (apart same)
+    by ended k (inr (apart, its)) (inr (aside, two)) =
+        subst (λ (o : Option Entry). Ordered (λ d. []) (l.entries k) o) (sym (ap (λ (x : Ledger). x.entries k) ended ∙ (its ∙ (ap (λ (x : Ledger). x.entries k) just.after ∙ two)))) (ordered_still (l.entries k))

@@ -1,0 +1,383 @@
+-- What is sent to devices between one ledger and the next: by which bytes the dues of their connections grow.
+use Rattle.std.proofs.Common.{◌≡◌, ◌≢◌, ℕ, Bool, true, false, List, [], ◌∷◌, ◌++◌, refl, sym, ◌∙◌, ap, subst, append_assoc, append-nil, Option, Some, None, inl, inr, arith}
+use Rattle.std.specs.Prelude.{◌==◌, if◌then◌else◌}
+use Rattle.std.specs.List.{flat_map}
+use Rattle.std.proofs.lemmas.Grind.{flat_map-append}
+use Rattle.std.proofs.lemmas.Bool.Decides.{nat_tests}
+use Rattle.device_link.specs.Orders.{cancel_line}
+use Rattle.print_room.specs.declared.started.Started.{Started}
+use Rattle.print_room.specs.State.{State}
+use Rattle.events.specs.declared.reply.Cancel.{Cancel}
+use Rattle.dispatcher.specs.declared.outcome.Outcome.{Outcome}
+use Rattle.dispatcher.specs.declared.outcome.Outcome.TheVariants.{Dropped, Queried, Undispatched, Idle, Dispatched}
+use Rattle.dispatcher.specs.Notes.{Note}
+use Rattle.connections.specs.Entry.{Talk, Http, Queue, Link, Entry, device_of, broken, owing, given_up, unnamed}
+use Rattle.server.specs.Polls.{Happening}
+use Rattle.server.specs.Ledger.{Ledger, at_key, with_entry, job_bytes}
+use Rattle.server.specs.Rel.{Rel, Nothing, If, EachOf}
+use Rattle.server.specs.Keeping.{KeepsOpen, KeepsAt, IsDevice, KeepsOn}
+use Rattle.server.specs.Happening.{Sends, Starts, Orders}
+use Rattle.server.specs.Law.{core_note, core_notes}
+use Rattle.promises.specs.Answers.{ClientTalk}
+use Rattle.promises.specs.Orders.{began, canceled, cancel_for, start_for}
+
+-- ---- connections
+
+-- a device said its name on this connection, and it isn't broken
+abbrev pub Counts : ℕ → Option Entry → Type 0
+Counts device None = ⊥
+Counts device (Some e) = (device_of e.talk ≡ Some device) × (e.broken ≡ false)
+
+abbrev pub due_at : Option Entry → List ℕ
+due_at None = []
+due_at (Some e) = e.due
+
+-- before a device says its name nothing is due
+abbrev pub FreshTalk : Talk → Entry → Type 0
+FreshTalk (Http said closes body) e = Unit {0}
+FreshTalk (Queue items session) e = Unit {0}
+FreshTalk (Link reports None) e = e.broken ≡ false → e.due ≡ []
+FreshTalk (Link reports (Some device)) e = Unit {0}
+
+abbrev pub IsFresh : Option Entry → Type 0
+IsFresh None = Unit {0}
+IsFresh (Some e) = FreshTalk e.talk e
+
+abbrev pub IsClient : Option Entry → Type 0
+IsClient None = Unit {0}
+IsClient (Some e) = ClientTalk e.talk
+
+pub counts_device : (device : ℕ) (o : Option Entry) → Counts device o → IsDevice device o
+counts_device device None is = absurd is
+counts_device device (Some e) is = is.0
+
+pub same_key : (k key : ℕ) → (k == key) ≡ true → k ≡ key
+same_key k key is = grind (arith, nat_tests, is)
+
+pub other_key : (k key : ℕ) → (k == key) ≡ false → k ≢ key
+other_key k key is = λ same. grind (arith, nat_tests, is, same)
+
+pub is_key : (k : ℕ) → (k == k) ≡ true
+is_key k = grind (arith, nat_tests)
+
+pub not_key : (k key : ℕ) → k ≢ key → (k == key) ≡ false
+not_key k key apart = grind (arith, nat_tests, apart)
+
+pub no_bytes : ℕ → List ℕ
+no_bytes device = []
+
+-- a client's connection that isn't broken is what it was, but for what it has read and what was taken
+abbrev pub Stays : Option Entry → Option Entry → Type 0
+Stays x y = (e : Entry) → y ≡ Some e → ClientTalk e.talk → e.broken ≡ false → (d : Entry) × (x ≡ Some d) × (d.talk ≡ e.talk) × (d.broken ≡ false) × (d.due ≡ e.due)
+
+stays_then : (x y z : Option Entry) → Stays x y → Stays y z → Stays x z
+stays_then x y z p q e is client sound =
+    let mid = q e is client sound in
+    let first = p mid.0 mid.1 (subst ClientTalk (sym mid.2) client) mid.3 in
+    (first.0, first.1, first.2 ∙ mid.2, first.3, first.4 ∙ mid.4)
+
+pub one_entry : (d e : Entry) → Some d ≡ Some e → d ≡ e
+one_entry d e same = cc
+
+-- from one connection under a key to the next: what was sent to each device
+pub record Ordered (sent : ℕ → List ℕ) (x y : Option Entry) : Type 0 where
+  pub counts : (device : ℕ) → Counts device y → Counts device x × (due_at y ≡ due_at x ++ sent device)
+  pub device : (device : ℕ) → IsDevice device y → IsDevice device x
+  pub fresh : IsFresh x → IsFresh y
+  pub client : IsClient x → IsClient y
+  pub stays : Stays x y
+
+-- nothing is sent to a device
+abbrev pub Unsent : (ℕ → List ℕ) → Option Entry → Type 0
+Unsent sent o = (device : ℕ) → Counts device o → sent device ≡ []
+
+pub ordered_same : (sent : ℕ → List ℕ) (x : Option Entry) → Unsent sent x → Ordered sent x x
+ordered_same sent x none = record {
+  counts = λ device is. (is, sym (append-nil (due_at x)) ∙ ap (λ (bytes : List ℕ). due_at x ++ bytes) (sym (none device is)));
+  device = λ device is. is;
+  fresh = λ is. is;
+  client = λ is. is;
+  stays = λ e is client sound. (e, is, refl, sound, refl);
+}
+
+pub ordered_still : (x : Option Entry) → Ordered (λ device. []) x x
+ordered_still x = ordered_same (λ device. []) x (λ device is. refl)
+
+pub ordered_then : (sent more : ℕ → List ℕ) (x y z : Option Entry) → Ordered sent x y → Ordered more y z → Ordered (λ device. sent device ++ more device) x z
+ordered_then sent more x y z p q = record {
+  counts = λ device is.
+      let later = q.counts device is in
+      let first = p.counts device later.0 in
+      (first.0, later.1 ∙ (ap (λ (bytes : List ℕ). bytes ++ more device) first.1 ∙ append_assoc (due_at x) (sent device) (more device)));
+  device = λ device is. p.device device (q.device device is);
+  fresh = λ is. q.fresh (p.fresh is);
+  client = λ is. q.client (p.client is);
+  stays = stays_then x y z p.stays q.stays;
+}
+
+-- ---- one connection
+
+pub no_true : (t : Bool) → t ≡ true → t ≡ false → ⊥
+no_true true p q = cc
+no_true false p q = cc
+
+pub client_none : (talk : Talk) (device : ℕ) → ClientTalk talk → device_of talk ≡ Some device → ⊥
+client_none (Http said closes body) device client is = cc
+client_none (Queue items session) device client is = cc
+client_none (Link reports other) device client is = client
+
+pub client_fresh : (talk : Talk) (e : Entry) → ClientTalk talk → FreshTalk talk e
+client_fresh (Http said closes body) e client = tt
+client_fresh (Queue items session) e client = tt
+client_fresh (Link reports device) e client = absurd client
+
+broken_fresh : (talk : Talk) (e : Entry) → e.broken ≡ true → FreshTalk talk e
+broken_fresh (Http said closes body) e is = tt
+broken_fresh (Queue items session) e is = tt
+broken_fresh (Link reports None) e is = λ not_broken. absurd (no_true e.broken is not_broken)
+broken_fresh (Link reports (Some device)) e is = tt
+
+-- a connection that is broken now, of the same peer
+pub ordered_broken : (sent : ℕ → List ℕ) (d e : Entry) → e.broken ≡ true → ((device : ℕ) → device_of e.talk ≡ Some device → device_of d.talk ≡ Some device) → (ClientTalk d.talk → ClientTalk e.talk) → Ordered sent (Some d) (Some e)
+ordered_broken sent d e is of_device of_client = record {
+  counts = λ device counts. absurd (no_true e.broken is counts.1);
+  device = of_device;
+  fresh = λ fresh. broken_fresh e.talk e is;
+  client = of_client;
+  stays = λ f same client sound. absurd (no_true e.broken is (ap (λ (x : Entry). x.broken) (one_entry e f same) ∙ sound));
+}
+
+still_fresh : (talk : Talk) (d e : Entry) → e.broken ≡ d.broken → e.due ≡ d.due → FreshTalk talk d → FreshTalk talk e
+still_fresh (Http said closes body) d e same due fresh = tt
+still_fresh (Queue items session) d e same due fresh = tt
+still_fresh (Link reports None) d e same due fresh = λ is. due ∙ fresh (sym same ∙ is)
+still_fresh (Link reports (Some device)) d e same due fresh = tt
+
+-- a connection that changed in what no device notices
+pub ordered_keeps : (d e : Entry) → e.talk ≡ d.talk → e.broken ≡ d.broken → e.due ≡ d.due → Ordered (λ device. []) (Some d) (Some e)
+ordered_keeps d e talk same due = record {
+  counts = λ device is. ((ap device_of (sym talk) ∙ is.0, sym same ∙ is.1), due ∙ sym (append-nil d.due));
+  device = λ device is. ap device_of (sym talk) ∙ is;
+  fresh = λ fresh. subst (λ (t : Talk). FreshTalk t e) (sym talk) (still_fresh d.talk d e same due fresh);
+  client = λ client. subst ClientTalk (sym talk) client;
+  stays = λ f is client sound. let this = one_entry e f is in (d, refl, sym talk ∙ ap (λ (x : Entry). x.talk) this, sym same ∙ (ap (λ (x : Entry). x.broken) this ∙ sound), sym due ∙ ap (λ (x : Entry). x.due) this);
+}
+
+unnamed_none : (talk : Talk) (device : ℕ) → device_of (unnamed talk) ≡ Some device → device_of talk ≡ Some device
+unnamed_none (Http said closes body) device is = is
+unnamed_none (Queue items session) device is = is
+unnamed_none (Link reports other) device is = cc
+
+unnamed_client : (talk : Talk) → ClientTalk talk → ClientTalk (unnamed talk)
+unnamed_client (Http said closes body) client = tt
+unnamed_client (Queue items session) client = tt
+unnamed_client (Link reports device) client = absurd client
+
+pub ordered_given_up : (e : Entry) → Ordered (λ device. []) (Some e) (Some (given_up e))
+ordered_given_up e = ordered_broken (λ device. []) e (given_up e) refl (unnamed_none e.talk) (unnamed_client e.talk)
+
+-- ---- ledgers
+
+-- the core stays and tells nothing, and this was sent to each device
+pub record Sent (sent : ℕ → List ℕ) (l : Ledger) (hs : List Happening) (l' : Ledger) : Type 0 where
+  pub core : l'.core ≡ l.core
+  pub closed : l'.closed ≡ l.closed
+  pub notes : core_notes hs ≡ []
+  pub each : (key : ℕ) → Ordered sent (l.entries key) (l'.entries key)
+
+-- nothing was sent
+abbrev pub Calm : Rel
+Calm = Sent (λ device. [])
+
+pub notes_append : (hs ks : List Happening) → core_notes (hs ++ ks) ≡ core_notes hs ++ core_notes ks
+notes_append hs ks = flat_map-append core_note hs ks
+
+no_notes : (hs front back : List Happening) → hs ≡ front ++ back → core_notes front ≡ [] → core_notes back ≡ [] → core_notes hs ≡ []
+no_notes hs front back whole p q = ap core_notes whole ∙ (notes_append front back ∙ (ap (λ (ns : List Note). ns ++ core_notes back) p ∙ q))
+
+pub sent_then : (sent more : ℕ → List ℕ) (l : Ledger) (front : List Happening) (mid : Ledger) (back : List Happening) (l' : Ledger) (hs : List Happening) → hs ≡ front ++ back → Sent sent l front mid → Sent more mid back l' → Sent (λ device. sent device ++ more device) l hs l'
+sent_then sent more l front mid back l' hs whole p q = record {
+  core = q.core ∙ p.core;
+  closed = q.closed ∙ p.closed;
+  notes = no_notes hs front back whole p.notes q.notes;
+  each = λ key. ordered_then sent more (l.entries key) (mid.entries key) (l'.entries key) (p.each key) (q.each key);
+}
+
+pub sent_as : (sent other : ℕ → List ℕ) (l : Ledger) (hs : List Happening) (l' : Ledger) → ((device : ℕ) → other device ≡ sent device) → Sent sent l hs l' → Sent other l hs l'
+sent_as sent other l hs l' same p = record {
+  core = p.core;
+  closed = p.closed;
+  notes = p.notes;
+  each = λ key. record {
+    counts = λ device is. let it = (p.each key).counts device is in (it.0, it.1 ∙ ap (λ (bytes : List ℕ). due_at (l.entries key) ++ bytes) (sym (same device)));
+    device = (p.each key).device;
+    fresh = (p.each key).fresh;
+    client = (p.each key).client;
+    stays = (p.each key).stays;
+  };
+}
+
+pub calm_still : (l : Ledger) (hs : List Happening) (l' : Ledger) → core_notes hs ≡ [] → l' ≡ l → Calm l hs l'
+calm_still l hs l' silent same = record {
+  core = ap (λ (x : Ledger). x.core) same;
+  closed = ap (λ (x : Ledger). x.closed) same;
+  notes = silent;
+  each = λ key. subst (λ (x : Ledger). Ordered (λ device. []) (l.entries key) (x.entries key)) (sym same) (ordered_still (l.entries key));
+}
+
+-- nothing was sent, where each connection is as it was
+pub sent_still : (sent : ℕ → List ℕ) (l : Ledger) (hs : List Happening) (l' : Ledger) → core_notes hs ≡ [] → l' ≡ l → ((key : ℕ) → Unsent sent (l.entries key)) → Sent sent l hs l'
+sent_still sent l hs l' silent same none = record {
+  core = ap (λ (x : Ledger). x.core) same;
+  closed = ap (λ (x : Ledger). x.closed) same;
+  notes = silent;
+  each = λ key. subst (λ (x : Ledger). Ordered sent (l.entries key) (x.entries key)) (sym same) (ordered_same sent (l.entries key) (none key));
+}
+
+by_test : (sent : ℕ → List ℕ) (t : Bool) (x o y : Option Entry) → (t ≡ true → Ordered sent x o) → (t ≡ false → Ordered sent x y) → Ordered sent x (if t then o else y)
+by_test sent true x o y p q = p refl
+by_test sent false x o y p q = q refl
+
+-- another connection, or none, under one key
+pub ordered_at : (sent : ℕ → List ℕ) (key : ℕ) (o : Option Entry) (entries : ℕ → Option Entry) → Ordered sent (entries key) o → ((other : ℕ) → other ≢ key → Unsent sent (entries other)) → (other : ℕ) → Ordered sent (entries other) (at_key key o entries other)
+ordered_at sent key o entries here there other =
+    by_test sent (other == key) (entries other) o (entries other) (λ is. subst (λ (k : ℕ). Ordered sent (entries k) o) (sym (same_key other key is)) here) (λ is. ordered_same sent (entries other) (there other (other_key other key is)))
+
+pub sent_sets : (sent : ℕ → List ℕ) (key : ℕ) (d e : Entry) (l : Ledger) (hs : List Happening) (l' : Ledger) → l.entries key ≡ Some d → Ordered sent (Some d) (Some e) → ((other : ℕ) → other ≢ key → Unsent sent (l.entries other)) → core_notes hs ≡ [] → l' ≡ with_entry key e l → Sent sent l hs l'
+sent_sets sent key d e l hs l' there here others silent after = record {
+  core = ap (λ (x : Ledger). x.core) after;
+  closed = ap (λ (x : Ledger). x.closed) after;
+  notes = silent;
+  each = λ other.
+      subst (λ (x : Ledger). Ordered sent (l.entries other) (x.entries other)) (sym after)
+      (ordered_at sent key (Some e) l.entries (subst (λ (o : Option Entry). Ordered sent o (Some e)) (sym there) here) others other);
+}
+
+pub calm_sets : (key : ℕ) (d e : Entry) (l : Ledger) (hs : List Happening) (l' : Ledger) → l.entries key ≡ Some d → Ordered (λ device. []) (Some d) (Some e) → core_notes hs ≡ [] → l' ≡ with_entry key e l → Calm l hs l'
+calm_sets key d e l hs l' there here silent after = sent_sets (λ device. []) key d e l hs l' there here (λ other apart device is. refl) silent after
+
+pub breaking : (e : Entry) → Ordered (λ device. []) (Some e) (Some (broken e))
+breaking e = ordered_broken (λ device. []) e (broken e) refl (λ device is. is) (λ client. client)
+
+-- ---- what is kept on a device's connection
+
+-- two open connections are two devices', and none has anything due before its name
+pub record Good (l : Ledger) : Type 0 where
+  pub one : (device key other : ℕ) → IsDevice device (l.entries key) → IsDevice device (l.entries other) → key ≡ other
+  pub fresh : (key : ℕ) → IsFresh (l.entries key)
+
+pub good_sent : (sent : ℕ → List ℕ) (l : Ledger) (hs : List Happening) (l' : Ledger) → Sent sent l hs l' → Good l → Good l'
+good_sent sent l hs l' s good = record {
+  one = λ device key other p q. good.one device key other ((s.each key).device device p) ((s.each other).device device q);
+  fresh = λ key. (s.each key).fresh (good.fresh key);
+}
+
+-- these bytes, to this device
+abbrev pub to_device : ℕ → List ℕ → ℕ → List ℕ
+to_device device bytes other = if device == other then bytes else []
+
+sent_if : (t : Bool) (bytes : List ℕ) → (t ≡ true → ⊥) → (if t then bytes else []) ≡ []
+sent_if true bytes never = absurd (never refl)
+sent_if false bytes never = refl
+
+-- no connection of the device is there
+unsent_to : (device : ℕ) (bytes : List ℕ) (o : Option Entry) → (IsDevice device o → ⊥) → Unsent (to_device device bytes) o
+unsent_to device bytes o absent other is = sent_if (device == other) bytes (λ same. absent (subst (λ (d : ℕ). IsDevice d o) (sym (same_key device other same)) (counts_device other o is)))
+
+one_device : (o : Option ℕ) (device other : ℕ) → o ≡ Some device → o ≡ Some other → device ≡ other
+one_device o device other p q = cc
+
+to_this : (device other : ℕ) (bytes : List ℕ) → device ≡ other → bytes ≡ to_device device bytes other
+to_this device other bytes same = subst (λ (d : ℕ). bytes ≡ to_device device bytes d) same (sym (ap (λ (t : Bool). if t then bytes else []) (is_key device)))
+
+owing_to : (device : ℕ) (bytes : List ℕ) (e : Entry) → device_of e.talk ≡ Some device → Ordered (to_device device bytes) (Some e) (Some (owing bytes e))
+owing_to device bytes e is = record {
+  counts = λ other counts. (counts, ap (λ (more : List ℕ). e.due ++ more) (to_this device other bytes (one_device (device_of e.talk) device other is counts.0)));
+  device = λ other named. named;
+  fresh = λ fresh. named_fresh e.talk (owing bytes e) is;
+  client = λ client. client;
+  stays = λ f same client sound. absurd (client_none e.talk device (subst ClientTalk (sym (ap (λ (x : Entry). x.talk) (one_entry (owing bytes e) f same))) client) is);
+}
+  where
+    named_fresh : (talk : Talk) (it : Entry) → device_of talk ≡ Some device → FreshTalk talk it
+    named_fresh (Http said closes body) it named = tt
+    named_fresh (Queue items session) it named = tt
+    named_fresh (Link reports None) it named = cc
+    named_fresh (Link reports (Some other)) it named = tt
+
+broken_unsent : (sent : ℕ → List ℕ) (e : Entry) → e.broken ≡ true → Unsent sent (Some e)
+broken_unsent sent e is device counts = absurd (no_true e.broken is counts.1)
+
+keeps_open : (device key : ℕ) (bytes : List ℕ) (e : Entry) (l : Ledger) (hs : List Happening) (l' : Ledger) → l.entries key ≡ Some e → device_of e.talk ≡ Some device → ((other : ℕ) → other ≢ key → IsDevice device (l.entries other) → ⊥) → KeepsOpen true key bytes e l hs l' → Sent (to_device device bytes) l hs l'
+keeps_open device key bytes e l hs l' there is others (inl it) =
+    let started : it.mid ≡ l = it.first.1 in
+    sent_sets (to_device device bytes) key e (owing bytes e) l hs l' there (owing_to device bytes e is) (λ other apart. unsent_to device bytes (l.entries other) (others other apart))
+    (no_notes hs it.front it.back it.whole (ap core_notes it.first.0) (ap core_notes it.second.0)) (it.second.1 ∙ ap (λ (x : Ledger). with_entry key (owing bytes e) x) started)
+keeps_open device key bytes e l hs l' there is others (inr it) =
+    sent_sets (to_device device bytes) key e (broken e) l hs l' there (ordered_broken (to_device device bytes) e (broken e) refl (λ other named. named) (λ client. client)) (λ other apart. unsent_to device bytes (l.entries other) (others other apart))
+    (ap core_notes it.0) it.1
+
+keeps_if : (t : Bool) (device key : ℕ) (bytes : List ℕ) (e : Entry) (l : Ledger) (hs : List Happening) (l' : Ledger) → e.broken ≡ t → l.entries key ≡ Some e → device_of e.talk ≡ Some device → ((other : ℕ) → other ≢ key → IsDevice device (l.entries other) → ⊥) → If t Nothing (KeepsOpen true key bytes e) l hs l' → Sent (to_device device bytes) l hs l'
+keeps_if false device key bytes e l hs l' broken there is others it = keeps_open device key bytes e l hs l' there is others it
+keeps_if true device key bytes e l hs l' broken there is others it = sent_still (to_device device bytes) l hs l' (ap core_notes it.0) it.1 unsent
+  where
+    here : (k : ℕ) → k ≡ key → Unsent (to_device device bytes) (l.entries k)
+    here k same = subst (λ (o : Option Entry). Unsent (to_device device bytes) o) (sym (ap l.entries same ∙ there)) (broken_unsent (to_device device bytes) e broken)
+
+    by : (k : ℕ) (s : Bool) → (k == key) ≡ s → Unsent (to_device device bytes) (l.entries k)
+    by k true same = here k (same_key k key same)
+    by k false same = unsent_to device bytes (l.entries k) (others k (other_key k key same))
+
+    unsent : (k : ℕ) → Unsent (to_device device bytes) (l.entries k)
+    unsent k = by k (k == key) refl
+
+keeps_at : (device key : ℕ) (bytes : List ℕ) (o : Option Entry) (l : Ledger) (hs : List Happening) (l' : Ledger) → l.entries key ≡ o → IsDevice device o → ((other : ℕ) → other ≢ key → IsDevice device (l.entries other) → ⊥) → KeepsAt (λ e. true) key bytes o l hs l' → Sent (to_device device bytes) l hs l'
+keeps_at device key bytes None l hs l' there is others it = absurd is
+keeps_at device key bytes (Some e) l hs l' there is others it = keeps_if e.broken device key bytes e l hs l' refl there is others it
+
+-- what is kept by the device is sent to it, and to no other
+pub keeps_on : (device : ℕ) (bytes : List ℕ) (l : Ledger) (hs : List Happening) (l' : Ledger) → Good l → KeepsOn device bytes l hs l' → Sent (to_device device bytes) l hs l'
+keeps_on device bytes l hs l' good (inl (key, is, it)) =
+    let begun : it.mid ≡ l = it.first.1 in
+    let kept : KeepsAt (λ e. true) key bytes (l.entries key) l it.back l' = subst (λ (x : Ledger). KeepsAt (λ e. true) key bytes (x.entries key) x it.back l') begun it.second in
+    let s = keeps_at device key bytes (l.entries key) l it.back l' refl is (λ other apart there. apart (good.one device other key there is)) kept in
+    record { core = s.core; closed = s.closed; notes = no_notes hs it.front it.back it.whole (ap core_notes it.first.0) s.notes; each = s.each }
+keeps_on device bytes l hs l' good (inr (absent, it)) = sent_still (to_device device bytes) l hs l' (ap core_notes it.0) it.1 (λ key. unsent_to device bytes (l.entries key) (absent key))
+
+-- ---- all of an event
+
+sends_each : (cancels : List Cancel) (l : Ledger) (hs : List Happening) (l' : Ledger) → Good l → EachOf cancels Sends l hs l' → Sent (λ device. flat_map (cancel_for device) cancels) l hs l'
+sends_each [] l hs l' good it = calm_still l hs l' (ap core_notes it.0) it.1
+sends_each (cancel ∷ cancels) l hs l' good it =
+    let first = keeps_on cancel.device (cancel_line cancel.job) l it.front it.mid good it.first in
+    let later = sends_each cancels it.mid it.back l' (good_sent (to_device cancel.device (cancel_line cancel.job)) l it.front it.mid first good) it.second in
+    sent_then (to_device cancel.device (cancel_line cancel.job)) (λ device. flat_map (cancel_for device) cancels) l it.front it.mid it.back l' hs it.whole first later
+
+starts_each : (core : State) (starts : List Started) (l : Ledger) (hs : List Happening) (l' : Ledger) → l.core ≡ core → Good l → EachOf starts Starts l hs l' → Sent (λ device. flat_map (start_for device core) starts) l hs l'
+starts_each core [] l hs l' is good it = calm_still l hs l' (ap core_notes it.0) it.1
+starts_each core (start ∷ starts) l hs l' is good it =
+    let kept : KeepsOn start.device (job_bytes core start.job) l it.front it.mid = subst (λ (c : State). KeepsOn start.device (job_bytes c start.job) l it.front it.mid) is it.first in
+    let first = keeps_on start.device (job_bytes core start.job) l it.front it.mid good kept in
+    let later = starts_each core starts it.mid it.back l' (first.core ∙ is) (good_sent (to_device start.device (job_bytes core start.job)) l it.front it.mid first good) it.second in
+    sent_then (to_device start.device (job_bytes core start.job)) (λ device. flat_map (start_for device core) starts) l it.front it.mid it.back l' hs it.whole first later
+
+-- what an event sends
+abbrev pub sent_by : Outcome → State → ℕ → List ℕ
+sent_by outcome core device = flat_map (cancel_for device) (canceled outcome) ++ flat_map (start_for device core) (began outcome core)
+
+only_sends : (outcome : Outcome) (cancels : List Cancel) (core : State) (l : Ledger) (hs : List Happening) (l' : Ledger) → canceled outcome ≡ cancels → began outcome core ≡ [] → Good l → EachOf cancels Sends l hs l' → Sent (sent_by outcome core) l hs l'
+only_sends outcome cancels core l hs l' are none good it =
+    sent_as (λ device. flat_map (cancel_for device) cancels) (sent_by outcome core) l hs l'
+    (λ device. ap (λ (xs : List Cancel). flat_map (cancel_for device) xs ++ flat_map (start_for device core) (began outcome core)) are ∙ (ap (λ (xs : List Started). flat_map (cancel_for device) cancels ++ flat_map (start_for device core) xs) none ∙ append-nil (flat_map (cancel_for device) cancels)))
+    (sends_each cancels l hs l' good it)
+
+pub orders : (outcome : Outcome) (l : Ledger) (hs : List Happening) (l' : Ledger) → Good l → Orders outcome l hs l' → Sent (sent_by outcome l.core) l hs l'
+orders Dropped l hs l' good it = calm_still l hs l' (ap core_notes it.0) it.1
+orders (Queried reply) l hs l' good it = only_sends (Queried reply) reply.cancels.items l.core l hs l' refl refl good it
+orders (Undispatched reply) l hs l' good it = only_sends (Undispatched reply) reply.cancels.items l.core l hs l' refl refl good it
+orders (Idle reply) l hs l' good it = only_sends (Idle reply) reply.cancels.items l.core l hs l' refl refl good it
+orders (Dispatched reply) l hs l' good it =
+    let first = sends_each reply.cancels.items l it.front it.mid good it.first in
+    let begun : EachOf l.core.begun Starts it.mid it.back l' = subst (λ (c : State). EachOf c.begun Starts it.mid it.back l') first.core it.second in
+    let later = starts_each l.core l.core.begun it.mid it.back l' first.core (good_sent (λ device. flat_map (cancel_for device) reply.cancels.items) l it.front it.mid first good) begun in
+    sent_then (λ device. flat_map (cancel_for device) reply.cancels.items) (λ device. flat_map (start_for device l.core) l.core.begun) l it.front it.mid it.back l' hs it.whole first later

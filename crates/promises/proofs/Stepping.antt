@@ -1,0 +1,265 @@
+-- What the next of a client's stream, and of a device's, comes to.
+use Rattle.std.proofs.Common.{◌≡◌, ℕ, Bool, false, List, [], ◌∷◌, ◌++◌, refl, sym, ◌∙◌, ap, subst, append-nil, Option, Some, None, ◌⊎◌, inl, inr}
+use Rattle.base_types.specs.Report.{ReportRecord, SaysHello, SaysMedia, SaysReady, SaysStop, SaysBusy, SaysPages, SaysDone, SaysFail, IsGone as SaysGone}
+use Rattle.settings_file.specs.Settings.{ServerSettings}
+use Rattle.http_front.specs.declared.item.HttpItem.{HttpItem}
+use Rattle.http_front.specs.declared.item.HttpItem.TheVariants as item
+use Rattle.lpd_reader.specs.Session.{ItemRecord, Says as SaysCommand, Aborts, Announces, HasFile}
+use Rattle.lpd_session.specs.Session.{SessionState}
+use Rattle.events.specs.declared.event.Event.TheVariants as Is
+use Rattle.dispatcher.specs.declared.listener.DeviceRefusal.TheVariants as why
+use Rattle.dispatcher.specs.Notes.{Note, DeviceRefused, Refused}
+use Rattle.requests.specs.declared.asked.Asked.{Asked}
+use Rattle.requests.specs.declared.asked.Asked.TheVariants as asked
+use Rattle.requests.specs.Asked.{Asks as AsksBody}
+use Rattle.connections.specs.declared.ask.Ask.{Ask}
+use Rattle.connections.specs.declared.ask.Ask.TheVariants as ask
+use Rattle.connections.specs.declared.ask.Client.TheVariants as client
+use Rattle.connections.specs.declared.ask.Growth.{Growth}
+use Rattle.connections.specs.declared.ask.Growth.TheVariants as growth
+use Rattle.connections.specs.declared.ask.Part.{Part}
+use Rattle.connections.specs.declared.ask.Part.TheVariants as part
+use Rattle.connections.specs.declared.step.Step.{Step}
+use Rattle.connections.specs.declared.step.Step.TheVariants as step
+use Rattle.connections.specs.Session.{Hearing, Goes as GoesOn, Stops, Submits, Commands, heard}
+use Rattle.connections.specs.Steps.{asked_step, EndsBody, StepsIpp, AsksAs, StepsLpd, StepsHello, StepsDevice, place_of as named_place, silent, no_memory}
+use Rattle.connections.specs.Entry.{Talk, Http, Queue, Link, Entry, device_of, broken, talking, finishing}
+use Rattle.connections.specs.Asking.{Hears, StepsTo}
+use Rattle.server.specs.Polls.{Happening, Told}
+use Rattle.server.specs.Ledger.{Ledger}
+use Rattle.server.specs.Rel.{Tells}
+use Rattle.server.specs.Acting.{place_of, place_of_part, Does}
+use Rattle.server.specs.Law.{core_notes}
+use Rattle.promises.proofs.Typing.{EventOf, asks_ipp, submits_job, commands}
+use Rattle.promises.specs.Answers.{ClientTalk}
+use Rattle.promises.proofs.Sending.{FreshTalk, Ordered, ordered_broken, calm_still, Good, one_entry}
+use Rattle.promises.proofs.Handling.{Goes, goes_calm}
+use Rattle.promises.proofs.Giving.{Calms, calms_refusal}
+use Rattle.promises.proofs.Moving.{moves_unanswered}
+
+-- ---- what a connection asks
+
+-- what a client asks of the server
+abbrev pub IsClientAsk : Ask → Type 0
+IsClientAsk ask.Nothing = ⊥
+IsClientAsk (ask.Broke growth) = ⊥
+IsClientAsk (ask.Event who event) = EventOf who event
+IsClientAsk (ask.Unread request) = Unit {0}
+IsClientAsk (ask.Lost part) = Unit {0}
+IsClientAsk (ask.Hello device name) = ⊥
+IsClientAsk (ask.Report device report) = ⊥
+IsClientAsk (ask.Stranger name) = ⊥
+IsClientAsk (ask.Fault device) = ⊥
+
+-- of a device's that has said its name, or doesn't say it now
+abbrev pub IsDeviceAsk : Ask → Type 0
+IsDeviceAsk ask.Nothing = ⊥
+IsDeviceAsk (ask.Broke growth) = Unit {0}
+IsDeviceAsk (ask.Event client event) = ⊥
+IsDeviceAsk (ask.Unread request) = ⊥
+IsDeviceAsk (ask.Lost part) = ⊥
+IsDeviceAsk (ask.Hello device name) = ⊥
+IsDeviceAsk (ask.Report device report) = Unit {0}
+IsDeviceAsk (ask.Stranger name) = Unit {0}
+IsDeviceAsk (ask.Fault device) = Unit {0}
+
+pub silent_growth : (it : Growth) (id : ℕ) → core_notes (Told (Refused (place_of it) (Some id)) ∷ []) ≡ []
+silent_growth growth.Input id = refl
+silent_growth growth.Output id = refl
+
+pub silent_part : (it : Part) (id : ℕ) → core_notes (Told (Refused (place_of_part it) (Some id)) ∷ []) ≡ []
+silent_part part.File id = refl
+silent_part part.Job id = refl
+
+pub calms_device_refused : (id : ℕ) (note : Note) → core_notes (Told note ∷ []) ≡ [] → Calms (Tells note)
+calms_device_refused id note silent l hs l' it = calm_still l hs l' (ap core_notes it.0 ∙ silent) it.1
+
+pub device_does : (moment key id : ℕ) (what : Ask) (l : Ledger) (hs : List Happening) (l' : Ledger) → IsDeviceAsk what → Good l → Does moment key id what l hs l' → Goes moment l hs l'
+device_does moment key id ask.Nothing l hs l' is good it = absurd is
+device_does moment key id (ask.Broke growth) l hs l' is good it = goes_calm moment l hs l' good (calms_refusal (place_of growth) (Some id) (silent_growth growth id) l hs l' it)
+device_does moment key id (ask.Event who event) l hs l' is good it = absurd is
+device_does moment key id (ask.Unread request) l hs l' is good it = absurd is
+device_does moment key id (ask.Lost part) l hs l' is good it = absurd is
+device_does moment key id (ask.Hello device name) l hs l' is good it = absurd is
+device_does moment key id (ask.Report device report) l hs l' is good it = moves_unanswered moment (Is.Report device report) l hs l' good it
+device_does moment key id (ask.Stranger name) l hs l' is good it = goes_calm moment l hs l' good (calms_device_refused id (DeviceRefused id (why.UnknownName name)) refl l hs l' it)
+device_does moment key id (ask.Fault device) l hs l' is good it = goes_calm moment l hs l' good (calms_device_refused id (DeviceRefused id (why.Fault device)) refl l hs l' it)
+
+-- ---- steps of a client
+
+abbrev pub IsClientStep : Step → Type 0
+IsClientStep (step.Due due last) = Unit {0}
+IsClientStep (step.Asks what last) = IsClientAsk what
+IsClientStep (step.Breaks what) = what ≡ ask.Broke growth.Input
+
+pub client_step : (comes is : Step) → comes ≡ is → IsClientStep is → IsClientStep comes
+client_step comes is same fine = subst IsClientStep (sym same) fine
+
+pub asked_client : (closes : Bool) (body : List ℕ) (it : Asked) → AsksBody body it → IsClientStep (asked_step closes it)
+asked_client closes body asked.TooShort asks = tt
+asked_client closes body (asked.Refused status request) asks = tt
+asked_client closes body (asked.Event request event) asks = asks_ipp body request event asks
+
+pub ends_client : (closes : Bool) (body : List ℕ) (comes : Step) → EndsBody closes body comes → IsClientStep comes
+ends_client closes body comes (inl (it, asks, is)) = client_step comes (asked_step closes it) is (asked_client closes body it asks)
+ends_client closes body comes (inr (request, found, is)) = client_step comes (step.Asks (ask.Unread request) closes) is tt
+
+pub ipp_client : (it : HttpItem) (closes : Bool) (body : List ℕ) (comes : Step) → StepsIpp it closes body comes → IsClientStep comes
+ipp_client (item.Head next) closes body comes is = client_step comes silent is tt
+ipp_client item.Continue closes body comes is = subst IsClientStep (sym is) tt
+ipp_client item.BodyPart closes body comes (inl is) = client_step comes silent is tt
+ipp_client item.BodyPart closes body comes (inr is) = client_step comes no_memory is refl
+ipp_client item.BodyEnd closes body comes is = ends_client closes body comes is
+ipp_client (item.Refuse refusal) closes body comes is = subst IsClientStep (sym is) tt
+
+pub asks_client : (hearing : Hearing) (comes : Step) (after : Option SessionState) → AsksAs hearing comes after → IsClientStep comes
+asks_client hearing (step.Due due last) after is = tt
+asks_client (GoesOn answer next) (step.Asks (ask.Event (client.Ipp request) event) last) after is = absurd is
+asks_client (GoesOn answer next) (step.Asks (ask.Event client.LpdJob event) last) after is = absurd is
+asks_client (GoesOn answer next) (step.Asks (ask.Event client.LpdCommand event) last) after is = absurd is
+asks_client (Stops answer) (step.Asks (ask.Event (client.Ipp request) event) last) after is = absurd is
+asks_client (Stops answer) (step.Asks (ask.Event client.LpdJob event) last) after is = absurd is
+asks_client (Stops answer) (step.Asks (ask.Event client.LpdCommand event) last) after is = absurd is
+asks_client (Submits job next) (step.Asks (ask.Event (client.Ipp request) event) last) after is = absurd is
+asks_client (Submits job next) (step.Asks (ask.Event client.LpdJob event) last) after is = submits_job job event is.0
+asks_client (Submits job next) (step.Asks (ask.Event client.LpdCommand event) last) after is = absurd is
+asks_client (Commands command) (step.Asks (ask.Event (client.Ipp request) event) last) after is = absurd is
+asks_client (Commands command) (step.Asks (ask.Event client.LpdJob event) last) after is = absurd is
+asks_client (Commands command) (step.Asks (ask.Event client.LpdCommand event) last) after is = commands command event is.0
+asks_client hearing (step.Asks (ask.Lost part) last) after is = tt
+asks_client (GoesOn answer next) (step.Asks ask.Nothing last) after is = absurd is
+asks_client (Stops answer) (step.Asks ask.Nothing last) after is = absurd is
+asks_client (Submits job next) (step.Asks ask.Nothing last) after is = absurd is
+asks_client (Commands command) (step.Asks ask.Nothing last) after is = absurd is
+asks_client (GoesOn answer next) (step.Asks (ask.Broke growth) last) after is = absurd is
+asks_client (Stops answer) (step.Asks (ask.Broke growth) last) after is = absurd is
+asks_client (Submits job next) (step.Asks (ask.Broke growth) last) after is = absurd is
+asks_client (Commands command) (step.Asks (ask.Broke growth) last) after is = absurd is
+asks_client (GoesOn answer next) (step.Asks (ask.Unread request) last) after is = absurd is
+asks_client (Stops answer) (step.Asks (ask.Unread request) last) after is = absurd is
+asks_client (Submits job next) (step.Asks (ask.Unread request) last) after is = absurd is
+asks_client (Commands command) (step.Asks (ask.Unread request) last) after is = absurd is
+asks_client (GoesOn answer next) (step.Asks (ask.Hello device name) last) after is = absurd is
+asks_client (Stops answer) (step.Asks (ask.Hello device name) last) after is = absurd is
+asks_client (Submits job next) (step.Asks (ask.Hello device name) last) after is = absurd is
+asks_client (Commands command) (step.Asks (ask.Hello device name) last) after is = absurd is
+asks_client (GoesOn answer next) (step.Asks (ask.Report device report) last) after is = absurd is
+asks_client (Stops answer) (step.Asks (ask.Report device report) last) after is = absurd is
+asks_client (Submits job next) (step.Asks (ask.Report device report) last) after is = absurd is
+asks_client (Commands command) (step.Asks (ask.Report device report) last) after is = absurd is
+asks_client (GoesOn answer next) (step.Asks (ask.Stranger name) last) after is = absurd is
+asks_client (Stops answer) (step.Asks (ask.Stranger name) last) after is = absurd is
+asks_client (Submits job next) (step.Asks (ask.Stranger name) last) after is = absurd is
+asks_client (Commands command) (step.Asks (ask.Stranger name) last) after is = absurd is
+asks_client (GoesOn answer next) (step.Asks (ask.Fault device) last) after is = absurd is
+asks_client (Stops answer) (step.Asks (ask.Fault device) last) after is = absurd is
+asks_client (Submits job next) (step.Asks (ask.Fault device) last) after is = absurd is
+asks_client (Commands command) (step.Asks (ask.Fault device) last) after is = absurd is
+asks_client (GoesOn answer next) (step.Breaks what) after is = absurd is
+asks_client (Stops answer) (step.Breaks what) after is = absurd is
+asks_client (Submits job next) (step.Breaks what) after is = absurd is
+asks_client (Commands command) (step.Breaks what) after is = absurd is
+
+pub lpd_client : (queues : List ℕ → Bool) (before : Option SessionState) (said : ItemRecord) (comes : Step) (after : Option SessionState) → StepsLpd queues before said comes after → IsClientStep comes
+lpd_client queues before (HasFile contents) comes after (inl is) = subst IsClientStep (sym is.0) tt
+lpd_client queues before (HasFile contents) comes after (inr is) = asks_client (heard queues before (HasFile contents)) comes after is
+lpd_client queues before (SaysCommand command) comes after is = asks_client (heard queues before (SaysCommand command)) comes after is
+lpd_client queues before Aborts comes after is = asks_client (heard queues before Aborts) comes after is
+lpd_client queues before (Announces head) comes after is = asks_client (heard queues before (Announces head)) comes after is
+
+pub client_hears : (settings : ServerSettings) (talk : Talk) (e : Entry) (comes : Step) (mid : Entry) → ClientTalk talk → ClientTalk e.talk → Hears settings talk e comes mid → IsClientStep comes × ClientTalk mid.talk
+client_hears settings (Http said closes body) e comes mid client here next = (ipp_client next.item closes body comes next.comes, subst (λ (x : Entry). ClientTalk x.talk) (sym next.after) tt)
+client_hears settings (Queue items session) e comes mid client here (inl next) = (lpd_client _ session next.said comes next.session_after next.comes, subst (λ (x : Entry). ClientTalk x.talk) (sym next.after) tt)
+client_hears settings (Queue items session) e comes mid client here (inr (inl next)) = (subst IsClientStep (sym next.comes) tt, subst (λ (x : Entry). ClientTalk x.talk) (sym next.after) here)
+client_hears settings (Queue items session) e comes mid client here (inr (inr next)) = (subst IsClientStep (sym next.0) refl, subst (λ (x : Entry). ClientTalk x.talk) (sym next.1) here)
+client_hears settings (Link reports device) e comes mid client here next = absurd client
+
+-- ---- steps of a device
+
+-- a device says its name on a connection that had none
+pub record Names (what : Ask) (e new : Entry) : Type 0 where
+  pub device : ℕ
+  pub name : List ℕ
+  pub asks : what ≡ ask.Hello device name
+  pub before : device_of e.talk ≡ None
+  pub fresh : FreshTalk e.talk e → e.broken ≡ false → e.due ≡ []
+  pub after : device_of new.talk ≡ Some device
+  pub still : new.broken ≡ e.broken
+  pub due : new.due ≡ e.due
+  pub open_talk : FreshTalk new.talk new
+  pub link : ClientTalk e.talk → ⊥
+
+-- what a device's connection asks: it says its name, or it has, or it breaks
+abbrev pub DeviceAsks : Ask → Entry → Entry → Type 0
+DeviceAsks what e new = (IsDeviceAsk what × Ordered (λ device. []) (Some e) (Some new)) ⊎ Names what e new
+
+pub talk_none : (talk : Talk) (reports : List ReportRecord) → talk ≡ Link reports None → device_of talk ≡ None
+talk_none talk reports is = ap device_of is
+
+pub link_fresh : (talk : Talk) (reports : List ReportRecord) (e : Entry) → talk ≡ Link reports None → FreshTalk talk e → e.broken ≡ false → e.due ≡ []
+link_fresh talk reports e is fresh = subst (λ (t : Talk). FreshTalk t e) is fresh
+
+-- it breaks
+pub link_breaks : (what it : Ask) (e mid new : Entry) → what ≡ it → IsDeviceAsk it → new ≡ broken mid → ((device : ℕ) → device_of mid.talk ≡ Some device → device_of e.talk ≡ Some device) → (ClientTalk e.talk → ClientTalk mid.talk) → DeviceAsks what e new
+link_breaks what it e mid new asks fine after of_device of_client =
+    inl (subst IsDeviceAsk (sym asks) fine, subst (λ (x : Entry). Ordered (λ device. []) (Some e) (Some x)) (sym after) (ordered_broken (λ device. []) e (broken mid) refl of_device of_client))
+
+pub not_client : (talk : Talk) (reports : List ReportRecord) (device : Option ℕ) → talk ≡ Link reports device → ClientTalk talk → ⊥
+not_client talk reports device is client = subst ClientTalk is client
+
+pub named_hears : (settings : ServerSettings) (reports : List ReportRecord) (name : List ℕ) (place : Option ℕ) (device_after : Option ℕ) (e : Entry) (comes : Step) (mid : Entry) (what : Ask) (new : Entry) → e.talk ≡ Link reports None
+    → StepsHello name place comes device_after → mid ≡ talking (Link (reports ++ SaysHello name ∷ []) device_after) e → StepsTo comes mid what new → DeviceAsks what e new
+named_hears settings reports name None device_after e comes mid what new talk is after steps =
+    let breaks : (what ≡ ask.Stranger name) × (new ≡ broken mid) = subst (λ (s : Step). StepsTo s mid what new) is.0 steps in
+    let unknown : device_of mid.talk ≡ None = ap (λ (x : Entry). device_of x.talk) after ∙ is.1 in
+    link_breaks what (ask.Stranger name) e mid new breaks.0 tt breaks.1 (λ device named. cc) (λ client. absurd (not_client e.talk reports None talk client))
+named_hears settings reports name (Some device) device_after e comes mid what new talk is after steps =
+    let asks : (what ≡ ask.Hello device name) × (new ≡ finishing false mid) = subst (λ (s : Step). StepsTo s mid what new) is.0 steps in
+    let whole : new ≡ finishing false (talking (Link (reports ++ SaysHello name ∷ []) (Some device)) e) = asks.1 ∙ ap (finishing false) (after ∙ ap (λ (d : Option ℕ). talking (Link (reports ++ SaysHello name ∷ []) d) e) is.1) in
+    inr (record {
+      device = device;
+      name = name;
+      asks = asks.0;
+      before = talk_none e.talk reports talk;
+      fresh = λ fresh. link_fresh e.talk reports e talk fresh;
+      after = ap (λ (x : Entry). device_of x.talk) whole;
+      still = ap (λ (x : Entry). x.broken) whole;
+      due = ap (λ (x : Entry). x.due) whole;
+      open_talk = subst (λ (x : Entry). FreshTalk x.talk x) (sym whole) tt;
+      link = not_client e.talk reports None talk;
+    })
+
+pub report_hears : (settings : ServerSettings) (reports : List ReportRecord) (device : Option ℕ) (said : ReportRecord) (device_after : Option ℕ) (e : Entry) (comes : Step) (mid : Entry) (what : Ask) (new : Entry) → e.talk ≡ Link reports device
+    → StepsDevice (named_place settings) device said comes device_after → mid ≡ talking (Link (reports ++ said ∷ []) device_after) e → StepsTo comes mid what new → DeviceAsks what e new
+report_hears settings reports None (SaysHello name) device_after e comes mid what new talk is after steps = named_hears settings reports name (named_place settings name) device_after e comes mid what new talk is after steps
+report_hears settings reports None (SaysMedia names) device_after e comes mid what new talk is after steps = absurd is
+report_hears settings reports None SaysReady device_after e comes mid what new talk is after steps = absurd is
+report_hears settings reports None SaysStop device_after e comes mid what new talk is after steps = absurd is
+report_hears settings reports None (SaysBusy time) device_after e comes mid what new talk is after steps = absurd is
+report_hears settings reports None (SaysPages job printed) device_after e comes mid what new talk is after steps = absurd is
+report_hears settings reports None (SaysDone job) device_after e comes mid what new talk is after steps = absurd is
+report_hears settings reports None (SaysFail job) device_after e comes mid what new talk is after steps = absurd is
+report_hears settings reports None SaysGone device_after e comes mid what new talk is after steps = absurd is
+report_hears settings reports (Some device) said device_after e comes mid what new talk ((it, same, is), named) after steps =
+    let asks : (what ≡ ask.Report device it) × (new ≡ finishing false mid) = subst (λ (s : Step). StepsTo s mid what new) is steps in
+    let whole : new ≡ finishing false (talking (Link (reports ++ said ∷ []) (Some device)) e) = asks.1 ∙ ap (finishing false) (after ∙ ap (λ (d : Option ℕ). talking (Link (reports ++ said ∷ []) d) e) named) in
+    let before : device_of e.talk ≡ Some device = ap device_of talk in
+    inl (
+      subst IsDeviceAsk (sym asks.0) tt,
+      subst (λ (x : Entry). Ordered (λ d. []) (Some e) (Some x)) (sym whole) (record {
+        counts = λ d is. ((before ∙ is.0, is.1), sym (append-nil e.due));
+        device = λ d is. before ∙ is;
+        fresh = λ fresh. tt;
+        client = λ client. absurd (not_client e.talk reports (Some device) talk client);
+        stays = λ f is client sound. absurd (subst ClientTalk (sym (ap (λ (x : Entry). x.talk) (one_entry (finishing false (talking (Link (reports ++ said ∷ []) (Some device)) e)) f is))) client);
+      }),
+    )
+
+pub device_hears : (settings : ServerSettings) (reports : List ReportRecord) (device : Option ℕ) (e : Entry) (comes : Step) (mid : Entry) (what : Ask) (new : Entry) → e.talk ≡ Link reports device → Hears settings (Link reports device) e comes mid → StepsTo comes mid what new → DeviceAsks what e new
+device_hears settings reports device e comes mid what new talk (inl next) steps = report_hears settings reports device next.said next.device_after e comes mid what new talk next.comes next.after steps
+device_hears settings reports device e comes mid what new talk (inr (inl next)) steps =
+    let breaks : (what ≡ ask.Fault device) × (new ≡ broken mid) = subst (λ (s : Step). StepsTo s mid what new) next.comes steps in
+    link_breaks what (ask.Fault device) e mid new breaks.0 tt breaks.1 (λ d is. ap (λ (x : Entry). device_of x.talk) (sym next.after) ∙ is) (λ client. absurd (not_client e.talk reports device talk client))
+device_hears settings reports device e comes mid what new talk (inr (inr next)) steps =
+    let breaks : (what ≡ ask.Broke growth.Input) × (new ≡ broken mid) = subst (λ (s : Step). StepsTo s mid what new) next.0 steps in
+    link_breaks what (ask.Broke growth.Input) e mid new breaks.0 tt breaks.1 (λ d is. ap (λ (x : Entry). device_of x.talk) (sym next.1) ∙ is) (λ client. absurd (not_client e.talk reports device talk client))

@@ -1,0 +1,5 @@
+use Rattle.promises.proofs.Sparing.{spares_all}
+use Rattle.promises.proofs.bytes.others_are_spared.Goals as goal
+
+pub returns : goal.returns
+returns c moment = spares_all moment

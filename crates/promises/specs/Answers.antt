@@ -1,0 +1,168 @@
+-- What a client is answered: item by item of what it sent, the bytes that this comes to, with the reply that the core's run gave where a request asks the core.
+use Rattle.std.specs.Prelude.{ℕ, ◌≡◌, ◌⊎◌, ◌==◌, Bool, false, if◌then◌else◌, List, [], ◌∷◌, ◌++◌, All, Option, Some, None}
+use Rattle.std.specs.List.{flat_map}
+use Rattle.settings_file.specs.Settings.{ServerSettings}
+use Rattle.http_front.specs.declared.item.HttpItem.{HttpItem}
+use Rattle.http_front.specs.Stream.{Said, said_by}
+use Rattle.lpd_reader.specs.Session.{ItemRecord}
+use Rattle.lpd_session.specs.Session.{SessionState}
+use Rattle.wires.specs.declared.wire.Door.{Door}
+use Rattle.print_room.specs.State.{State}
+use Rattle.events.specs.declared.reply.Answer.{Answer}
+use Rattle.events.specs.declared.reply.Answer.TheVariants as Says
+use Rattle.events.specs.declared.reply.LpdAnswer.TheVariants as Shown
+use Rattle.events.specs.declared.reply.Reply.{Reply}
+use Rattle.events.specs.declared.status.Status.TheVariants.{TemporaryError}
+use Rattle.dispatcher.specs.Run.{reply_of}
+use Rattle.replies.specs.Reply.{IsReply}
+use Rattle.replies.specs.QueueText.{ack_of, text_of}
+use Rattle.outputs.specs.Reply.{http_reply}
+use Rattle.connections.specs.declared.ask.Ask.{Ask}
+use Rattle.connections.specs.declared.ask.Ask.TheVariants as ask
+use Rattle.connections.specs.declared.ask.Client.{Client}
+use Rattle.connections.specs.declared.ask.Client.TheVariants as client
+use Rattle.connections.specs.declared.step.Step.{Step}
+use Rattle.connections.specs.declared.step.Step.TheVariants as step
+use Rattle.connections.specs.Session.{is_queue}
+use Rattle.connections.specs.Steps.{StepsIpp, closes_after, body_after, StepsLpd, refused, due_bytes, http_status}
+use Rattle.connections.specs.Entry.{Talk, Http, Queue, Link, Entry, opening_talk, closes_of}
+use Rattle.connections.specs.Asking.{IsHeard}
+use Rattle.server.specs.Ledger.{Ledger, Fate}
+use Rattle.server.specs.Law.{core_notes, happenings_in}
+use Rattle.server.specs.Turn.{Trace}
+use Rattle.promises.specs.Orders.{Handled, AreHandled, AreOf}
+
+-- ---- an act: the next of what a client sent, and what it comes to
+
+-- what was acted on before and after it, what it comes to, the event of it that the core handled, the bytes that are due by it, and the core's state at that moment
+pub record Act : Type 0 where
+  pub before : Talk
+  pub after : Talk
+  pub what : Step
+  pub asked : List Handled
+  pub bytes : List ℕ
+  pub state : State
+
+-- the next item of an IPP client
+pub record NextIpp (said : List Said) (closes : Bool) (body : List ℕ) (what : Step) (after : Talk) : Type 0 where
+  pub item : HttpItem
+  pub part : List ℕ
+  pub comes : StepsIpp item closes body what
+  pub is : after ≡ Http (said ++ said_by item part) (closes_after item closes) (body_after item what part body)
+
+-- the next item of an LPD client
+pub record NextLpd (queues : List ℕ → Bool) (items : List ItemRecord) (session : Option SessionState) (what : Step) (after : Talk) : Type 0 where
+  pub said : ItemRecord
+  pub session_after : Option SessionState
+  pub comes : StepsLpd queues session said what session_after
+  pub is : after ≡ Queue (items ++ said ∷ []) session_after
+
+-- or a fault in what it sends, which is refused, and nothing more counts
+abbrev pub IsNext : ServerSettings → Talk → Step → Talk → Type 0
+IsNext settings (Http said closes body) what after = NextIpp said closes body what after
+IsNext settings (Queue items session) what after = NextLpd (is_queue settings) items session what after ⊎ ((what ≡ refused) × (after ≡ Queue items session))
+IsNext settings (Link reports device) what after = ⊥
+
+-- ---- the bytes of it
+
+-- the reply to an IPP request; where memory for it was refused, the status that says so
+abbrev pub GivenIpp : Bool → ℕ → Answer → List ℕ → Type 0
+GivenIpp closes request (Says.Ipp answer) bytes = ((spelt : List ℕ) × IsReply answer request spelt × (bytes ≡ http_reply closes spelt)) ⊎ (bytes ≡ http_status closes TemporaryError request)
+GivenIpp closes request (Says.Lpd answer) bytes = ⊥
+GivenIpp closes request Says.Nothing bytes = ⊥
+
+-- an LPD job is acknowledged or refused
+abbrev pub GivenJob : Answer → List ℕ → Type 0
+GivenJob (Says.Lpd (Shown.Taken taken)) bytes = bytes ≡ ack_of (Shown.Taken taken) ∷ []
+GivenJob _ bytes = ⊥
+
+-- a queue is shown by its text, and a removal isn't answered
+abbrev pub GivenCommand : Answer → List ℕ → Type 0
+GivenCommand (Says.Lpd (Shown.Queue listing)) bytes = bytes ≡ text_of (Shown.Queue listing)
+GivenCommand (Says.Lpd Shown.NoQueue) bytes = bytes ≡ text_of Shown.NoQueue
+GivenCommand Says.Nothing bytes = bytes ≡ []
+GivenCommand _ bytes = ⊥
+
+-- by the core's reply, or where memory for the event was refused; a command is then answered nothing, and its connection breaks
+abbrev pub Given : Bool → Client → Option Reply → List ℕ → Type 0
+Given closes (client.Ipp request) (Some reply) bytes = GivenIpp closes request reply.answer bytes
+Given closes (client.Ipp request) None bytes = bytes ≡ http_status closes TemporaryError request
+Given closes client.LpdJob (Some reply) bytes = GivenJob reply.answer bytes
+Given closes client.LpdJob None bytes = bytes ≡ 1 ∷ []
+Given closes client.LpdCommand (Some reply) bytes = GivenCommand reply.answer bytes
+Given closes client.LpdCommand None bytes = ⊥
+
+-- of what is asked of the server
+abbrev pub IsGiven : Bool → Ask → List Handled → List ℕ → Type 0
+IsGiven closes (ask.Event who event) asked bytes = (it : Handled) × (asked ≡ it ∷ []) × (it.event ≡ event) × Given closes who (reply_of it.outcome) bytes
+IsGiven closes (ask.Unread request) asked bytes = (asked ≡ []) × (bytes ≡ http_status closes TemporaryError request)
+IsGiven closes (ask.Lost part) asked bytes = (asked ≡ []) × (bytes ≡ 1 ∷ [])
+IsGiven closes _ asked bytes = ⊥
+
+-- the connection owes it by itself, or the server is asked
+abbrev pub IsOwed : Bool → Step → List Handled → List ℕ → Type 0
+IsOwed closes (step.Due due last) asked bytes = (asked ≡ []) × (bytes ≡ due_bytes due)
+IsOwed closes (step.Asks what last) asked bytes = IsGiven closes what asked bytes
+IsOwed closes (step.Breaks what) asked bytes = ⊥
+
+pub record IsAct (a : Act) : Type 0 where
+  pub next : IsNext a.state.settings a.before a.what a.after
+  pub owed : IsOwed (closes_of a.after) a.what a.asked a.bytes
+
+-- one after the other
+abbrev pub AreActs : Talk → List Act → Talk → Type 0
+AreActs before [] after = after ≡ before
+AreActs before (a ∷ acts) after = (a.before ≡ before) × IsAct a × AreActs a.after acts after
+
+-- ---- the run
+
+-- a state of the run: the opening, or one after an event
+abbrev pub IsStateOf : State → State → List Handled → Type 0
+IsStateOf state opening [] = state ≡ opening
+IsStateOf state opening (it ∷ later) = (state ≡ opening) ⊎ IsStateOf state it.state later
+
+abbrev pub is_asked : ℕ → Option ℕ → Bool
+is_asked key None = false
+is_asked key (Some other) = other == key
+
+-- the events that the connection under a key asked for
+abbrev pub asked_by : ℕ → List Handled → List Handled
+asked_by key [] = []
+asked_by key (it ∷ later) = (if is_asked key it.asked then it ∷ [] else []) ++ asked_by key later
+
+-- ---- the law
+
+-- What is due on a client's connection is what its acts come to, from its first byte on. The events that it
+-- asked for since it was accepted are just those of these acts, in their order.
+pub record IsAnswered (opening : State) (key : ℕ) (handled : List Handled) (e : Entry) : Type 0 where
+  pub earlier : List Handled
+  pub since : List Handled
+  pub whole : handled ≡ earlier ++ since
+  pub door : Door
+  pub acts : List Act
+  pub are : AreActs (opening_talk door) acts e.talk
+  pub states : All (λ (a : Act). IsStateOf a.state opening handled) acts
+  pub asked : asked_by key since ≡ flat_map (λ (a : Act). a.asked) acts
+  pub due : e.due ≡ flat_map (λ (a : Act). a.bytes) acts
+
+-- a client's, and no device's
+abbrev pub ClientTalk : Talk → Type 0
+ClientTalk (Http said closes body) = Unit {0}
+ClientTalk (Queue items session) = Unit {0}
+ClientTalk (Link reports device) = ⊥
+
+-- of a client's connection that was closed, and wasn't broken, by the events until then
+abbrev pub WasAnswered : State → List Handled → Entry → Type 0
+WasAnswered opening handled e = ClientTalk e.talk → e.broken ≡ false → (key : ℕ) × (before : List Handled) × (behind : List Handled) × (handled ≡ before ++ behind) × IsAnswered opening key before e
+
+-- The events of a trace are one run of the core, which tells what the listener was told. Each open
+-- connection of a client that isn't broken is answered by it, and so was each that was closed without having
+-- broken; and on each open connection all that was read was acted on, unless nothing counts any more.
+pub record AreAnswered (opening : State) (trace : Trace) (l : Ledger) : Type 0 where
+  pub handled : List Handled
+  pub timed : AreOf trace handled
+  pub run : AreHandled opening handled l.core
+  pub told : core_notes (happenings_in trace) ≡ flat_map (λ (it : Handled). it.notes) handled
+  pub answered : (key : ℕ) (e : Entry) → l.entries key ≡ Some e → ClientTalk e.talk → e.broken ≡ false → IsAnswered opening key handled e
+  pub heard : (key : ℕ) (e : Entry) → l.entries key ≡ Some e → IsHeard e
+  pub closed : All (λ (it : Entry × Fate). WasAnswered opening handled it.0) l.closed
