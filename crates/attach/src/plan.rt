@@ -15,7 +15,7 @@ const LPD: u16 = 515;
 const IPP: u16 = 631;
 
 /// What prints.
-#[derive(Debug, Drop)]
+#[derive(Drop)]
 pub enum Target {
     /// Each job becomes a file of this folder.
     Folder(String),
@@ -28,7 +28,7 @@ pub enum Target {
 }
 
 /// What an adapter is to do.
-#[derive(Debug, Drop)]
+#[derive(Drop)]
 pub struct Plan {
     /// The device that it is.
     pub name: String,
@@ -56,7 +56,7 @@ pub struct Plan {
 }
 
 /// The words that say what an adapter is to do.
-#[derive(Clone, Copy, Debug)]
+#[derive(Clone, Copy)]
 pub struct PlanWords<'a> {
     pub name: &'a str,
     pub server: &'a str,
@@ -75,7 +75,7 @@ pub struct PlanWords<'a> {
 }
 
 /// Which of the words makes no sense.
-#[derive(Clone, Copy, Debug, PartialEq, Eq)]
+#[derive(Clone, Copy)]
 pub enum WordFault {
     /// The name is none of a device.
     Name,
@@ -147,22 +147,20 @@ fn read_url(alloc: Global, url: &Url) -> Result<Target, WordFault> {
         return Err(WordFault::To);
     }
     let path = url.path().strip_prefix('/').unwrap_or(url.path());
-    match url.scheme() {
-        "socket" if path.is_empty() => {
-            let port = url.port().unwrap_or(APP_SOCKET);
-            Ok(Target::AppSocket(Place::new(alloc, host, port)?))
-        }
-        "lpd" if !path.is_empty() && !path.contains('/') => {
-            let port = url.port().unwrap_or(LPD);
-            let queue = String::from_str(alloc, path)?;
-            Ok(Target::Lpd(Place::new(alloc, host, port)?, queue))
-        }
-        "ipp" => {
-            let port = url.port().unwrap_or(IPP);
-            let address = read_address(alloc, host, port, path)?;
-            Ok(Target::Ipp(Place::new(alloc, host, port)?, address))
-        }
-        _ => Err(WordFault::To),
+    let scheme = url.scheme();
+    if scheme == "socket" && path.is_empty() {
+        let port = url.port().unwrap_or(APP_SOCKET);
+        Ok(Target::AppSocket(Place::new(alloc, host, port)?))
+    } else if scheme == "lpd" && !path.is_empty() && !path.contains('/') {
+        let port = url.port().unwrap_or(LPD);
+        let queue = String::from_str(alloc, path)?;
+        Ok(Target::Lpd(Place::new(alloc, host, port)?, queue))
+    } else if scheme == "ipp" {
+        let port = url.port().unwrap_or(IPP);
+        let address = read_address(alloc, host, port, path)?;
+        Ok(Target::Ipp(Place::new(alloc, host, port)?, address))
+    } else {
+        Err(WordFault::To)
     }
 }
 

@@ -6,6 +6,7 @@
 //! Tests stand in `reader_tests`.
 #![tactic(auto)]
 
+mod adding;
 mod asked;
 mod attach_words;
 mod doors;

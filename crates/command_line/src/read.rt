@@ -1,5 +1,6 @@
 //! The commands of `printd`, as `clap` reads them.
 
+use crate::adding::{with_command, with_option};
 use crate::asked::{AboutSettings, Asked, Log, Serving};
 use crate::attach_words::{attach_command, attach_words, word};
 use crate::doors::{addresses, default_address};
@@ -32,41 +33,43 @@ fn door<'a>(alloc: Global, name: &'a str, port: &'a str, help: &'a str) -> Arg<'
 }
 
 fn settings<'a>(alloc: Global) -> Arg<'a> {
-    Arg::new(alloc, "settings")
-        .long("settings")
-        .action(ArgAction::Set)
-        .value_name("FILE")
-        .help("The settings: devices, printers, operators; without it, those of `printd settings`")
+    word(
+        alloc,
+        "settings",
+        "FILE",
+        "The settings: devices, printers, operators; without it, those of `printd settings`",
+    )
 }
 
 fn address<'a>(alloc: Global) -> Arg<'a> {
-    Arg::new(alloc, "address")
-        .long("address")
-        .action(ArgAction::Set)
-        .value_name("ADDRESS")
-        .default_value("127.0.0.1")
-        .help("The address of each door that names none")
+    word(
+        alloc,
+        "address",
+        "ADDRESS",
+        "The address of each door that names none",
+    )
+    .default_value("127.0.0.1")
 }
 
 fn log<'a>(alloc: Global) -> Arg<'a> {
-    Arg::new(alloc, "log")
-        .long("log")
-        .action(ArgAction::Set)
-        .value_name("FILE")
-        .num_args(0..=1)
-        .default_missing_value(STANDARD_ERROR)
-        .help(
-            "Append what happens to a file; without its name, or with -, write it to standard error",
-        )
+    word(
+        alloc,
+        "log",
+        "FILE",
+        "Append what happens to a file; without its name, or with -, write it to standard error",
+    )
+    .num_args(0..=1)
+    .default_missing_value(STANDARD_ERROR)
 }
 
 fn turns<'a>(alloc: Global) -> Arg<'a> {
-    Arg::new(alloc, "turns")
-        .long("turns")
-        .action(ArgAction::Set)
-        .value_name("N")
-        .value_parser(clap::value_parser!(u64).range(1..1_000_000_000_001))
-        .help("End after so many turns; without it, serve until told to stop")
+    word(
+        alloc,
+        "turns",
+        "N",
+        "End after so many turns; without it, serve until told to stop",
+    )
+    .value_parser(clap::value_parser!(u64).range(1..1_000_000_000_001))
 }
 
 fn flag<'a>(alloc: Global, name: &'a str, help: &'a str) -> Arg<'a> {
@@ -93,8 +96,38 @@ fn serve_command<'a>(alloc: Global) -> Result<Command<'a>, AllocError> {
         .arg(log(alloc))
 }
 
+fn avahi<'a>(alloc: Global) -> Result<Arg<'a>, AllocError> {
+    flag(
+        alloc,
+        "avahi",
+        "Print the service file with which Avahi announces a printer of the file",
+    )
+    .requires_arg("file")
+}
+
+fn printer<'a>(alloc: Global) -> Result<Arg<'a>, AllocError> {
+    word(
+        alloc,
+        "printer",
+        "NAME",
+        "Which printer, where the file has several",
+    )
+    .requires_arg("avahi")
+}
+
+fn lpd<'a>(alloc: Global) -> Result<Arg<'a>, AllocError> {
+    word(
+        alloc,
+        "lpd",
+        "PORT",
+        "Where LPD clients come in, where it isn't 515",
+    )
+    .value_parser(clap::value_parser!(u16))
+    .requires_arg("avahi")
+}
+
 fn settings_command<'a>(alloc: Global) -> Result<Command<'a>, AllocError> {
-    Command::new(alloc, "settings")
+    let command = Command::new(alloc, "settings")
         .about(
             "Print the built-in settings; or judge those of a file, as `serve` does: ok, or their first fault",
         )
@@ -103,30 +136,10 @@ fn settings_command<'a>(alloc: Global) -> Result<Command<'a>, AllocError> {
                 .action(ArgAction::Set)
                 .value_name("FILE")
                 .help("The settings: devices, printers, operators"),
-        )?
-        .arg(flag(
-            alloc,
-            "avahi",
-            "Print the service file with which Avahi announces a printer of the file",
-        )
-        .requires_arg("file")?)?
-        .arg(
-            Arg::new(alloc, "printer")
-                .long("printer")
-                .action(ArgAction::Set)
-                .value_name("NAME")
-                .help("Which printer, where the file has several")
-                .requires_arg("avahi")?,
-        )?
-        .arg(
-            Arg::new(alloc, "lpd")
-                .long("lpd")
-                .action(ArgAction::Set)
-                .value_name("PORT")
-                .value_parser(clap::value_parser!(u16))
-                .help("Where LPD clients come in, where it isn't 515")
-                .requires_arg("avahi")?,
-        )
+        )?;
+    let command = with_option(command, avahi(alloc))?;
+    let command = with_option(command, printer(alloc))?;
+    with_option(command, lpd(alloc))
 }
 
 fn replay_command<'a>(alloc: Global) -> Result<Command<'a>, AllocError> {
@@ -162,18 +175,18 @@ fn draw_command<'a>(alloc: Global) -> Result<Command<'a>, AllocError> {
 }
 
 fn command<'a>(alloc: Global) -> Result<Command<'a>, AllocError> {
-    Command::new(alloc, "printd")
+    let command = Command::new(alloc, "printd")
         .about("A print server that proves its plans are the best")
         .version(VERSION)
         .arg_required_else_help(true)
-        .subcommand_required(true)
-        .subcommand(serve_command(alloc)?)?
-        .subcommand(settings_command(alloc)?)?
-        .subcommand(replay_command(alloc)?)?
-        .subcommand(check_command(alloc)?)?
-        .subcommand(draw_command(alloc)?)?
-        .subcommand(simulate_command(alloc)?)?
-        .subcommand(attach_command(alloc)?)
+        .subcommand_required(true);
+    let command = with_command(command, serve_command(alloc))?;
+    let command = with_command(command, settings_command(alloc))?;
+    let command = with_command(command, replay_command(alloc))?;
+    let command = with_command(command, check_command(alloc))?;
+    let command = with_command(command, draw_command(alloc))?;
+    let command = with_command(command, simulate_command(alloc))?;
+    with_command(command, attach_command(alloc))
 }
 
 fn parse<'a>(alloc: Global, words: &'a [&'a str]) -> Result<ArgMatches<'a>, Error> {
@@ -222,26 +235,41 @@ fn no_command(alloc: Global) -> WordsError {
     }
 }
 
+/// How to attach a printer.
+fn asked_to_attach<'a>(alloc: Global, inner: &ArgMatches<'a>) -> Result<Asked<'a>, WordsError> {
+    match attach_words(inner) {
+        Some(attaching) => Ok(Asked::Attach(attaching)),
+        None => Err(no_command(alloc)),
+    }
+}
+
 fn meaning<'a>(alloc: Global, found: &ArgMatches<'a>) -> Result<Asked<'a>, WordsError> {
-    match found.subcommand() {
-        Some(("serve", inner)) => Ok(Asked::Serve(serve_words(alloc, inner)?)),
-        Some(("settings", inner)) => Ok(Asked::Settings(settings_words(inner))),
-        Some(("replay", inner)) => Ok(Asked::Replay {
+    let Some((name, inner)) = found.subcommand() else {
+        return Err(no_command(alloc));
+    };
+    if name == "serve" {
+        Ok(Asked::Serve(serve_words(alloc, inner)?))
+    } else if name == "settings" {
+        Ok(Asked::Settings(settings_words(inner)))
+    } else if name == "replay" {
+        Ok(Asked::Replay {
             plans: inner.get_flag("plans"),
-        }),
-        Some(("check", inner)) => Ok(Asked::Check {
+        })
+    } else if name == "check" {
+        Ok(Asked::Check {
             starts: inner.get_flag("starts"),
-        }),
-        Some(("draw", inner)) => Ok(Asked::Draw {
+        })
+    } else if name == "draw" {
+        Ok(Asked::Draw {
             text: inner.get_flag("text"),
             trace: inner.get_str("trace"),
-        }),
-        Some(("simulate", inner)) => Ok(Asked::Simulate(simulate_words(alloc, inner)?)),
-        Some(("attach", inner)) => match attach_words(inner) {
-            Some(attaching) => Ok(Asked::Attach(attaching)),
-            None => Err(no_command(alloc)),
-        },
-        _ => Err(no_command(alloc)),
+        })
+    } else if name == "simulate" {
+        Ok(Asked::Simulate(simulate_words(alloc, inner)?))
+    } else if name == "attach" {
+        asked_to_attach(alloc, inner)
+    } else {
+        Err(no_command(alloc))
     }
 }
 

@@ -1,5 +1,6 @@
 //! The words of `printd simulate`.
 
+use crate::adding::with_option;
 use crate::attach_words::word;
 use crate::doors::invalid;
 use crate::words_error::WordsError;
@@ -105,7 +106,7 @@ fn text<'a>(alloc: Global) -> Result<Arg<'a>, AllocError> {
 
 /// The command that plays a day.
 pub(crate) fn simulate_command<'a>(alloc: Global) -> Result<Command<'a>, AllocError> {
-    Command::new(alloc, "simulate")
+    let command = Command::new(alloc, "simulate")
         .about("Play a day of jobs as the server plans it, and as simpler rules would print it")
         .arg(settings(alloc))?
         .arg(jobs(alloc))?
@@ -113,8 +114,8 @@ pub(crate) fn simulate_command<'a>(alloc: Global) -> Result<Command<'a>, AllocEr
         .arg(seed(alloc))?
         .arg(without(alloc))?
         .arg(with(alloc))?
-        .arg(draw(alloc))?
-        .arg(text(alloc)?)
+        .arg(draw(alloc))?;
+    with_option(command, text(alloc))
 }
 
 /// The values of a word that may be given several times.
@@ -126,6 +127,26 @@ fn all_of<'a>(
     Vec::from_slice(alloc, found.get_strs(name).unwrap_or(&[]))
 }
 
+/// Adds a device more by its text: its name, and that of the device that it is like.
+fn add_pair<'a>(
+    alloc: Global,
+    text: &'a str,
+    with: &mut Vec<&'a str>,
+    like: &mut Vec<&'a str>,
+) -> Result<(), WordsError> {
+    let Some((name, device)) = text.split_once("=") else {
+        return Err(invalid(
+            alloc,
+            text,
+            "with <NAME=LIKE>",
+            "a device more is its name, and behind = that of the device that it is like",
+        ));
+    };
+    with.push(name)?;
+    like.push(device)?;
+    Ok(())
+}
+
 /// What the words of the command say. The error is the text about a word that makes no sense, or out of
 /// memory.
 pub(crate) fn simulate_words<'a>(
@@ -135,16 +156,7 @@ pub(crate) fn simulate_words<'a>(
     let mut with = Vec::new(alloc);
     let mut like = Vec::new(alloc);
     for text in found.get_strs("with").unwrap_or(&[]) {
-        let Some((name, device)) = text.split_once("=") else {
-            return Err(invalid(
-                alloc,
-                text,
-                "with <NAME=LIKE>",
-                "a device more is its name, and behind = that of the device that it is like",
-            ));
-        };
-        with.push(name)?;
-        like.push(device)?;
+        add_pair(alloc, text, &mut with, &mut like)?;
     }
     Ok(Simulating {
         settings: found.get_str("settings").unwrap_or(""),

@@ -3,7 +3,7 @@
 use base_types::{Stranded, Text};
 
 /// What becomes of a job on its device.
-#[derive(Clone, Copy, Debug, PartialEq, Eq)]
+#[derive(Clone, Copy, PartialEq, Eq)]
 pub enum Ending {
     Printed,
     Canceled,
@@ -13,7 +13,7 @@ pub enum Ending {
 }
 
 /// A job by its number, of the class at a place of the chart's classes.
-#[derive(Clone, Copy, Debug, PartialEq, Eq)]
+#[derive(Clone, Copy)]
 pub struct ChartJob {
     pub number: u32,
     pub class: usize,
@@ -21,7 +21,7 @@ pub struct ChartJob {
 }
 
 /// What a bar stands for.
-#[derive(Clone, Copy, Debug, PartialEq, Eq)]
+#[derive(Clone, Copy)]
 pub enum Mark {
     /// The device may begin no job.
     Wait,
@@ -32,7 +32,7 @@ pub enum Mark {
 }
 
 /// A bar of a lane, from its start to its end, in ms since the moment at which the chart begins.
-#[derive(Clone, Copy, Debug, PartialEq, Eq)]
+#[derive(Clone, Copy)]
 pub struct Bar {
     pub mark: Mark,
     pub start: u64,
@@ -40,14 +40,14 @@ pub struct Bar {
 }
 
 /// A device, or the jobs that came, with its bars by rising start.
-#[derive(Debug, Drop)]
+#[derive(Drop)]
 pub struct Lane {
     pub name: Text,
     pub bars: Vec<Bar>,
 }
 
 /// What devices print, and when.
-#[derive(Debug, Drop)]
+#[derive(Drop)]
 pub struct Chart {
     /// What it is a chart of, in a line.
     pub title: String,
@@ -98,12 +98,9 @@ impl Lane {
         self.bars.iter().filter(|bar| !bar.is_wait()).count()
     }
 
-    /// How many jobs it has printed.
-    fn printed(&self) -> usize {
-        self.bars
-            .iter()
-            .filter(|bar| bar.ends_as(Ending::Printed))
-            .count()
+    /// How many jobs end so.
+    fn count_ending(&self, ending: Ending) -> usize {
+        self.bars.iter().filter(|bar| bar.ends_as(ending)).count()
     }
 
     /// When its last job ended, or came; 0 where it has none.
@@ -118,8 +115,8 @@ impl Lane {
     }
 
     /// Whether the device waits at any time.
-    pub(crate) fn waits(&self) -> bool {
-        self.bars.iter().any(|bar| bar.is_wait())
+    fn waits(&self) -> bool {
+        self.jobs() < self.bars.len()
     }
 
     /// Whether it is the lane of the jobs that came.
@@ -128,10 +125,6 @@ impl Lane {
             .iter()
             .any(|bar| matches!(bar.mark, Mark::Came(_)))
     }
-
-    fn has_ending(&self, ending: Ending) -> bool {
-        self.bars.iter().any(|bar| bar.ends_as(ending))
-    }
 }
 
 impl Chart {
@@ -139,14 +132,19 @@ impl Chart {
     fn printed(&self) -> u64 {
         let mut jobs = 0u64;
         for lane in &self.lanes {
-            jobs = jobs.saturating_add(lane.printed() as u64);
+            jobs = jobs.saturating_add(lane.count_ending(Ending::Printed) as u64);
         }
         jobs
     }
 
     /// Whether a job ends so.
     pub(crate) fn has_ending(&self, ending: Ending) -> bool {
-        self.lanes.iter().any(|lane| lane.has_ending(ending))
+        self.lanes.iter().any(|lane| lane.count_ending(ending) > 0)
+    }
+
+    /// Whether a device waits at any time.
+    pub(crate) fn waits(&self) -> bool {
+        self.lanes.iter().any(|lane| lane.waits())
     }
 
     /// When the last job ended, or came, in ms; where there is none, a minute.

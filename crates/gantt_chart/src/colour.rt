@@ -4,7 +4,7 @@ use std::fmt;
 use std::num::{nearest_usize_to_f64, saturating_f64_to_u8, saturating_f64_to_usize};
 
 /// A colour by its red, green and blue. Shown, it is as SVG writes it.
-#[derive(Clone, Copy, Debug, PartialEq, Eq)]
+#[derive(Clone, Copy)]
 pub(crate) struct Colour {
     red: u8,
     green: u8,

@@ -5,7 +5,7 @@ use base_types::{Limits, Stranded, Text};
 use std::alloc::{AllocError, Global};
 
 /// A job that came.
-#[derive(Clone, Copy, Debug, PartialEq, Eq)]
+#[derive(Clone, Copy)]
 pub struct Arrival {
     pub number: u32,
     pub priority: u8,
@@ -14,7 +14,7 @@ pub struct Arrival {
 }
 
 /// What a device printed of a job, from when to when, in ms since the moment at which the day begins.
-#[derive(Clone, Copy, Debug, PartialEq, Eq)]
+#[derive(Clone, Copy)]
 pub struct Print {
     /// The place of the job among those that came.
     pub job: usize,
@@ -26,7 +26,7 @@ pub struct Print {
 }
 
 /// A day of some devices.
-#[derive(Debug, Drop)]
+#[derive(Drop)]
 pub struct Day<'a> {
     /// What it is a day of, in a line.
     pub title: String,
@@ -44,12 +44,22 @@ pub struct Day<'a> {
 /// The name of the lane of the jobs that came.
 const CAME: &[u8] = b"came";
 
+/// Whether a job that came has a priority.
+fn has_priority(arrivals: &[Arrival], priority: u8) -> bool {
+    for job in arrivals {
+        if job.priority == priority {
+            return true;
+        }
+    }
+    false
+}
+
 /// The priorities of jobs, the highest first.
 fn classes_of(alloc: Global, arrivals: &[Arrival]) -> Result<Vec<u8>, AllocError> {
     let mut classes = Vec::new(alloc);
     for step in 0..=Limits::HIGHEST_PRIORITY {
         let priority = Limits::HIGHEST_PRIORITY - step;
-        if arrivals.iter().any(|job| job.priority == priority) {
+        if has_priority(arrivals, priority) {
             classes.push(priority)?;
         }
     }
@@ -70,15 +80,22 @@ fn came_lane(alloc: Global, arrivals: &[Arrival]) -> Result<Lane, AllocError> {
     Ok(Lane { name, bars })
 }
 
+/// The place of a priority among the classes; the first one where it isn't there.
+fn class_of(classes: &[u8], priority: u8) -> usize {
+    for (place, class) in classes.iter().enumerate() {
+        if *class == priority {
+            return place;
+        }
+    }
+    0
+}
+
 /// The bar of what a device printed of a job.
 fn bar_of(job: Arrival, classes: &[u8], print: Print) -> Bar {
-    let class = classes
-        .iter()
-        .position(|priority| *priority == job.priority);
     Bar {
         mark: Mark::Job(ChartJob {
             number: job.number,
-            class: class.unwrap_or(0),
+            class: class_of(classes, job.priority),
             ending: print.ending,
         }),
         start: print.start,

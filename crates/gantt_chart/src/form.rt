@@ -6,7 +6,7 @@ use crate::terminal::write_text;
 use std::alloc::{AllocError, Global};
 
 /// What a picture is made of.
-#[derive(Clone, Copy, Debug, PartialEq, Eq)]
+#[derive(Clone, Copy)]
 pub enum Form {
     /// Elements of SVG.
     Svg,

@@ -113,15 +113,14 @@ fn put_rectangle(
 /// What is told of a job.
 fn telling(alloc: Global, job: ChartJob, classes: &[u8]) -> Result<String, AllocError> {
     let number = job.number;
-    let mut text = match classes.get(job.class) {
-        Some(priority) => format!(in alloc; "job {number}, priority {priority}")?,
-        None => format!(in alloc; "job {number}")?,
+    let (comma, words) = match job.ending {
+        Ending::Printed => ("", ""),
+        ending => (", ", words_of(ending)),
     };
-    if job.ending != Ending::Printed {
-        text.push_str(", ")?;
-        text.push_str(words_of(job.ending))?;
+    match classes.get(job.class) {
+        Some(priority) => format!(in alloc; "job {number}, priority {priority}{comma}{words}"),
+        None => format!(in alloc; "job {number}{comma}{words}"),
     }
-    Ok(text)
 }
 
 /// Appends the strip below a bar that shows what became of a job that wasn't printed.

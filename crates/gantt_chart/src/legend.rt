@@ -113,7 +113,7 @@ pub(crate) fn put_heading(
     };
     let pen = put_classes(alloc, output, chart, pen)?;
     let pen = put_endings(output, chart, pen)?;
-    if chart.lanes.iter().any(|lane| lane.waits()) {
+    if chart.waits() {
         put_entry(output, pen, "url(#wait)", "not free")?;
     }
     Ok(pen.y + MARGIN)

@@ -16,16 +16,39 @@ pub struct ShortTime(pub u64);
 #[derive(Clone, Copy)]
 pub(crate) struct LongTime(pub(crate) u128);
 
+/// A time by its hours, and what is left of it then by its minutes, seconds and tenths of a second.
+#[derive(Clone, Copy)]
+struct Parts {
+    hours: u128,
+    minutes: u128,
+    seconds: u128,
+    tenths: u128,
+}
+
+/// The parts of a time in ms.
+fn parts_of(millis: u128) -> Parts {
+    Parts {
+        hours: millis / HOUR,
+        minutes: millis % HOUR / MINUTE,
+        seconds: millis % MINUTE / SECOND,
+        tenths: millis % SECOND / 100,
+    }
+}
+
 impl fmt::Display for ShortTime {
     fn fmt<W: fmt::Write>(&self, f: &mut fmt::Formatter<W>) -> fmt::Result {
-        let millis = u128::from(self.0);
-        let (hours, minutes) = (millis / HOUR, millis % HOUR / MINUTE);
-        let (seconds, tenths) = (millis % MINUTE / SECOND, millis % SECOND / 100);
-        if millis >= HOUR {
+        let millis = self.0;
+        let Parts {
+            hours,
+            minutes,
+            seconds,
+            tenths,
+        } = parts_of(u128::from(millis));
+        if hours > 0 {
             write!(f, "{hours}h{minutes:02}")
-        } else if millis >= MINUTE {
+        } else if minutes > 0 {
             write!(f, "{minutes}m{seconds:02}")
-        } else if millis >= SECOND {
+        } else if seconds > 0 {
             write!(f, "{seconds}.{tenths}s")
         } else {
             write!(f, "{millis}ms")
@@ -36,13 +59,17 @@ impl fmt::Display for ShortTime {
 impl fmt::Display for LongTime {
     fn fmt<W: fmt::Write>(&self, f: &mut fmt::Formatter<W>) -> fmt::Result {
         let millis = self.0;
-        let (hours, minutes) = (millis / HOUR, millis % HOUR / MINUTE);
-        let (seconds, tenths) = (millis % MINUTE / SECOND, millis % SECOND / 100);
-        if millis >= HOUR {
+        let Parts {
+            hours,
+            minutes,
+            seconds,
+            tenths,
+        } = parts_of(millis);
+        if hours > 0 {
             write!(f, "{hours} h {minutes} min")
-        } else if millis >= MINUTE {
+        } else if minutes > 0 {
             write!(f, "{minutes} min {seconds} s")
-        } else if millis >= SECOND {
+        } else if seconds > 0 {
             write!(f, "{seconds}.{tenths} s")
         } else {
             write!(f, "{millis} ms")

@@ -14,13 +14,6 @@ struct Line {
     indent: usize,
 }
 
-fn put_spaces(output: &mut String, count: usize) -> Result<(), AllocError> {
-    for _ in 0..count {
-        output.push(' ')?;
-    }
-    Ok(())
-}
-
 impl Line {
     /// Appends an entry behind two spaces, in a new line where this one has no room for it, and gives the
     /// line under way then.
@@ -29,7 +22,7 @@ impl Line {
         let mut end = self.end.saturating_add(length);
         if end > WIDTH {
             output.push('\n')?;
-            put_spaces(output, self.indent)?;
+            put_name(output, b"", self.indent)?;
             end = self.indent.saturating_add(length);
         }
         output.push_str("  ")?;
@@ -137,7 +130,7 @@ pub(crate) fn put_fillings(
     if chart.lanes.iter().any(|lane| lane.has_arrivals()) {
         line.with_entry(output, "1-9 jobs came, + more")?;
     }
-    if chart.lanes.iter().any(|lane| lane.waits()) {
+    if chart.waits() {
         let wait = char::from(WAIT);
         let entry = format!(in alloc; "{wait} not free")?;
         line.with_entry(output, &entry)?;

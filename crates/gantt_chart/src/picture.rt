@@ -29,15 +29,25 @@ fn put_lanes(
     Ok(bottom)
 }
 
+/// Appends a number of the scale.
+fn put_number(
+    alloc: Global,
+    output: &mut String,
+    x: f64,
+    y: f64,
+    number: u64,
+) -> Result<(), AllocError> {
+    let text = format!(in alloc; "{number}")?;
+    put_text(output, x, y, " text-anchor=\"middle\"", text.as_bytes())
+}
+
 /// Appends the numbers of the scale.
 fn put_numbers(alloc: Global, output: &mut String, frame: Frame, y: f64) -> Result<(), AllocError> {
     for place in 0..=MOST_MARKS {
         let Some(mark) = frame.scale.mark(place) else {
             return Ok(());
         };
-        let (x, number) = (frame.x(mark.moment), mark.number);
-        let text = format!(in alloc; "{number}")?;
-        put_text(output, x, y, " text-anchor=\"middle\"", text.as_bytes())?;
+        put_number(alloc, output, frame.x(mark.moment), y, mark.number)?;
     }
     Ok(())
 }

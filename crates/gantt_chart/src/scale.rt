@@ -42,7 +42,7 @@ const STEPS: [u64; 32] = [
 pub(crate) const MOST_MARKS: u64 = 12;
 
 /// What the marks count.
-#[derive(Clone, Copy, Debug, PartialEq, Eq)]
+#[derive(Clone, Copy)]
 pub(crate) enum Unit {
     Milliseconds,
     Seconds,
@@ -50,14 +50,14 @@ pub(crate) enum Unit {
 }
 
 /// A span of time, and the time between two of its marks, in ms.
-#[derive(Clone, Copy, Debug, PartialEq, Eq)]
+#[derive(Clone, Copy)]
 pub(crate) struct Scale {
     span: u64,
     step: u64,
 }
 
 /// A moment that is written, in ms, and by its number of units.
-#[derive(Clone, Copy, Debug, PartialEq, Eq)]
+#[derive(Clone, Copy)]
 pub(crate) struct ScaleMark {
     pub(crate) moment: u64,
     pub(crate) number: u64,
@@ -94,9 +94,9 @@ impl Unit {
 
 /// The time between two marks.
 fn step_of(span: u64) -> u64 {
-    for step in STEPS {
+    for step in &STEPS {
         if span <= step.saturating_mul(MOST_MARKS) {
-            return step;
+            return *step;
         }
     }
     span / MOST_MARKS

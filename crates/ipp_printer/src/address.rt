@@ -2,7 +2,7 @@
 use std::alloc::{AllocError, Global};
 
 /// Where a printer is, as its requests say it.
-#[derive(Debug, Drop)]
+#[derive(Drop)]
 pub struct IppAddress {
     /// The printer's URI, as `ipp://host/ipp/print`.
     pub uri: String,

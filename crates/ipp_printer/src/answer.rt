@@ -11,7 +11,7 @@ use ipp_codec::{GroupTag, MessageView};
 const OK: u32 = 200;
 
 /// How far a job is at the printer.
-#[derive(Clone, Copy, Debug, PartialEq, Eq)]
+#[derive(Clone, Copy)]
 pub(crate) enum JobState {
     /// It isn't printed yet.
     Goes,
@@ -21,7 +21,7 @@ pub(crate) enum JobState {
 }
 
 /// What a printer tells of a job.
-#[derive(Clone, Copy, Debug, PartialEq, Eq)]
+#[derive(Clone, Copy)]
 pub(crate) struct JobAnswer {
     pub(crate) job: Option<i32>,
     pub(crate) state: JobState,

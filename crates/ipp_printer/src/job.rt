@@ -10,7 +10,7 @@ use std::alloc::Global;
 const OCTETS: &str = "application/octet-stream";
 
 /// What a job asks for.
-#[derive(Debug, Drop)]
+#[derive(Drop)]
 pub(crate) struct JobWish {
     job: u32,
     copies: u32,

@@ -1,7 +1,7 @@
 //! What is done on a connection, and how far a job is.
 
 /// What is done on a connection.
-#[derive(Clone, Copy, Debug, PartialEq, Eq)]
+#[derive(Clone, Copy, PartialEq, Eq)]
 pub(crate) enum Task {
     Nothing,
     /// The printer's state is asked.
@@ -15,7 +15,7 @@ pub(crate) enum Task {
 }
 
 /// How far the job is that the server brought.
-#[derive(Clone, Copy, Debug, PartialEq, Eq)]
+#[derive(Clone, Copy, PartialEq, Eq)]
 pub(crate) enum Stage {
     /// There is none.
     None,

@@ -4,7 +4,7 @@ use std::fmt;
 use thiserror::Error;
 
 /// Why a printer's reply is of no use.
-#[derive(Clone, Copy, Debug, PartialEq, Eq, Error)]
+#[derive(Clone, Copy, Debug, Error)]
 pub enum ReplyBreach {
     /// It is no reply of HTTP, or too long.
     #[error("{0}")]
@@ -27,7 +27,7 @@ pub enum ReplyBreach {
 }
 
 /// What of a job isn't asked for, since the printer doesn't say that it supports it.
-#[derive(Clone, Copy, Debug, PartialEq, Eq)]
+#[derive(Clone, Copy)]
 pub struct LeftOut {
     pub copies: bool,
     pub sides: bool,
@@ -52,7 +52,7 @@ impl fmt::Display for LeftOut {
 }
 
 /// What a printer came to.
-#[derive(Clone, Copy, Debug, PartialEq, Eq)]
+#[derive(Clone, Copy)]
 pub enum Told {
     Nothing,
     /// It says that it needs someone.

@@ -20,21 +20,44 @@ pub enum Column {
 }
 
 impl Column {
+    /// All of them.
+    const ALL: [Column; 10] = [
+        Column::Moment,
+        Column::Impressions,
+        Column::Octets,
+        Column::Copies,
+        Column::Sides,
+        Column::Media,
+        Column::Format,
+        Column::Finishings,
+        Column::Priority,
+        Column::Printer,
+    ];
+
+    /// Its name.
+    fn name(self) -> &'static str {
+        match self {
+            Column::Moment => "moment",
+            Column::Impressions => "impressions",
+            Column::Octets => "octets",
+            Column::Copies => "copies",
+            Column::Sides => "sides",
+            Column::Media => "media",
+            Column::Format => "format",
+            Column::Finishings => "finishings",
+            Column::Priority => "priority",
+            Column::Printer => "printer",
+        }
+    }
+
     /// The column of a name.
     pub(crate) fn named(name: &[u8]) -> Option<Column> {
-        match name {
-            b"moment" => Some(Column::Moment),
-            b"impressions" => Some(Column::Impressions),
-            b"octets" => Some(Column::Octets),
-            b"copies" => Some(Column::Copies),
-            b"sides" => Some(Column::Sides),
-            b"media" => Some(Column::Media),
-            b"format" => Some(Column::Format),
-            b"finishings" => Some(Column::Finishings),
-            b"priority" => Some(Column::Priority),
-            b"printer" => Some(Column::Printer),
-            _ => None,
+        for column in Column::ALL {
+            if column.name().as_bytes() == name {
+                return Some(column);
+            }
         }
+        None
     }
 
     /// What its fields may say.

@@ -9,7 +9,7 @@ use settings_file::{PrinterSettings, Settings};
 use std::alloc::{AllocError, Global};
 
 /// A job of a list.
-#[derive(Debug, Drop)]
+#[derive(Drop)]
 pub struct ListedJob {
     /// When it comes, in ms: at most [`Limits::LAST_MOMENT`].
     pub moment: u64,
@@ -41,6 +41,13 @@ fn number(field: &[u8], least: u32, most: u32, column: Column) -> Result<u32, Li
 /// A moment, or the fault of its column.
 fn moment_in(field: &[u8]) -> Result<u64, ListFault> {
     text::number_up_to(field, Limits::LAST_MOMENT).ok_or(ListFault::Field(Column::Moment))
+}
+
+/// A list of one text.
+fn list_of(alloc: Global, bytes: &[u8]) -> Result<Vec<Text>, AllocError> {
+    let mut texts = Vec::new(alloc);
+    texts.push(Text::copy_of(alloc, bytes)?)?;
+    Ok(texts)
 }
 
 impl<'a> Draft<'a> {
@@ -127,17 +134,14 @@ impl<'a> Draft<'a> {
         impressions: u32,
     ) -> Result<Needs, AllocError> {
         let format = self.format.unwrap_or(printer.format_default.as_bytes());
-        let mut formats = Vec::new(alloc);
-        formats.push(Text::copy_of(alloc, format)?)?;
+        let media = self.media.unwrap_or(printer.media_default.as_bytes());
+        let media = Text::copy_of(alloc, media)?;
         Ok(Needs {
             printer: PrinterId::new(self.printer),
-            formats,
+            formats: list_of(alloc, format)?,
             sides: self.sides,
             finishings: self.finishings,
-            media: Text::copy_of(
-                alloc,
-                self.media.unwrap_or(printer.media_default.as_bytes()),
-            )?,
+            media,
             impressions: impressions.max(1).min(Limits::IMPRESSIONS),
             copies: self.copies.max(1).min(Limits::COPIES),
         })

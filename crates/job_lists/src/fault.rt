@@ -6,7 +6,7 @@ use std::fmt;
 use thiserror::Error;
 
 /// Why a text is no list of jobs.
-#[derive(Clone, Copy, Debug, PartialEq, Eq)]
+#[derive(Clone, Copy, Debug)]
 pub enum ListFault {
     /// The first line names a column that isn't known.
     UnknownColumn,
@@ -27,7 +27,7 @@ pub enum ListFault {
 }
 
 /// Why a line gives no job.
-#[derive(Debug, Drop)]
+#[derive(Drop)]
 pub(crate) enum LineError {
     Fault(ListFault),
     OutOfMemory,
@@ -56,7 +56,7 @@ impl fmt::Display for ListFault {
             ListFault::Order => "this job comes before the one in the line before",
             ListFault::TooMany => "there are more than 100,000 jobs",
         };
-        write!(f, "{meaning}")
+        f.write_str(meaning)
     }
 }
 

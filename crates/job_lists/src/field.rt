@@ -16,20 +16,26 @@ pub(crate) fn number_in(field: &[u8], least: u32, most: u32) -> Option<u32>
 
 /// The sides of a keyword (RFC 8011, section 5.2.8).
 pub(crate) fn sides_named(field: &[u8]) -> Option<Sides> {
-    match field {
-        b"one-sided" => Some(Sides::One),
-        b"two-sided-long-edge" => Some(Sides::LongEdge),
-        b"two-sided-short-edge" => Some(Sides::ShortEdge),
-        _ => None,
+    if field == b"one-sided".as_slice() {
+        Some(Sides::One)
+    } else if field == b"two-sided-long-edge".as_slice() {
+        Some(Sides::LongEdge)
+    } else if field == b"two-sided-short-edge".as_slice() {
+        Some(Sides::ShortEdge)
+    } else {
+        None
     }
 }
 
 fn finishing_named(word: &[u8]) -> Option<Finishing> {
-    match word {
-        b"staple" => Some(Finishing::Staple),
-        b"punch" => Some(Finishing::Punch),
-        b"bind" => Some(Finishing::Bind),
-        _ => None,
+    if word == b"staple".as_slice() {
+        Some(Finishing::Staple)
+    } else if word == b"punch".as_slice() {
+        Some(Finishing::Punch)
+    } else if word == b"bind".as_slice() {
+        Some(Finishing::Bind)
+    } else {
+        None
     }
 }
 

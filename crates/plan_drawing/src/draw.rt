@@ -11,6 +11,7 @@ use plan_checker::{PlanVerdict, check_plan};
 use plan_text::{PlanText, ReadError, read_plan_text};
 use std::alloc::{AllocError, Global};
 use std::io::{Read, Write};
+use std::slice;
 use streams::{ExitStatus, InputFault, read_whole, write_front};
 
 /// A picture, how the program ends, and what is objected to.
@@ -130,5 +131,5 @@ fn picture_of(
         return Ok(String::new(alloc));
     }
     let chart = chart_of(alloc, named, is_proved)?;
-    draw_charts(alloc, &[chart], form)
+    draw_charts(alloc, slice::from_ref(&chart), form)
 }

@@ -1,7 +1,7 @@
 //! The jobs of a day.
 
 /// A device of a printer, and how long a job takes there.
-#[derive(Clone, Copy, Debug, PartialEq, Eq)]
+#[derive(Clone, Copy)]
 pub struct Member {
     /// The place of the device in the settings.
     pub device: usize,
@@ -10,7 +10,7 @@ pub struct Member {
 }
 
 /// A job: when it comes, how urgent it is, and how long it takes on each device of its printer.
-#[derive(Debug, Drop)]
+#[derive(Drop)]
 pub struct DayJob {
     /// In ms from the beginning of the day.
     pub moment: u64,

@@ -1,7 +1,7 @@
 //! The policies.
 
 /// How a device is chosen, among those of the job's printer that can print it.
-#[derive(Clone, Copy, Debug, PartialEq, Eq)]
+#[derive(Clone, Copy)]
 pub enum Policy {
     /// The next one that is free, counted on from the one that a job of the printer was given last, and
     /// before the first job from the first one: a class of CUPS (`cupsdFindAvailablePrinter` of its

@@ -5,7 +5,7 @@ use crate::policy::Policy;
 use std::alloc::{AllocError, Global};
 
 /// A job that begins.
-#[derive(Clone, Copy, Debug, PartialEq, Eq)]
+#[derive(Clone, Copy)]
 pub struct Start {
     /// Its place among the jobs of the day.
     pub job: usize,
@@ -14,7 +14,7 @@ pub struct Start {
 }
 
 /// A job that waits.
-#[derive(Clone, Copy, Debug)]
+#[derive(Clone, Copy)]
 struct Waiting {
     job: usize,
     priority: u8,
@@ -23,7 +23,7 @@ struct Waiting {
 }
 
 /// A device: whether it is free, and how many jobs wait for it alone or print on it.
-#[derive(Clone, Copy, Debug)]
+#[derive(Clone, Copy)]
 struct Device {
     is_free: bool,
     jobs: usize,

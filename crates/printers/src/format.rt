@@ -1,7 +1,7 @@
 //! What a document is, by its first bytes.
 
 /// What a document is.
-#[derive(Clone, Copy, Debug)]
+#[derive(Clone, Copy)]
 pub enum Format {
     Pdf,
     PostScript,

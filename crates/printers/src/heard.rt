@@ -3,7 +3,7 @@ use ipp_printer::{LeftOut, ReplyBreach};
 use std::fmt;
 
 /// Why a job can't be printed.
-#[derive(Clone, Copy, Debug)]
+#[derive(Clone, Copy)]
 pub enum Breach {
     /// The server canceled it.
     Canceled,
@@ -39,7 +39,7 @@ impl fmt::Display for Breach {
 }
 
 /// What a printer came to in a turn.
-#[derive(Clone, Copy, Debug)]
+#[derive(Clone, Copy)]
 pub enum Heard {
     Nothing,
     /// It can't be reached, for the first time since it was.

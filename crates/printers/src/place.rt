@@ -4,7 +4,7 @@ use std::io;
 use std::net::{Net, SocketAddr, ToSocketAddrs};
 
 /// A host, by its name or address, and a port.
-#[derive(Debug, Drop)]
+#[derive(Drop)]
 pub struct Place {
     pub host: String,
     pub port: u16,

@@ -4,7 +4,7 @@ use settings_file::LastTable;
 use std::alloc::Global;
 
 /// What a text says of one table and one of its keys, as far as it is found.
-#[derive(Debug, Drop)]
+#[derive(Clone, Copy)]
 pub(crate) struct Place<'a> {
     /// The line of the key; where it has none, of the table's header.
     pub(crate) line: Option<usize>,
@@ -17,7 +17,7 @@ pub(crate) struct Place<'a> {
 }
 
 /// The table in which statements stand, and how many tables of devices and printers began.
-#[derive(Drop)]
+#[derive(Clone, Copy)]
 struct Position {
     table: Option<LastTable>,
     devices: usize,

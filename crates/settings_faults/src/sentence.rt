@@ -47,12 +47,7 @@ fn sentence(
         SettingsFault::NotToml => no_toml(alloc, file, text),
         SettingsFault::Missing(key) => {
             let place = place_of(alloc, text, table, key.name());
-            let (at, key, wanted) = (
-                at(alloc, file, table, &place)?,
-                key.name(),
-                wanted(alloc, *key)?,
-            );
-            Ok(format!(in alloc; "{at}: {key} is missing; it is {wanted}")?)
+            about_missing(alloc, &at(alloc, file, table, &place)?, *key)
         }
         SettingsFault::WrongKind(key) | SettingsFault::OutOfRange(key) => {
             let place = place_of(alloc, text, table, key.name());
@@ -73,7 +68,7 @@ fn sentence(
             let place = place_of(alloc, text, table, "name");
             let at = at(alloc, file, table, &place)?;
             let (name, kind) = (name_of(name.as_bytes()), kind_of(table));
-            Ok(format!(in alloc; "{at}: an earlier {kind} has the name \"{name}\"")?)
+            format!(in alloc; "{at}: an earlier {kind} has the name \"{name}\"")
         }
         SettingsFault::OutOfMemory => Err(AllocError),
     }
@@ -82,7 +77,7 @@ fn sentence(
 /// The sentence about a text that is no TOML.
 fn no_toml(alloc: Global, file: &str, text: &str) -> Result<String, AllocError> {
     match toml::table_from_str(alloc, text) {
-        Ok(_) => Ok(format!(in alloc; "{file}: this is no TOML")?),
+        Ok(_) => format!(in alloc; "{file}: this is no TOML"),
         Err(error) if error.is_memory() => Err(AllocError),
         Err(error) => {
             let start = match error.span() {
@@ -92,7 +87,7 @@ fn no_toml(alloc: Global, file: &str, text: &str) -> Result<String, AllocError> 
             let line = line_after(text.as_bytes(), start);
             let column = column_after(text.as_bytes(), start);
             let why = error.message();
-            Ok(format!(in alloc; "{file}: line {line}, column {column}: this is no TOML: {why}")?)
+            format!(in alloc; "{file}: line {line}, column {column}: this is no TOML: {why}")
         }
     }
 }
@@ -134,7 +129,7 @@ fn at(
 ) -> Result<String, AllocError> {
     let mut at = format!(in alloc; "{file}")?;
     if let Some(line) = place.line {
-        at.push_str(&format!(in alloc; ": line {line}")?)?;
+        write!(at, ": line {line}")?;
     }
     let kind = kind_of(table);
     let number = match table {
@@ -143,8 +138,8 @@ fn at(
     };
     let joint = if place.line.is_some() { "," } else { ":" };
     match place.name {
-        Some(name) => at.push_str(&format!(in alloc; "{joint} {kind} {name}")?)?,
-        None => at.push_str(&format!(in alloc; "{joint} {kind} {number}")?)?,
+        Some(name) => write!(at, "{joint} {kind} {name}")?,
+        None => write!(at, "{joint} {kind} {number}")?,
     }
     Ok(at)
 }
@@ -159,6 +154,13 @@ fn shown(value: Option<&str>) -> Option<&str> {
     }
 }
 
+/// The sentence about a key that is missing.
+fn about_missing(alloc: Global, at: &str, key: Key) -> Result<String, AllocError> {
+    let wanted = wanted(alloc, key)?;
+    let key = key.name();
+    format!(in alloc; "{at}: {key} is missing; it is {wanted}")
+}
+
 /// The sentence about a value that may not be.
 fn about_value(
     alloc: Global,
@@ -168,10 +170,10 @@ fn about_value(
 ) -> Result<String, AllocError> {
     let wanted = wanted(alloc, key)?;
     let key = key.name();
-    Ok(match shown(value) {
-        Some(value) => format!(in alloc; "{at}: {key} is {value}, and may be {wanted}")?,
-        None => format!(in alloc; "{at}: {key} may be {wanted}")?,
-    })
+    match shown(value) {
+        Some(value) => format!(in alloc; "{at}: {key} is {value}, and may be {wanted}"),
+        None => format!(in alloc; "{at}: {key} may be {wanted}"),
+    }
 }
 
 /// The sentence about a name that is not known: of a key of the table, or else of a device.
@@ -183,12 +185,11 @@ fn about_unknown(
     is_key: bool,
 ) -> Result<String, AllocError> {
     let kind = kind_of(table);
-    Ok(if is_key {
-        match table {
-            LastTable::Root => format!(in alloc; "{at}: {name} is no key of the settings")?,
-            _ => format!(in alloc; "{at}: {name} is no key of a {kind}")?,
-        }
-    } else {
-        format!(in alloc; "{at}: there is no device \"{name}\"")?
-    })
+    if !is_key {
+        return format!(in alloc; "{at}: there is no device \"{name}\"");
+    }
+    match table {
+        LastTable::Root => format!(in alloc; "{at}: {name} is no key of the settings"),
+        _ => format!(in alloc; "{at}: {name} is no key of a {kind}"),
+    }
 }

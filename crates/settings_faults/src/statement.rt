@@ -4,7 +4,7 @@ use toml_parser::text::{first, skip_blank, skip_ws};
 use toml_parser::{dotted_key, quoted, starts_string};
 
 /// What a statement says.
-#[derive(Debug, Drop)]
+#[derive(Drop)]
 pub(crate) enum Said<'a> {
     /// A table of this name begins; of no name, where the name has dots.
     Header(Option<String>),
@@ -13,7 +13,7 @@ pub(crate) enum Said<'a> {
 }
 
 /// A statement, and its line, from 1 on.
-#[derive(Debug, Drop)]
+#[derive(Drop)]
 pub(crate) struct Statement<'a> {
     pub(crate) line: usize,
     pub(crate) said: Said<'a>,

@@ -14,7 +14,7 @@ use std::alloc::{AllocError, Global};
 use std::num::{nearest_u64_to_f64, saturating_f64_to_u64};
 
 /// By how much devices miss their estimates, at most, in per cent; and the seed of chance.
-#[derive(Clone, Copy, Debug, PartialEq, Eq)]
+#[derive(Clone, Copy)]
 pub struct Noise {
     pub percent: u8,
     pub seed: u64,
@@ -114,17 +114,29 @@ impl Day {
         listed: &[ListedJob],
         noise: Noise,
     ) -> Result<Day, AllocError> {
-        let mut chance = Pcg32::new(noise.seed, 0);
         let mut day = Day {
-            jobs: Vec::with_capacity(alloc, listed.len())?,
+            jobs: Vec::new(alloc),
             stranded: Vec::new(alloc),
-            parts: Vec::with_capacity(alloc, listed.len())?,
+            parts: Vec::new(alloc),
         };
-        for (place, job) in listed.iter().enumerate() {
-            day.parts.push(part_of(noise.percent, &mut chance))?;
-            day.add(alloc, core, place, job)?;
-        }
+        day.add_all(alloc, core, listed, noise)?;
         Ok(day)
+    }
+
+    /// Adds the jobs of a list.
+    fn add_all(
+        &mut self,
+        alloc: Global,
+        core: &Core<Lazy>,
+        listed: &[ListedJob],
+        noise: Noise,
+    ) -> Result<(), AllocError> {
+        let mut chance = Pcg32::new(noise.seed, 0);
+        for (place, job) in listed.iter().enumerate() {
+            self.parts.push(part_of(noise.percent, &mut chance))?;
+            self.add(alloc, core, place, job)?;
+        }
+        Ok(())
     }
 
     /// Adds the job at a place of a list.

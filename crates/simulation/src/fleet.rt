@@ -2,6 +2,7 @@
 ghost use Rattle.std.specs.Prelude.{IfOk};
 ghost use Rattle.settings_file.specs.Settings.{MeetsLimits};
 
+use crate::planned::apply_to;
 use assignment::Lazy;
 use base_types::{DeviceId, Finishings, Moment, Report, Text};
 use dispatcher::Core;
@@ -13,7 +14,7 @@ use std::alloc::{AllocError, AllocFailed, Global};
 use thiserror::Error;
 
 /// A device that there is one more of.
-#[derive(Clone, Copy, Debug, PartialEq, Eq)]
+#[derive(Clone, Copy)]
 pub struct Added<'a> {
     pub name: &'a str,
     /// The name of the device that it is like.
@@ -208,22 +209,38 @@ fn known(alloc: Global, settings: &Settings, name: &str) -> Result<usize, FleetF
     }
 }
 
+/// The fault that the settings take no device of a name more, unless there is no memory for it.
+fn refused(alloc: Global, name: &str) -> FleetFault {
+    match String::from_str(alloc, name) {
+        Ok(name) => FleetFault::Refused { name },
+        Err(_) => FleetFault::OutOfMemory,
+    }
+}
+
+/// The settings of a text, which have a device of a name more.
+fn settings_in(alloc: Global, text: &[u8], name: &str) -> Result<Settings, FleetFault>
+    ensures { IfOk result MeetsLimits }
+{
+    match read_settings_bytes(alloc, text) {
+        Ok(settings) => Ok(settings),
+        Err(SettingsFault::OutOfMemory) => Err(FleetFault::OutOfMemory),
+        Err(_) => Err(refused(alloc, name)),
+    }
+}
+
 /// Settings with one more device: it stands behind all others, and is one of each printer that has the
 /// device that it is like.
 fn with_device(alloc: Global, settings: &Settings, added: Added<'_>) -> Result<Settings, FleetFault>
     ensures { IfOk result MeetsLimits }
 {
     let like = known(alloc, settings, added.like)?;
-    let name = String::from_str(alloc, added.name)?;
     if device_named(settings, added.name).is_some() {
-        return Err(FleetFault::Taken { name });
+        return Err(FleetFault::Taken {
+            name: String::from_str(alloc, added.name)?,
+        });
     }
     let text = text_with(alloc, settings, like, added.name)?;
-    match read_settings_bytes(alloc, &text) {
-        Ok(settings) => Ok(settings),
-        Err(SettingsFault::OutOfMemory) => Err(FleetFault::OutOfMemory),
-        Err(_) => Err(FleetFault::Refused { name }),
-    }
+    settings_in(alloc, &text, added.name)
 }
 
 /// Settings with some more devices.
@@ -247,7 +264,7 @@ fn make_ready(core: &mut Core<Lazy>, away: &[usize]) -> Result<(), AllocError> {
     for place in 0..core.settings().devices.len() {
         if !away.contains(&place) {
             let report = Event::Report(DeviceId::new(place), Report::Ready);
-            core.apply(report, Moment::start())?;
+            apply_to(core, report, Moment::start())?;
         }
     }
     Ok(())

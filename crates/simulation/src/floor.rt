@@ -6,7 +6,7 @@ use policies::Start;
 use std::alloc::{AllocError, Global};
 
 /// A job that was printed: on which device, and from when to when, in ms from the beginning of the day.
-#[derive(Clone, Copy, Debug, PartialEq, Eq)]
+#[derive(Clone, Copy)]
 pub(crate) struct Print {
     pub(crate) job: usize,
     pub(crate) device: usize,
@@ -147,6 +147,26 @@ pub trait Watch {
     fn come(&mut self, name: &str, come: usize, jobs: usize);
 }
 
+impl Floor<'_> {
+    /// Plays the day until nothing happens any more.
+    fn play<R: Room, W: Watch>(
+        &mut self,
+        room: &mut R,
+        name: &str,
+        watch: &mut W,
+    ) -> Result<(), AllocError> {
+        // each job comes once and ends once
+        for _ in 0..self.day.jobs.len().saturating_mul(2) {
+            let Some(happening) = self.next() else {
+                return Ok(());
+            };
+            self.go_on(room, happening)?;
+            watch.come(name, self.come, self.day.jobs.len());
+        }
+        Ok(())
+    }
+}
+
 /// Plays a day on so many devices: the jobs that were printed, in the order in which they began.
 pub(crate) fn play<R: Room, W: Watch>(
     alloc: Global,
@@ -157,13 +177,6 @@ pub(crate) fn play<R: Room, W: Watch>(
     watch: &mut W,
 ) -> Result<Vec<Print>, AllocError> {
     let mut floor = Floor::new(alloc, day, devices)?;
-    // each job comes once and ends once
-    for _ in 0..day.jobs.len().saturating_mul(2) {
-        let Some(happening) = floor.next() else {
-            break;
-        };
-        floor.go_on(room, happening)?;
-        watch.come(name, floor.come, day.jobs.len());
-    }
+    floor.play(room, name, watch)?;
     Ok(floor.prints)
 }

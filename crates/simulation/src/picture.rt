@@ -9,7 +9,7 @@ use policies::Policy;
 use std::alloc::{AllocError, Global};
 
 /// What is drawn of a simulation: the planned day, and below it that of a policy.
-#[derive(Clone, Copy, Debug, PartialEq, Eq)]
+#[derive(Clone, Copy)]
 pub struct Drawn {
     pub policy: Policy,
     pub form: Form,
@@ -56,7 +56,30 @@ fn notes_of(alloc: Global, day: &Day) -> Result<Vec<String>, AllocError> {
     Ok(notes)
 }
 
-/// The chart of a day.
+/// The chart of a day, of these jobs and prints, under a title.
+fn chart_with(
+    alloc: Global,
+    names: &[Text],
+    day: &Day,
+    title: &str,
+    arrivals: &[Arrival],
+    prints: &[gantt_chart::Print],
+) -> Result<Chart, AllocError> {
+    let shown = day.stranded.len().min(STRANDED);
+    chart_of_day(
+        alloc,
+        gantt_chart::Day {
+            title: String::from_str(alloc, title)?,
+            devices: names,
+            arrivals,
+            prints,
+            stranded: Vec::from_slice(alloc, &day.stranded[..shown])?,
+            notes: notes_of(alloc, day)?,
+        },
+    )
+}
+
+/// The chart of a day as it was played.
 fn chart_of(
     alloc: Global,
     names: &[Text],
@@ -65,18 +88,7 @@ fn chart_of(
 ) -> Result<Chart, AllocError> {
     let arrivals = arrivals_of(alloc, day)?;
     let prints = prints_of(alloc, &outcome.prints)?;
-    let shown = day.stranded.len().min(STRANDED);
-    chart_of_day(
-        alloc,
-        gantt_chart::Day {
-            title: String::from_str(alloc, outcome.name)?,
-            devices: names,
-            arrivals: &arrivals,
-            prints: &prints,
-            stranded: Vec::from_slice(alloc, &day.stranded[..shown])?,
-            notes: notes_of(alloc, day)?,
-        },
-    )
+    chart_with(alloc, names, day, outcome.name, &arrivals, &prints)
 }
 
 /// A picture of a day as it was played in two ways: planned, and below it by a policy.

@@ -14,8 +14,8 @@ use std::alloc::{AllocError, Global};
 use std::collections::VecDeque;
 
 /// What became of a job that was sent to the core.
-#[derive(Clone, Copy, Debug, PartialEq, Eq)]
-enum Sent {
+#[derive(Clone, Copy, PartialEq, Eq)]
+pub(crate) enum Sent {
     Taken,
     /// There are as many jobs as there can be.
     Busy,
@@ -53,6 +53,16 @@ fn sent_by(reply: &Reply) -> Sent {
     }
 }
 
+/// Has a core act on an event: what its answer says became of a job.
+pub(crate) fn apply_to(
+    core: &mut Core<Lazy>,
+    event: Event,
+    now: Moment,
+) -> Result<Sent, AllocError> {
+    let reply = core.apply(event, now)?;
+    Ok(sent_by(&reply))
+}
+
 impl<'a> Planned<'a> {
     /// A core whose devices are ready, but for those that are away, before the first job of a list.
     pub(crate) fn new(alloc: Global, core: Core<Lazy>, listed: &'a [ListedJob]) -> Planned<'a> {
@@ -71,26 +81,25 @@ impl<'a> Planned<'a> {
         let Some(job) = self.listed.get(place) else {
             return Ok(Sent::Refused);
         };
-        let body = print_job(self.alloc, self.core.settings(), job)?;
-        let sent = self.send_body(&body, now)?;
+        let sent = self.send_job(job, now)?;
         if sent == Sent::Taken {
             self.taken.push(place)?;
         }
         Ok(sent)
     }
 
+    /// Sends a job.
+    fn send_job(&mut self, job: &ListedJob, now: u64) -> Result<Sent, AllocError> {
+        let body = print_job(self.alloc, self.core.settings(), job)?;
+        self.send_body(&body, now)
+    }
+
     /// Sends the body of a request.
     fn send_body(&mut self, body: &[u8], now: u64) -> Result<Sent, AllocError> {
         match ipp_event(self.alloc, body)? {
-            Asked::Event(_, event) => self.apply(event, now),
+            Asked::Event(_, event) => apply_to(&mut self.core, event, moment_at(now)),
             _ => Ok(Sent::Refused),
         }
-    }
-
-    /// Has the core act on an event.
-    fn apply(&mut self, event: Event, now: u64) -> Result<Sent, AllocError> {
-        let reply = self.core.apply(event, moment_at(now))?;
-        Ok(sent_by(&reply))
     }
 
     /// Sends the first job of those that the core had no room for, and has it planned where it is taken.
@@ -122,14 +131,19 @@ impl<'a> Planned<'a> {
         Ok(())
     }
 
+    /// Notes jobs that began.
+    fn note_all(&mut self, begun: &[Started]) -> Result<(), AllocError> {
+        for started in begun {
+            self.note(started)?;
+        }
+        Ok(())
+    }
+
     /// Has the core plan, and notes what begins.
     fn dispatch(&mut self, now: u64) -> Result<(), AllocError> {
         let planned = self.core.dispatch(moment_at(now))?;
         let begun = Vec::from_slice(self.alloc, self.core.dispatched(planned).started())?;
-        for started in &begun {
-            self.note(started)?;
-        }
-        Ok(())
+        self.note_all(&begun)
     }
 
     /// The id of the job at a place of the list, where it was taken.
@@ -152,7 +166,7 @@ impl Room for Planned<'_> {
         if let Some(job) = self.id_of(ended.job) {
             let device = DeviceId::new(ended.device);
             let report = Event::Report(device, Report::Done { job });
-            self.apply(report, now)?;
+            apply_to(&mut self.core, report, moment_at(now))?;
         }
         self.dispatch(now)?;
         self.send_waiting(now)

@@ -117,6 +117,15 @@ fn printer_uri(alloc: Global, settings: &Settings, place: usize) -> Result<Vec<u
     Ok(uri)
 }
 
+/// Appends all behind the begin of a body.
+fn put_request(body: &mut Vec<u8>, uri: &[u8], job: &ListedJob) -> Result<(), AllocError> {
+    put_operation(body, uri, job.needs.formats.first(), job.needs.impressions)?;
+    body.push(JOB_ATTRIBUTES)?;
+    put_job(body, job)?;
+    body.push(END_OF_ATTRIBUTES)?;
+    Ok(())
+}
+
 /// The body of a Print-Job for a job of a list, without octets of its document.
 pub(crate) fn print_job(
     alloc: Global,
@@ -125,14 +134,6 @@ pub(crate) fn print_job(
 ) -> Result<Vec<u8>, AllocError> {
     let uri = printer_uri(alloc, settings, job.needs.printer.place())?;
     let mut body = Vec::from_slice(alloc, &BEGIN)?;
-    put_operation(
-        &mut body,
-        &uri,
-        job.needs.formats.first(),
-        job.needs.impressions,
-    )?;
-    body.push(JOB_ATTRIBUTES)?;
-    put_job(&mut body, job)?;
-    body.push(END_OF_ATTRIBUTES)?;
+    put_request(&mut body, &uri, job)?;
     Ok(body)
 }

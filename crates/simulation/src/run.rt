@@ -15,7 +15,7 @@ use settings_file::Settings;
 use std::alloc::{AllocError, Global};
 
 /// What is asked of a simulation.
-#[derive(Clone, Copy, Debug)]
+#[derive(Clone, Copy)]
 pub struct Question<'a> {
     pub noise: Noise,
     /// The names of devices that are away all day.

@@ -5,7 +5,7 @@ use crate::floor::Print;
 use std::alloc::{AllocError, Global};
 
 /// How long people waited for their paper, from when a job came to when it was printed, in ms.
-#[derive(Clone, Copy, Debug, PartialEq, Eq)]
+#[derive(Clone, Copy)]
 pub(crate) struct Waits {
     /// How many jobs were printed.
     pub(crate) jobs: usize,

@@ -70,12 +70,36 @@ fn put_time(
     put_right(output, &text, columns)
 }
 
+/// Appends a number of things that ends behind so many columns.
+fn put_count(
+    alloc: Global,
+    output: &mut String,
+    count: usize,
+    columns: usize,
+) -> Result<(), AllocError> {
+    let text = format!(in alloc; "{count}")?;
+    put_right(output, &text, columns)
+}
+
 /// A part of a whole in per cent, cut off.
 fn percent_of(part: u64, whole: u64) -> u128 {
     u128::from(part)
         .saturating_mul(100)
         .checked_div(u128::from(whole))
         .unwrap_or(100)
+}
+
+/// Appends a part of a whole in per cent, which ends behind so many columns.
+fn put_percent(
+    alloc: Global,
+    output: &mut String,
+    part: u64,
+    whole: u64,
+    columns: usize,
+) -> Result<(), AllocError> {
+    let percent = percent_of(part, whole);
+    let text = format!(in alloc; "{percent} %")?;
+    put_right(output, &text, columns)
 }
 
 /// Appends the row of a day; its mean is compared with another.
@@ -86,12 +110,10 @@ fn put_waits(
     waits: Waits,
     planned: u64,
 ) -> Result<(), AllocError> {
-    let jobs = waits.jobs;
-    let percent = percent_of(waits.mean, planned);
     put_left(output, name, NAME)?;
-    put_right(output, &format!(in alloc; "{jobs}")?, JOBS)?;
+    put_count(alloc, output, waits.jobs, JOBS)?;
     put_time(alloc, output, waits.mean, TIME)?;
-    put_right(output, &format!(in alloc; "{percent} %")?, PERCENT)?;
+    put_percent(alloc, output, waits.mean, planned, PERCENT)?;
     put_time(alloc, output, waits.median, TIME)?;
     put_time(alloc, output, waits.late, LATE)?;
     put_time(alloc, output, waits.worst, TIME)?;
@@ -127,7 +149,8 @@ fn put_use(
     let printed = printed_on(&outcome.prints, device);
     let idle = last_end(&outcome.prints).saturating_sub(printed);
     let (printed, idle) = (ShortTime(printed), ShortTime(idle));
-    put_right(output, &format!(in alloc; "{printed}, {idle}")?, PAIR)
+    let text = format!(in alloc; "{printed}, {idle}")?;
+    put_right(output, &text, PAIR)
 }
 
 /// Appends the row of a device.
