@@ -7,6 +7,7 @@ use base_types::Stranded;
 use gantt_chart::{Arrival, Day, Ending, Form, Print, chart_of_day, draw_charts};
 use job_objects::JobState;
 use std::alloc::{AllocError, Global};
+use std::slice;
 
 /// The jobs that came.
 fn arrivals_of(alloc: Global, jobs: &[RecordedJob]) -> Result<Vec<Arrival>, AllocError> {
@@ -135,5 +136,5 @@ pub fn draw_day(alloc: Global, file: &str, text: &[u8], form: Form) -> Result<St
             notes: notes_of(alloc, &day)?,
         },
     )?;
-    Ok(draw_charts(alloc, &[chart], form)?)
+    Ok(draw_charts(alloc, slice::from_ref(&chart), form)?)
 }

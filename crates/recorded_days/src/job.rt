@@ -5,7 +5,7 @@ use job_objects::{Job, JobState};
 use std::alloc::{AllocError, Global};
 
 /// A job of a day.
-#[derive(Debug, Drop)]
+#[derive(Drop)]
 pub struct RecordedJob {
     pub id: JobId,
     /// When all of it had come in and nothing held it back, in ms; when it was made, where that never was.
@@ -21,7 +21,7 @@ pub struct RecordedJob {
 }
 
 /// What a device printed of a job, in ms.
-#[derive(Clone, Copy, Debug, PartialEq, Eq)]
+#[derive(Clone, Copy)]
 pub struct RecordedPrint {
     /// The place of the job among those of the day.
     pub job: usize,

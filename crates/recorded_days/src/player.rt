@@ -27,7 +27,7 @@ pub(crate) struct Player {
     told: Moment,
     /// The moment of the last event.
     now: Moment,
-    pub(crate) recorder: Recorder,
+    recorder: Recorder,
 }
 
 impl Player {
@@ -55,6 +55,11 @@ impl Player {
     /// The moment of the last event, in ms.
     pub(crate) fn end(&self) -> u64 {
         self.now.millis()
+    }
+
+    /// What was seen so far. From then on nothing has been.
+    pub(crate) fn take_recorder(&mut self) -> Recorder {
+        std::mem::replace(&mut self.recorder, Recorder::new(self.alloc))
     }
 
     /// Acts on a line, where the devices have these names; the inner error is what is wrong with it.

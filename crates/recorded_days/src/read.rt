@@ -3,6 +3,7 @@
 use crate::fault::{DayFault, refused};
 use crate::job::{RecordedJob, RecordedPrint};
 use crate::player::Player;
+use crate::recorder::Recorder;
 use base_types::{Stranded, Text};
 use settings_faults::explain;
 use settings_file::{Settings, SettingsFault, read_settings_bytes};
@@ -10,7 +11,7 @@ use std::alloc::{AllocError, Global};
 use traces::{next_line, split_settings};
 
 /// What became of the jobs of a trace.
-#[derive(Debug, Drop)]
+#[derive(Drop)]
 pub struct RecordedDay {
     /// The names of the devices.
     pub devices: Vec<Text>,
@@ -70,10 +71,8 @@ fn play_lines(
     Ok(())
 }
 
-/// What was seen of the jobs of a server.
-fn day_of(player: Player, devices: Vec<Text>, printers: Vec<Text>) -> RecordedDay {
-    let end = player.end();
-    let recorder = player.recorder;
+/// What was seen of jobs up to a moment.
+fn day_of(recorder: Recorder, end: u64, devices: Vec<Text>, printers: Vec<Text>) -> RecordedDay {
     RecordedDay {
         devices,
         printers,
@@ -105,7 +104,7 @@ pub fn read_day(alloc: Global, file: &str, text: &[u8]) -> Result<RecordedDay, D
     let printers = printer_names(alloc, &settings)?;
     let mut player = Player::new(alloc, settings)?;
     match play_lines(alloc, file, &mut player, &devices, cut.lines, cut.stop) {
-        Ok(()) => Ok(day_of(player, devices, printers)),
+        Ok(()) => Ok(day_of(player.take_recorder(), player.end(), devices, printers)),
         Err(fault) => Err(fault),
     }
 }
