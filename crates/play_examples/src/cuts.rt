@@ -46,21 +46,34 @@ fn put_line(text: &mut Vec<u8>, line: &[u8]) -> Result<(), AllocError> {
     Ok(())
 }
 
+/// Appends a line, which is cut in two behind so many of its characters if it has all that the peer sends.
+fn put_cut(text: &mut Vec<u8>, line: &[u8], place: usize) -> Result<(), AllocError> {
+    match line.split_at_checked(place) {
+        Some((front, back)) if line.starts_with(SENT) => {
+            put_line(text, front)?;
+            text.extend_from_slice(SENT)?;
+            put_line(text, back)
+        }
+        _ => put_line(text, line),
+    }
+}
+
 /// The trace, in which the line that has all that the peer sends is cut in two behind so many of its
 /// characters.
 fn in_two_pieces(alloc: Global, trace: &[u8], place: usize) -> Result<Vec<u8>, AllocError> {
     let mut text = Vec::new(alloc);
     for line in trace.trim_ascii_end().split(|byte| *byte == b'\n') {
-        match line.split_at_checked(place) {
-            Some((front, back)) if line.starts_with(SENT) => {
-                put_line(&mut text, front)?;
-                text.extend_from_slice(SENT)?;
-                put_line(&mut text, back)?;
-            }
-            _ => put_line(&mut text, line)?,
-        }
+        put_cut(&mut text, line, place)?;
     }
     Ok(text)
+}
+
+/// Appends a line to what happens, or what the peer got by it to all that it got.
+fn put_told(text: &mut Vec<u8>, got: &mut Vec<u8>, line: &[u8]) -> Result<(), AllocError> {
+    match line.strip_prefix(GOT) {
+        Some(bytes) => got.extend_from_slice(bytes),
+        None => put_line(text, line),
+    }
 }
 
 /// What happens by an output, and then all that the peer got, however often it got some.
@@ -68,10 +81,7 @@ fn told(alloc: Global, output: &[u8]) -> Result<Vec<u8>, AllocError> {
     let mut text = Vec::new(alloc);
     let mut got = Vec::new(alloc);
     for line in output.split(|byte| *byte == b'\n') {
-        match line.strip_prefix(GOT) {
-            Some(bytes) => got.extend_from_slice(bytes)?,
-            None => put_line(&mut text, line)?,
-        }
+        put_told(&mut text, &mut got, line)?;
     }
     text.extend_from_slice(&got)?;
     Ok(text)

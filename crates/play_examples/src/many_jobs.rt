@@ -61,18 +61,24 @@ fn output_of(alloc: Global, trace: &str) -> Option<Vec<u8>> {
     }
 }
 
-/// A text that is repeated, behind another.
-fn repeated(alloc: Global, front: &str, text: &str, count: usize) -> Result<String, AllocError> {
-    let mut whole = String::from_str(alloc, front)?;
+/// Appends a text so many times.
+fn put_repeated(whole: &mut String, text: &str, count: usize) -> Result<(), AllocError> {
     for _ in 0..count {
         whole.push_str(text)?;
     }
-    Ok(whole)
+    Ok(())
+}
+
+/// A trace of so many of the longest jobs.
+fn longest_jobs(alloc: Global) -> Result<String, AllocError> {
+    let mut trace = String::from_str(alloc, SLOW_DEVICE)?;
+    put_repeated(&mut trace, LONGEST_JOB, 513)?;
+    Ok(trace)
 }
 
 /// Whether 513 of the longest jobs, one after the other, are planned and answered as they must be.
 fn has_largest_totals(alloc: Global) -> Result<bool, AllocError> {
-    let trace = repeated(alloc, SLOW_DEVICE, LONGEST_JOB, 513)?;
+    let trace = longest_jobs(alloc)?;
     let Some(output) = output_of(alloc, trace.as_str()) else {
         return Ok(false);
     };
@@ -102,11 +108,23 @@ reply 010100000000000201470012617474726962757465732d6368617273657400057574662d38
 plan 50:78718475980800000\n\
 start ";
 
+/// Appends the longest jobs, which come in a pause.
+fn put_pause(trace: &mut String) -> Result<(), AllocError> {
+    trace.push_str(PAUSE)?;
+    put_repeated(trace, LONGEST_JOB, 513)?;
+    trace.push_str(RESUME)
+}
+
+/// A trace of the longest jobs, which come in a pause.
+fn longest_jobs_in_a_pause(alloc: Global) -> Result<String, AllocError> {
+    let mut trace = String::from_str(alloc, SLOW_DEVICE)?;
+    put_pause(&mut trace)?;
+    Ok(trace)
+}
+
 /// Whether 513 of the longest jobs that come in a pause are all planned at its end.
 fn has_largest_totals_after_a_pause(alloc: Global) -> Result<bool, AllocError> {
-    let paused = repeated(alloc, SLOW_DEVICE, PAUSE, 1)?;
-    let mut trace = repeated(alloc, paused.as_str(), LONGEST_JOB, 513)?;
-    trace.push_str(RESUME)?;
+    let trace = longest_jobs_in_a_pause(alloc)?;
     let Some(output) = output_of(alloc, trace.as_str()) else {
         return Ok(false);
     };
@@ -131,36 +149,57 @@ reply 010105070000000101470012617474726962757465732d6368617273657400057574662d38
 plan 50:43200\n\
 ";
 
-/// Settings with 32 equal devices, each of which says that it is ready.
-fn many_devices(alloc: Global) -> Result<String, AllocError> {
-    let mut settings = String::from_str(
-        alloc,
-        "version = 1\nuri_base = \"ipp://localhost:631\"\n",
-    )?;
-    let mut names = String::new(alloc);
-    let mut ready = String::new(alloc);
-    for place in 0..32 {
-        let device = format!(in alloc;
+/// How many devices there are where there are many.
+const DEVICES: usize = 32;
+
+/// Appends the tables of equal devices.
+fn put_devices(text: &mut String) -> Result<(), AllocError> {
+    for place in 0..DEVICES {
+        write!(
+            text,
             "[[device]]\nname = \"D{place}\"\nrate_one = 10\nmedia = [\"iso_a4_210x297mm\"]\nformats = [\"text/plain\"]\n"
         )?;
-        settings.push_str(device.as_str())?;
-        let name = format!(in alloc; "\"D{place}\",")?;
-        names.push_str(name.as_str())?;
-        let line = format!(in alloc; "dev D{place} READY\n")?;
-        ready.push_str(line.as_str())?;
     }
-    let printer = format!(in alloc;
-        "[[printer]]\nname = \"lab\"\ndevices = [{names}]\nmedia_default = \"iso_a4_210x297mm\"\nformat_default = \"text/plain\"\n.\nat 0\n"
-    )?;
-    settings.push_str(printer.as_str())?;
-    settings.push_str(ready.as_str())?;
-    Ok(settings)
+    Ok(())
+}
+
+/// Appends the table of a printer that has them all.
+fn put_printer(text: &mut String) -> Result<(), AllocError> {
+    text.push_str("[[printer]]\nname = \"lab\"\ndevices = [")?;
+    for place in 0..DEVICES {
+        write!(text, "\"D{place}\",")?;
+    }
+    text.push_str("]\nmedia_default = \"iso_a4_210x297mm\"\nformat_default = \"text/plain\"\n")
+}
+
+/// Appends lines by which each device says that it is ready.
+fn put_ready(text: &mut String) -> Result<(), AllocError> {
+    for place in 0..DEVICES {
+        write!(text, "dev D{place} READY\n")?;
+    }
+    Ok(())
+}
+
+/// Appends settings with many equal devices, each of which says that it is ready.
+fn put_settings(text: &mut String) -> Result<(), AllocError> {
+    text.push_str("version = 1\nuri_base = \"ipp://localhost:631\"\n")?;
+    put_devices(text)?;
+    put_printer(text)?;
+    text.push_str(".\nat 0\n")?;
+    put_ready(text)
+}
+
+/// A trace of many short jobs on many devices.
+fn many_short_jobs(alloc: Global) -> Result<String, AllocError> {
+    let mut trace = String::new(alloc);
+    put_settings(&mut trace)?;
+    put_repeated(&mut trace, SHORT_JOB, 513)?;
+    Ok(trace)
 }
 
 /// Whether 513 short jobs on 32 devices are planned and answered as they must be.
 fn fills_many_devices(alloc: Global) -> Result<bool, AllocError> {
-    let devices = many_devices(alloc)?;
-    let trace = repeated(alloc, devices.as_str(), SHORT_JOB, 513)?;
+    let trace = many_short_jobs(alloc)?;
     let Some(output) = output_of(alloc, trace.as_str()) else {
         return Ok(false);
     };
