@@ -1,0 +1,35 @@
+-- The lines of a recording.
+use Rattle.std.specs.Prelude.{ℕ, List, ◌++◌, codes}
+use Rattle.std.specs.Fmt.{decimal}
+use Rattle.wires.specs.declared.wire.Door.{Door}
+use Rattle.wires.specs.declared.wire.Door.TheVariants.{Ipp, Lpd, Devices}
+use Rattle.recordings.specs.Data.{escaped}
+
+abbrev pub door_word : Door → List ℕ
+door_word Ipp = codes "ipp"
+door_word Lpd = codes "lpd"
+door_word Devices = codes "device"
+
+-- a word, a space and a number
+abbrev pub about : List ℕ → ℕ → List ℕ
+about word number = word ++ (codes " " ++ decimal number)
+
+-- the same as a line
+abbrev pub line_about : List ℕ → ℕ → List ℕ
+line_about word number = about word number ++ codes "\n"
+
+-- a connection was accepted
+abbrev pub accept_line : Door → ℕ → List ℕ
+accept_line door id = codes "accept " ++ line_about (door_word door) id
+
+-- bytes were read
+abbrev pub read_line : ℕ → List ℕ → List ℕ
+read_line id bytes = about (codes "read") id ++ (codes " " ++ (escaped bytes ++ codes "\n"))
+
+-- so many bytes were taken, by their sum
+abbrev pub sent_line : ℕ → ℕ → ℕ → List ℕ
+sent_line id count sum = about (codes "sent") id ++ (codes " " ++ (decimal count ++ (codes " " ++ (decimal sum ++ codes "\n"))))
+
+-- a turn ended, which was taken at this moment
+abbrev pub turn_line : ℕ → List ℕ
+turn_line moment = line_about (codes "turn") moment

@@ -1,0 +1,114 @@
+//! The lines of a recording, written.
+ghost use Rattle.std.specs.Prelude.{◌≡◌, ◌++◌, ℕ, OnOk, codes};
+ghost use Rattle.std.specs.Fmt.{decimal};
+ghost use Rattle.recordings.specs.Lines.{door_word, about, line_about, accept_line, read_line, sent_line, turn_line};
+
+use crate::data::put_data;
+use crate::entry::{Accepted, Entry, Sent};
+use base_types::Moment;
+use itoa::Buffer;
+use std::alloc::AllocError;
+use wires::{Door, WireId};
+
+/// The word for a door.
+fn door_word(door: Door) -> &'static [u8]
+    ensures { result.now ≡ door_word door }
+{
+    match door {
+        Door::Ipp => b"ipp",
+        Door::Lpd => b"lpd",
+        Door::Devices => b"device",
+    }
+}
+
+/// Appends the digits of a number.
+fn put_number(output: &mut Vec<u8>, number: u64) -> Result<(), AllocError>
+    ensures { OnOk result (output.new.items ≡ output.old.items ++ decimal number) }
+{
+    let mut buffer = Buffer::new();
+    output.extend_from_slice(buffer.format(number).as_bytes())
+}
+
+/// Appends a word, a space and a number.
+fn put_about(output: &mut Vec<u8>, word: &[u8], number: u64) -> Result<(), AllocError>
+    ensures { OnOk result (output.new.items ≡ output.old.items ++ about word.now number) }
+{
+    output.extend_from_slice(word)?;
+    output.extend_from_slice(b" ")?;
+    put_number(output, number)?;
+    Ok(())
+}
+
+/// Appends a line of a word and a number.
+pub(crate) fn put_line(output: &mut Vec<u8>, word: &[u8], number: u64) -> Result<(), AllocError>
+    ensures { OnOk result (output.new.items ≡ output.old.items ++ line_about word.now number) }
+{
+    put_about(output, word, number)?;
+    output.extend_from_slice(b"\n")?;
+    Ok(())
+}
+
+/// Appends the line of a connection that was accepted.
+pub(crate) fn put_accepted(output: &mut Vec<u8>, door: Door, id: WireId) -> Result<(), AllocError>
+    ensures { OnOk result (output.new.items ≡ output.old.items ++ accept_line door id) }
+{
+    output.extend_from_slice(b"accept ")?;
+    put_line(output, door_word(door), u64::from(id))?;
+    Ok(())
+}
+
+/// Appends the line of bytes that were read.
+pub(crate) fn put_came(output: &mut Vec<u8>, id: WireId, bytes: &[u8]) -> Result<(), AllocError>
+    ensures { OnOk result (output.new.items ≡ output.old.items ++ read_line id bytes.now) }
+{
+    put_about(output, b"read", u64::from(id))?;
+    output.extend_from_slice(b" ")?;
+    put_data(output, bytes)?;
+    output.extend_from_slice(b"\n")?;
+    Ok(())
+}
+
+/// Appends the line of bytes that were taken.
+pub(crate) fn put_sent(output: &mut Vec<u8>, sent: Sent) -> Result<(), AllocError>
+    ensures { OnOk result (output.new.items ≡ output.old.items ++ sent_line sent.id sent.count sent.sum) }
+{
+    put_about(output, b"sent", u64::from(sent.id))?;
+    put_about(output, b"", sent.count as u64)?;
+    put_about(output, b"", u64::from(sent.sum))?;
+    output.extend_from_slice(b"\n")?;
+    Ok(())
+}
+
+/// Appends the line that ends a turn.
+pub fn put_turn(output: &mut Vec<u8>, moment: Moment) -> Result<(), AllocError>
+    ensures { OnOk result (output.new.items ≡ output.old.items ++ turn_line moment) }
+{
+    put_line(output, b"turn", moment.millis())
+}
+
+/// Appends the line of an entry.
+pub fn put_entry(output: &mut Vec<u8>, entry: &Entry) -> Result<(), AllocError> {
+    match entry {
+        Entry::Accepted(Accepted { door, id }) => put_accepted(output, *door, *id),
+        Entry::Came(came) => put_came(output, came.id, &came.bytes),
+        Entry::Ended(id) => put_line(output, b"end", u64::from(*id)),
+        Entry::Failed(id) => put_line(output, b"fail", u64::from(*id)),
+        Entry::Sent(sent) => put_sent(output, *sent),
+        Entry::Shut(id) => put_line(output, b"shut", u64::from(*id)),
+        Entry::Broken(id) => put_line(output, b"break", u64::from(*id)),
+        Entry::Closed(id) => put_line(output, b"close", u64::from(*id)),
+        Entry::Refused => output.extend_from_slice(b"refused\n"),
+        Entry::Turn(moment) => put_turn(output, *moment),
+    }
+}
+
+/// Appends the lines in front of the turns: the settings, the point behind them, and when the server
+/// started, in ms since the beginning of 1970.
+pub fn put_start(output: &mut Vec<u8>, settings: &[u8], began: u64) -> Result<(), AllocError> {
+    output.extend_from_slice(settings)?;
+    if settings.last() != Some(&b'\n') {
+        output.extend_from_slice(b"\n")?;
+    }
+    output.extend_from_slice(b".\n")?;
+    put_line(output, b"recorded", began)
+}
