@@ -1,6 +1,6 @@
 //! The commands of `printd`, as `clap` reads them.
 
-use crate::asked::{AboutSettings, Asked, Log, Serving};
+use crate::asked::{AboutSettings, Asked, Log, Replaying, Serving};
 use crate::attach_words::{attach_command, attach_words, word};
 use crate::doors::{addresses, default_address};
 use crate::simulate_words::{simulate_command, simulate_words};
@@ -10,7 +10,7 @@ use clap::{Arg, ArgAction, ArgMatches, Command, Error};
 use std::alloc::{AllocError, Global};
 
 /// The version of the program, which is that of the file VERSION.
-const VERSION: &str = "0.9.0";
+pub const VERSION: &str = "0.9.0";
 
 /// The port of LPD (RFC 1179, section 3.1).
 const LPD_PORT: u16 = 515;
@@ -60,6 +60,16 @@ fn log<'a>(alloc: Global) -> Arg<'a> {
         )
 }
 
+fn record<'a>(alloc: Global) -> Arg<'a> {
+    Arg::new(alloc, "record")
+        .long("record")
+        .action(ArgAction::Set)
+        .value_name("FILE")
+        .help(
+            "Record the day to this file, which is made, or, where it is there, to the next: day.1.trace behind day.trace",
+        )
+}
+
 fn turns<'a>(alloc: Global) -> Arg<'a> {
     Arg::new(alloc, "turns")
         .long("turns")
@@ -90,7 +100,14 @@ fn serve_command<'a>(alloc: Global) -> Result<Command<'a>, AllocError> {
         .arg(door(alloc, "devices", "8632", "Where devices come in"))?
         .arg(address(alloc))?
         .arg(turns(alloc))?
-        .arg(log(alloc))
+        .arg(log(alloc))?
+        .arg(record(alloc))?
+        .arg(flag(
+            alloc,
+            "record-heads",
+            "Record each octet of a document as a zero",
+        )
+        .requires_arg("record")?)
 }
 
 fn settings_command<'a>(alloc: Global) -> Result<Command<'a>, AllocError> {
@@ -131,12 +148,32 @@ fn settings_command<'a>(alloc: Global) -> Result<Command<'a>, AllocError> {
 
 fn replay_command<'a>(alloc: Global) -> Result<Command<'a>, AllocError> {
     Command::new(alloc, "replay")
-        .about("Play a trace from standard input, and write what the server does")
+        .about("Play a trace, and write what the server does")
+        .arg(trace_file(alloc))?
         .arg(flag(
             alloc,
             "plans",
             "Write the text of each plan too, as `check` reads it",
+        ))?
+        .arg(flag(
+            alloc,
+            "verify",
+            "Of a recorded day, write only whether all is the same: same, or where it first differs",
         ))
+}
+
+fn log_command<'a>(alloc: Global) -> Result<Command<'a>, AllocError> {
+    Command::new(alloc, "log")
+        .about("Write the log's lines of a recorded day")
+        .arg(trace_file(alloc))
+}
+
+/// The file of a trace, if it has one.
+fn trace_file<'a>(alloc: Global) -> Arg<'a> {
+    Arg::new(alloc, "file")
+        .action(ArgAction::Set)
+        .value_name("FILE")
+        .help("The trace; without it, that of standard input")
 }
 
 fn check_command<'a>(alloc: Global) -> Result<Command<'a>, AllocError> {
@@ -170,6 +207,7 @@ fn command<'a>(alloc: Global) -> Result<Command<'a>, AllocError> {
         .subcommand(serve_command(alloc)?)?
         .subcommand(settings_command(alloc)?)?
         .subcommand(replay_command(alloc)?)?
+        .subcommand(log_command(alloc)?)?
         .subcommand(check_command(alloc)?)?
         .subcommand(draw_command(alloc)?)?
         .subcommand(simulate_command(alloc)?)?
@@ -199,7 +237,17 @@ fn serve_words<'a>(alloc: Global, found: &ArgMatches<'a>) -> Result<Serving<'a>,
         devices: addresses(alloc, found, "devices", address)?,
         turns: found.get_one::<u64>("turns").unwrap_or(MOST_TURNS),
         log: found.get_str("log").map(log_to),
+        record: found.get_str("record"),
+        record_heads: found.get_flag("record-heads"),
     })
+}
+
+fn replay_words<'a>(found: &ArgMatches<'a>) -> Replaying<'a> {
+    Replaying {
+        file: found.get_str("file"),
+        plans: found.get_flag("plans"),
+        verify: found.get_flag("verify"),
+    }
 }
 
 fn settings_words<'a>(found: &ArgMatches<'a>) -> AboutSettings<'a> {
@@ -226,8 +274,9 @@ fn meaning<'a>(alloc: Global, found: &ArgMatches<'a>) -> Result<Asked<'a>, Words
     match found.subcommand() {
         Some(("serve", inner)) => Ok(Asked::Serve(serve_words(alloc, inner)?)),
         Some(("settings", inner)) => Ok(Asked::Settings(settings_words(inner))),
-        Some(("replay", inner)) => Ok(Asked::Replay {
-            plans: inner.get_flag("plans"),
+        Some(("replay", inner)) => Ok(Asked::Replay(replay_words(inner))),
+        Some(("log", inner)) => Ok(Asked::Log {
+            file: inner.get_str("file"),
         }),
         Some(("check", inner)) => Ok(Asked::Check {
             starts: inner.get_flag("starts"),

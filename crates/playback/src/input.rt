@@ -1,4 +1,5 @@
 //! The lines of a recording, which may be longer than memory.
+ghost use Rattle.std.specs.Io.{ReadsAtMost};
 
 use std::alloc::Global;
 use std::io;
@@ -6,6 +7,13 @@ use std::io::Read;
 
 /// How many bytes are read at a time.
 const PIECE: usize = 65_536;
+
+/// Reads some bytes into the front of a buffer: how many.
+pub(crate) fn fill<R: Read>(reader: &mut R, buffer: &mut [u8]) -> io::Result<usize>
+    ensures { ReadsAtMost result buffer.new }
+{
+    reader.read(buffer)
+}
 
 /// Lines that are read one after the other.
 #[derive(Drop)]

@@ -1,7 +1,7 @@
 //! A recorded day, played: the server takes its turns again, over a wire that answers as the sockets did.
 //!
-//! [`play`] writes what each connection got, the plans, the starts and the cancels, or compares the bytes
-//! with what was recorded and writes only whether they are the same. It promises that it is safe and ends.
+//! [`play`] writes what each connection got, the plans, the starts and the cancels; or the lines of a log; or
+//! compares the bytes with what was recorded and writes only whether they are the same. It promises that it is safe and ends.
 //! What a server does over a wire is `server`'s contract, and what a line says that of `recordings`.
 //!
 //! Its rows are recorded traces of `play_examples`.
@@ -10,7 +10,11 @@
 mod difference;
 mod input;
 mod listener;
+mod peek;
 mod play;
 mod player;
+mod written;
 
-pub use play::{How, Played, is_recorded, play};
+pub use peek::{Peeked, Whole, peek};
+pub use play::{Played, Shows, play};
+pub use written::{Written, as_written};

@@ -3,6 +3,7 @@
 use crate::input::Lines;
 use crate::player::{Player, Step};
 use base_types::Limits;
+use recordings::GOES_ON;
 use settings_faults::explain;
 use settings_file::{SettingsFault, read_settings_bytes};
 use std::alloc::{AllocError, Global};
@@ -13,13 +14,15 @@ use streams::ExitStatus;
 /// How much is printed at a time.
 const PRINTED: usize = 65_536;
 
-/// How a recorded day is played.
+/// What is written of a recorded day that is played.
 #[derive(Clone, Copy, Debug, PartialEq, Eq)]
-pub struct How {
-    /// The text of each plan is written too.
-    pub texts: bool,
-    /// Only whether all is the same is written.
-    pub verify: bool,
+pub enum Shows {
+    /// What each connection gets, the plans, with their texts or without, the starts and the cancels.
+    Happenings { texts: bool },
+    /// Whether all is the same, or where it first differs.
+    Verdict,
+    /// The lines of a log.
+    Log,
 }
 
 /// How a play ends.
@@ -65,40 +68,41 @@ fn said(status: ExitStatus, sentence: Result<String, AllocError>) -> Fault {
     }
 }
 
-/// The text of the settings in front of the turns, and how many lines it has with the point behind it;
-/// none, where no line is a point.
-fn read_front<R: Read>(
-    alloc: Global,
-    lines: &mut Lines<'_, R>,
-) -> io::Result<Option<(Vec<u8>, u64)>> {
+/// What stands in front of the turns.
+#[derive(Drop)]
+enum Front {
+    /// The text of the settings, and how many lines it has with the point behind it.
+    Settings(Vec<u8>, u64),
+    /// The file goes on where another one ends.
+    GoesOn,
+    /// No line is a point.
+    Neither,
+}
+
+/// Reads what stands in front of the turns.
+fn read_front<R: Read>(alloc: Global, lines: &mut Lines<'_, R>) -> io::Result<Front> {
     let mut settings = Vec::new(alloc);
     let mut line = Vec::new(alloc);
     for number in 1..u64::MAX {
         if settings.len() > Limits::INPUT_BYTES || !lines.read(&mut line)? {
-            return Ok(None);
+            return Ok(Front::Neither);
         }
         if line.as_slice() == b".".as_slice() {
-            return Ok(Some((settings, number)));
+            return Ok(Front::Settings(settings, number));
+        }
+        if number == 1 && line.starts_with(GOES_ON) {
+            return Ok(Front::GoesOn);
         }
         settings.extend_from_slice(&line)?;
         settings.extend_from_slice(b"\n")?;
     }
-    Ok(None)
+    Ok(Front::Neither)
 }
 
 /// Whether the next line is the first of a recording's.
 fn is_start<R: Read>(alloc: Global, lines: &mut Lines<'_, R>) -> io::Result<bool> {
     let mut line = Vec::new(alloc);
     Ok(lines.read(&mut line)? && line.starts_with(b"recorded "))
-}
-
-/// Whether a trace is a recorded day. The error is the reader's, or out of memory.
-pub fn is_recorded<R: Read>(alloc: Global, reader: &mut R) -> io::Result<bool> {
-    let mut lines = Lines::new(alloc, reader)?;
-    match read_front(alloc, &mut lines)? {
-        Some(_) => is_start(alloc, &mut lines),
-        None => Ok(false),
-    }
 }
 
 /// The fault of the settings of a file.
@@ -116,33 +120,34 @@ fn settings_refused(alloc: Global, file: &str, settings: &[u8], fault: &Settings
     }
 }
 
-/// A server that starts with the settings in front of the turns, and the number of their first line.
-fn start<R: Read>(
+/// The text of the settings in front of the turns, and the number of the first line of these.
+fn read_start<R: Read>(
     alloc: Global,
     file: &str,
     lines: &mut Lines<'_, R>,
-    texts: bool,
-) -> Result<(Player, u64), Fault> {
-    let Some((text, number)) = read_front(alloc, lines)? else {
-        return Err(said(
-            ExitStatus::Refused,
-            format!(in alloc; "{file}: no line is \".\" alone, as the one behind the settings is"),
-        ));
+) -> Result<(Vec<u8>, u64), Fault> {
+    let sentence = match read_front(alloc, lines)? {
+        Front::Settings(text, number) if is_start(alloc, lines)? => {
+            return Ok((text, number.saturating_add(2)));
+        }
+        Front::Settings(_, _) => format!(in alloc;
+            "{file}: this is no recorded day: the line behind \".\" isn't recorded and a number"
+        ),
+        Front::GoesOn => format!(in alloc;
+            "{file}: this goes on where another file ends, which its first line names: play both, the earlier first, as one"
+        ),
+        Front::Neither => format!(in alloc;
+            "{file}: no line is \".\" alone, as the one behind the settings is"
+        ),
     };
-    if !is_start(alloc, lines)? {
-        return Err(said(
-            ExitStatus::Refused,
-            format!(in alloc;
-                "{file}: this is no recorded day: the line behind \".\" isn't recorded and a number"
-            ),
-        ));
-    }
-    match read_settings_bytes(alloc, &text) {
-        Ok(settings) => Ok((
-            Player::new(alloc, settings, texts)?,
-            number.saturating_add(2),
-        )),
-        Err(fault) => Err(settings_refused(alloc, file, &text, &fault)),
+    Err(said(ExitStatus::Refused, sentence))
+}
+
+/// A server that starts with the settings of this text.
+fn start(alloc: Global, file: &str, text: &[u8], shows: Shows) -> Result<Player, Fault> {
+    match read_settings_bytes(alloc, text) {
+        Ok(settings) => Ok(Player::new(alloc, settings, shows)?),
+        Err(fault) => Err(settings_refused(alloc, file, text, &fault)),
     }
 }
 
@@ -152,7 +157,7 @@ fn heed(
     file: &str,
     number: u64,
     step: Step,
-    how: How,
+    shows: Shows,
     output: &mut Vec<u8>,
 ) -> Result<(), Fault> {
     match step {
@@ -167,7 +172,7 @@ fn heed(
                 "{file}: line {line}: memory was refused to the server here, and what follows isn't played"
             ),
         )),
-        Step::Differs(lines) if how.verify => {
+        Step::Differs(lines) if shows == Shows::Verdict => {
             output.extend_from_slice(&lines)?;
             Err(Fault::Differs)
         }
@@ -196,19 +201,17 @@ fn play_lines<R: Read, W: Write>(
     lines: &mut Lines<'_, R>,
     writer: &mut W,
     output: &mut Vec<u8>,
-    how: How,
+    shows: Shows,
 ) -> Result<(), Fault> {
-    let (mut player, first) = start(alloc, file, lines, how.texts)?;
+    let (text, first) = read_start(alloc, file, lines)?;
+    let mut player = start(alloc, file, &text, shows)?;
     let mut line = Vec::new(alloc);
     for number in first..u64::MAX {
         if !lines.read(&mut line)? {
             return Ok(());
         }
         let step = player.play(number, &line, output)?;
-        if how.verify {
-            output.clear();
-        }
-        heed(alloc, file, number, step, how, output)?;
+        heed(alloc, file, number, step, shows, output)?;
         put_out(writer, output, PRINTED)?;
     }
     Ok(())
@@ -220,12 +223,12 @@ fn play_all<R: Read, W: Write>(
     file: &str,
     reader: &mut R,
     writer: &mut W,
-    how: How,
+    shows: Shows,
 ) -> Result<(), Fault> {
     let mut lines = Lines::new(alloc, reader)?;
     let mut output = Vec::new(alloc);
-    let played = play_lines(alloc, file, &mut lines, writer, &mut output, how);
-    if played.is_ok() && how.verify {
+    let played = play_lines(alloc, file, &mut lines, writer, &mut output, shows);
+    if played.is_ok() && shows == Shows::Verdict {
         output.extend_from_slice(b"same\n")?;
     }
     put_out(writer, &mut output, 0)?;
@@ -238,9 +241,9 @@ pub fn play<R: Read, W: Write>(
     file: &str,
     reader: &mut R,
     writer: &mut W,
-    how: How,
+    shows: Shows,
 ) -> Played {
-    let (status, objection) = match play_all(alloc, file, reader, writer, how) {
+    let (status, objection) = match play_all(alloc, file, reader, writer, shows) {
         Ok(()) => (ExitStatus::Done, None),
         Err(Fault::Said(status, sentence)) => (status, Some(sentence)),
         Err(Fault::Differs) => (ExitStatus::No, None),

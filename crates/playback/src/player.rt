@@ -3,9 +3,11 @@ ghost use Rattle.settings_file.specs.Settings.{MeetsLimits};
 
 use crate::difference::put_difference;
 use crate::listener::Told;
+use crate::play::Shows;
 use assignment::Lazy;
 use base_types::Moment;
 use recordings::{Entry, Moved, Script, read_entry};
+use serve::Chronicle;
 use server::Engine;
 use settings_file::Settings;
 use std::alloc::{AllocError, Global};
@@ -29,7 +31,13 @@ pub(crate) struct Player {
     alloc: Global,
     engine: Engine<Lazy>,
     script: Script,
+    shows: Shows,
     told: Told,
+    /// What the lines of a log are made of.
+    chronicle: Chronicle,
+    /// The comments of a turn, each a line: of who came, or what else they say, and of who went.
+    comings: Vec<u8>,
+    goings: Vec<u8>,
     /// The moment that was printed last.
     printed: Option<Moment>,
 }
@@ -54,18 +62,39 @@ fn put_all_moved(alloc: Global, output: &mut Vec<u8>, all: &[Moved]) -> Result<(
     Ok(())
 }
 
+/// Appends the lines of a text, each with a moment in front.
+fn put_dated(
+    alloc: Global,
+    output: &mut Vec<u8>,
+    moment: Moment,
+    text: &[u8],
+) -> Result<(), AllocError> {
+    let millis = moment.millis();
+    for line in text.split_inclusive(|byte| *byte == b'\n') {
+        let front = format!(in alloc; "{millis} ")?;
+        output.extend_from_slice(front.as_bytes())?;
+        output.extend_from_slice(line)?;
+    }
+    Ok(())
+}
+
 impl Player {
     /// A server that starts with these settings.
-    pub(crate) fn new(alloc: Global, settings: Settings, texts: bool) -> Result<Player, AllocError>
+    pub(crate) fn new(alloc: Global, settings: Settings, shows: Shows) -> Result<Player, AllocError>
         requires { MeetsLimits settings }
     {
         let names = settings.device_names(alloc)?;
+        let chronicle = Chronicle::new(alloc, settings.device_names(alloc)?);
         let engine = Engine::new(alloc, settings, Lazy::new(alloc))?;
         Ok(Player {
             alloc,
             engine,
             script: Script::new(alloc),
-            told: Told::new(alloc, texts, names),
+            shows,
+            told: Told::new(alloc, shows, names),
+            chronicle,
+            comings: Vec::new(alloc),
+            goings: Vec::new(alloc),
             printed: None,
         })
     }
@@ -77,7 +106,8 @@ impl Player {
         line: &[u8],
         output: &mut Vec<u8>,
     ) -> Result<Step, AllocError> {
-        if line.starts_with(b"#") {
+        if let Some(comment) = line.strip_prefix(b"#") {
+            self.keep_comment(comment)?;
             return Ok(Step::Played);
         }
         match read_entry(self.alloc, line)? {
@@ -88,6 +118,23 @@ impl Player {
                 Ok(Step::Played)
             }
         }
+    }
+
+    /// Keeps a comment, where a log is written.
+    fn keep_comment(&mut self, comment: &[u8]) -> Result<(), AllocError> {
+        if self.shows != Shows::Log {
+            return Ok(());
+        }
+        let Some(words) = comment.strip_prefix(b" ") else {
+            return Ok(());
+        };
+        let kept = if words.starts_with(b"close ") {
+            &mut self.goings
+        } else {
+            &mut self.comings
+        };
+        kept.extend_from_slice(words)?;
+        kept.extend_from_slice(b"\n")
     }
 
     /// Takes the turn that the line of this number ends.
@@ -112,11 +159,28 @@ impl Player {
         }
     }
 
+    /// Appends what is shown of a turn.
+    fn put_turn(&mut self, moment: Moment, output: &mut Vec<u8>) -> Result<(), AllocError> {
+        if self.told.is_lost() {
+            return Err(AllocError);
+        }
+        let moved = self.script.take_moved();
+        match self.shows {
+            Shows::Happenings { .. } => self.put_happenings(moment, &moved, output),
+            Shows::Verdict => Ok(()),
+            Shows::Log => self.put_log(moment, output),
+        }
+    }
+
     /// Appends what a turn gave: its moment, if that is another than that printed last, what the server
     /// told, and what became of connections.
-    fn put_turn(&mut self, moment: Moment, output: &mut Vec<u8>) -> Result<(), AllocError> {
-        let text = self.told.take()?;
-        let moved = self.script.take_moved();
+    fn put_happenings(
+        &mut self,
+        moment: Moment,
+        moved: &[Moved],
+        output: &mut Vec<u8>,
+    ) -> Result<(), AllocError> {
+        let text = self.told.take();
         if text.is_empty() && moved.is_empty() {
             return Ok(());
         }
@@ -127,6 +191,18 @@ impl Player {
             self.printed = Some(moment);
         }
         output.extend_from_slice(&text)?;
-        put_all_moved(self.alloc, output, &moved)
+        put_all_moved(self.alloc, output, moved)
+    }
+
+    /// Appends the lines of a log: who came, what was heard, which jobs ended, and who went.
+    fn put_log(&mut self, moment: Moment, output: &mut Vec<u8>) -> Result<(), AllocError> {
+        let heard = self.told.take_heard()?;
+        let lines = self.chronicle.lines(moment, &[], &heard, &self.engine)?;
+        put_dated(self.alloc, output, moment, &self.comings)?;
+        output.extend_from_slice(&lines)?;
+        put_dated(self.alloc, output, moment, &self.goings)?;
+        self.comings.clear();
+        self.goings.clear();
+        Ok(())
     }
 }

@@ -3,9 +3,10 @@ ghost use Rattle.settings_file.specs.Settings.{MeetsLimits};
 
 use crate::failure::{cannot, cannot_with};
 use crate::log_output::{LogFile, LogOutput};
-use crate::settings::{built_in, settings_of};
+use crate::settings::{built_in_text, read_file, settings_in};
+use crate::tape::TapeFiles;
 use command_line::{Log, Serving};
-use serve::serve;
+use serve::{Outlets, serve};
 use settings_file::Settings;
 use sockets::{Listening, Sockets};
 use std::io;
@@ -103,34 +104,53 @@ fn log_of<'a>(
     }
 }
 
-/// Serves with these settings.
+/// The recording, if there is one, of a server that starts with the settings of this text.
+fn tape_of<'a>(
+    rt: &'a HostRuntime,
+    serving: &Serving<'a>,
+    settings: &[u8],
+) -> Result<Option<TapeFiles<'a>>, ExitStatus> {
+    match serving.record {
+        None => Ok(None),
+        Some(path) => Ok(Some(TapeFiles::begin(rt, path, settings, serving.record_heads)?)),
+    }
+}
+
+/// Serves with these settings, which are those of a text.
 fn serve_settings(
     rt: &HostRuntime,
     settings: Settings,
+    text: &[u8],
     serving: &Serving<'_>,
 ) -> Result<ExitStatus, ExitStatus>
     requires { MeetsLimits settings }
 {
     let mut log = log_of(rt, serving)?;
     let sockets = open(rt, serving)?;
-    match serve(
-        rt.alloc(),
-        rt,
-        sockets,
-        settings,
-        serving.turns,
-        log.as_mut(),
-    ) {
+    let mut tape = tape_of(rt, serving, text)?;
+    let outlets = Outlets {
+        log: log.as_mut(),
+        tape: tape.as_mut(),
+        heads: serving.record_heads,
+    };
+    match serve(rt.alloc(), rt, sockets, settings, serving.turns, outlets) {
         Ok(()) => Ok(ExitStatus::Done),
         Err(error) => Err(cannot(rt, "go on serving", error)),
     }
 }
 
+/// The text of the settings.
+fn text_of(rt: &HostRuntime, file: Option<&str>) -> Result<Vec<u8>, ExitStatus> {
+    match file {
+        Some(file) => read_file(rt, file),
+        None => built_in_text(rt),
+    }
+}
+
 /// Serves, and says where; the error is the status of what was said already.
 pub(crate) fn run_serve(rt: &HostRuntime, serving: Serving<'_>) -> Result<ExitStatus, ExitStatus> {
-    let settings = match serving.settings {
-        Some(file) => settings_of(rt, file)?,
-        None => built_in(rt)?,
-    };
-    serve_settings(rt, settings, &serving)
+    let text = text_of(rt, serving.settings)?;
+    let file = serving.settings.unwrap_or("the settings that are built in");
+    let settings = settings_in(rt, file, &text)?;
+    serve_settings(rt, settings, &text, &serving)
 }

@@ -1,5 +1,5 @@
 -- The lines of a recording.
-use Rattle.std.specs.Prelude.{ℕ, List, ◌++◌, codes}
+use Rattle.std.specs.Prelude.{ℕ, List, ◌++◌, Option, Some, None, codes}
 use Rattle.std.specs.Fmt.{decimal}
 use Rattle.wires.specs.declared.wire.Door.{Door}
 use Rattle.wires.specs.declared.wire.Door.TheVariants.{Ipp, Lpd, Devices}
@@ -26,9 +26,14 @@ accept_line door id = codes "accept " ++ line_about (door_word door) id
 abbrev pub read_line : ℕ → List ℕ → List ℕ
 read_line id bytes = about (codes "read") id ++ (codes " " ++ (escaped bytes ++ codes "\n"))
 
+-- a space and a sum, or a line where there is none
+abbrev pub sum_words : Option ℕ → List ℕ
+sum_words (Some sum) = codes " " ++ decimal sum
+sum_words None = codes " -"
+
 -- so many bytes were taken, by their sum
-abbrev pub sent_line : ℕ → ℕ → ℕ → List ℕ
-sent_line id count sum = about (codes "sent") id ++ (codes " " ++ (decimal count ++ (codes " " ++ (decimal sum ++ codes "\n"))))
+abbrev pub sent_line : ℕ → ℕ → Option ℕ → List ℕ
+sent_line id count sum = about (codes "sent") id ++ (codes " " ++ (decimal count ++ (sum_words sum ++ codes "\n")))
 
 -- a turn ended, which was taken at this moment
 abbrev pub turn_line : ℕ → List ℕ

@@ -6,7 +6,7 @@ use Rattle.recordings.specs.Lines.{line_about, accept_line, read_line, sent_line
 
 -- The line of a call with its answer; nothing of one that only waited, or of an accept that brought nothing.
 -- The sum is that of the bytes that were taken of a write.
-abbrev pub note_of : Poll → ℕ → List ℕ
+abbrev pub note_of : Poll → Option ℕ → List ℕ
 note_of (Accepts door (Done id)) sum = accept_line door id
 note_of (Accepts door Waiting) sum = []
 note_of (Accepts door End) sum = []
@@ -36,4 +36,4 @@ EndsTurn moment refused old new = (new ≡ None) ⊎ (new ≡ with_note (end_of 
 
 -- a call is noted, or nothing is any more
 abbrev pub Notes : Poll → Option (List ℕ) → Option (List ℕ) → Type 0
-Notes poll old new = (new ≡ None) ⊎ ((sum : ℕ) × (new ≡ with_note (note_of poll sum) old))
+Notes poll old new = (new ≡ None) ⊎ ((sum : Option ℕ) × (new ≡ with_note (note_of poll sum) old))

@@ -45,12 +45,12 @@ pub struct Came {
     pub bytes: Vec<u8>,
 }
 
-/// So many bytes that were taken on a connection, by their sum.
+/// So many bytes that were taken on a connection, by their sum, if it was noted.
 #[derive(Clone, Copy, Debug, PartialEq, Eq)]
 pub struct Sent {
     pub id: WireId,
     pub count: usize,
-    pub sum: u32,
+    pub sum: Option<u32>,
 }
 
 /// The greatest number of a connection, and of bytes.
@@ -99,13 +99,21 @@ fn read_came(alloc: Global, said: &[u8]) -> Result<Option<Entry>, AllocError> {
     }
 }
 
+/// A sum, or nothing for a line alone, where there is none.
+fn read_sum(word: &[u8]) -> Option<Option<u32>> {
+    if word == b"-".as_slice() {
+        return Some(None);
+    }
+    Some(Some(read_id(word)?))
+}
+
 /// A number, how many bytes, and their sum.
 fn read_sent(said: &[u8]) -> Option<Entry> {
     let (digits, more) = cut_at(said, b' ')?;
     let (count, sum) = cut_at(more, b' ')?;
     let id = read_id(digits)?;
     let count = read_id(count)?;
-    let sum = read_id(sum)?;
+    let sum = read_sum(sum)?;
     Some(Entry::Sent(Sent {
         id,
         count: count as usize,

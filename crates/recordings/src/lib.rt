@@ -20,4 +20,4 @@ mod write;
 pub use entry::{Accepted, Came, Entry, Sent, read_entry};
 pub use noted::{NoteText, Noted};
 pub use script::{Deed, Moved, Script, Scripted, Stray};
-pub use write::{put_entry, put_start, put_turn};
+pub use write::{GOES_ON, put_entry, put_goes_on, put_start, put_turn};

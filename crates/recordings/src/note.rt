@@ -15,7 +15,7 @@ pub(crate) fn put_accept(
     door: Door,
     answer: Answer<WireId>,
 ) -> Result<(), AllocError>
-    ensures { OnOk result (output.new.items ≡ output.old.items ++ note_of (Accepts door answer) 0) }
+    ensures { OnOk result (output.new.items ≡ output.old.items ++ note_of (Accepts door answer) None) }
 {
     match answer {
         Answer::Done(id) => put_accepted(output, door, id),
@@ -33,7 +33,7 @@ pub(crate) fn put_read(
     buffer: &[u8],
 ) -> Result<(), AllocError>
     requires { IsCount answer (length buffer.now) }
-    ensures { OnOk result (output.new.items ≡ output.old.items ++ note_of (Reads id (bytes_read answer buffer.now)) 0) }
+    ensures { OnOk result (output.new.items ≡ output.old.items ++ note_of (Reads id (bytes_read answer buffer.now)) None) }
 {
     match answer {
         Answer::Done(count) => put_came(output, id, &buffer[..count]),
@@ -43,12 +43,12 @@ pub(crate) fn put_read(
     }
 }
 
-/// Appends what is noted of a write, where the bytes that were taken have this sum.
+/// Appends what is noted of a write, where the bytes that were taken have this sum, if it is noted.
 pub(crate) fn put_write(
     output: &mut Vec<u8>,
     id: WireId,
     answer: Answer<usize>,
-    sum: u32,
+    sum: Option<u32>,
 ) -> Result<(), AllocError>
     ensures { (offered : List ℕ) → OnOk result (output.new.items ≡ output.old.items ++ note_of (Writes id offered answer) sum) }
 {

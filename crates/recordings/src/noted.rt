@@ -7,8 +7,9 @@ ghost use Rattle.recordings.specs.Noting.{note_of, end_of, with_note, Notes, End
 use crate::note::{put_accept, put_end, put_read, put_write};
 use crate::parts::put_front;
 use crate::sum::sum_of;
-use crate::write::put_line;
+use crate::write::{put_came, put_line};
 use base_types::Moment;
+use document_octets::Blanker;
 use std::alloc::{AllocError, Global};
 use std::io::IoSlice;
 use std::marker::Model;
@@ -19,11 +20,15 @@ use wires::{Answer, Door, Wire, WireId};
 #[derive(Drop)]
 pub struct NoteText {
     text: Vec<u8>,
-    /// The bytes of a write, put together.
+    /// The bytes of a write, put together, or those of a read without documents.
     joined: Vec<u8>,
     keeps: bool,
     /// The bytes of the turns that have ended.
     whole: usize,
+    /// The octets of documents are noted as zeros, and of what devices get no sums.
+    heads: bool,
+    /// The connections, where heads are noted.
+    blanker: Blanker,
 }
 
 impl Model for NoteText {
@@ -43,15 +48,17 @@ pub struct Noted<W: Wire> {
 }
 
 impl NoteText {
-    /// No lines yet.
-    pub fn new(alloc: Global, keeps: bool) -> NoteText
-        ensures { result ≡ (if keeps then Some [] else None) }
+    /// No lines are kept.
+    pub fn new(alloc: Global) -> NoteText
+        ensures { result ≡ None }
     {
         NoteText {
             text: Vec::new(alloc),
             joined: Vec::new(alloc),
-            keeps,
+            keeps: false,
             whole: 0,
+            heads: false,
+            blanker: Blanker::new(alloc),
         }
     }
 
@@ -68,6 +75,24 @@ impl NoteText {
     /// Whether a call was noted since the last turn ended.
     pub fn has_call(&self) -> bool {
         self.whole < self.text.len()
+    }
+
+    /// Keeps lines from now on, when no connection is open yet. With heads alone the octets of documents are
+    /// noted as so many zeros.
+    pub fn begin(&mut self, heads: bool)
+        ensures { self.new ≡ Some [] }
+    {
+        self.text.clear();
+        self.whole = 0;
+        self.keeps = true;
+        self.heads = heads;
+    }
+
+    /// Adds whole lines, each of which is a comment.
+    pub fn comment(&mut self, lines: &[u8]) {
+        if self.keeps && self.text.extend_from_slice(lines).is_err() {
+            self.stop();
+        }
     }
 
     /// Forgets the lines.
@@ -110,10 +135,13 @@ impl NoteText {
 
     /// Notes an accept.
     fn note_accept(&mut self, door: Door, answer: Answer<WireId>) -> Result<(), AllocError>
-        ensures { OnOk result (self.new ≡ with_note (note_of (Accepts door answer) 0) self.old) }
+        ensures { OnOk result (self.new ≡ with_note (note_of (Accepts door answer) None) self.old) }
     {
         if !self.keeps {
             return Ok(());
+        }
+        if self.heads {
+            self.open(door, answer)?;
         }
         put_accept(&mut self.text, door, answer)?;
         Ok(())
@@ -127,17 +155,40 @@ impl NoteText {
         buffer: &[u8],
     ) -> Result<(), AllocError>
         requires { IsCount answer (length buffer.now) }
-        ensures { OnOk result (self.new ≡ with_note (note_of (Reads id (bytes_read answer buffer.now)) 0) self.old) }
+        ensures { OnOk result (self.new ≡ with_note (note_of (Reads id (bytes_read answer buffer.now)) None) self.old) }
     {
         if !self.keeps {
             return Ok(());
         }
-        put_read(&mut self.text, id, answer, buffer)?;
-        Ok(())
+        match answer {
+            Answer::Done(count) if self.heads => self.note_heads(id, &buffer[..count]),
+            _ => put_read(&mut self.text, id, answer, buffer),
+        }
+    }
+
+    /// Notes bytes that were read, of documents zeros.
+    fn note_heads(&mut self, id: WireId, bytes: &[u8]) -> Result<(), AllocError> {
+        self.joined.clear();
+        self.joined.extend_from_slice(bytes)?;
+        self.blanker.blank(id, &mut self.joined)?;
+        put_came(&mut self.text, id, &self.joined)
+    }
+
+    /// A connection comes in whose documents are to be found.
+    fn open(&mut self, door: Door, answer: Answer<WireId>) -> Result<(), AllocError> {
+        match answer {
+            Answer::Done(id) => self.blanker.open(id, door),
+            Answer::Waiting | Answer::End | Answer::Fault => Ok(()),
+        }
     }
 
     /// Notes a write, of which so many bytes were taken, whose sum this is.
-    fn note_write(&mut self, id: WireId, answer: Answer<usize>, sum: u32) -> Result<(), AllocError>
+    fn note_write(
+        &mut self,
+        id: WireId,
+        answer: Answer<usize>,
+        sum: Option<u32>,
+    ) -> Result<(), AllocError>
         ensures { (offered : List ℕ) → OnOk result (self.new ≡ with_note (note_of (Writes id offered answer) sum) self.old) }
     {
         if !self.keeps {
@@ -149,32 +200,43 @@ impl NoteText {
 
     /// Notes that a connection is given up.
     fn note_close(&mut self, id: WireId) -> Result<(), AllocError>
-        ensures { OnOk result (self.new ≡ with_note (note_of (Closes id) 0) self.old) }
+        ensures { OnOk result (self.new ≡ with_note (note_of (Closes id) None) self.old) }
     {
         if !self.keeps {
             return Ok(());
         }
+        self.blanker.close(id);
         put_line(&mut self.text, b"close", u64::from(id))?;
         Ok(())
     }
 
     /// The sum of the first so many of the bytes that lie in parts.
-    fn sum_of(&mut self, parts: &[IoSlice<'_>], count: usize) -> Result<u32, AllocError>
+    fn sum_of(&mut self, parts: &[IoSlice<'_>], count: usize) -> Result<Option<u32>, AllocError>
         ensures { self.new ≡ self.old }
     {
         self.joined.clear();
         put_front(&mut self.joined, parts, count)?;
-        Ok(sum_of(&self.joined))
+        Ok(Some(sum_of(&self.joined)))
     }
 
-    /// The sum of the bytes that were taken of a write, if some were.
-    fn sum_taken(&mut self, parts: &[IoSlice<'_>], answer: Answer<usize>) -> Result<u32, AllocError>
+    /// The sum of the bytes that were taken of a write, if some were and it is noted.
+    fn sum_taken(
+        &mut self,
+        id: WireId,
+        parts: &[IoSlice<'_>],
+        answer: Answer<usize>,
+    ) -> Result<Option<u32>, AllocError>
         ensures { self.new ≡ self.old }
     {
         match answer {
-            Answer::Done(count) if self.keeps => self.sum_of(parts, count),
-            _ => Ok(0),
+            Answer::Done(count) if self.notes_sum(id) => self.sum_of(parts, count),
+            _ => Ok(None),
         }
+    }
+
+    /// Whether the sum of what is written to a connection is noted.
+    fn notes_sum(&self, id: WireId) -> bool {
+        self.keeps && !(self.heads && self.blanker.is_device(id))
     }
 
     /// An accept was answered so.
@@ -200,14 +262,14 @@ impl NoteText {
     fn written(&mut self, id: WireId, answer: Answer<usize>, parts: &[IoSlice<'_>])
         ensures { Notes (Writes id (io_slices_bytes parts.now) answer) self.old self.new }
     {
-        match self.sum_taken(parts, answer) {
+        match self.sum_taken(id, parts, answer) {
             Ok(sum) => self.written_with(id, answer, sum),
             Err(_) => self.stop(),
         }
     }
 
     /// A write was answered so, and this is the sum of the bytes that were taken.
-    fn written_with(&mut self, id: WireId, answer: Answer<usize>, sum: u32)
+    fn written_with(&mut self, id: WireId, answer: Answer<usize>, sum: Option<u32>)
         ensures { (offered : List ℕ) → Notes (Writes id offered answer) self.old self.new }
     {
         if self.note_write(id, answer, sum).is_err() {
@@ -226,14 +288,14 @@ impl NoteText {
 }
 
 impl<W: Wire> Noted<W> {
-    /// A wire whose calls are noted, if they are to be.
-    pub fn new(alloc: Global, wire: W, keeps: bool) -> Noted<W>
+    /// A wire of which nothing is noted yet.
+    pub fn new(alloc: Global, wire: W) -> Noted<W>
         ensures wire { result.wire ≡ wire }
-        ensures notes { result.notes ≡ (if keeps then Some [] else None) }
+        ensures notes { result.notes ≡ None }
     {
         Noted {
             wire,
-            notes: NoteText::new(alloc, keeps),
+            notes: NoteText::new(alloc),
         }
     }
 }

@@ -174,7 +174,7 @@ impl Script {
         let sent = Sent {
             id,
             count,
-            sum: sum_of(&bytes),
+            sum: wanted.sum.map(|_| sum_of(&bytes)),
         };
         if sent != wanted || count == 0 {
             self.strays(Deed::Sends { sent, bytes });

@@ -1,7 +1,7 @@
 //! The lines of a recording, written.
 ghost use Rattle.std.specs.Prelude.{◌≡◌, ◌++◌, ℕ, OnOk, codes};
 ghost use Rattle.std.specs.Fmt.{decimal};
-ghost use Rattle.recordings.specs.Lines.{door_word, about, line_about, accept_line, read_line, sent_line, turn_line};
+ghost use Rattle.recordings.specs.Lines.{door_word, about, line_about, accept_line, read_line, sent_line, sum_words, turn_line};
 
 use crate::data::put_data;
 use crate::entry::{Accepted, Entry, Sent};
@@ -9,6 +9,9 @@ use base_types::Moment;
 use itoa::Buffer;
 use std::alloc::AllocError;
 use wires::{Door, WireId};
+
+/// What the first line of a file begins with that goes on where another one ends.
+pub const GOES_ON: &[u8] = b"#goes on behind ";
 
 /// The word for a door.
 fn door_word(door: Door) -> &'static [u8]
@@ -74,9 +77,19 @@ pub(crate) fn put_sent(output: &mut Vec<u8>, sent: Sent) -> Result<(), AllocErro
 {
     put_about(output, b"sent", u64::from(sent.id))?;
     put_about(output, b"", sent.count as u64)?;
-    put_about(output, b"", u64::from(sent.sum))?;
+    put_sum(output, sent.sum)?;
     output.extend_from_slice(b"\n")?;
     Ok(())
+}
+
+/// Appends a space and a sum, or a line where there is none.
+fn put_sum(output: &mut Vec<u8>, sum: Option<u32>) -> Result<(), AllocError>
+    ensures { OnOk result (output.new.items ≡ output.old.items ++ sum_words sum) }
+{
+    match sum {
+        Some(sum) => put_about(output, b"", u64::from(sum)),
+        None => output.extend_from_slice(b" -"),
+    }
 }
 
 /// Appends the line that ends a turn.
@@ -103,12 +116,28 @@ pub fn put_entry(output: &mut Vec<u8>, entry: &Entry) -> Result<(), AllocError> 
 }
 
 /// Appends the lines in front of the turns: the settings, the point behind them, and when the server
-/// started, in ms since the beginning of 1970.
-pub fn put_start(output: &mut Vec<u8>, settings: &[u8], began: u64) -> Result<(), AllocError> {
+/// started, in ms since the beginning of 1970, by which version, and whether heads alone are noted.
+pub fn put_start(
+    output: &mut Vec<u8>,
+    settings: &[u8],
+    began: u64,
+    version: &str,
+    heads: bool,
+) -> Result<(), AllocError> {
     output.extend_from_slice(settings)?;
     if settings.last() != Some(&b'\n') {
         output.extend_from_slice(b"\n")?;
     }
     output.extend_from_slice(b".\n")?;
-    put_line(output, b"recorded", began)
+    put_about(output, b"recorded", began)?;
+    output.extend_from_slice(b" ")?;
+    output.extend_from_slice(version.as_bytes())?;
+    output.extend_from_slice(if heads { b" heads\n" } else { b"\n" })
+}
+
+/// Appends the line in front of the turns of a file that goes on where another one, of this name, ends.
+pub fn put_goes_on(output: &mut Vec<u8>, name: &[u8]) -> Result<(), AllocError> {
+    output.extend_from_slice(GOES_ON)?;
+    output.extend_from_slice(name)?;
+    output.extend_from_slice(b"\n")
 }

@@ -10,22 +10,41 @@ use std::alloc::{AllocError, Global};
 use std::net::SocketAddr;
 use wires::{Door, WireId};
 
-/// The lines of a moment, each with the ms since the start in front.
+/// What stands in front of a line.
+#[derive(Clone, Copy)]
+enum Front {
+    /// The ms since the start.
+    Moment(Moment),
+    /// What a comment of a recording begins with.
+    Comment,
+}
+
+/// Lines, each with the same in front.
 #[derive(Drop)]
 pub(crate) struct Lines<'a> {
     alloc: Global,
     names: &'a [Text],
-    moment: Moment,
+    front: Front,
     text: Vec<u8>,
 }
 
 impl<'a> Lines<'a> {
-    /// No line yet. The names are those of the devices.
+    /// No line of this moment yet. The names are those of the devices.
     pub(crate) fn new(alloc: Global, names: &'a [Text], moment: Moment) -> Lines<'a> {
         Lines {
             alloc,
             names,
-            moment,
+            front: Front::Moment(moment),
+            text: Vec::new(alloc),
+        }
+    }
+
+    /// No comment yet.
+    pub(crate) fn comments(alloc: Global, names: &'a [Text]) -> Lines<'a> {
+        Lines {
+            alloc,
+            names,
+            front: Front::Comment,
             text: Vec::new(alloc),
         }
     }
@@ -164,8 +183,13 @@ impl<'a> Lines<'a> {
         if !self.text.is_empty() {
             self.text.push(b'\n')?;
         }
-        let millis = self.moment.millis();
-        self.append(format!(in self.alloc; "{millis} {word}")?)
+        match self.front {
+            Front::Moment(moment) => {
+                let millis = moment.millis();
+                self.append(format!(in self.alloc; "{millis} {word}")?)
+            }
+            Front::Comment => self.append(format!(in self.alloc; "# {word}")?),
+        }
     }
 
     fn append(&mut self, words: String) -> Result<(), AllocError> {
