@@ -1,5 +1,5 @@
 //! The connections of clients.
-ghost use Rattle.std.specs.Prelude.{◌≡◌, length};
+ghost use Rattle.std.specs.Prelude.{◌≡◌, ◌<◌, ◌≤◌, length};
 
 use crate::http_stream::HttpStream;
 use crate::lpd_stream::LpdStream;
@@ -30,10 +30,14 @@ pub struct Blanker {
     heard: Vec<Heard>,
 }
 
-/// The bytes up to the first line feed, or all.
-fn line_end(bytes: &[u8]) -> usize {
+/// How many bytes stand up to the first line feed, or all.
+fn line_end(bytes: &[u8]) -> usize
+    requires { 0 < length bytes.now }
+    ensures low { 0 < result }
+    ensures high { result ≤ length bytes.now }
+{
     match memchr(b'\n', bytes) {
-        Some(place) => place.saturating_add(1).min(bytes.len()),
+        Some(place) => place + 1,
         None => bytes.len(),
     }
 }
@@ -56,8 +60,7 @@ impl Stream {
     {
         let mut start = 0usize;
         while start < bytes.len() {
-            let count = line_end(&bytes[start..]);
-            let end = start.saturating_add(count);
+            let end = start + line_end(&bytes[start..]);
             self.blank(&mut bytes[start..end])?;
             start = end;
         }

@@ -1,8 +1,16 @@
 -- What is noted of calls.
 use Rattle.std.specs.Prelude.{ℕ, ◌≡◌, ◌⊎◌, Bool, true, false, List, [], ◌++◌, Option, None, option_map, codes}
+use Rattle.wires.specs.declared.wire.Answer.{Answer}
 use Rattle.wires.specs.declared.wire.Answer.TheVariants.{Done, Waiting, End, Fault}
 use Rattle.wires.specs.Poll.{Poll, Accepts, Reads, Writes, Closes}
 use Rattle.recordings.specs.Lines.{line_about, accept_line, read_line, sent_line, turn_line}
+
+-- the line of a write; nothing of one that only waited
+abbrev pub written_note : ℕ → Answer ℕ → Option ℕ → List ℕ
+written_note id (Done count) sum = sent_line id count sum
+written_note id Waiting sum = []
+written_note id End sum = line_about (codes "shut") id
+written_note id Fault sum = line_about (codes "break") id
 
 -- The line of a call with its answer; nothing of one that only waited, or of an accept that brought nothing.
 -- The sum is that of the bytes that were taken of a write.
@@ -15,10 +23,7 @@ note_of (Reads id (Done bytes)) sum = read_line id bytes
 note_of (Reads id Waiting) sum = []
 note_of (Reads id End) sum = line_about (codes "end") id
 note_of (Reads id Fault) sum = line_about (codes "fail") id
-note_of (Writes id offered (Done count)) sum = sent_line id count sum
-note_of (Writes id offered Waiting) sum = []
-note_of (Writes id offered End) sum = line_about (codes "shut") id
-note_of (Writes id offered Fault) sum = line_about (codes "break") id
+note_of (Writes id offered answer) sum = written_note id answer sum
 note_of (Closes id) sum = line_about (codes "close") id
 
 -- the lines that end a turn of this moment, in which memory was refused to the server or not
@@ -35,5 +40,14 @@ abbrev pub EndsTurn : ℕ → Bool → Option (List ℕ) → Option (List ℕ) �
 EndsTurn moment refused old new = (new ≡ None) ⊎ (new ≡ with_note (end_of moment refused) old)
 
 -- a call is noted, or nothing is any more
-abbrev pub Notes : Poll → Option (List ℕ) → Option (List ℕ) → Type 0
-Notes poll old new = (new ≡ None) ⊎ ((sum : Option ℕ) × (new ≡ with_note (note_of poll sum) old))
+abbrev pub NotesLine : Poll → Option (List ℕ) → Option (List ℕ) → Type 0
+NotesLine poll old new = (new ≡ None) ⊎ ((sum : Option ℕ) × (new ≡ with_note (note_of poll sum) old))
+
+-- what is noted, and whether that is heads alone
+pub record NoteState : Type 0 where
+  pub lines : Option (List ℕ)
+  pub heads : Bool
+
+-- Where not heads alone are noted, a call is noted, or nothing is any more.
+abbrev pub Notes : Poll → NoteState → NoteState → Type 0
+Notes poll old new = (new.heads ≡ old.heads) × (old.heads ≡ false → NotesLine poll old.lines new.lines)

@@ -11,6 +11,7 @@
 mod data;
 mod entry;
 mod note;
+mod note_lines;
 mod noted;
 mod parts;
 mod script;

@@ -1,7 +1,7 @@
 //! The lines of calls.
-ghost use Rattle.std.specs.Prelude.{◌≡◌, ◌++◌, ℕ, List, OnOk, length};
-ghost use Rattle.wires.specs.Poll.{Accepts, Reads, Writes, bytes_read, IsCount};
-ghost use Rattle.recordings.specs.Noting.{note_of, end_of};
+ghost use Rattle.std.specs.Prelude.{◌≡◌, ◌++◌, None, OnOk, length};
+ghost use Rattle.wires.specs.Poll.{Accepts, Reads, bytes_read, IsCount};
+ghost use Rattle.recordings.specs.Noting.{note_of, written_note, end_of};
 
 use crate::entry::Sent;
 use crate::write::{put_accepted, put_came, put_line, put_sent, put_turn};
@@ -50,7 +50,7 @@ pub(crate) fn put_write(
     answer: Answer<usize>,
     sum: Option<u32>,
 ) -> Result<(), AllocError>
-    ensures { (offered : List ℕ) → OnOk result (output.new.items ≡ output.old.items ++ note_of (Writes id offered answer) sum) }
+    ensures { OnOk result (output.new.items ≡ output.old.items ++ written_note id answer sum) }
 {
     match answer {
         Answer::Done(count) => put_sent(output, Sent { id, count, sum }),
