@@ -1,5 +1,5 @@
 -- Bytes in parts, the first of which comes first.
-use Rattle.std.proofs.Common.{◌≡◌, ◌+◌, ◌≤◌, ℕ, List, [], ◌∷◌, ◌++◌, length, length-append, get_or, drop, arith}
+use Rattle.std.proofs.Common.{◌+◌, ◌≤◌, ℕ, List, [], ◌∷◌, length, length-append, get_or, drop, arith}
 use Rattle.std.specs.Io.Slices.{io_slice_bytes, io_slices_bytes}
 use Rattle.std.specs.declared.io.slices.IoSlice.{IoSlice}
 
