@@ -6,7 +6,7 @@ use crate::log_output::{LogFile, LogOutput};
 use crate::settings::{built_in_text, read_file, settings_in};
 use crate::tape::TapeFiles;
 use command_line::{Log, Serving};
-use serve::{Outlets, serve};
+use serve::{serve, serve_recorded};
 use settings_file::Settings;
 use sockets::{Listening, Sockets};
 use std::io;
@@ -104,36 +104,53 @@ fn log_of<'a>(
     }
 }
 
-/// The recording, if there is one, of a server that starts with the settings of this text.
-fn tape_of<'a>(
-    rt: &'a HostRuntime,
-    serving: &Serving<'a>,
-    settings: &[u8],
-) -> Result<Option<TapeFiles<'a>>, ExitStatus> {
-    match serving.record {
-        None => Ok(None),
-        Some(path) => Ok(Some(TapeFiles::begin(rt, path, settings, serving.record_heads)?)),
-    }
-}
-
-/// Serves with these settings, which are those of a text.
-fn serve_settings(
+/// Serves, and records the day to the files of a name.
+fn serve_and_record(
     rt: &HostRuntime,
     settings: Settings,
     text: &[u8],
+    serving: &Serving<'_>,
+    path: &str,
+) -> Result<ExitStatus, ExitStatus>
+    requires { MeetsLimits settings }
+{
+    let mut log = log_of(rt, serving)?;
+    let sockets = open(rt, serving)?;
+    let heads = serving.record_heads;
+    let mut tape = TapeFiles::begin(rt, path, text, heads)?;
+    match serve_recorded(
+        rt.alloc(),
+        rt,
+        sockets,
+        settings,
+        serving.turns,
+        log.as_mut(),
+        &mut tape,
+        heads,
+    ) {
+        Ok(()) => Ok(ExitStatus::Done),
+        Err(error) => Err(cannot(rt, "go on serving", error)),
+    }
+}
+
+/// Serves with these settings.
+fn serve_settings(
+    rt: &HostRuntime,
+    settings: Settings,
     serving: &Serving<'_>,
 ) -> Result<ExitStatus, ExitStatus>
     requires { MeetsLimits settings }
 {
     let mut log = log_of(rt, serving)?;
     let sockets = open(rt, serving)?;
-    let mut tape = tape_of(rt, serving, text)?;
-    let outlets = Outlets {
-        log: log.as_mut(),
-        tape: tape.as_mut(),
-        heads: serving.record_heads,
-    };
-    match serve(rt.alloc(), rt, sockets, settings, serving.turns, outlets) {
+    match serve(
+        rt.alloc(),
+        rt,
+        sockets,
+        settings,
+        serving.turns,
+        log.as_mut(),
+    ) {
         Ok(()) => Ok(ExitStatus::Done),
         Err(error) => Err(cannot(rt, "go on serving", error)),
     }
@@ -152,5 +169,8 @@ pub(crate) fn run_serve(rt: &HostRuntime, serving: Serving<'_>) -> Result<ExitSt
     let text = text_of(rt, serving.settings)?;
     let file = serving.settings.unwrap_or("the settings that are built in");
     let settings = settings_in(rt, file, &text)?;
-    serve_settings(rt, settings, &text, &serving)
+    match serving.record {
+        Some(path) => serve_and_record(rt, settings, &text, &serving, path),
+        None => serve_settings(rt, settings, &serving),
+    }
 }

@@ -22,5 +22,5 @@ mod witness;
 
 pub use chronicle::Chronicle;
 pub use recorder::Tape;
-pub use run::{Outlets, serve};
+pub use run::{serve, serve_recorded};
 pub use serving::Server;

@@ -17,57 +17,59 @@ use std::time::{Clock, Instant};
 /// late by no more.
 const PAUSE: u64 = 100;
 
-/// Where what happens goes: a log and a tape, each if there is one.
-#[derive(Drop)]
-pub struct Outlets<'a, W: Write, T: Tape> {
-    pub log: Option<&'a mut W>,
-    pub tape: Option<&'a mut T>,
-    /// What is recorded of documents is how many octets they have.
-    pub heads: bool,
-}
-
 /// Serves with these settings over sockets that listen: so many turns, each at the ms since the first,
-/// with a log of what happens and a recording where they are asked for. A log or a tape that can't be
-/// written stops nothing: a log's output is to answer a write that would wait with an error, and the lines
-/// are dropped and counted; a tape that fails gets nothing more. The error is the clock's or the system's,
-/// or out of memory.
-pub fn serve<W: Write, T: Tape>(
+/// with a log of what happens where one is given. A log that can't be written stops nothing: the output is
+/// to answer a write that would wait with an error, and the lines are dropped and counted. The error is the
+/// clock's or the system's, or out of memory.
+pub fn serve<W: Write>(
     alloc: Global,
     clock: &impl Clock,
     sockets: Sockets,
     settings: Settings,
     turns: u64,
-    outlets: Outlets<'_, W, T>,
+    log: Option<&mut W>,
 ) -> io::Result<()>
     requires { MeetsLimits settings }
 {
     let mut server = Server::new(alloc, sockets, settings)?;
-    match outlets.tape {
-        None => take_turns(alloc, clock, &mut server, turns, outlets.log),
-        Some(tape) => {
-            server.record(outlets.heads);
-            let mut recorder = Recorder::new(tape);
-            take_recorded_turns(alloc, clock, &mut server, turns, outlets.log, &mut recorder)
+    match log {
+        Some(log) => {
+            take_logged_turns(clock, &mut server, turns, &mut LogWriter::new(alloc, log))
         }
+        None => take_turns(clock, &mut server, turns),
     }
 }
 
-/// Takes so many turns, with a log of what happens if there is one.
-fn take_turns<W: Write>(
+/// The same, and each turn is recorded to a tape, of documents their heads alone where that is asked for. A
+/// tape that fails stops nothing: it gets nothing more.
+pub fn serve_recorded<W: Write, T: Tape>(
     alloc: Global,
     clock: &impl Clock,
-    server: &mut Server,
+    sockets: Sockets,
+    settings: Settings,
     turns: u64,
     log: Option<&mut W>,
-) -> io::Result<()> {
+    tape: &mut T,
+    heads: bool,
+) -> io::Result<()>
+    requires { MeetsLimits settings }
+{
+    let mut server = Server::new(alloc, sockets, settings)?;
+    server.record(heads);
     match log {
-        Some(log) => take_logged_turns(clock, server, turns, &mut LogWriter::new(alloc, log)),
-        None => take_quiet_turns(clock, server, turns),
+        Some(log) => take_all_turns(
+            clock,
+            &mut server,
+            turns,
+            &mut LogWriter::new(alloc, log),
+            &mut Recorder::new(tape),
+        ),
+        None => take_recorded_turns(clock, &mut server, turns, &mut Recorder::new(tape)),
     }
 }
 
-/// The same, without a log.
-fn take_quiet_turns(clock: &impl Clock, server: &mut Server, turns: u64) -> io::Result<()> {
+/// Takes so many turns.
+fn take_turns(clock: &impl Clock, server: &mut Server, turns: u64) -> io::Result<()> {
     let start = Instant::now(clock)?;
     for _ in 0..turns {
         server.turn(moment_since(clock, &start)?);
@@ -76,7 +78,7 @@ fn take_quiet_turns(clock: &impl Clock, server: &mut Server, turns: u64) -> io::
     Ok(())
 }
 
-/// The same, with one.
+/// The same, with a log of what happens.
 fn take_logged_turns<W: Write>(
     clock: &impl Clock,
     server: &mut Server,
@@ -85,40 +87,57 @@ fn take_logged_turns<W: Write>(
 ) -> io::Result<()> {
     let start = Instant::now(clock)?;
     for _ in 0..turns {
-        take_logged_turn(server, moment_since(clock, &start)?, log);
+        put_lines(server.turn_logged(moment_since(clock, &start)?), log);
         server.rest(PAUSE)?;
     }
     Ok(())
 }
 
-/// Takes a turn, and writes its lines, or says that there was no memory for them.
-fn take_logged_turn<W: Write>(server: &mut Server, moment: Moment, log: &mut LogWriter<'_, W>) {
-    match server.turn_logged(moment) {
-        Ok(lines) => log.put(&lines),
-        Err(AllocError) => log.put(b"no memory for the log\n"),
-    }
-}
-
-/// Takes so many turns, which are recorded.
-fn take_recorded_turns<W: Write, T: Tape>(
-    alloc: Global,
+/// The same, with a recording.
+fn take_recorded_turns<T: Tape>(
     clock: &impl Clock,
     server: &mut Server,
     turns: u64,
-    log: Option<&mut W>,
     recorder: &mut Recorder<'_, T>,
 ) -> io::Result<()> {
-    let mut log = log.map(|output| LogWriter::new(alloc, output));
     let start = Instant::now(clock)?;
     for _ in 0..turns {
         let moment = moment_since(clock, &start)?;
-        match &mut log {
-            Some(log) => take_logged_turn(server, moment, log),
-            None => server.turn(moment),
-        }
-        let noted = server.has_noted();
-        recorder.heed(server.notes(), moment, noted);
+        server.turn(moment);
+        heed(server, recorder, moment);
         server.rest(PAUSE)?;
     }
     Ok(())
+}
+
+/// The same, with a log of what happens and a recording.
+fn take_all_turns<W: Write, T: Tape>(
+    clock: &impl Clock,
+    server: &mut Server,
+    turns: u64,
+    log: &mut LogWriter<'_, W>,
+    recorder: &mut Recorder<'_, T>,
+) -> io::Result<()> {
+    let start = Instant::now(clock)?;
+    for _ in 0..turns {
+        let moment = moment_since(clock, &start)?;
+        put_lines(server.turn_logged(moment), log);
+        heed(server, recorder, moment);
+        server.rest(PAUSE)?;
+    }
+    Ok(())
+}
+
+/// Has what was noted of a turn of this moment recorded.
+fn heed<T: Tape>(server: &mut Server, recorder: &mut Recorder<'_, T>, moment: Moment) {
+    let noted = server.has_noted();
+    recorder.heed(server.notes(), moment, noted);
+}
+
+/// Writes the lines of a turn, or says that there was no memory for them.
+fn put_lines<W: Write>(heard: Result<Vec<u8>, AllocError>, log: &mut LogWriter<'_, W>) {
+    match heard {
+        Ok(lines) => log.put(&lines),
+        Err(AllocError) => log.put(b"no memory for the log\n"),
+    }
 }
