@@ -10,21 +10,13 @@ use std::alloc::{AllocError, Global};
 use std::net::SocketAddr;
 use wires::{Door, WireId};
 
-/// What stands in front of a line.
-#[derive(Clone, Copy)]
-enum Front {
-    /// The ms since the start.
-    Moment(Moment),
-    /// What a comment of a recording begins with.
-    Comment,
-}
-
 /// Lines, each with the same in front.
 #[derive(Drop)]
 pub(crate) struct Lines<'a> {
     alloc: Global,
     names: &'a [Text],
-    front: Front,
+    /// The ms since the start, which stand in front of each; none, where each is a comment of a recording.
+    millis: Option<u64>,
     text: Vec<u8>,
 }
 
@@ -34,7 +26,7 @@ impl<'a> Lines<'a> {
         Lines {
             alloc,
             names,
-            front: Front::Moment(moment),
+            millis: Some(moment.millis()),
             text: Vec::new(alloc),
         }
     }
@@ -44,7 +36,7 @@ impl<'a> Lines<'a> {
         Lines {
             alloc,
             names,
-            front: Front::Comment,
+            millis: None,
             text: Vec::new(alloc),
         }
     }
@@ -183,12 +175,9 @@ impl<'a> Lines<'a> {
         if !self.text.is_empty() {
             self.text.push(b'\n')?;
         }
-        match self.front {
-            Front::Moment(moment) => {
-                let millis = moment.millis();
-                self.append(format!(in self.alloc; "{millis} {word}")?)
-            }
-            Front::Comment => self.append(format!(in self.alloc; "# {word}")?),
+        match self.millis {
+            Some(millis) => self.append(format!(in self.alloc; "{millis} {word}")?),
+            None => self.append(format!(in self.alloc; "# {word}")?),
         }
     }
 
