@@ -7,14 +7,14 @@
 //! Its rows are recorded traces of `play_examples`.
 #![tactic(auto)]
 
+mod beginning;
 mod difference;
 mod input;
 mod listener;
-mod peek;
-mod play;
 mod player;
+mod playing;
 mod written;
 
-pub use peek::{Peeked, Whole, peek};
-pub use play::{Played, Shows, play};
+pub use beginning::{Peeked, Whole, peek};
+pub use playing::{Played, Shows, play};
 pub use written::{Written, as_written};

@@ -1,6 +1,6 @@
 //! What is printed of what a server tells.
 
-use crate::play::Shows;
+use crate::playing::Shows;
 use base_types::Text;
 use dispatcher::{DeviceRefusal, Dispatched, Listener, Place};
 use events::Cancel;

@@ -3,7 +3,7 @@ ghost use Rattle.settings_file.specs.Settings.{MeetsLimits};
 
 use crate::difference::put_difference;
 use crate::listener::Told;
-use crate::play::Shows;
+use crate::playing::Shows;
 use assignment::Lazy;
 use base_types::Moment;
 use recordings::{Entry, Moved, Script, read_entry};
@@ -40,6 +40,14 @@ pub(crate) struct Player {
     goings: Vec<u8>,
     /// The moment that was printed last.
     printed: Option<Moment>,
+}
+
+/// The moment of a turn that ends, if a line says that.
+fn turn_of(entry: &Entry) -> Option<Moment> {
+    match entry {
+        Entry::Turn(moment) => Some(*moment),
+        _ => None,
+    }
 }
 
 /// Appends what became of a connection.
@@ -112,8 +120,20 @@ impl Player {
         }
         match read_entry(self.alloc, line)? {
             None => Ok(Step::Bad),
-            Some(Entry::Turn(moment)) => self.take_turn(number, moment, output),
-            Some(entry) => {
+            Some(entry) => self.take(number, entry, output),
+        }
+    }
+
+    /// Takes what the line of this number says.
+    fn take(
+        &mut self,
+        number: u64,
+        entry: Entry,
+        output: &mut Vec<u8>,
+    ) -> Result<Step, AllocError> {
+        match turn_of(&entry) {
+            Some(moment) => self.take_turn(number, moment, output),
+            None => {
                 self.script.add(number, entry)?;
                 Ok(Step::Played)
             }

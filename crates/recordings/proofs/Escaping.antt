@@ -25,8 +25,8 @@ pub front_plain : (bytes : List ℕ) (place : ℕ) → IsFirstByte (is_byte2 10 
 front_plain bytes place found =
     let within : place < length bytes = found.0.high in
     plain (take place bytes) (λ k low.
-      let short : k < place = omega (arith, low, length-take-le place bytes (omega (arith, within))) in
-      rw (get_or-take place bytes k 0 short) (not_true (is_byte2 10 92 (slice_index bytes k)) (found.0.before k (omega arith) short)))
+    let short : k < place = omega (arith, low, length-take-le place bytes (omega (arith, within))) in
+    rw (get_or-take place bytes k 0 short) (not_true (is_byte2 10 92 (slice_index bytes k)) (found.0.before k (omega arith) short)))
 
 pub cut : (bytes : List ℕ) (place byte : ℕ) (front back more : List ℕ) → IsFirstByte (is_byte2 10 92) bytes (Some place) → front ≡ take place bytes → back ≡ drop place bytes → back ≡ byte ∷ more → escaped bytes ≡ front ++ (escape byte ++ escaped more)
 cut bytes place byte front back more found first second later =

@@ -1,6 +1,9 @@
 //! What a line of a recording says.
+ghost use Rattle.std.specs.Prelude.{IfOk, IfSome, IsTrue};
+ghost use Rattle.recordings.specs.Lines.{IsLineOf};
 
 use crate::data::read_data;
+use crate::write::put_entry;
 use base_types::{Limits, Moment};
 use std::alloc::{AllocError, Global};
 use text::{cut_at, number_up_to};
@@ -126,10 +129,42 @@ fn read_turn(digits: &[u8]) -> Option<Entry> {
     Some(Entry::Turn(Moment::new(number)?))
 }
 
-/// What a line of a recording says, without its line feed; nothing where it is no such line.
-///
-/// The error is out of memory.
-pub fn read_entry(alloc: Global, line: &[u8]) -> Result<Option<Entry>, AllocError> {
+/// What a line of a recording says, without its line feed; nothing where it is no such line, also where
+/// what it says is written in another way. The error is out of memory.
+pub fn read_entry(alloc: Global, line: &[u8]) -> Result<Option<Entry>, AllocError>
+    ensures { IfOk result (λ read. IfSome read (λ entry. IsLineOf line.now entry)) }
+{
+    match read_any(alloc, line)? {
+        Some(entry) => kept(alloc, entry, line),
+        None => Ok(None),
+    }
+}
+
+/// An entry, if it is written as this line.
+fn kept(alloc: Global, entry: Entry, line: &[u8]) -> Result<Option<Entry>, AllocError>
+    ensures { IfOk result (λ read. IfSome read (λ entry. IsLineOf line.now entry)) }
+{
+    if is_written_so(alloc, &entry, line)? {
+        Ok(Some(entry))
+    } else {
+        Ok(None)
+    }
+}
+
+/// Whether an entry is written as this line.
+fn is_written_so(alloc: Global, entry: &Entry, line: &[u8]) -> Result<bool, AllocError>
+    ensures { IfOk result (λ so. IsTrue so → IsLineOf line.now entry.now) }
+{
+    let mut written = Vec::new(alloc);
+    let mut wanted = Vec::new(alloc);
+    put_entry(&mut written, entry)?;
+    wanted.extend_from_slice(line)?;
+    wanted.extend_from_slice(b"\n")?;
+    Ok(written.as_slice() == wanted.as_slice())
+}
+
+/// What a line says, however its numbers are written.
+fn read_any(alloc: Global, line: &[u8]) -> Result<Option<Entry>, AllocError> {
     if let Some(said) = line.strip_prefix(b"read ") {
         return read_came(alloc, said);
     }

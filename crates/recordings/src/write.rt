@@ -1,7 +1,7 @@
 //! The lines of a recording, written.
 ghost use Rattle.std.specs.Prelude.{◌≡◌, ◌++◌, ℕ, OnOk, codes};
 ghost use Rattle.std.specs.Fmt.{decimal};
-ghost use Rattle.recordings.specs.Lines.{door_word, about, line_about, accept_line, read_line, sent_line, sum_words, turn_line};
+ghost use Rattle.recordings.specs.Lines.{door_word, about, line_about, accept_line, read_line, sent_line, sum_words, turn_line, entry_line};
 
 use crate::data::put_data;
 use crate::entry::{Accepted, Entry, Sent};
@@ -99,8 +99,18 @@ pub fn put_turn(output: &mut Vec<u8>, moment: Moment) -> Result<(), AllocError>
     put_line(output, b"turn", moment.millis())
 }
 
+/// Appends the line that says that memory was refused.
+pub(crate) fn put_refused(output: &mut Vec<u8>) -> Result<(), AllocError>
+    ensures { OnOk result (output.new.items ≡ output.old.items ++ codes "refused\n") }
+{
+    output.extend_from_slice(b"refused\n")?;
+    Ok(())
+}
+
 /// Appends the line of an entry.
-pub fn put_entry(output: &mut Vec<u8>, entry: &Entry) -> Result<(), AllocError> {
+pub fn put_entry(output: &mut Vec<u8>, entry: &Entry) -> Result<(), AllocError>
+    ensures { OnOk result (output.new.items ≡ output.old.items ++ entry_line entry.now) }
+{
     match entry {
         Entry::Accepted(Accepted { door, id }) => put_accepted(output, *door, *id),
         Entry::Came(came) => put_came(output, came.id, &came.bytes),
@@ -110,7 +120,7 @@ pub fn put_entry(output: &mut Vec<u8>, entry: &Entry) -> Result<(), AllocError> 
         Entry::Shut(id) => put_line(output, b"shut", u64::from(*id)),
         Entry::Broken(id) => put_line(output, b"break", u64::from(*id)),
         Entry::Closed(id) => put_line(output, b"close", u64::from(*id)),
-        Entry::Refused => output.extend_from_slice(b"refused\n"),
+        Entry::Refused => put_refused(output),
         Entry::Turn(moment) => put_turn(output, *moment),
     }
 }

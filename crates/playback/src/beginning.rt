@@ -50,13 +50,13 @@ fn kind_of(bytes: &[u8]) -> Option<bool> {
 pub fn peek<R: Read>(alloc: Global, reader: &mut R) -> io::Result<Peeked> {
     let mut bytes = Vec::new(alloc);
     let mut piece = vec![in alloc; 0; PIECE]?;
-    while bytes.len() < MOST {
+    for _ in 0..MOST {
         let count = fill(reader, &mut piece)?;
         bytes.extend_from_slice(&piece[..count])?;
         if let Some(recorded) = kind_of(&bytes) {
             return Ok(Peeked { bytes, recorded });
         }
-        if count == 0 {
+        if count == 0 || bytes.len() >= MOST {
             break;
         }
     }
