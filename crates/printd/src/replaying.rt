@@ -44,21 +44,27 @@ fn replay_input<R: Read + Drop>(
 ) -> ExitStatus {
     let mut input = NotedInput::new(reader);
     let mut output = NotedOutput::new(io::writer(rt));
-    let peeked = match peek(rt.alloc(), &mut input) {
-        Ok(peeked) => peeked,
-        Err(_) => return failed(rt, "play the trace", input, output),
-    };
-    let recorded = peeked.recorded;
-    let mut whole = Whole::new(peeked.bytes, &mut input);
-    let status = if recorded || replaying.verify {
-        let shows = shows_of(replaying);
-        play_recorded(rt, name, &mut whole, &mut output, shows)
-    } else {
-        play_written(rt, name, &mut whole, &mut output, replaying.plans)
-    };
-    match status {
+    match play_any(rt, name, &mut input, &mut output, replaying) {
         Some(status) => status,
         None => failed(rt, "play the trace", input, output),
+    }
+}
+
+/// Plays a trace of either kind: its status, unless memory or a stream fails.
+fn play_any<R: Read, W: Write>(
+    rt: &HostRuntime,
+    name: &str,
+    input: &mut R,
+    output: &mut W,
+    replaying: Replaying<'_>,
+) -> Option<ExitStatus> {
+    let peeked = peek(rt.alloc(), input).ok()?;
+    let recorded = peeked.recorded || replaying.verify;
+    let mut whole = Whole::new(peeked.bytes, input);
+    if recorded {
+        play_recorded(rt, name, &mut whole, output, shows_of(replaying))
+    } else {
+        play_written(rt, name, &mut whole, output, replaying.plans)
     }
 }
 
