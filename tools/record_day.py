@@ -101,7 +101,7 @@ class Device(threading.Thread):
 
 def document(chance):
     """Octets of any kind, some of them line feeds and backslashes."""
-    return chance.randbytes(chance.choice([5, 300, 5_000, 80_000]))
+    return chance.randbytes(chance.choice([5, 300, 5_000, 20_000]))
 
 
 def post(server, body, chunked):
