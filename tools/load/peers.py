@@ -180,13 +180,13 @@ class Ours:
     name = "printd"
     path = "/printers/lab"
 
-    def __init__(self, folder, slow=False):
+    def __init__(self, folder, slow=False, words=()):
         names = [f"d{number}" for number in range(16)]
         settings = folder / "load.toml"
         text = 'version = 1\nuri_base = "ipp://localhost:631"\noperators = ["root"]\n'
         text += "".join(DEVICE.format(name=name) for name in names)
         settings.write_text(text + PRINTER.format(names=", ".join(f'"{name}"' for name in names)))
-        self.running = Running(settings)
+        self.running = Running(settings, words)
         self.names, self.slow = names, slow
 
     def __enter__(self):

@@ -10,13 +10,23 @@ pub enum Asked<'a> {
     Serve(Serving<'a>),
     /// Something about settings.
     Settings(AboutSettings<'a>),
-    /// Replay a trace from standard input, and where the plans are asked for write the text of each.
-    Replay { plans: bool },
+    /// Replay a trace.
+    Replay(Replaying<'a>),
+    /// Write the log's lines of a recorded day.
+    Log {
+        /// Its file; standard input, where there is none.
+        file: Option<&'a str>,
+    },
     /// Judge the text of a plan from standard input, and where the starts are asked for tell when
     /// each job starts.
-    Check { starts: bool },
+    Check {
+        starts: bool,
+    },
     /// Draw the plan of a text from standard input, or the day of a trace, in SVG or for a terminal.
-    Draw { text: bool, trace: Option<&'a str> },
+    Draw {
+        text: bool,
+        trace: Option<&'a str>,
+    },
     /// Play a day of jobs.
     Simulate(Simulating<'a>),
     /// Attach a printer to a server.
@@ -36,6 +46,21 @@ pub struct Serving<'a> {
     pub turns: u64,
     /// Where what happens is written, if it is.
     pub log: Option<Log<'a>>,
+    /// The file to which the day is recorded, if it is.
+    pub record: Option<&'a str>,
+    /// The octets of documents are recorded as zeros.
+    pub record_heads: bool,
+}
+
+/// How a trace is replayed.
+#[derive(Clone, Copy, Debug, PartialEq, Eq)]
+pub struct Replaying<'a> {
+    /// Its file; standard input, where there is none.
+    pub file: Option<&'a str>,
+    /// The text of each plan is written too.
+    pub plans: bool,
+    /// Of a recorded day is only written whether it is the same.
+    pub verify: bool,
 }
 
 /// Where a log goes.

@@ -14,8 +14,8 @@ mod read;
 mod simulate_words;
 mod words_error;
 
-pub use asked::{AboutSettings, Asked, Log, Serving};
+pub use asked::{AboutSettings, Asked, Log, Replaying, Serving};
 pub use attach_words::Attaching;
-pub use read::read_words;
+pub use read::{VERSION, read_words};
 pub use simulate_words::Simulating;
 pub use words_error::WordsError;

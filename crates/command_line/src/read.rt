@@ -1,7 +1,7 @@
 //! The commands of `printd`, as `clap` reads them.
 
 use crate::adding::{with_command, with_option};
-use crate::asked::{AboutSettings, Asked, Log, Serving};
+use crate::asked::{AboutSettings, Asked, Log, Replaying, Serving};
 use crate::attach_words::{attach_command, attach_words, word};
 use crate::doors::{addresses, default_address};
 use crate::simulate_words::{simulate_command, simulate_words};
@@ -11,7 +11,7 @@ use clap::{Arg, ArgAction, ArgMatches, Command, Error};
 use std::alloc::{AllocError, Global};
 
 /// The version of the program, which is that of the file VERSION.
-const VERSION: &str = "0.9.0";
+pub const VERSION: &str = "0.9.0";
 
 /// The port of LPD (RFC 1179, section 3.1).
 const LPD_PORT: u16 = 515;
@@ -62,6 +62,24 @@ fn log<'a>(alloc: Global) -> Arg<'a> {
     .default_missing_value(STANDARD_ERROR)
 }
 
+fn record<'a>(alloc: Global) -> Arg<'a> {
+    word(
+        alloc,
+        "record",
+        "FILE",
+        "Record the day to this file, which is made, or, where it is there, to the next: day.1.trace behind day.trace",
+    )
+}
+
+fn record_heads<'a>(alloc: Global) -> Result<Arg<'a>, AllocError> {
+    flag(
+        alloc,
+        "record-heads",
+        "Record each octet of a document as a zero",
+    )
+    .requires_arg("record")
+}
+
 fn turns<'a>(alloc: Global) -> Arg<'a> {
     word(
         alloc,
@@ -80,7 +98,7 @@ fn flag<'a>(alloc: Global, name: &'a str, help: &'a str) -> Arg<'a> {
 }
 
 fn serve_command<'a>(alloc: Global) -> Result<Command<'a>, AllocError> {
-    Command::new(alloc, "serve")
+    let command = Command::new(alloc, "serve")
         .about("Serve print clients and devices over the network")
         .arg(settings(alloc))?
         .arg(door(
@@ -93,7 +111,9 @@ fn serve_command<'a>(alloc: Global) -> Result<Command<'a>, AllocError> {
         .arg(door(alloc, "devices", "8632", "Where devices come in"))?
         .arg(address(alloc))?
         .arg(turns(alloc))?
-        .arg(log(alloc))
+        .arg(log(alloc))?
+        .arg(record(alloc))?;
+    with_option(command, record_heads(alloc))
 }
 
 fn avahi<'a>(alloc: Global) -> Result<Arg<'a>, AllocError> {
@@ -144,12 +164,32 @@ fn settings_command<'a>(alloc: Global) -> Result<Command<'a>, AllocError> {
 
 fn replay_command<'a>(alloc: Global) -> Result<Command<'a>, AllocError> {
     Command::new(alloc, "replay")
-        .about("Play a trace from standard input, and write what the server does")
+        .about("Play a trace, and write what the server does")
+        .arg(trace_file(alloc))?
         .arg(flag(
             alloc,
             "plans",
             "Write the text of each plan too, as `check` reads it",
+        ))?
+        .arg(flag(
+            alloc,
+            "verify",
+            "Of a recorded day, write only whether all is the same: same, or where it first differs",
         ))
+}
+
+fn log_command<'a>(alloc: Global) -> Result<Command<'a>, AllocError> {
+    Command::new(alloc, "log")
+        .about("Write the log's lines of a recorded day")
+        .arg(trace_file(alloc))
+}
+
+/// The file of a trace, if it has one.
+fn trace_file<'a>(alloc: Global) -> Arg<'a> {
+    Arg::new(alloc, "file")
+        .action(ArgAction::Set)
+        .value_name("FILE")
+        .help("The trace; without it, that of standard input")
 }
 
 fn check_command<'a>(alloc: Global) -> Result<Command<'a>, AllocError> {
@@ -183,6 +223,7 @@ fn command<'a>(alloc: Global) -> Result<Command<'a>, AllocError> {
     let command = with_command(command, serve_command(alloc))?;
     let command = with_command(command, settings_command(alloc))?;
     let command = with_command(command, replay_command(alloc))?;
+    let command = with_command(command, log_command(alloc))?;
     let command = with_command(command, check_command(alloc))?;
     let command = with_command(command, draw_command(alloc))?;
     let command = with_command(command, simulate_command(alloc))?;
@@ -212,7 +253,17 @@ fn serve_words<'a>(alloc: Global, found: &ArgMatches<'a>) -> Result<Serving<'a>,
         devices: addresses(alloc, found, "devices", address)?,
         turns: found.get_one::<u64>("turns").unwrap_or(MOST_TURNS),
         log: found.get_str("log").map(log_to),
+        record: found.get_str("record"),
+        record_heads: found.get_flag("record-heads"),
     })
+}
+
+fn replay_words<'a>(found: &ArgMatches<'a>) -> Replaying<'a> {
+    Replaying {
+        file: found.get_str("file"),
+        plans: found.get_flag("plans"),
+        verify: found.get_flag("verify"),
+    }
 }
 
 fn settings_words<'a>(found: &ArgMatches<'a>) -> AboutSettings<'a> {
@@ -252,8 +303,10 @@ fn meaning<'a>(alloc: Global, found: &ArgMatches<'a>) -> Result<Asked<'a>, Words
     } else if name == "settings" {
         Ok(Asked::Settings(settings_words(inner)))
     } else if name == "replay" {
-        Ok(Asked::Replay {
-            plans: inner.get_flag("plans"),
+        Ok(Asked::Replay(replay_words(inner)))
+    } else if name == "log" {
+        Ok(Asked::Log {
+            file: inner.get_str("file"),
         })
     } else if name == "check" {
         Ok(Asked::Check {

@@ -11,6 +11,10 @@ pub enum Program {
     Draw,
     /// `printd draw --text`.
     DrawText,
+    /// `printd replay --verify`.
+    Verify,
+    /// `printd log`.
+    Log,
 }
 
 /// An example: a file that is given to a program, a file with what it must write, and how it must end.
@@ -21,7 +25,7 @@ pub struct Example {
     pub status: ExitStatus,
 }
 
-pub const EXAMPLES: [Example; 125] = [
+pub const EXAMPLES: [Example; 129] = [
     Example {
         input: "two_devices.trace",
         output: "two_devices.out",
@@ -770,6 +774,30 @@ pub const EXAMPLES: [Example; 125] = [
         input: "documents_at_once.trace",
         output: "documents_at_once.out",
         program: Program::Replay,
+        status: ExitStatus::Done,
+    },
+    Example {
+        input: "recorded_day.trace",
+        output: "recorded_day.out",
+        program: Program::Verify,
+        status: ExitStatus::Done,
+    },
+    Example {
+        input: "recorded_day.trace",
+        output: "recorded_day.log",
+        program: Program::Log,
+        status: ExitStatus::Done,
+    },
+    Example {
+        input: "recorded_day_changed.trace",
+        output: "recorded_day_changed.out",
+        program: Program::Verify,
+        status: ExitStatus::No,
+    },
+    Example {
+        input: "recorded_heads.trace",
+        output: "recorded_day.out",
+        program: Program::Verify,
         status: ExitStatus::Done,
     },
 ];

@@ -21,10 +21,21 @@ use crate::texts::each_is_proved;
 use gantt_chart::Form;
 use plan_audit::run_check;
 use plan_drawing::run_draw;
+use playback::Shows;
 use replay::run_replay;
 use std::process::ExitCode;
 use std::{fs, io};
 use streams::ExitStatus;
+
+/// Plays a recorded day, and gives its status.
+fn play_recorded(
+    rt: &HostRuntime,
+    reader: &mut &[u8],
+    output: &mut Vec<u8>,
+    shows: Shows,
+) -> ExitStatus {
+    playback::play(rt.alloc(), "<standard input>", reader, output, shows).status
+}
 
 /// How an example ends, and what it writes.
 fn play(rt: &HostRuntime, program: Program, input: &[u8]) -> (ExitStatus, Vec<u8>) {
@@ -35,6 +46,8 @@ fn play(rt: &HostRuntime, program: Program, input: &[u8]) -> (ExitStatus, Vec<u8
         Program::Check => run_check(rt.alloc(), &mut reader, &mut output, true).status,
         Program::Draw => run_draw(rt.alloc(), &mut reader, &mut output, Form::Svg).status,
         Program::DrawText => run_draw(rt.alloc(), &mut reader, &mut output, Form::Text).status,
+        Program::Verify => play_recorded(rt, &mut reader, &mut output, Shows::Verdict),
+        Program::Log => play_recorded(rt, &mut reader, &mut output, Shows::Log),
     };
     (status, output)
 }
@@ -48,7 +61,9 @@ fn has_proved_plans(
 ) -> io::Result<bool> {
     match program {
         Program::Replay => Ok(each_is_proved(rt.alloc(), input, wanted)?),
-        Program::Check | Program::Draw | Program::DrawText => Ok(true),
+        Program::Check | Program::Draw | Program::DrawText | Program::Verify | Program::Log => Ok(
+            true,
+        ),
     }
 }
 

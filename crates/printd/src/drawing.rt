@@ -1,12 +1,14 @@
 //! `printd draw`.
 
-use crate::failure::{cannot, cannot_with, out_of_memory, say, write_text};
+use crate::failure::{cannot, out_of_memory, say, write_text};
 use crate::judging::{failed, told};
 use crate::noted::{NotedInput, NotedOutput};
+use crate::settings::read_file;
 use gantt_chart::Form;
 use plan_drawing::run_draw;
+use playback::{Written, as_written};
 use recorded_days::{DayFault, draw_day};
-use std::{fs, io};
+use std::io;
 use streams::ExitStatus;
 
 /// The form that is asked for.
@@ -36,13 +38,32 @@ pub(crate) fn refuse_day(rt: &HostRuntime, what: &str, fault: &DayFault) -> Exit
     }
 }
 
+/// A trace that is the text of a file, as one that a hand could have written.
+pub(crate) fn written_trace(
+    rt: &HostRuntime,
+    file: &str,
+    text: Vec<u8>,
+) -> Result<Vec<u8>, ExitStatus> {
+    match as_written(rt.alloc(), &text) {
+        Ok(Written::Already) => Ok(text),
+        Ok(Written::Made(made)) => Ok(made),
+        Ok(Written::Bad(line)) => {
+            let _said = eprintln!(rt;
+                "printd: {file}: line {line}: this is no line of a recorded day"
+            );
+            Err(ExitStatus::Refused)
+        }
+        Err(_) => Err(cannot(rt, "read the trace", out_of_memory())),
+    }
+}
+
 /// Draws the day of a trace; the error is one of what was said.
 pub(crate) fn draw_trace(
     rt: &HostRuntime,
     file: &str,
     form: Form,
 ) -> Result<ExitStatus, ExitStatus> {
-    let text = fs::read(rt, file).map_err(|error| cannot_with(rt, "read", file, error))?;
+    let text = written_trace(rt, file, read_file(rt, file)?)?;
     let drawn = draw_day(rt.alloc(), file, &text, form);
     let picture = drawn.map_err(|fault| refuse_day(rt, "draw the day", &fault))?;
     write_text(rt, &picture)

@@ -1,25 +1,10 @@
-//! `printd replay` and `printd check`: what comes on standard input, played or judged.
+//! `printd check`: the text of a plan from standard input, judged.
 use crate::failure::{cannot, out_of_memory, say};
 use crate::noted::{NotedInput, NotedOutput};
 use plan_audit::{Audit, run_check};
-use replay::run_replay;
 use std::io;
 use std::io::{Input, Read, Write};
 use streams::ExitStatus;
-
-/// Plays a trace from standard input.
-pub(crate) fn replay(rt: &HostRuntime, plans: bool) -> ExitStatus {
-    let mut input = NotedInput::new(rt.reader());
-    let mut output = NotedOutput::new(io::writer(rt));
-    let played = run_replay(rt.alloc(), &mut input, &mut output, plans);
-    if played.status == ExitStatus::Failed {
-        return failed(rt, "play the trace", input, output);
-    }
-    if let Some(objection) = &played.objection {
-        say(rt, objection);
-    }
-    played.status
-}
 
 /// Judges the text of a plan from standard input.
 pub(crate) fn check(rt: &HostRuntime, starts: bool) -> ExitStatus {

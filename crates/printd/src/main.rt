@@ -1,7 +1,8 @@
 //! The program: `printd serve` is the server over sockets, `printd settings` shows or judges settings,
-//! `printd replay` reads a trace from standard input and writes what the server does, `printd check`
-//! reads the text of a plan and writes the verdict on it, `printd draw` draws it or the day of a trace,
-//! `printd simulate` plays a day of jobs, and `printd attach` is a device of a server, whose jobs a printer prints.
+//! `printd replay` plays a trace and writes what the server does, `printd log` writes the log of a recorded
+//! day, `printd check` reads the text of a plan and writes the verdict on it, `printd draw` draws it or the
+//! day of a trace, `printd simulate` plays a day of jobs, and `printd attach` is a device of a server, whose
+//! jobs a printer prints.
 #![tactic(auto)]
 
 mod attaching;
@@ -10,14 +11,17 @@ mod failure;
 mod judging;
 mod log_output;
 mod noted;
+mod replaying;
 mod serving;
 mod settings;
 mod simulating;
+mod tape;
 
 use crate::attaching::run_attach;
 use crate::drawing::{draw, draw_trace, form_of};
 use crate::failure::{cannot, out_of_memory};
-use crate::judging::{check, replay};
+use crate::judging::check;
+use crate::replaying::{log, replay};
 use crate::serving::run_serve;
 use crate::settings::run_settings;
 use crate::simulating::run_simulate;
@@ -78,7 +82,8 @@ fn run(rt: &HostRuntime, asked: Asked<'_>) -> Result<ExitStatus, ExitStatus> {
     match asked {
         Asked::Serve(serving) => run_serve(rt, serving),
         Asked::Settings(about) => run_settings(rt, about),
-        Asked::Replay { plans } => Ok(replay(rt, plans)),
+        Asked::Replay(replaying) => replay(rt, replaying),
+        Asked::Log { file } => log(rt, file),
         Asked::Check { starts } => Ok(check(rt, starts)),
         Asked::Draw { text, trace: None } => Ok(draw(rt, form_of(text))),
         Asked::Draw {

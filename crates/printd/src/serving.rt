@@ -3,9 +3,10 @@ ghost use Rattle.settings_file.specs.Settings.{MeetsLimits};
 
 use crate::failure::{cannot, cannot_with};
 use crate::log_output::{LogFile, LogOutput};
-use crate::settings::{built_in, settings_of};
+use crate::settings::{built_in_text, read_file, settings_in};
+use crate::tape::TapeFiles;
 use command_line::{Log, Serving};
-use serve::serve;
+use serve::{serve, serve_recorded};
 use settings_file::Settings;
 use sockets::{Listening, Sockets};
 use std::io;
@@ -103,6 +104,45 @@ fn log_of<'a>(
     }
 }
 
+/// Serves over these sockets, with the settings of a text, and records the day to a tape.
+fn serve_taped(
+    rt: &HostRuntime,
+    serving: &Serving<'_>,
+    text: &[u8],
+    sockets: Sockets,
+    log: Option<&mut LogOutput<'_>>,
+    tape: &mut TapeFiles<'_>,
+) -> Result<ExitStatus, ExitStatus> {
+    let settings = settings_in(rt, file_of(serving), text)?;
+    let heads = serving.record_heads;
+    match serve_recorded(
+        rt.alloc(),
+        rt,
+        sockets,
+        settings,
+        serving.turns,
+        log,
+        tape,
+        heads,
+    ) {
+        Ok(()) => Ok(ExitStatus::Done),
+        Err(error) => Err(cannot(rt, "go on serving", error)),
+    }
+}
+
+/// Serves, and records the day to the files of a name.
+fn serve_and_record(
+    rt: &HostRuntime,
+    text: &[u8],
+    serving: &Serving<'_>,
+    path: &str,
+) -> Result<ExitStatus, ExitStatus> {
+    let mut log = log_of(rt, serving)?;
+    let sockets = open(rt, serving)?;
+    let mut tape = TapeFiles::begin(rt, path, text, serving.record_heads)?;
+    serve_taped(rt, serving, text, sockets, log.as_mut(), &mut tape)
+}
+
 /// Serves with these settings.
 fn serve_settings(
     rt: &HostRuntime,
@@ -126,11 +166,33 @@ fn serve_settings(
     }
 }
 
+/// What the file of the settings is called.
+fn file_of<'a>(serving: &Serving<'a>) -> &'a str {
+    serving.settings.unwrap_or("the settings that are built in")
+}
+
+/// The text of the settings.
+fn text_of(rt: &HostRuntime, file: Option<&str>) -> Result<Vec<u8>, ExitStatus> {
+    match file {
+        Some(file) => read_file(rt, file),
+        None => built_in_text(rt),
+    }
+}
+
+/// Judges the settings of a text, as they are read before anything is opened.
+fn judge(rt: &HostRuntime, file: &str, text: &[u8]) -> Result<(), ExitStatus> {
+    let _settings = settings_in(rt, file, text)?;
+    Ok(())
+}
+
 /// Serves, and says where; the error is the status of what was said already.
 pub(crate) fn run_serve(rt: &HostRuntime, serving: Serving<'_>) -> Result<ExitStatus, ExitStatus> {
-    let settings = match serving.settings {
-        Some(file) => settings_of(rt, file)?,
-        None => built_in(rt)?,
-    };
-    serve_settings(rt, settings, &serving)
+    let text = text_of(rt, serving.settings)?;
+    match serving.record {
+        Some(path) => {
+            judge(rt, file_of(&serving), &text)?;
+            serve_and_record(rt, &text, &serving, path)
+        }
+        None => serve_settings(rt, settings_in(rt, file_of(&serving), &text)?, &serving),
+    }
 }

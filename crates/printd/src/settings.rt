@@ -26,21 +26,43 @@ fn say_fault(rt: &HostRuntime, file: &str, bytes: &[u8]) -> Result<(), ExitStatu
     Ok(())
 }
 
-/// The settings of a file; where it is refused, its first fault is said in a sentence, and then in a line
-/// for programs.
+/// The settings of the text of a file; where it is refused, its first fault is said in a sentence, and then
+/// in a line for programs.
+pub(crate) fn settings_in(
+    rt: &HostRuntime,
+    file: &str,
+    bytes: &[u8],
+) -> Result<Settings, ExitStatus>
+    ensures { IfOk result MeetsLimits }
+{
+    say_fault(rt, file, bytes)?;
+    read_or_refuse(rt.alloc(), bytes, &mut rt.stderr())
+}
+
+/// The settings of a file.
 pub(crate) fn settings_of(rt: &HostRuntime, file: &str) -> Result<Settings, ExitStatus>
     ensures { IfOk result MeetsLimits }
 {
-    let bytes = fs::read(rt, file).map_err(|error| cannot_with(rt, "read", file, error))?;
-    say_fault(rt, file, &bytes)?;
-    read_or_refuse(rt.alloc(), &bytes, &mut rt.stderr())
+    let bytes = read_file(rt, file)?;
+    settings_in(rt, file, &bytes)
 }
 
-/// The settings that are built in.
-pub(crate) fn built_in(rt: &HostRuntime) -> Result<Settings, ExitStatus>
-    ensures { IfOk result MeetsLimits }
-{
-    read_or_refuse(rt.alloc(), BUILT_IN_SETTINGS.as_bytes(), &mut rt.stderr())
+/// The bytes of a file.
+pub(crate) fn read_file(rt: &HostRuntime, file: &str) -> Result<Vec<u8>, ExitStatus> {
+    fs::read(rt, file).map_err(|error| cannot_with(rt, "read", file, error))
+}
+
+/// The text of the settings that are built in.
+pub(crate) fn built_in_text(rt: &HostRuntime) -> Result<Vec<u8>, ExitStatus> {
+    let mut text = Vec::new(rt.alloc());
+    match text.extend_from_slice(BUILT_IN_SETTINGS.as_bytes()) {
+        Ok(()) => Ok(text),
+        Err(error) => Err(cannot(
+            rt,
+            "read the settings that are built in",
+            io::Error::from(error),
+        )),
+    }
 }
 
 /// Shows the settings that are built in.

@@ -1,8 +1,8 @@
 //! `printd simulate`.
 
-use crate::drawing::{form_of, refuse_day};
-use crate::failure::{cannot, cannot_with, out_of_memory, say, write_text};
-use crate::settings::settings_of;
+use crate::drawing::{form_of, refuse_day, written_trace};
+use crate::failure::{cannot, out_of_memory, say, write_text};
+use crate::settings::{read_file, settings_of};
 use command_line::Simulating;
 use job_lists::{ListError, ListedJob, read_list};
 use policies::Policy;
@@ -128,8 +128,9 @@ fn jobs_of(
     file: &str,
     settings: &Settings,
 ) -> Result<Vec<ListedJob>, ExitStatus> {
-    let text = fs::read(rt, file).map_err(|error| cannot_with(rt, "read", file, error))?;
+    let text = read_file(rt, file)?;
     if split_settings(&text).is_some() {
+        let text = written_trace(rt, file, text)?;
         jobs_of_trace(rt, file, &text, settings).map_err(|fault| refuse_day(rt, PLAY, &fault))
     } else {
         read_list(rt.alloc(), &text, settings).map_err(|error| refuse_list(rt, file, &error))

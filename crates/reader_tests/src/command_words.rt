@@ -5,9 +5,15 @@ use std::test::Fail;
 use streams::ExitStatus;
 
 /// Lines of words that are read, and what they ask for.
-const READ: [(&str, &str); 21] = [
-    ("printd replay", "Replay { plans: false }"),
-    ("printd replay --plans", "Replay { plans: true }"),
+const READ: [(&str, &str); 24] = [
+    (
+        "printd replay",
+        "Replay(Replaying { file: None, plans: false, verify: false })",
+    ),
+    (
+        "printd replay --plans",
+        "Replay(Replaying { file: None, plans: true, verify: false })",
+    ),
     ("printd check", "Check { starts: false }"),
     ("printd check --starts", "Check { starts: true }"),
     ("printd draw", "Draw { text: false, trace: None }"),
@@ -39,27 +45,36 @@ const READ: [(&str, &str); 21] = [
     ),
     (
         "printd serve",
-        "Serve(Serving { settings: None, ipp: [127.0.0.1:8631], lpd: [127.0.0.1:8515], devices: [127.0.0.1:8632], turns: 1000000000000, log: None })",
+        "Serve(Serving { settings: None, ipp: [127.0.0.1:8631], lpd: [127.0.0.1:8515], devices: [127.0.0.1:8632], turns: 1000000000000, log: None, record: None, record_heads: false })",
     ),
     (
         "printd serve --settings lab.toml --ipp 631 --lpd 515 --devices 0 --log --turns 7",
-        "Serve(Serving { settings: Some(\"lab.toml\"), ipp: [127.0.0.1:631], lpd: [127.0.0.1:515], devices: [127.0.0.1:0], turns: 7, log: Some(StandardError) })",
+        "Serve(Serving { settings: Some(\"lab.toml\"), ipp: [127.0.0.1:631], lpd: [127.0.0.1:515], devices: [127.0.0.1:0], turns: 7, log: Some(StandardError), record: None, record_heads: false })",
     ),
     (
         "printd serve --log printd.log --ipp 631",
-        "Serve(Serving { settings: None, ipp: [127.0.0.1:631], lpd: [127.0.0.1:8515], devices: [127.0.0.1:8632], turns: 1000000000000, log: Some(File(\"printd.log\")) })",
+        "Serve(Serving { settings: None, ipp: [127.0.0.1:631], lpd: [127.0.0.1:8515], devices: [127.0.0.1:8632], turns: 1000000000000, log: Some(File(\"printd.log\")), record: None, record_heads: false })",
     ),
     (
         "printd serve --address 0.0.0.0 --ipp 631 --devices 127.0.0.1:8632",
-        "Serve(Serving { settings: None, ipp: [0.0.0.0:631], lpd: [0.0.0.0:8515], devices: [127.0.0.1:8632], turns: 1000000000000, log: None })",
+        "Serve(Serving { settings: None, ipp: [0.0.0.0:631], lpd: [0.0.0.0:8515], devices: [127.0.0.1:8632], turns: 1000000000000, log: None, record: None, record_heads: false })",
     ),
     (
         "printd serve --ipp 10.0.0.1:631 --ipp [::1]:632 --lpd 515 --lpd 516",
-        "Serve(Serving { settings: None, ipp: [10.0.0.1:631, [::1]:632], lpd: [127.0.0.1:515, 127.0.0.1:516], devices: [127.0.0.1:8632], turns: 1000000000000, log: None })",
+        "Serve(Serving { settings: None, ipp: [10.0.0.1:631, [::1]:632], lpd: [127.0.0.1:515, 127.0.0.1:516], devices: [127.0.0.1:8632], turns: 1000000000000, log: None, record: None, record_heads: false })",
     ),
     (
         "printd serve --address ::",
-        "Serve(Serving { settings: None, ipp: [[::]:8631], lpd: [[::]:8515], devices: [[::]:8632], turns: 1000000000000, log: None })",
+        "Serve(Serving { settings: None, ipp: [[::]:8631], lpd: [[::]:8515], devices: [[::]:8632], turns: 1000000000000, log: None, record: None, record_heads: false })",
+    ),
+    (
+        "printd serve --record day.trace --record-heads --turns 7",
+        "Serve(Serving { settings: None, ipp: [127.0.0.1:8631], lpd: [127.0.0.1:8515], devices: [127.0.0.1:8632], turns: 7, log: None, record: Some(\"day.trace\"), record_heads: true })",
+    ),
+    ("printd log day.trace", "Log { file: Some(\"day.trace\") }"),
+    (
+        "printd replay --verify day.trace",
+        "Replay(Replaying { file: Some(\"day.trace\"), plans: false, verify: true })",
     ),
     (
         "printd attach --name window --to file:printed",
@@ -73,7 +88,7 @@ const READ: [(&str, &str); 21] = [
 
 /// Lines of words that are refused: one that isn't known, a word without the one that it needs, a port
 /// and an address that are none, and turns out of range.
-const REFUSED: [&str; 11] = [
+const REFUSED: [&str; 12] = [
     "printd",
     "printd reply",
     "printd settings --avahi",
@@ -81,6 +96,7 @@ const REFUSED: [&str; 11] = [
     "printd serve --devices 65536",
     "printd serve --ipp localhost:631",
     "printd serve --address office",
+    "printd serve --record-heads",
     "printd serve --turns 0",
     "printd serve --turns 1000000000001",
     "printd attach --name window",

@@ -10,22 +10,33 @@ use std::alloc::{AllocError, Global};
 use std::net::SocketAddr;
 use wires::{Door, WireId};
 
-/// The lines of a moment, each with the ms since the start in front.
+/// Lines, each with the same in front.
 #[derive(Drop)]
 pub(crate) struct Lines<'a> {
     alloc: Global,
     names: &'a [Text],
-    moment: Moment,
+    /// The ms since the start, which stand in front of each; none, where each is a comment of a recording.
+    millis: Option<u64>,
     text: Vec<u8>,
 }
 
 impl<'a> Lines<'a> {
-    /// No line yet. The names are those of the devices.
+    /// No line of this moment yet. The names are those of the devices.
     pub(crate) fn new(alloc: Global, names: &'a [Text], moment: Moment) -> Lines<'a> {
         Lines {
             alloc,
             names,
-            moment,
+            millis: Some(moment.millis()),
+            text: Vec::new(alloc),
+        }
+    }
+
+    /// No comment yet.
+    pub(crate) fn comments(alloc: Global, names: &'a [Text]) -> Lines<'a> {
+        Lines {
+            alloc,
+            names,
+            millis: None,
             text: Vec::new(alloc),
         }
     }
@@ -164,8 +175,10 @@ impl<'a> Lines<'a> {
         if !self.text.is_empty() {
             self.text.push(b'\n')?;
         }
-        let millis = self.moment.millis();
-        self.append(format!(in self.alloc; "{millis} {word}")?)
+        match self.millis {
+            Some(millis) => self.append(format!(in self.alloc; "{millis} {word}")?),
+            None => self.append(format!(in self.alloc; "# {word}")?),
+        }
     }
 
     fn append(&mut self, words: String) -> Result<(), AllocError> {

@@ -1,0 +1,91 @@
+//! How a trace begins.
+
+use crate::input::fill;
+use recordings::GOES_ON;
+use std::alloc::Global;
+use std::cmp::min;
+use std::io;
+use std::io::Read;
+use traces::split_settings;
+
+/// How many bytes are looked at, at most.
+const MOST: usize = 1_048_576;
+
+/// How many bytes are read at a time.
+const PIECE: usize = 65_536;
+
+/// What a line behind the settings begins with, in a recorded day.
+const START: &[u8] = b"recorded ";
+
+/// The first bytes of a trace, which were read, and whether it is a recorded day.
+#[derive(Drop)]
+pub struct Peeked {
+    pub bytes: Vec<u8>,
+    pub recorded: bool,
+}
+
+/// A trace whose first bytes were read.
+#[derive(Drop)]
+pub struct Whole<'a, R: Read> {
+    front: Vec<u8>,
+    /// How many of the first bytes were given again.
+    given: usize,
+    rest: &'a mut R,
+}
+
+/// Whether a trace that begins so is a recorded day, if that can be told.
+fn kind_of(bytes: &[u8]) -> Option<bool> {
+    if bytes.starts_with(GOES_ON) {
+        return Some(true);
+    }
+    let cut = split_settings(bytes)?;
+    if cut.lines.len() < START.len() {
+        return None;
+    }
+    Some(cut.lines.starts_with(START))
+}
+
+/// Looks at the first bytes of a trace, up to those that tell whether it is a recorded day. The error is the
+/// reader's, or out of memory.
+pub fn peek<R: Read>(alloc: Global, reader: &mut R) -> io::Result<Peeked> {
+    let mut bytes = Vec::new(alloc);
+    let mut piece = vec![in alloc; 0; PIECE]?;
+    for _ in 0..MOST {
+        let count = fill(reader, &mut piece)?;
+        bytes.extend_from_slice(&piece[..count])?;
+        if let Some(recorded) = kind_of(&bytes) {
+            return Ok(Peeked { bytes, recorded });
+        }
+        if count == 0 || bytes.len() >= MOST {
+            break;
+        }
+    }
+    Ok(Peeked {
+        bytes,
+        recorded: false,
+    })
+}
+
+impl<'a, R: Read> Whole<'a, R> {
+    /// These bytes, and those that are still to be read.
+    pub fn new(front: Vec<u8>, rest: &'a mut R) -> Whole<'a, R> {
+        Whole {
+            front,
+            given: 0,
+            rest,
+        }
+    }
+}
+
+impl<R: Read> Read for Whole<'_, R> {
+    fn read(&mut self, buffer: &mut [u8]) -> io::Result<usize> {
+        let left = &self.front[min(self.given, self.front.len())..];
+        if left.is_empty() {
+            return self.rest.read(buffer);
+        }
+        let count = min(left.len(), buffer.len());
+        buffer[..count].copy_from_slice(&left[..count]);
+        self.given = self.given.saturating_add(count);
+        Ok(count)
+    }
+}

@@ -1,0 +1,108 @@
+//! Where a server does something else than was recorded, in lines.
+
+use base_types::Moment;
+use recordings::{Deed, Entry, Sent, Stray, put_entry, put_turn};
+use std::alloc::{AllocError, Global};
+use wires::WireId;
+
+/// The connection of which a line is.
+fn connection_of(entry: &Entry) -> Option<WireId> {
+    match entry {
+        Entry::Accepted(accepted) => Some(accepted.id),
+        Entry::Came(came) => Some(came.id),
+        Entry::Sent(sent) => Some(sent.id),
+        Entry::Ended(id)
+        | Entry::Failed(id)
+        | Entry::Shut(id)
+        | Entry::Broken(id)
+        | Entry::Closed(id) => Some(*id),
+        Entry::Refused | Entry::Turn(_) => None,
+    }
+}
+
+/// The connection of which a deed is.
+fn connection_in(did: &Deed) -> Option<WireId> {
+    match did {
+        Deed::Closes(id) => Some(*id),
+        Deed::Sends { sent, .. } => Some(sent.id),
+        Deed::ReadsLess(id) => Some(*id),
+        Deed::Nothing | Deed::Unknown => None,
+    }
+}
+
+/// The connection at which a server strays.
+fn connection_at(stray: &Stray) -> Option<WireId> {
+    if let Some(id) = connection_in(&stray.did) {
+        return Some(id);
+    }
+    match &stray.wanted {
+        Some(line) => connection_of(&line.entry),
+        None => None,
+    }
+}
+
+/// Appends the line of what was recorded.
+fn put_wanted(output: &mut Vec<u8>, stray: &Stray, moment: Moment) -> Result<(), AllocError> {
+    output.extend_from_slice(b"was ")?;
+    match &stray.wanted {
+        Some(line) => put_entry(output, &line.entry),
+        None => put_turn(output, moment),
+    }
+}
+
+/// Appends the line of what the server sends, and one with the bytes.
+fn put_sends(
+    alloc: Global,
+    output: &mut Vec<u8>,
+    sent: Sent,
+    bytes: &[u8],
+) -> Result<(), AllocError> {
+    put_entry(output, &Entry::Sent(sent))?;
+    if bytes.is_empty() {
+        return Ok(());
+    }
+    let id = sent.id;
+    let digits = hex::encode(alloc, bytes)?;
+    let words = format!(in alloc; "out {id} {digits}\n")?;
+    output.extend_from_slice(words.as_bytes())
+}
+
+/// Appends the lines of what the server does.
+fn put_deed(
+    alloc: Global,
+    output: &mut Vec<u8>,
+    did: &Deed,
+    moment: Moment,
+) -> Result<(), AllocError> {
+    output.extend_from_slice(b"is ")?;
+    match did {
+        Deed::Nothing => put_turn(output, moment),
+        Deed::Closes(id) => put_entry(output, &Entry::Closed(*id)),
+        Deed::Sends { sent, bytes } => put_sends(alloc, output, *sent, bytes),
+        Deed::ReadsLess(_) => output.extend_from_slice(b"fewer bytes\n"),
+        Deed::Unknown => output.extend_from_slice(b"out of memory\n"),
+    }
+}
+
+/// Appends where the server strays in the turn of a moment that ends with the line of this number: the line
+/// that was recorded, and what it does in its place.
+pub(crate) fn put_difference(
+    alloc: Global,
+    output: &mut Vec<u8>,
+    stray: &Stray,
+    number: u64,
+    moment: Moment,
+) -> Result<(), AllocError> {
+    let line = match &stray.wanted {
+        Some(wanted) => wanted.number,
+        None => number,
+    };
+    let millis = moment.millis();
+    let head = match connection_at(stray) {
+        Some(id) => format!(in alloc; "differs line {line} at {millis} connection {id}\n")?,
+        None => format!(in alloc; "differs line {line} at {millis}\n")?,
+    };
+    output.extend_from_slice(head.as_bytes())?;
+    put_wanted(output, stray, moment)?;
+    put_deed(alloc, output, &stray.did, moment)
+}

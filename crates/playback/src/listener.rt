@@ -1,0 +1,101 @@
+//! What is printed of what a server tells.
+
+use crate::playing::Shows;
+use base_types::Text;
+use dispatcher::{DeviceRefusal, Dispatched, Listener, Place};
+use events::Cancel;
+use server::{Heard, NoteLog};
+use std::alloc::{AllocError, Global};
+use std::mem;
+use transcripts::{put_cancel, put_dispatch};
+use wires::WireId;
+
+/// A listener that keeps what is shown: the lines of each dispatch and of each cancel, as those of a trace
+/// are, or all that it heard, for a log.
+#[derive(Drop)]
+pub(crate) struct Told {
+    alloc: Global,
+    shows: Shows,
+    names: Vec<Text>,
+    text: Vec<u8>,
+    heard: NoteLog,
+    lost: bool,
+}
+
+impl Listener for Told {
+    ghost told = { λ old note new. Unit {0} };
+
+    fn dispatched(&mut self, made: &Dispatched<'_>) {
+        match self.shows {
+            Shows::Happenings { texts } => self.put_dispatched(made, texts),
+            Shows::Log => self.heard.dispatched(made),
+            Shows::Verdict => {}
+        }
+    }
+
+    fn canceled(&mut self, cancel: Cancel) {
+        match self.shows {
+            Shows::Happenings { .. } => self.put_canceled(cancel),
+            Shows::Log => self.heard.canceled(cancel),
+            Shows::Verdict => {}
+        }
+    }
+
+    fn device_refused(&mut self, id: WireId, why: DeviceRefusal) {
+        if self.shows == Shows::Log {
+            self.heard.device_refused(id, why);
+        }
+    }
+
+    fn refused(&mut self, _place: Place, _id: Option<WireId>) {
+        self.lost = true;
+    }
+}
+
+impl Told {
+    /// Nothing was told yet. The names are those of the devices.
+    pub(crate) fn new(alloc: Global, shows: Shows, names: Vec<Text>) -> Told {
+        Told {
+            alloc,
+            shows,
+            names,
+            text: Vec::new(alloc),
+            heard: NoteLog::new(alloc),
+            lost: false,
+        }
+    }
+
+    /// Keeps the lines of a dispatch.
+    fn put_dispatched(&mut self, made: &Dispatched<'_>, texts: bool) {
+        let put = put_dispatch(
+            self.alloc,
+            &mut self.text,
+            texts,
+            &self.names,
+            made.plan(),
+            made.started(),
+        );
+        self.lost = self.lost || put.is_err();
+    }
+
+    /// Keeps the line of a cancel.
+    fn put_canceled(&mut self, cancel: Cancel) {
+        let put = put_cancel(self.alloc, &mut self.text, &self.names, cancel);
+        self.lost = self.lost || put.is_err();
+    }
+
+    /// Whether memory was refused, to the server or for what it tells.
+    pub(crate) fn is_lost(&self) -> bool {
+        self.lost
+    }
+
+    /// The lines, which are then kept no more.
+    pub(crate) fn take(&mut self) -> Vec<u8> {
+        mem::replace(&mut self.text, Vec::new(self.alloc))
+    }
+
+    /// What was heard, which is then kept no more. The error is that memory was refused for it.
+    pub(crate) fn take_heard(&mut self) -> Result<Vec<Heard>, AllocError> {
+        self.heard.take()
+    }
+}

@@ -1,0 +1,228 @@
+//! A server that takes recorded turns.
+ghost use Rattle.settings_file.specs.Settings.{MeetsLimits};
+
+use crate::difference::put_difference;
+use crate::listener::Told;
+use crate::playing::Shows;
+use assignment::Lazy;
+use base_types::Moment;
+use recordings::{Entry, Moved, Script, read_entry};
+use serve::Chronicle;
+use server::Engine;
+use settings_file::Settings;
+use std::alloc::{AllocError, Global};
+
+/// What became of a line.
+#[derive(Drop)]
+pub(crate) enum Step {
+    /// It was played, or belongs to a turn that is still to end.
+    Played,
+    /// It is no line of a recording.
+    Bad,
+    /// In the turn that it ends, memory was refused to the server, as the line of this number says.
+    Refused(u64),
+    /// In the turn that it ends the server does something else than was recorded, which these lines say.
+    Differs(Vec<u8>),
+}
+
+/// A server that starts, and is told recorded lines.
+#[derive(Drop)]
+pub(crate) struct Player {
+    alloc: Global,
+    engine: Engine<Lazy>,
+    script: Script,
+    shows: Shows,
+    told: Told,
+    /// What the lines of a log are made of.
+    chronicle: Chronicle,
+    /// The comments of a turn, each a line: of who came, or what else they say, and of who went.
+    comings: Vec<u8>,
+    goings: Vec<u8>,
+    /// The moment that was printed last.
+    printed: Option<Moment>,
+}
+
+/// The moment of a turn that ends, if a line says that.
+fn turn_of(entry: &Entry) -> Option<Moment> {
+    match entry {
+        Entry::Turn(moment) => Some(*moment),
+        _ => None,
+    }
+}
+
+/// Appends what became of a connection.
+fn put_moved(alloc: Global, output: &mut Vec<u8>, moved: &Moved) -> Result<(), AllocError> {
+    let line = match moved {
+        Moved::Got { id, bytes } => {
+            let digits = hex::encode(alloc, bytes)?;
+            format!(in alloc; "out {id} {digits}\n")?
+        }
+        Moved::Gone(id) => format!(in alloc; "gone {id}\n")?,
+    };
+    output.extend_from_slice(line.as_bytes())
+}
+
+/// Appends what became of connections.
+fn put_all_moved(alloc: Global, output: &mut Vec<u8>, all: &[Moved]) -> Result<(), AllocError> {
+    for moved in all {
+        put_moved(alloc, output, moved)?;
+    }
+    Ok(())
+}
+
+/// Appends the lines of a text, each with a moment in front.
+fn put_dated(
+    alloc: Global,
+    output: &mut Vec<u8>,
+    moment: Moment,
+    text: &[u8],
+) -> Result<(), AllocError> {
+    let millis = moment.millis();
+    for line in text.split_inclusive(|byte| *byte == b'\n') {
+        let front = format!(in alloc; "{millis} ")?;
+        output.extend_from_slice(front.as_bytes())?;
+        output.extend_from_slice(line)?;
+    }
+    Ok(())
+}
+
+impl Player {
+    /// A server that starts with these settings.
+    pub(crate) fn new(alloc: Global, settings: Settings, shows: Shows) -> Result<Player, AllocError>
+        requires { MeetsLimits settings }
+    {
+        let names = settings.device_names(alloc)?;
+        let chronicle = Chronicle::new(alloc, settings.device_names(alloc)?);
+        let engine = Engine::new(alloc, settings, Lazy::new(alloc))?;
+        Ok(Player {
+            alloc,
+            engine,
+            script: Script::new(alloc),
+            shows,
+            told: Told::new(alloc, shows, names),
+            chronicle,
+            comings: Vec::new(alloc),
+            goings: Vec::new(alloc),
+            printed: None,
+        })
+    }
+
+    /// Plays the line of this number, and appends what it gives.
+    pub(crate) fn play(
+        &mut self,
+        number: u64,
+        line: &[u8],
+        output: &mut Vec<u8>,
+    ) -> Result<Step, AllocError> {
+        if let Some(comment) = line.strip_prefix(b"#") {
+            self.keep_comment(comment)?;
+            return Ok(Step::Played);
+        }
+        match read_entry(self.alloc, line)? {
+            None => Ok(Step::Bad),
+            Some(entry) => self.take(number, entry, output),
+        }
+    }
+
+    /// Takes what the line of this number says.
+    fn take(
+        &mut self,
+        number: u64,
+        entry: Entry,
+        output: &mut Vec<u8>,
+    ) -> Result<Step, AllocError> {
+        match turn_of(&entry) {
+            Some(moment) => self.take_turn(number, moment, output),
+            None => {
+                self.script.add(number, entry)?;
+                Ok(Step::Played)
+            }
+        }
+    }
+
+    /// Keeps a comment, where a log is written.
+    fn keep_comment(&mut self, comment: &[u8]) -> Result<(), AllocError> {
+        if self.shows != Shows::Log {
+            return Ok(());
+        }
+        let Some(words) = comment.strip_prefix(b" ") else {
+            return Ok(());
+        };
+        let kept = if words.starts_with(b"close ") {
+            &mut self.goings
+        } else {
+            &mut self.comings
+        };
+        kept.extend_from_slice(words)?;
+        kept.extend_from_slice(b"\n")
+    }
+
+    /// Takes the turn that the line of this number ends.
+    fn take_turn(
+        &mut self,
+        number: u64,
+        moment: Moment,
+        output: &mut Vec<u8>,
+    ) -> Result<Step, AllocError> {
+        if let Some(refused) = self.script.refusal() {
+            return Ok(Step::Refused(refused));
+        }
+        self.engine.turn(&mut self.script, &mut self.told, moment);
+        self.put_turn(moment, output)?;
+        match self.script.end_turn() {
+            None => Ok(Step::Played),
+            Some(stray) => {
+                let mut lines = Vec::new(self.alloc);
+                put_difference(self.alloc, &mut lines, &stray, number, moment)?;
+                Ok(Step::Differs(lines))
+            }
+        }
+    }
+
+    /// Appends what is shown of a turn.
+    fn put_turn(&mut self, moment: Moment, output: &mut Vec<u8>) -> Result<(), AllocError> {
+        if self.told.is_lost() {
+            return Err(AllocError);
+        }
+        let moved = self.script.take_moved();
+        match self.shows {
+            Shows::Happenings { .. } => self.put_happenings(moment, &moved, output),
+            Shows::Verdict => Ok(()),
+            Shows::Log => self.put_log(moment, output),
+        }
+    }
+
+    /// Appends what a turn gave: its moment, if that is another than that printed last, what the server
+    /// told, and what became of connections.
+    fn put_happenings(
+        &mut self,
+        moment: Moment,
+        moved: &[Moved],
+        output: &mut Vec<u8>,
+    ) -> Result<(), AllocError> {
+        let text = self.told.take();
+        if text.is_empty() && moved.is_empty() {
+            return Ok(());
+        }
+        if self.printed != Some(moment) {
+            let millis = moment.millis();
+            let line = format!(in self.alloc; "at {millis}\n")?;
+            output.extend_from_slice(line.as_bytes())?;
+            self.printed = Some(moment);
+        }
+        output.extend_from_slice(&text)?;
+        put_all_moved(self.alloc, output, moved)
+    }
+
+    /// Appends the lines of a log: who came, what was heard, which jobs ended, and who went.
+    fn put_log(&mut self, moment: Moment, output: &mut Vec<u8>) -> Result<(), AllocError> {
+        let heard = self.told.take_heard()?;
+        let lines = self.chronicle.lines(moment, &[], &heard, &self.engine)?;
+        put_dated(self.alloc, output, moment, &self.comings)?;
+        output.extend_from_slice(&lines)?;
+        put_dated(self.alloc, output, moment, &self.goings)?;
+        self.comings.clear();
+        self.goings.clear();
+        Ok(())
+    }
+}

@@ -1,0 +1,257 @@
+//! A recorded day, read and played.
+
+use crate::input::Lines;
+use crate::player::{Player, Step};
+use base_types::Limits;
+use recordings::GOES_ON;
+use settings_faults::explain;
+use settings_file::{SettingsFault, read_settings_bytes};
+use std::alloc::{AllocError, Global};
+use std::io;
+use std::io::{ErrorKind, Read, Write};
+use streams::ExitStatus;
+
+/// How much is printed at a time.
+const PRINTED: usize = 65_536;
+
+/// What is written of a recorded day that is played.
+#[derive(Clone, Copy, Debug, PartialEq, Eq)]
+pub enum Shows {
+    /// What each connection gets, the plans, with their texts or without, the starts and the cancels.
+    Happenings { texts: bool },
+    /// Whether all is the same, or where it first differs.
+    Verdict,
+    /// The lines of a log.
+    Log,
+}
+
+/// How a play ends.
+#[derive(Debug, Drop)]
+pub struct Played {
+    pub status: ExitStatus,
+    /// Why the day isn't played to its end, in a sentence, where it isn't and memory is there for it.
+    pub objection: Option<String>,
+}
+
+/// Why a play ends early.
+#[derive(Debug, Drop)]
+enum Fault {
+    /// For what a sentence says, with this status.
+    Said(ExitStatus, String),
+    /// The lines differ as it is printed.
+    Differs,
+    OutOfMemory,
+    Failed,
+}
+
+impl From<AllocError> for Fault {
+    fn from(_error: AllocError) -> Fault {
+        Fault::OutOfMemory
+    }
+}
+
+impl From<io::Error> for Fault {
+    fn from(error: io::Error) -> Fault {
+        if error.kind() == ErrorKind::OutOfMemory {
+            Fault::OutOfMemory
+        } else {
+            Fault::Failed
+        }
+    }
+}
+
+/// The fault that a sentence says.
+fn said(status: ExitStatus, sentence: Result<String, AllocError>) -> Fault {
+    match sentence {
+        Ok(sentence) => Fault::Said(status, sentence),
+        Err(_) => Fault::OutOfMemory,
+    }
+}
+
+/// What stands in front of the turns.
+#[derive(Drop)]
+enum Front {
+    /// The text of the settings, and how many lines it has with the point behind it.
+    Settings(Vec<u8>, u64),
+    /// The file goes on where another one ends.
+    GoesOn,
+    /// No line is a point.
+    Neither,
+}
+
+/// Reads what stands in front of the turns.
+fn read_front<R: Read>(alloc: Global, lines: &mut Lines<'_, R>) -> io::Result<Front> {
+    let mut settings = Vec::new(alloc);
+    let mut line = Vec::new(alloc);
+    for number in 1..u64::MAX {
+        if settings.len() > Limits::INPUT_BYTES || !lines.read(&mut line)? {
+            return Ok(Front::Neither);
+        }
+        if line.as_slice() == b".".as_slice() {
+            return Ok(Front::Settings(settings, number));
+        }
+        if number == 1 && line.starts_with(GOES_ON) {
+            return Ok(Front::GoesOn);
+        }
+        settings.extend_from_slice(&line)?;
+        settings.extend_from_slice(b"\n")?;
+    }
+    Ok(Front::Neither)
+}
+
+/// Whether the next line is the first of a recording's.
+fn is_start<R: Read>(alloc: Global, lines: &mut Lines<'_, R>) -> io::Result<bool> {
+    let mut line = Vec::new(alloc);
+    Ok(lines.read(&mut line)? && line.starts_with(b"recorded "))
+}
+
+/// The fault of the settings of a file.
+fn settings_refused(alloc: Global, file: &str, settings: &[u8], fault: &SettingsFault) -> Fault {
+    if matches!(fault, SettingsFault::OutOfMemory) {
+        return Fault::OutOfMemory;
+    }
+    match explain(alloc, file, settings) {
+        Ok(Some(sentence)) => Fault::Said(ExitStatus::Refused, sentence),
+        Ok(None) => said(
+            ExitStatus::Refused,
+            format!(in alloc; "{file}: the settings are refused"),
+        ),
+        Err(_) => Fault::OutOfMemory,
+    }
+}
+
+/// The text of the settings in front of the turns, and the number of the first line of these.
+fn read_start<R: Read>(
+    alloc: Global,
+    file: &str,
+    lines: &mut Lines<'_, R>,
+) -> Result<(Vec<u8>, u64), Fault> {
+    let sentence = match read_front(alloc, lines)? {
+        Front::Settings(text, number) if is_start(alloc, lines)? => {
+            return Ok((text, number.saturating_add(2)));
+        }
+        Front::Settings(_, _) => format!(in alloc;
+            "{file}: this is no recorded day: the line behind \".\" isn't recorded and a number"
+        ),
+        Front::GoesOn => format!(in alloc;
+            "{file}: this goes on where another file ends, which its first line names: play both, the earlier first, as one"
+        ),
+        Front::Neither => format!(in alloc;
+            "{file}: no line is \".\" alone, as the one behind the settings is"
+        ),
+    };
+    Err(said(ExitStatus::Refused, sentence))
+}
+
+/// A server that starts with the settings of this text.
+fn start(alloc: Global, file: &str, text: &[u8], shows: Shows) -> Result<Player, Fault> {
+    match read_settings_bytes(alloc, text) {
+        Ok(settings) => Ok(Player::new(alloc, settings, shows)?),
+        Err(fault) => Err(settings_refused(alloc, file, text, &fault)),
+    }
+}
+
+/// The fault of a line that isn't just played, and what is printed of it.
+fn heed(
+    alloc: Global,
+    file: &str,
+    number: u64,
+    step: Step,
+    shows: Shows,
+    output: &mut Vec<u8>,
+) -> Result<(), Fault> {
+    match step {
+        Step::Played => Ok(()),
+        Step::Bad => Err(said(
+            ExitStatus::Refused,
+            format!(in alloc; "{file}: line {number}: this is no line of a recorded day"),
+        )),
+        Step::Refused(line) => Err(said(
+            ExitStatus::No,
+            format!(in alloc;
+                "{file}: line {line}: memory was refused to the server here, and what follows isn't played"
+            ),
+        )),
+        Step::Differs(lines) if shows == Shows::Verdict => {
+            output.extend_from_slice(&lines)?;
+            Err(Fault::Differs)
+        }
+        Step::Differs(_) => Err(said(
+            ExitStatus::No,
+            format!(in alloc;
+                "{file}: line {number}: in this turn the server does something else than was recorded"
+            ),
+        )),
+    }
+}
+
+/// Writes what is printed, if that is much or all.
+fn put_out<W: Write>(writer: &mut W, output: &mut Vec<u8>, most: usize) -> Result<(), Fault> {
+    if output.len() > most {
+        writer.write_all(output)?;
+        output.clear();
+    }
+    Ok(())
+}
+
+/// Plays the lines of turns, which come behind so many others.
+fn play_lines<R: Read, W: Write>(
+    alloc: Global,
+    file: &str,
+    lines: &mut Lines<'_, R>,
+    writer: &mut W,
+    output: &mut Vec<u8>,
+    shows: Shows,
+) -> Result<(), Fault> {
+    let (text, first) = read_start(alloc, file, lines)?;
+    let mut player = start(alloc, file, &text, shows)?;
+    let mut line = Vec::new(alloc);
+    for number in first..u64::MAX {
+        if !lines.read(&mut line)? {
+            return Ok(());
+        }
+        let step = player.play(number, &line, output)?;
+        heed(alloc, file, number, step, shows, output)?;
+        put_out(writer, output, PRINTED)?;
+    }
+    Ok(())
+}
+
+/// Plays all, and writes what is printed of it up to where it ends.
+fn play_all<R: Read, W: Write>(
+    alloc: Global,
+    file: &str,
+    reader: &mut R,
+    writer: &mut W,
+    shows: Shows,
+) -> Result<(), Fault> {
+    let mut lines = Lines::new(alloc, reader)?;
+    let mut output = Vec::new(alloc);
+    let played = play_lines(alloc, file, &mut lines, writer, &mut output, shows);
+    if played.is_ok() && shows == Shows::Verdict {
+        output.extend_from_slice(b"same\n")?;
+    }
+    put_out(writer, &mut output, 0)?;
+    played
+}
+
+/// Plays the recorded day of a file of this name, and writes what it gives: `docs/TRACES.md`.
+pub fn play<R: Read, W: Write>(
+    alloc: Global,
+    file: &str,
+    reader: &mut R,
+    writer: &mut W,
+    shows: Shows,
+) -> Played {
+    let (status, objection) = match play_all(alloc, file, reader, writer, shows) {
+        Ok(()) => (ExitStatus::Done, None),
+        Err(Fault::Said(status, sentence)) => (status, Some(sentence)),
+        Err(Fault::Differs) => (ExitStatus::No, None),
+        Err(Fault::OutOfMemory) => (
+            ExitStatus::Failed,
+            format!(in alloc; "cannot play {file}: out of memory").ok(),
+        ),
+        Err(Fault::Failed) => (ExitStatus::Failed, None),
+    };
+    Played { status, objection }
+}

@@ -1,0 +1,187 @@
+//! A recorded day as a trace that a hand could have written.
+
+use base_types::Moment;
+use recordings::{Entry, GOES_ON, read_entry};
+use std::alloc::{AllocError, Global};
+use traces::{next_line, split_settings};
+use wires::{Door, WireId};
+
+/// What a trace comes to.
+#[derive(Drop)]
+pub enum Written {
+    /// It is one that a hand could have written.
+    Already,
+    /// It is a recorded day, which says this in the lines of the other.
+    Made(Vec<u8>),
+    /// It is a recorded day whose line of this number isn't one of a recorded day.
+    Bad(u64),
+}
+
+/// A connection that is open, by its number in a recorded day and its number in a written one.
+#[derive(Clone, Copy)]
+struct Peer {
+    id: WireId,
+    number: u64,
+    ended: bool,
+}
+
+/// What was written so far.
+#[derive(Drop)]
+struct Writer {
+    alloc: Global,
+    text: Vec<u8>,
+    /// The lines of the turn that isn't ended.
+    turn: Vec<u8>,
+    peers: Vec<Peer>,
+    /// How many connections came.
+    came: u64,
+}
+
+/// The word of a door.
+fn door_word(door: Door) -> &'static str {
+    match door {
+        Door::Ipp => "ipp",
+        Door::Lpd => "lpd",
+        Door::Devices => "device",
+    }
+}
+
+impl Writer {
+    /// Takes what a line says.
+    fn take(&mut self, entry: &Entry) -> Result<(), AllocError> {
+        match entry {
+            Entry::Accepted(accepted) => self.open(accepted.id, accepted.door),
+            Entry::Came(came) => self.put_input(came.id, &came.bytes),
+            Entry::Ended(id) | Entry::Failed(id) | Entry::Shut(id) | Entry::Broken(id) => {
+                self.end(*id)
+            }
+            Entry::Closed(id) => {
+                self.close(*id);
+                Ok(())
+            }
+            Entry::Sent(_) | Entry::Refused => Ok(()),
+            Entry::Turn(moment) => self.end_turn(*moment),
+        }
+    }
+
+    /// A connection comes.
+    fn open(&mut self, id: WireId, door: Door) -> Result<(), AllocError> {
+        self.came = self.came.saturating_add(1);
+        let (number, word) = (self.came, door_word(door));
+        let ended = false;
+        self.close(id);
+        self.peers.push(Peer { id, number, ended })?;
+        self.put(format!(in self.alloc; "open {number} {word}\n")?)
+    }
+
+    /// A connection is given up.
+    fn close(&mut self, id: WireId) {
+        self.peers.retain(|peer| peer.id != id);
+    }
+
+    /// The number of a connection that isn't ended.
+    fn number_of(&self, id: WireId) -> Option<u64> {
+        for peer in &self.peers {
+            if peer.id == id && !peer.ended {
+                return Some(peer.number);
+            }
+        }
+        None
+    }
+
+    /// Bytes come on a connection.
+    fn put_input(&mut self, id: WireId, bytes: &[u8]) -> Result<(), AllocError> {
+        let Some(number) = self.number_of(id) else {
+            return Ok(());
+        };
+        let digits = hex::encode(self.alloc, bytes)?;
+        self.put(format!(in self.alloc; "in {number} {digits}\n")?)
+    }
+
+    /// Nothing more comes on a connection.
+    fn end(&mut self, id: WireId) -> Result<(), AllocError> {
+        let Some(number) = self.number_of(id) else {
+            return Ok(());
+        };
+        for peer in &mut self.peers {
+            if peer.id == id {
+                peer.ended = true;
+            }
+        }
+        self.put(format!(in self.alloc; "end {number}\n")?)
+    }
+
+    /// A turn ends. One in which nothing came is a tick.
+    fn end_turn(&mut self, moment: Moment) -> Result<(), AllocError> {
+        let millis = moment.millis();
+        let front = format!(in self.alloc; "at {millis}\n")?;
+        self.text.extend_from_slice(front.as_bytes())?;
+        if self.turn.is_empty() {
+            self.text.extend_from_slice(b"tick\n")?;
+        } else {
+            self.text.extend_from_slice(&self.turn)?;
+        }
+        self.turn.clear();
+        Ok(())
+    }
+
+    /// Appends a line of the turn.
+    fn put(&mut self, line: String) -> Result<(), AllocError> {
+        self.turn.extend_from_slice(line.as_bytes())
+    }
+}
+
+/// Whether a trace is a recorded day, whose lines behind the settings these are.
+fn is_recorded(lines: &[u8]) -> bool {
+    lines.starts_with(b"recorded ")
+}
+
+/// Whether a line of a recorded day says nothing: a comment, or when the day began.
+fn is_remark(line: &[u8]) -> bool {
+    line.starts_with(b"#") || line.starts_with(b"recorded ")
+}
+
+/// A trace as one that a hand could have written, if it isn't one.
+pub fn as_written(alloc: Global, trace: &[u8]) -> Result<Written, AllocError> {
+    if trace.starts_with(GOES_ON) {
+        return Ok(Written::Bad(1));
+    }
+    match split_settings(trace) {
+        Some(cut) if is_recorded(cut.lines) => {
+            let front = trace.len().saturating_sub(cut.lines.len());
+            write_lines(alloc, &trace[..front], cut.lines, cut.stop as u64)
+        }
+        _ => Ok(Written::Already),
+    }
+}
+
+/// Writes the lines behind this front, which come behind so many others.
+fn write_lines(
+    alloc: Global,
+    front: &[u8],
+    lines: &[u8],
+    before: u64,
+) -> Result<Written, AllocError> {
+    let mut writer = Writer {
+        alloc,
+        text: Vec::new(alloc),
+        turn: Vec::new(alloc),
+        peers: Vec::new(alloc),
+        came: 0,
+    };
+    writer.text.extend_from_slice(front)?;
+    let mut rest = lines;
+    let mut number = before;
+    while let Some(cut) = next_line(rest) {
+        number = number.saturating_add(1);
+        if !is_remark(cut.line) {
+            match read_entry(alloc, cut.line)? {
+                Some(entry) => writer.take(&entry)?,
+                None if cut.later.is_empty() => {}
+                None => return Ok(Written::Bad(number)),
+            }
+        }
+        rest = cut.later;
+    }
+    Ok(Written::Made(writer.text))
+}

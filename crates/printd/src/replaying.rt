@@ -1,0 +1,142 @@
+//! `printd replay` and `printd log`: a trace, played.
+use crate::failure::{cannot, cannot_with, out_of_memory, say};
+use crate::judging::failed;
+use crate::noted::{NotedInput, NotedOutput};
+use command_line::Replaying;
+use playback::{Shows, Whole, peek, play};
+use replay::{Replayed, run_replay};
+use std::alloc::AllocError;
+use std::fs::File;
+use std::io;
+use std::io::{Input, Read, Write};
+use streams::ExitStatus;
+
+/// What standard input is called.
+const INPUT: &str = "<standard input>";
+
+/// Opens a file to read it.
+fn open(rt: &HostRuntime, file: &str) -> Result<File, ExitStatus> {
+    File::open(rt, file).map_err(|error| cannot_with(rt, "read", file, error))
+}
+
+/// Plays a trace.
+pub(crate) fn replay(rt: &HostRuntime, replaying: Replaying<'_>) -> Result<ExitStatus, ExitStatus> {
+    match replaying.file {
+        Some(file) => Ok(replay_input(rt, file, open(rt, file)?, replaying)),
+        None => Ok(replay_input(rt, INPUT, rt.reader(), replaying)),
+    }
+}
+
+/// Writes the log's lines of a recorded day.
+pub(crate) fn log(rt: &HostRuntime, file: Option<&str>) -> Result<ExitStatus, ExitStatus> {
+    match file {
+        Some(file) => Ok(log_input(rt, file, open(rt, file)?)),
+        None => Ok(log_input(rt, INPUT, rt.reader())),
+    }
+}
+
+/// Plays a trace, which is an input of this name.
+fn replay_input<R: Read + Drop>(
+    rt: &HostRuntime,
+    name: &str,
+    reader: R,
+    replaying: Replaying<'_>,
+) -> ExitStatus {
+    let mut input = NotedInput::new(reader);
+    let mut output = NotedOutput::new(io::writer(rt));
+    match play_any(rt, name, &mut input, &mut output, replaying) {
+        Some(status) => status,
+        None => failed(rt, "play the trace", input, output),
+    }
+}
+
+/// Plays a trace of either kind: its status, unless memory or a stream fails.
+fn play_any<R: Read, W: Write>(
+    rt: &HostRuntime,
+    name: &str,
+    input: &mut R,
+    output: &mut W,
+    replaying: Replaying<'_>,
+) -> Option<ExitStatus> {
+    let peeked = peek(rt.alloc(), input).ok()?;
+    let recorded = peeked.recorded || replaying.verify;
+    let mut whole = Whole::new(peeked.bytes, input);
+    if recorded {
+        play_recorded(rt, name, &mut whole, output, shows_of(replaying))
+    } else {
+        play_written(rt, name, &mut whole, output, replaying.plans)
+    }
+}
+
+/// Writes the log's lines of a recorded day, which is an input of this name.
+fn log_input<R: Read + Drop>(rt: &HostRuntime, name: &str, reader: R) -> ExitStatus {
+    let mut input = NotedInput::new(reader);
+    let mut output = NotedOutput::new(io::writer(rt));
+    match play_recorded(rt, name, &mut input, &mut output, Shows::Log) {
+        Some(status) => status,
+        None => failed(rt, "play the trace", input, output),
+    }
+}
+
+/// What is written of a recorded day.
+fn shows_of(replaying: Replaying<'_>) -> Shows {
+    if replaying.verify {
+        Shows::Verdict
+    } else {
+        Shows::Happenings {
+            texts: replaying.plans,
+        }
+    }
+}
+
+/// Plays a recorded day: its status, unless memory or a stream fails.
+fn play_recorded<R: Read, W: Write>(
+    rt: &HostRuntime,
+    name: &str,
+    input: &mut R,
+    output: &mut W,
+    shows: Shows,
+) -> Option<ExitStatus> {
+    let played = play(rt.alloc(), name, input, output, shows);
+    if played.status == ExitStatus::Failed {
+        return None;
+    }
+    if let Some(objection) = &played.objection {
+        say(rt, objection);
+    }
+    Some(played.status)
+}
+
+/// Plays a trace that was written: its status, unless memory or a stream fails.
+fn play_written<R: Read, W: Write>(
+    rt: &HostRuntime,
+    name: &str,
+    input: &mut R,
+    output: &mut W,
+    plans: bool,
+) -> Option<ExitStatus> {
+    let played = run_replay(rt.alloc(), input, output, plans);
+    if played.status == ExitStatus::Failed {
+        return None;
+    }
+    if say_objection(rt, name, &played).is_err() {
+        let _status = cannot(rt, "say what is wrong", out_of_memory());
+    }
+    Some(played.status)
+}
+
+/// Says what is objected to in a trace, if anything is, with the name of its file in front.
+fn say_objection(rt: &HostRuntime, name: &str, played: &Replayed) -> Result<(), AllocError> {
+    let Some(objection) = &played.objection else {
+        return Ok(());
+    };
+    let sentence = format!(in rt.alloc(); "{objection}")?;
+    match sentence.as_str().strip_prefix(INPUT) {
+        Some(rest) => {
+            let named = format!(in rt.alloc(); "{name}{rest}")?;
+            say(rt, &named);
+        }
+        None => say(rt, &sentence),
+    }
+    Ok(())
+}

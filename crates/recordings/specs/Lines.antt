@@ -1,0 +1,59 @@
+-- The lines of a recording.
+use Rattle.std.specs.Prelude.{ℕ, ◌≡◌, List, ◌++◌, Option, Some, None, codes}
+use Rattle.std.specs.Fmt.{decimal}
+use Rattle.wires.specs.declared.wire.Door.{Door}
+use Rattle.wires.specs.declared.wire.Door.TheVariants.{Ipp, Lpd, Devices}
+use Rattle.recordings.specs.declared.entry.Entry.{Entry}
+use Rattle.recordings.specs.declared.entry.Entry.TheVariants.{Accepted, Came, Ended, Failed, Sent, Shut, Broken, Closed, Refused, Turn}
+use Rattle.recordings.specs.Data.{escaped}
+
+abbrev pub door_word : Door → List ℕ
+door_word Ipp = codes "ipp"
+door_word Lpd = codes "lpd"
+door_word Devices = codes "device"
+
+-- a word, a space and a number
+abbrev pub about : List ℕ → ℕ → List ℕ
+about word number = word ++ (codes " " ++ decimal number)
+
+-- the same as a line
+abbrev pub line_about : List ℕ → ℕ → List ℕ
+line_about word number = about word number ++ codes "\n"
+
+-- a connection was accepted
+abbrev pub accept_line : Door → ℕ → List ℕ
+accept_line door id = codes "accept " ++ line_about (door_word door) id
+
+-- bytes were read
+abbrev pub read_line : ℕ → List ℕ → List ℕ
+read_line id bytes = about (codes "read") id ++ (codes " " ++ (escaped bytes ++ codes "\n"))
+
+-- a space and a sum, or a line where there is none
+abbrev pub sum_words : Option ℕ → List ℕ
+sum_words (Some sum) = codes " " ++ decimal sum
+sum_words None = codes " -"
+
+-- so many bytes were taken, by their sum
+abbrev pub sent_line : ℕ → ℕ → Option ℕ → List ℕ
+sent_line id count sum = about (codes "sent") id ++ (codes " " ++ (decimal count ++ (sum_words sum ++ codes "\n")))
+
+-- a turn ended, which was taken at this moment
+abbrev pub turn_line : ℕ → List ℕ
+turn_line moment = line_about (codes "turn") moment
+
+-- the line of an entry
+abbrev pub entry_line : Entry → List ℕ
+entry_line (Accepted accepted) = accept_line accepted.door accepted.id
+entry_line (Came came) = read_line came.id came.bytes.items
+entry_line (Ended id) = line_about (codes "end") id
+entry_line (Failed id) = line_about (codes "fail") id
+entry_line (Sent sent) = sent_line sent.id sent.count sent.sum
+entry_line (Shut id) = line_about (codes "shut") id
+entry_line (Broken id) = line_about (codes "break") id
+entry_line (Closed id) = line_about (codes "close") id
+entry_line Refused = codes "refused\n"
+entry_line (Turn moment) = turn_line moment
+
+-- a line, without its line feed, is that of an entry
+abbrev pub IsLineOf : List ℕ → Entry → Type 0
+IsLineOf line entry = entry_line entry ≡ line ++ codes "\n"

@@ -1,0 +1,209 @@
+//! What a line of a recording says.
+ghost use Rattle.std.specs.Prelude.{IfOk, IfSome, IsTrue};
+ghost use Rattle.recordings.specs.Lines.{IsLineOf};
+
+use crate::data::read_data;
+use crate::write::put_entry;
+use base_types::{Limits, Moment};
+use std::alloc::{AllocError, Global};
+use text::{cut_at, number_up_to};
+use wires::{Door, WireId};
+
+/// A line of a recording.
+#[derive(Drop)]
+pub enum Entry {
+    /// A connection was accepted.
+    Accepted(Accepted),
+    /// Bytes were read.
+    Came(Came),
+    /// Nothing more came on the connection of a number.
+    Ended(WireId),
+    /// A read of it failed.
+    Failed(WireId),
+    /// Bytes were taken of what was written.
+    Sent(Sent),
+    /// Nothing more was taken on the connection of a number.
+    Shut(WireId),
+    /// A write on it failed.
+    Broken(WireId),
+    /// The connection of a number was given up.
+    Closed(WireId),
+    /// Memory was refused to the server.
+    Refused,
+    /// A turn ended, which was taken at this moment.
+    Turn(Moment),
+}
+
+/// A connection that was accepted at a door.
+#[derive(Clone, Copy, Debug)]
+pub struct Accepted {
+    pub door: Door,
+    pub id: WireId,
+}
+
+/// Bytes that came on a connection.
+#[derive(Drop)]
+pub struct Came {
+    pub id: WireId,
+    pub bytes: Vec<u8>,
+}
+
+/// So many bytes that were taken on a connection, by their sum, if it was noted.
+#[derive(Clone, Copy, Debug, PartialEq, Eq)]
+pub struct Sent {
+    pub id: WireId,
+    pub count: usize,
+    pub sum: Option<u32>,
+}
+
+/// The greatest number of a connection, and of bytes.
+const LAST_NUMBER: u64 = 4_294_967_295;
+
+/// The number of a connection in decimal digits.
+fn read_id(digits: &[u8]) -> Option<WireId> {
+    match number_up_to(digits, LAST_NUMBER) {
+        Some(number) => u32::try_from(number).ok(),
+        None => None,
+    }
+}
+
+fn read_door(word: &[u8]) -> Option<Door> {
+    if word == b"ipp".as_slice() {
+        return Some(Door::Ipp);
+    }
+    if word == b"lpd".as_slice() {
+        return Some(Door::Lpd);
+    }
+    if word == b"device".as_slice() {
+        return Some(Door::Devices);
+    }
+    None
+}
+
+/// The word for a door and a number.
+fn read_accepted(said: &[u8]) -> Option<Entry> {
+    let (word, digits) = cut_at(said, b' ')?;
+    let door = read_door(word)?;
+    let id = read_id(digits)?;
+    Some(Entry::Accepted(Accepted { door, id }))
+}
+
+/// A number and bytes, one at least.
+fn read_came(alloc: Global, said: &[u8]) -> Result<Option<Entry>, AllocError> {
+    let Some((digits, written)) = cut_at(said, b' ') else {
+        return Ok(None);
+    };
+    let Some(id) = read_id(digits) else {
+        return Ok(None);
+    };
+    match read_data(alloc, written)? {
+        Some(bytes) if !bytes.is_empty() => Ok(Some(Entry::Came(Came { id, bytes }))),
+        _ => Ok(None),
+    }
+}
+
+/// A sum, or nothing for a line alone, where there is none.
+fn read_sum(word: &[u8]) -> Option<Option<u32>> {
+    if word == b"-".as_slice() {
+        return Some(None);
+    }
+    Some(Some(read_id(word)?))
+}
+
+/// A number, how many bytes, and their sum.
+fn read_sent(said: &[u8]) -> Option<Entry> {
+    let (digits, more) = cut_at(said, b' ')?;
+    let (count, sum) = cut_at(more, b' ')?;
+    let id = read_id(digits)?;
+    let count = read_id(count)?;
+    let sum = read_sum(sum)?;
+    Some(Entry::Sent(Sent {
+        id,
+        count: count as usize,
+        sum,
+    }))
+}
+
+fn read_turn(digits: &[u8]) -> Option<Entry> {
+    let number = number_up_to(digits, Limits::LAST_MOMENT)?;
+    Some(Entry::Turn(Moment::new(number)?))
+}
+
+/// What a line of a recording says, without its line feed; nothing where it is no such line, also where
+/// what it says is written in another way. The error is out of memory.
+pub fn read_entry(alloc: Global, line: &[u8]) -> Result<Option<Entry>, AllocError>
+    ensures { IfOk result (λ read. IfSome read (λ entry. IsLineOf line.now entry)) }
+{
+    match read_any(alloc, line)? {
+        Some(entry) => kept(alloc, entry, line),
+        None => Ok(None),
+    }
+}
+
+/// An entry, if it is written as this line.
+fn kept(alloc: Global, entry: Entry, line: &[u8]) -> Result<Option<Entry>, AllocError>
+    ensures { IfOk result (λ read. IfSome read (λ entry. IsLineOf line.now entry)) }
+{
+    if is_written_so(alloc, &entry, line)? {
+        Ok(Some(entry))
+    } else {
+        Ok(None)
+    }
+}
+
+/// Whether an entry is written as this line.
+fn is_written_so(alloc: Global, entry: &Entry, line: &[u8]) -> Result<bool, AllocError>
+    ensures { IfOk result (λ so. IsTrue so → IsLineOf line.now entry.now) }
+{
+    let mut written = Vec::new(alloc);
+    let mut wanted = Vec::new(alloc);
+    put_entry(&mut written, entry)?;
+    wanted.extend_from_slice(line)?;
+    wanted.extend_from_slice(b"\n")?;
+    Ok(written.as_slice() == wanted.as_slice())
+}
+
+/// What a line says, however its numbers are written.
+fn read_any(alloc: Global, line: &[u8]) -> Result<Option<Entry>, AllocError> {
+    if let Some(said) = line.strip_prefix(b"read ") {
+        return read_came(alloc, said);
+    }
+    Ok(read_plain(line))
+}
+
+/// The same of a line that has no bytes.
+fn read_plain(line: &[u8]) -> Option<Entry> {
+    if let Some(said) = line.strip_prefix(b"sent ") {
+        return read_sent(said);
+    }
+    if let Some(digits) = line.strip_prefix(b"turn ") {
+        return read_turn(digits);
+    }
+    if let Some(said) = line.strip_prefix(b"accept ") {
+        return read_accepted(said);
+    }
+    if line == b"refused".as_slice() {
+        return Some(Entry::Refused);
+    }
+    read_about(line)
+}
+
+/// The same of a line of a word and a number.
+fn read_about(line: &[u8]) -> Option<Entry> {
+    if let Some(digits) = line.strip_prefix(b"close ") {
+        return read_id(digits).map(|id| Entry::Closed(id));
+    }
+    if let Some(digits) = line.strip_prefix(b"end ") {
+        return read_id(digits).map(|id| Entry::Ended(id));
+    }
+    if let Some(digits) = line.strip_prefix(b"fail ") {
+        return read_id(digits).map(|id| Entry::Failed(id));
+    }
+    if let Some(digits) = line.strip_prefix(b"shut ") {
+        return read_id(digits).map(|id| Entry::Shut(id));
+    }
+    if let Some(digits) = line.strip_prefix(b"break ") {
+        return read_id(digits).map(|id| Entry::Broken(id));
+    }
+    None
+}

@@ -1,0 +1,24 @@
+//! Days that are recorded: the lines of a recording, a wire that notes its calls, and one that plays them.
+//!
+//! A server's bytes are fixed by the calls of its wire with their answers, and by the moments of its turns.
+//! [`Noted`] forwards each call to another wire and notes it as a line, unless it only waited; [`Script`]
+//! answers each call by the next line, and tells where a server calls something else. `docs/TRACES.md` has
+//! the lines. What a server does over either stands above.
+//!
+//! Its rows are recorded traces of `play_examples`.
+#![tactic(auto)]
+
+mod data;
+mod entry;
+mod note;
+mod note_lines;
+mod noted;
+mod parts;
+mod script;
+mod sum;
+mod write;
+
+pub use entry::{Accepted, Came, Entry, Sent, read_entry};
+pub use noted::{NoteText, Noted};
+pub use script::{Deed, Moved, Script, Scripted, Stray};
+pub use write::{GOES_ON, put_entry, put_goes_on, put_start, put_turn};

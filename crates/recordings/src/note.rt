@@ -1,0 +1,73 @@
+//! The lines of calls.
+ghost use Rattle.std.specs.Prelude.{◌≡◌, ◌++◌, None, OnOk, length};
+ghost use Rattle.wires.specs.Poll.{Accepts, Reads, bytes_read, IsCount};
+ghost use Rattle.recordings.specs.Noting.{note_of, written_note, end_of};
+
+use crate::entry::Sent;
+use crate::write::{put_accepted, put_came, put_line, put_sent, put_turn};
+use base_types::Moment;
+use std::alloc::AllocError;
+use wires::{Answer, Door, WireId};
+
+/// Appends what is noted of an accept.
+pub(crate) fn put_accept(
+    output: &mut Vec<u8>,
+    door: Door,
+    answer: Answer<WireId>,
+) -> Result<(), AllocError>
+    ensures { OnOk result (output.new.items ≡ output.old.items ++ note_of (Accepts door answer) None) }
+{
+    match answer {
+        Answer::Done(id) => put_accepted(output, door, id),
+        Answer::Waiting => Ok(()),
+        Answer::End => Ok(()),
+        Answer::Fault => Ok(()),
+    }
+}
+
+/// Appends what is noted of a read into the front of a buffer.
+pub(crate) fn put_read(
+    output: &mut Vec<u8>,
+    id: WireId,
+    answer: Answer<usize>,
+    buffer: &[u8],
+) -> Result<(), AllocError>
+    requires { IsCount answer (length buffer.now) }
+    ensures { OnOk result (output.new.items ≡ output.old.items ++ note_of (Reads id (bytes_read answer buffer.now)) None) }
+{
+    match answer {
+        Answer::Done(count) => put_came(output, id, &buffer[..count]),
+        Answer::Waiting => Ok(()),
+        Answer::End => put_line(output, b"end", u64::from(id)),
+        Answer::Fault => put_line(output, b"fail", u64::from(id)),
+    }
+}
+
+/// Appends what is noted of a write, where the bytes that were taken have this sum, if it is noted.
+pub(crate) fn put_write(
+    output: &mut Vec<u8>,
+    id: WireId,
+    answer: Answer<usize>,
+    sum: Option<u32>,
+) -> Result<(), AllocError>
+    ensures { OnOk result (output.new.items ≡ output.old.items ++ written_note id answer sum) }
+{
+    match answer {
+        Answer::Done(count) => put_sent(output, Sent { id, count, sum }),
+        Answer::Waiting => Ok(()),
+        Answer::End => put_line(output, b"shut", u64::from(id)),
+        Answer::Fault => put_line(output, b"break", u64::from(id)),
+    }
+}
+
+/// Appends the lines that end a turn, in which memory was refused to the server or not.
+pub(crate) fn put_end(output: &mut Vec<u8>, moment: Moment, refused: bool) -> Result<(), AllocError>
+    ensures { OnOk result (output.new.items ≡ output.old.items ++ end_of moment refused) }
+{
+    if refused {
+        output.extend_from_slice(b"refused\n")?;
+        put_turn(output, moment)?;
+        return Ok(());
+    }
+    put_turn(output, moment)
+}

@@ -1,0 +1,210 @@
+//! The lines of calls, as they are kept.
+ghost use Rattle.std.specs.Prelude.{◌≡◌, ℕ, List, Some, None, [], OnOk, length, option_map};
+ghost use Rattle.wires.specs.Poll.{Accepts, Reads, Writes, Closes, bytes_read, IsCount};
+ghost use Rattle.recordings.specs.Noting.{note_of, written_note, end_of, with_note, NotesLine, EndsTurn};
+
+use crate::note::{put_accept, put_end, put_read, put_write};
+use crate::write::{put_came, put_line};
+use base_types::Moment;
+use std::alloc::{AllocError, Global};
+use std::marker::Model;
+use wires::{Answer, Door, WireId};
+
+/// The lines of calls, from the last time on that they were forgotten; none, where none are wanted, or since
+/// memory for one was refused.
+#[derive(Drop)]
+pub(crate) struct NoteLines {
+    text: Vec<u8>,
+    keeps: bool,
+    /// The bytes of the turns that have ended.
+    whole: usize,
+}
+
+impl Model for NoteLines {
+    ghost use Rattle.std.specs.Prelude.{ℕ, List, Option, Some, None, if◌then◌else◌};
+
+    ghost Value = { Option (List ℕ) };
+
+    ghost view = { λ n. if n.keeps then Some n.text.items else None };
+}
+
+impl NoteLines {
+    /// No lines are kept.
+    pub(crate) fn new(alloc: Global) -> NoteLines
+        ensures { result ≡ None }
+    {
+        NoteLines {
+            text: Vec::new(alloc),
+            keeps: false,
+            whole: 0,
+        }
+    }
+
+    /// Keeps lines from now on.
+    pub(crate) fn begin(&mut self)
+        ensures { self.new ≡ Some [] }
+    {
+        self.text.clear();
+        self.whole = 0;
+        self.keeps = true;
+    }
+
+    /// Whether lines are kept.
+    pub(crate) fn keeps(&self) -> bool {
+        self.keeps
+    }
+
+    /// The lines; they count only where some are kept.
+    pub(crate) fn text(&self) -> &[u8] {
+        &self.text
+    }
+
+    /// Whether a call was noted since the last turn ended.
+    pub(crate) fn has_call(&self) -> bool {
+        self.whole < self.text.len()
+    }
+
+    /// Adds whole lines, each of which is a comment.
+    pub(crate) fn comment(&mut self, lines: &[u8]) {
+        if self.keeps && self.text.extend_from_slice(lines).is_err() {
+            self.stop();
+        }
+    }
+
+    /// Forgets the lines.
+    pub(crate) fn clear(&mut self)
+        ensures { self.new ≡ option_map (λ text. []) self.old }
+    {
+        self.text.clear();
+        self.whole = 0;
+    }
+
+    /// Keeps no lines from now on.
+    pub(crate) fn stop(&mut self)
+        ensures { self.new ≡ None }
+    {
+        self.text.clear();
+        self.whole = 0;
+        self.keeps = false;
+    }
+
+    /// A turn ends, which was taken at this moment, and in which memory was refused to the server or not.
+    pub(crate) fn end_turn(&mut self, moment: Moment, refused: bool)
+        ensures { EndsTurn moment refused self.old self.new }
+    {
+        if self.note_end(moment, refused).is_err() {
+            self.stop();
+        }
+        self.whole = self.text.len();
+    }
+
+    /// An accept was answered so.
+    pub(crate) fn accepted(&mut self, door: Door, answer: Answer<WireId>)
+        ensures { NotesLine (Accepts door answer) self.old self.new }
+    {
+        if self.note_accept(door, answer).is_err() {
+            self.stop();
+        }
+    }
+
+    /// A read was answered so.
+    pub(crate) fn read(&mut self, id: WireId, answer: Answer<usize>, buffer: &[u8])
+        requires { IsCount answer (length buffer.now) }
+        ensures { NotesLine (Reads id (bytes_read answer buffer.now)) self.old self.new }
+    {
+        if self.note_read(id, answer, buffer).is_err() {
+            self.stop();
+        }
+    }
+
+    /// These bytes are noted in the place of those that were read.
+    pub(crate) fn came(&mut self, id: WireId, bytes: &[u8]) {
+        if self.keeps && put_came(&mut self.text, id, bytes).is_err() {
+            self.stop();
+        }
+    }
+
+    /// A write was answered so, and this is the sum of the bytes that were taken, if it is noted.
+    pub(crate) fn written(&mut self, id: WireId, answer: Answer<usize>, sum: Option<u32>)
+        ensures { NotesLine (Writes id [] answer) self.old self.new }
+    {
+        if self.note_write(id, answer, sum).is_err() {
+            self.stop();
+        }
+    }
+
+    /// A connection was given up.
+    pub(crate) fn closed(&mut self, id: WireId)
+        ensures { NotesLine (Closes id) self.old self.new }
+    {
+        if self.note_close(id).is_err() {
+            self.stop();
+        }
+    }
+
+    /// Notes the end of a turn.
+    fn note_end(&mut self, moment: Moment, refused: bool) -> Result<(), AllocError>
+        ensures { OnOk result (self.new ≡ with_note (end_of moment refused) self.old) }
+    {
+        if !self.keeps {
+            return Ok(());
+        }
+        put_end(&mut self.text, moment, refused)?;
+        Ok(())
+    }
+
+    /// Notes an accept.
+    fn note_accept(&mut self, door: Door, answer: Answer<WireId>) -> Result<(), AllocError>
+        ensures { OnOk result (self.new ≡ with_note (note_of (Accepts door answer) None) self.old) }
+    {
+        if !self.keeps {
+            return Ok(());
+        }
+        put_accept(&mut self.text, door, answer)?;
+        Ok(())
+    }
+
+    /// Notes a read.
+    fn note_read(
+        &mut self,
+        id: WireId,
+        answer: Answer<usize>,
+        buffer: &[u8],
+    ) -> Result<(), AllocError>
+        requires { IsCount answer (length buffer.now) }
+        ensures { OnOk result (self.new ≡ with_note (note_of (Reads id (bytes_read answer buffer.now)) None) self.old) }
+    {
+        if !self.keeps {
+            return Ok(());
+        }
+        put_read(&mut self.text, id, answer, buffer)?;
+        Ok(())
+    }
+
+    /// Notes a write, of which so many bytes were taken, whose sum this is.
+    fn note_write(
+        &mut self,
+        id: WireId,
+        answer: Answer<usize>,
+        sum: Option<u32>,
+    ) -> Result<(), AllocError>
+        ensures { OnOk result (self.new ≡ with_note (written_note id answer sum) self.old) }
+    {
+        if !self.keeps {
+            return Ok(());
+        }
+        put_write(&mut self.text, id, answer, sum)?;
+        Ok(())
+    }
+
+    /// Notes that a connection is given up.
+    fn note_close(&mut self, id: WireId) -> Result<(), AllocError>
+        ensures { OnOk result (self.new ≡ with_note (note_of (Closes id) None) self.old) }
+    {
+        if !self.keeps {
+            return Ok(());
+        }
+        put_line(&mut self.text, b"close", u64::from(id))?;
+        Ok(())
+    }
+}

@@ -1,0 +1,253 @@
+//! A wire whose calls are noted.
+ghost use Rattle.std.specs.Prelude.{◌≡◌, ℕ, List, Some, None, [], length, option_map, false};
+ghost use Rattle.std.specs.Io.Slices.{io_slices_bytes};
+ghost use Rattle.wires.specs.Poll.{Accepts, Reads, Writes, Closes, bytes_read, IsCount};
+ghost use Rattle.recordings.specs.Noting.{NoteState, Notes, EndsTurn};
+
+use crate::note_lines::NoteLines;
+use crate::parts::put_front;
+use crate::sum::sum_of;
+use base_types::Moment;
+use document_octets::Blanker;
+use std::alloc::{AllocError, Global};
+use std::io::IoSlice;
+use std::marker::Model;
+use wires::{Answer, Door, Wire, WireId};
+
+/// What is noted of calls: their lines, from the last time on that they were forgotten; none, where none are
+/// wanted, or since memory for one was refused.
+#[derive(Drop)]
+pub struct NoteText {
+    lines: NoteLines,
+    /// The bytes of a write, put together, or those of a read without documents.
+    joined: Vec<u8>,
+    /// The octets of documents are noted as zeros, and of what devices get no sums.
+    heads: bool,
+    /// The connections, where heads are noted.
+    blanker: Blanker,
+}
+
+impl Model for NoteText {
+    ghost use Rattle.recordings.specs.Noting.{NoteState};
+
+    ghost Value = { NoteState };
+
+    ghost view = { λ n. record { lines = n.lines; heads = n.heads } };
+}
+
+/// A wire that forwards each call to another wire, and notes it, unless it only waited or an accept brought
+/// nothing.
+#[derive(Drop)]
+pub struct Noted<W: Wire> {
+    pub wire: W,
+    pub notes: NoteText,
+}
+
+impl NoteText {
+    /// No lines are kept.
+    pub fn new(alloc: Global) -> NoteText
+        ensures { result ≡ record { lines = None; heads = false } }
+    {
+        NoteText {
+            lines: NoteLines::new(alloc),
+            joined: Vec::new(alloc),
+            heads: false,
+            blanker: Blanker::new(alloc),
+        }
+    }
+
+    /// Keeps lines from now on, when no connection is open yet. With heads alone the octets of documents are
+    /// noted as so many zeros.
+    pub fn begin(&mut self, heads: bool)
+        ensures { self.new ≡ record { lines = Some []; heads = heads } }
+    {
+        self.lines.begin();
+        self.heads = heads;
+    }
+
+    /// Whether lines are kept.
+    pub fn keeps(&self) -> bool {
+        self.lines.keeps()
+    }
+
+    /// The lines; they count only where some are kept.
+    pub fn text(&self) -> &[u8] {
+        self.lines.text()
+    }
+
+    /// Whether a call was noted since the last turn ended.
+    pub fn has_call(&self) -> bool {
+        self.lines.has_call()
+    }
+
+    /// Adds whole lines, each of which is a comment.
+    pub fn comment(&mut self, lines: &[u8]) {
+        self.lines.comment(lines);
+    }
+
+    /// Forgets the lines.
+    pub fn clear(&mut self)
+        ensures { self.new ≡ record self.old { lines = option_map (λ text. []) self.old.lines } }
+    {
+        self.lines.clear();
+    }
+
+    /// Keeps no lines from now on.
+    pub fn stop(&mut self)
+        ensures { self.new ≡ record self.old { lines = None } }
+    {
+        self.lines.stop();
+    }
+
+    /// A turn ends, which was taken at this moment, and in which memory was refused to the server or not.
+    pub fn end_turn(&mut self, moment: Moment, refused: bool)
+        ensures lines { EndsTurn moment refused self.old.lines self.new.lines }
+        ensures heads { self.new.heads ≡ self.old.heads }
+    {
+        self.lines.end_turn(moment, refused);
+    }
+
+    /// An accept was answered so.
+    fn accepted(&mut self, door: Door, answer: Answer<WireId>)
+        ensures { Notes (Accepts door answer) self.old self.new }
+    {
+        self.lines.accepted(door, answer);
+        if self.heads && self.open(door, answer).is_err() {
+            self.stop();
+        }
+    }
+
+    /// A connection comes in whose documents are to be found.
+    fn open(&mut self, door: Door, answer: Answer<WireId>) -> Result<(), AllocError>
+        ensures { self.new ≡ self.old }
+    {
+        match answer {
+            Answer::Done(id) => self.blanker.open(id, door),
+            Answer::Waiting | Answer::End | Answer::Fault => Ok(()),
+        }
+    }
+
+    /// A read was answered so.
+    fn read(&mut self, id: WireId, answer: Answer<usize>, buffer: &[u8])
+        requires { IsCount answer (length buffer.now) }
+        ensures { Notes (Reads id (bytes_read answer buffer.now)) self.old self.new }
+    {
+        match answer {
+            Answer::Done(count) if self.heads => self.read_heads(id, &buffer[..count]),
+            _ => self.lines.read(id, answer, buffer),
+        }
+    }
+
+    /// These bytes were read, where heads are noted.
+    fn read_heads(&mut self, id: WireId, bytes: &[u8])
+        ensures { self.new.heads ≡ self.old.heads }
+    {
+        if self.blank(id, bytes).is_err() {
+            self.stop();
+            return;
+        }
+        self.lines.came(id, &self.joined);
+    }
+
+    /// Puts bytes that were read together without those of documents.
+    fn blank(&mut self, id: WireId, bytes: &[u8]) -> Result<(), AllocError>
+        ensures { self.new ≡ self.old }
+    {
+        self.joined.clear();
+        self.joined.extend_from_slice(bytes)?;
+        self.blanker.blank(id, &mut self.joined)
+    }
+
+    /// A write was answered so.
+    fn written(&mut self, id: WireId, answer: Answer<usize>, parts: &[IoSlice<'_>])
+        ensures { Notes (Writes id (io_slices_bytes parts.now) answer) self.old self.new }
+    {
+        match self.sum_taken(id, parts, answer) {
+            Ok(sum) => self.lines.written(id, answer, sum),
+            Err(_) => self.stop(),
+        }
+    }
+
+    /// The sum of the bytes that were taken of a write, if some were and it is noted.
+    fn sum_taken(
+        &mut self,
+        id: WireId,
+        parts: &[IoSlice<'_>],
+        answer: Answer<usize>,
+    ) -> Result<Option<u32>, AllocError>
+        ensures { self.new ≡ self.old }
+    {
+        match answer {
+            Answer::Done(count) if self.notes_sum(id) => self.sum_of(parts, count),
+            _ => Ok(None),
+        }
+    }
+
+    /// Whether the sum of what is written to a connection is noted.
+    fn notes_sum(&self, id: WireId) -> bool {
+        self.lines.keeps() && !(self.heads && self.blanker.is_device(id))
+    }
+
+    /// The sum of the first so many of the bytes that lie in parts.
+    fn sum_of(&mut self, parts: &[IoSlice<'_>], count: usize) -> Result<Option<u32>, AllocError>
+        ensures { self.new ≡ self.old }
+    {
+        self.joined.clear();
+        put_front(&mut self.joined, parts, count)?;
+        Ok(Some(sum_of(&self.joined)))
+    }
+
+    /// A connection was given up.
+    fn closed(&mut self, id: WireId)
+        ensures { Notes (Closes id) self.old self.new }
+    {
+        self.lines.closed(id);
+        self.blanker.close(id);
+    }
+}
+
+impl<W: Wire> Noted<W> {
+    /// A wire of which nothing is noted yet.
+    pub fn new(alloc: Global, wire: W) -> Noted<W>
+        ensures wire { result.wire ≡ wire }
+        ensures notes { result.notes ≡ record { lines = None; heads = false } }
+    {
+        Noted {
+            wire,
+            notes: NoteText::new(alloc),
+        }
+    }
+}
+
+impl<W: Wire> Wire for Noted<W> {
+    ghost polled = { λ old poll new. W.polled old.wire poll new.wire × Notes poll old.notes new.notes };
+
+    ghost faults = { λ n. W.faults n.wire };
+
+    fn poll_accept(&mut self, door: Door) -> Answer<WireId> {
+        let answer = self.wire.poll_accept(door);
+        self.notes.accepted(door, answer);
+        answer
+    }
+
+    fn poll_read(&mut self, id: WireId, buffer: &mut [u8]) -> Answer<usize> {
+        let answer = self.wire.poll_read(id, buffer);
+        self.notes.read(id, answer, buffer);
+        answer
+    }
+
+    fn poll_write(&mut self, id: WireId, bytes: &[IoSlice<'_>]) -> Answer<usize> {
+        let answer = self.wire.poll_write(id, bytes);
+        self.notes.written(id, answer, bytes);
+        answer
+    }
+
+    fn close(&mut self, id: WireId) {
+        self.wire.close(id);
+        self.notes.closed(id);
+    }
+
+    fn failures(&self) -> u64 {
+        self.wire.failures()
+    }
+}

@@ -1,0 +1,273 @@
+//! A wire that plays a recorded turn.
+ghost use Rattle.std.specs.Prelude.{◌≡◌, ◌<◌, ◌≤◌, ◌+◌, ℕ, length, IsTrue, IsFalse};
+ghost use Rattle.std.specs.Io.Slices.{io_slices_bytes};
+ghost use Rattle.wires.specs.Poll.{IsCount, HasCause};
+
+use crate::entry::{Accepted, Came, Entry, Sent};
+use crate::parts::put_front;
+use crate::sum::sum_of;
+use std::alloc::{AllocError, Global};
+use std::io::IoSlice;
+use std::mem;
+use wires::{Answer, Door, Wire, WireId};
+
+/// A line of a turn, with its number in its file.
+#[derive(Drop)]
+pub struct Scripted {
+    pub number: u64,
+    pub entry: Entry,
+}
+
+/// What a connection got, or that it was given up.
+#[derive(Drop)]
+pub enum Moved {
+    Got { id: WireId, bytes: Vec<u8> },
+    Gone(WireId),
+}
+
+/// What a server did in the place of what was recorded.
+#[derive(Drop)]
+pub enum Deed {
+    /// Nothing with it, by the end of the turn.
+    Nothing,
+    /// It closes a connection.
+    Closes(WireId),
+    /// It sends bytes, of which those that were taken are these, by this sum.
+    Sends { sent: Sent, bytes: Vec<u8> },
+    /// It reads of a connection fewer bytes than were read.
+    ReadsLess(WireId),
+    /// Memory was refused to the player.
+    Unknown,
+}
+
+/// Where a server does something else than was recorded.
+#[derive(Drop)]
+pub struct Stray {
+    /// The next line, if the turn has one more.
+    pub wanted: Option<Scripted>,
+    pub did: Deed,
+}
+
+/// A wire that answers each call by the next line of a turn, if that is of such a call, and else waits.
+#[derive(Drop)]
+pub struct Script {
+    alloc: Global,
+    /// The lines of the turn.
+    lines: Vec<Scripted>,
+    /// How many of them were played.
+    played: usize,
+    /// What became of connections.
+    moved: Vec<Moved>,
+    /// The first that wasn't as recorded.
+    did: Option<Deed>,
+    faults: u64,
+}
+
+impl Script {
+    /// A turn without lines.
+    pub fn new(alloc: Global) -> Script {
+        Script {
+            alloc,
+            lines: Vec::new(alloc),
+            played: 0,
+            moved: Vec::new(alloc),
+            did: None,
+            faults: 0,
+        }
+    }
+
+    /// One more line of the turn.
+    pub fn add(&mut self, number: u64, entry: Entry) -> Result<(), AllocError> {
+        self.lines.push(Scripted { number, entry })?;
+        Ok(())
+    }
+
+    /// Whether the turn has a line that says that memory was refused to the server: its number.
+    pub fn refusal(&self) -> Option<u64> {
+        for line in &self.lines {
+            if let Entry::Refused = &line.entry {
+                return Some(line.number);
+            }
+        }
+        None
+    }
+
+    /// What became of connections in the turn, which is then kept no more.
+    pub fn take_moved(&mut self) -> Vec<Moved> {
+        mem::replace(&mut self.moved, Vec::new(self.alloc))
+    }
+
+    /// Ends the turn: where the server did something else than was recorded, if it did.
+    pub fn end_turn(&mut self) -> Option<Stray> {
+        let lines = mem::replace(&mut self.lines, Vec::new(self.alloc));
+        let played = mem::replace(&mut self.played, 0);
+        let did = mem::replace(&mut self.did, None);
+        let wanted = nth(lines, played);
+        match did {
+            Some(did) => Some(Stray { wanted, did }),
+            None if wanted.is_some() => Some(Stray {
+                wanted,
+                did: Deed::Nothing,
+            }),
+            None => None,
+        }
+    }
+
+    /// The next line, unless the server has strayed.
+    fn next(&self) -> Option<&Entry> {
+        if self.did.is_some() {
+            return None;
+        }
+        match self.lines.get(self.played) {
+            Some(line) => Some(&line.entry),
+            None => None,
+        }
+    }
+
+    /// The next line was played.
+    fn pass(&mut self)
+        ensures { self.new.faults ≡ self.old.faults }
+    {
+        self.played = self.played.saturating_add(1);
+    }
+
+    /// The server strays.
+    fn strays(&mut self, did: Deed)
+        ensures { self.new.faults ≡ self.old.faults }
+    {
+        if self.did.is_none() {
+            self.did = Some(did);
+        }
+    }
+
+    /// Counts a fault, unless the count is full: whether it was counted.
+    fn counts_fault(&mut self) -> bool
+        ensures yes { IsTrue result → self.old.faults < self.new.faults }
+        ensures never { IsFalse result → self.new.faults ≡ self.old.faults }
+    {
+        if self.faults == u64::MAX {
+            return false;
+        }
+        self.faults += 1;
+        true
+    }
+
+    /// Keeps what became of a connection.
+    fn keep(&mut self, moved: Moved)
+        ensures { self.new.faults ≡ self.old.faults }
+    {
+        if self.moved.push(moved).is_err() {
+            self.strays(Deed::Unknown);
+        }
+    }
+
+    /// A connection is offered bytes, of which it gets as many as it got then, if they are the same.
+    fn gets(&mut self, id: WireId, parts: &[IoSlice<'_>], wanted: Sent) -> Answer<usize>
+        ensures count { IsCount result (length (io_slices_bytes parts.now)) }
+        ensures cause { HasCause self.old.faults self.new.faults result }
+    {
+        let mut bytes = Vec::new(self.alloc);
+        let Ok(count) = put_front(&mut bytes, parts, wanted.count) else {
+            self.strays(Deed::Unknown);
+            return Answer::Waiting;
+        };
+        let sent = Sent {
+            id,
+            count,
+            sum: wanted.sum.map(|_| sum_of(&bytes)),
+        };
+        if sent != wanted || count == 0 {
+            self.strays(Deed::Sends { sent, bytes });
+            return Answer::Waiting;
+        }
+        self.pass();
+        self.keep(Moved::Got { id, bytes });
+        Answer::Done(count)
+    }
+
+    /// A call that failed.
+    fn fault(&mut self) -> Answer<usize>
+        ensures count { (room : ℕ) → IsCount result room }
+        ensures cause { HasCause self.old.faults self.new.faults result }
+    {
+        self.pass();
+        if self.counts_fault() {
+            Answer::Fault
+        } else {
+            Answer::Waiting
+        }
+    }
+}
+
+/// The element at a place.
+fn nth(lines: Vec<Scripted>, place: usize) -> Option<Scripted> {
+    lines.into_iter().nth(place)
+}
+
+impl Wire for Script {
+    ghost polled = { λ old poll new. Unit {0} };
+
+    ghost faults = { λ s. s.faults };
+
+    fn poll_accept(&mut self, door: Door) -> Answer<WireId> {
+        let next = match self.next() {
+            Some(Entry::Accepted(accepted)) => *accepted,
+            _ => return Answer::Waiting,
+        };
+        if next.door != door {
+            return Answer::Waiting;
+        }
+        self.pass();
+        Answer::Done(next.id)
+    }
+
+    fn poll_read(&mut self, id: WireId, buffer: &mut [u8]) -> Answer<usize> {
+        match self.next() {
+            Some(Entry::Came(came)) if came.id == id => {
+                let count = came.bytes.len();
+                if count == 0 || count > buffer.len() {
+                    self.strays(Deed::ReadsLess(id));
+                    return Answer::Waiting;
+                }
+                buffer[..count].copy_from_slice(&came.bytes);
+                self.pass();
+                Answer::Done(count)
+            }
+            Some(Entry::Ended(ended)) if *ended == id => {
+                self.pass();
+                Answer::End
+            }
+            Some(Entry::Failed(failed)) if *failed == id => self.fault(),
+            _ => Answer::Waiting,
+        }
+    }
+
+    fn poll_write(&mut self, id: WireId, bytes: &[IoSlice<'_>]) -> Answer<usize> {
+        match self.next() {
+            Some(Entry::Sent(sent)) if sent.id == id => {
+                let wanted = *sent;
+                self.gets(id, bytes, wanted)
+            }
+            Some(Entry::Shut(shut)) if *shut == id => {
+                self.pass();
+                Answer::End
+            }
+            Some(Entry::Broken(broken)) if *broken == id => self.fault(),
+            _ => Answer::Waiting,
+        }
+    }
+
+    fn close(&mut self, id: WireId) {
+        match self.next() {
+            Some(Entry::Closed(closed)) if *closed == id => {
+                self.pass();
+                self.keep(Moved::Gone(id));
+            }
+            _ => self.strays(Deed::Closes(id)),
+        }
+    }
+
+    fn failures(&self) -> u64 {
+        self.faults
+    }
+}

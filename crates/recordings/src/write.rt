@@ -1,0 +1,153 @@
+//! The lines of a recording, written.
+ghost use Rattle.std.specs.Prelude.{◌≡◌, ◌++◌, ℕ, OnOk, codes};
+ghost use Rattle.std.specs.Fmt.{decimal};
+ghost use Rattle.recordings.specs.Lines.{door_word, about, line_about, accept_line, read_line, sent_line, sum_words, turn_line, entry_line};
+
+use crate::data::put_data;
+use crate::entry::{Accepted, Entry, Sent};
+use base_types::Moment;
+use itoa::Buffer;
+use std::alloc::AllocError;
+use wires::{Door, WireId};
+
+/// What the first line of a file begins with that goes on where another one ends.
+pub const GOES_ON: &[u8] = b"#goes on behind ";
+
+/// The word for a door.
+fn door_word(door: Door) -> &'static [u8]
+    ensures { result.now ≡ door_word door }
+{
+    match door {
+        Door::Ipp => b"ipp",
+        Door::Lpd => b"lpd",
+        Door::Devices => b"device",
+    }
+}
+
+/// Appends the digits of a number.
+fn put_number(output: &mut Vec<u8>, number: u64) -> Result<(), AllocError>
+    ensures { OnOk result (output.new.items ≡ output.old.items ++ decimal number) }
+{
+    let mut buffer = Buffer::new();
+    output.extend_from_slice(buffer.format(number).as_bytes())
+}
+
+/// Appends a word, a space and a number.
+fn put_about(output: &mut Vec<u8>, word: &[u8], number: u64) -> Result<(), AllocError>
+    ensures { OnOk result (output.new.items ≡ output.old.items ++ about word.now number) }
+{
+    output.extend_from_slice(word)?;
+    output.extend_from_slice(b" ")?;
+    put_number(output, number)?;
+    Ok(())
+}
+
+/// Appends a line of a word and a number.
+pub(crate) fn put_line(output: &mut Vec<u8>, word: &[u8], number: u64) -> Result<(), AllocError>
+    ensures { OnOk result (output.new.items ≡ output.old.items ++ line_about word.now number) }
+{
+    put_about(output, word, number)?;
+    output.extend_from_slice(b"\n")?;
+    Ok(())
+}
+
+/// Appends the line of a connection that was accepted.
+pub(crate) fn put_accepted(output: &mut Vec<u8>, door: Door, id: WireId) -> Result<(), AllocError>
+    ensures { OnOk result (output.new.items ≡ output.old.items ++ accept_line door id) }
+{
+    output.extend_from_slice(b"accept ")?;
+    put_line(output, door_word(door), u64::from(id))?;
+    Ok(())
+}
+
+/// Appends the line of bytes that were read.
+pub(crate) fn put_came(output: &mut Vec<u8>, id: WireId, bytes: &[u8]) -> Result<(), AllocError>
+    ensures { OnOk result (output.new.items ≡ output.old.items ++ read_line id bytes.now) }
+{
+    put_about(output, b"read", u64::from(id))?;
+    output.extend_from_slice(b" ")?;
+    put_data(output, bytes)?;
+    output.extend_from_slice(b"\n")?;
+    Ok(())
+}
+
+/// Appends the line of bytes that were taken.
+pub(crate) fn put_sent(output: &mut Vec<u8>, sent: Sent) -> Result<(), AllocError>
+    ensures { OnOk result (output.new.items ≡ output.old.items ++ sent_line sent.id sent.count sent.sum) }
+{
+    put_about(output, b"sent", u64::from(sent.id))?;
+    put_about(output, b"", sent.count as u64)?;
+    put_sum(output, sent.sum)?;
+    output.extend_from_slice(b"\n")?;
+    Ok(())
+}
+
+/// Appends a space and a sum, or a line where there is none.
+fn put_sum(output: &mut Vec<u8>, sum: Option<u32>) -> Result<(), AllocError>
+    ensures { OnOk result (output.new.items ≡ output.old.items ++ sum_words sum) }
+{
+    match sum {
+        Some(sum) => put_about(output, b"", u64::from(sum)),
+        None => output.extend_from_slice(b" -"),
+    }
+}
+
+/// Appends the line that ends a turn.
+pub fn put_turn(output: &mut Vec<u8>, moment: Moment) -> Result<(), AllocError>
+    ensures { OnOk result (output.new.items ≡ output.old.items ++ turn_line moment) }
+{
+    put_line(output, b"turn", moment.millis())
+}
+
+/// Appends the line that says that memory was refused.
+pub(crate) fn put_refused(output: &mut Vec<u8>) -> Result<(), AllocError>
+    ensures { OnOk result (output.new.items ≡ output.old.items ++ codes "refused\n") }
+{
+    output.extend_from_slice(b"refused\n")?;
+    Ok(())
+}
+
+/// Appends the line of an entry.
+pub fn put_entry(output: &mut Vec<u8>, entry: &Entry) -> Result<(), AllocError>
+    ensures { OnOk result (output.new.items ≡ output.old.items ++ entry_line entry.now) }
+{
+    match entry {
+        Entry::Accepted(Accepted { door, id }) => put_accepted(output, *door, *id),
+        Entry::Came(came) => put_came(output, came.id, &came.bytes),
+        Entry::Ended(id) => put_line(output, b"end", u64::from(*id)),
+        Entry::Failed(id) => put_line(output, b"fail", u64::from(*id)),
+        Entry::Sent(sent) => put_sent(output, *sent),
+        Entry::Shut(id) => put_line(output, b"shut", u64::from(*id)),
+        Entry::Broken(id) => put_line(output, b"break", u64::from(*id)),
+        Entry::Closed(id) => put_line(output, b"close", u64::from(*id)),
+        Entry::Refused => put_refused(output),
+        Entry::Turn(moment) => put_turn(output, *moment),
+    }
+}
+
+/// Appends the lines in front of the turns: the settings, the point behind them, and when the server
+/// started, in ms since the beginning of 1970, by which version, and whether heads alone are noted.
+pub fn put_start(
+    output: &mut Vec<u8>,
+    settings: &[u8],
+    began: u64,
+    version: &str,
+    heads: bool,
+) -> Result<(), AllocError> {
+    output.extend_from_slice(settings)?;
+    if settings.last() != Some(&b'\n') {
+        output.extend_from_slice(b"\n")?;
+    }
+    output.extend_from_slice(b".\n")?;
+    put_about(output, b"recorded", began)?;
+    output.extend_from_slice(b" ")?;
+    output.extend_from_slice(version.as_bytes())?;
+    output.extend_from_slice(if heads { b" heads\n" } else { b"\n" })
+}
+
+/// Appends the line in front of the turns of a file that goes on where another one, of this name, ends.
+pub fn put_goes_on(output: &mut Vec<u8>, name: &[u8]) -> Result<(), AllocError> {
+    output.extend_from_slice(GOES_ON)?;
+    output.extend_from_slice(name)?;
+    output.extend_from_slice(b"\n")
+}
