@@ -7,16 +7,24 @@
 //! Tests stand in `planner_tests`.
 #![tactic(auto)]
 
+mod adapt;
 mod all_places;
 mod answer;
+mod begun;
 mod costs;
+mod fit;
+mod free_places;
+mod hint;
+mod kept;
 mod lanes;
 mod order;
 mod planner;
+mod recall;
 mod search;
 mod seating;
 mod solver;
 mod times;
+mod vacancy;
 
 pub use planner::{Dense, Lazy};
 pub use times::{Counted, Times};
