@@ -9,11 +9,21 @@ use Rattle.assignment.specs.declared.begun.Begun.{Begun}
 use Rattle.assignment.specs.declared.costs.Costs.{Costs}
 use Rattle.assignment.specs.declared.costs.Place.{Place}
 use Rattle.assignment.specs.Costs.{cost_of, nowhere}
-use Rattle.assignment.specs.Begun.{IsBegun, IsLaidOut}
+use Rattle.assignment.specs.AllPlaces.{place_on}
+use Rattle.assignment.specs.Begun.{IsBegun, IsFairBeside, IsLaidOut}
 use Rattle.assignment.specs.Layout.{next_place, place_before}
 use Rattle.assignment.specs.Seating.{HasRoom, IsFair, IsTight}
 use Rattle.assignment.proofs.Laid.{laid_none, laid_now, shows_none, shows_now}
 use Rattle.assignment.proofs.LaneGrowth.{laned_more, laned_none}
+
+-- what is fair towards the next places of the lanes is so towards those that are free
+pub fair_free_from : (costs : Costs) (b : Begun) → IsLaidOut costs b → ((q : ℕ) → q < vec_len b.seating.seats → IsFairBeside costs b.lanes.items b.seating q) → IsFair (cost_of costs) b.seating.jobs.items b.seating.prices.items b.free.items []
+fair_free_from costs b h next = record {
+  at = λ q f lq lf.
+      let lt : f < vec_len costs.waits = omega (arith, lf, h.shows.one_each) in
+      let same : place_on f (length (get_or b.lanes.items f [])) ≡ get_or b.free.items f nowhere = ap (λ k. place_on f k) (h.laned.counts f lt) ∙ sym (h.shows.next f lt) in
+      rw (← same) (omega (arith, next q (omega (arith, lq, h.jobs, b.seating.jobs.ok.0)) f lt));
+}
 
 -- what is laid out, fair and with room is where the search may begin
 pub begun_from : (costs : Costs) (b : Begun) → IsLaidOut costs b → IsFair (cost_of costs) b.seating.jobs.items b.seating.prices.items b.seating.seats.items b.seating.rents.items → HasRoom (cost_of costs) b.seating.jobs.items b.seating.prices.items b.free.items b.slacks.items → IsPermutation (range_with_len 0 (vec_len costs.rows)) (b.seating.jobs.items ++ b.left.items) → IsBegun costs b

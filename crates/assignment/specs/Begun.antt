@@ -1,11 +1,12 @@
 -- Jobs in seats before the search begins, and those that are left.
-use Rattle.std.specs.Prelude.{◌≡◌, ℕ, ◌+◌, ◌<◌, ◌≤◌, ◌++◌, slice_index, slice_index_or, vec_len}
+use Rattle.std.specs.Prelude.{◌≡◌, ℕ, ◌+◌, ◌<◌, ◌≤◌, List, [], ◌++◌, length, slice_index, slice_index_or, vec_len}
 use Rattle.std.specs.List.{range_with_len}
 use Rattle.std.specs.List.Sorted.{IsPermutation}
 use Rattle.assignment.specs.declared.begun.Begun.{Begun}
 use Rattle.assignment.specs.declared.costs.Costs.{Costs}
 use Rattle.assignment.specs.declared.seating.Seating.{Seating}
 use Rattle.assignment.specs.Costs.{cost_of, nowhere}
+use Rattle.assignment.specs.AllPlaces.{place_on}
 use Rattle.assignment.specs.Lanes.{IsLaned}
 use Rattle.assignment.specs.Layout.{IsLaid, ShowsNext}
 use Rattle.assignment.specs.Seating.{HasRoom, IsSeated, IsTight}
@@ -24,6 +25,10 @@ pub record IsLaidOut (costs : Costs) (b : Begun) : Type 0 where
 -- the job at q is charged at most what any seat costs it together with the seat's rent
 abbrev pub IsFairAt : Costs → Seating → ℕ → Type 0
 IsFairAt costs s q = (c : ℕ) → c < vec_len s.seats → slice_index s.prices.items q ≤ cost_of costs (slice_index s.jobs.items q) (slice_index_or s.seats.items c nowhere) + slice_index s.rents.items c
+
+-- the job at q is charged at most what the next place of any device costs it, before those of the device's lane
+abbrev pub IsFairBeside : Costs → List (List ℕ) → Seating → ℕ → Type 0
+IsFairBeside costs lanes s q = (device : ℕ) → device < vec_len costs.waits → slice_index s.prices.items q ≤ cost_of costs (slice_index s.jobs.items q) (place_on device (length (slice_index_or lanes device [])))
 
 -- what holds between two jobs that are seated, where each job has a seat or is left
 pub record IsBegun (costs : Costs) (b : Begun) : Type 0 where

@@ -4,6 +4,9 @@
 //! that is able; out of memory is the only refusal. It doesn't promise speed, nor which of several
 //! best ways it finds.
 //!
+//! `Lazy` keeps its last classes, and begins with what is left of one. That is a hint: it is tested
+//! before it is used, and no promise rests on it.
+//!
 //! Tests stand in `planner_tests`.
 #![tactic(auto)]
 

@@ -1,12 +1,13 @@
-use Rattle.std.proofs.Common.{◌≡◌, vec_len, get_or, ap, sym, inl, inr, ◌∙◌, arith}
+use Rattle.std.proofs.Common.{◌≡◌, vec_len, get_or, ap, sym, inl, inr, ◌∙◌, refl, arith, length}
 use Rattle.std.proofs.lemmas.Bool.{cases_lt}
 use Rattle.std.proofs.lemmas.List.{get_or_read}
+use Rattle.assignment.specs.AllPlaces.{place_on}
 use Rattle.assignment.specs.Costs.{nowhere}
 use Rattle.assignment.proofs.Reaching.{fair_on, left_more, left_none, left_placed}
 use Rattle.assignment.proofs.fit.is_fair_on.Goals as goal
 
-pub returns-then-time-left : goal.returns-then-time-left
-returns-then-time-left c =
+pub returns-then-time-left-clause-seats : goal.returns-then-time-left-clause-seats
+returns-then-time-left-clause-seats c =
     let s = c.args.seating.now in
     let at = c.loop-after.after in
     let i = c.loop-after.invariant in
@@ -17,6 +18,22 @@ returns-then-time-left c =
       | inl before ↦ i.done k lt on before
       | inr from ↦ fair_on c.args.waits.now c.args.row.now place c.args.device at c.args.price (get_or s.rents.items k 0) on from none c.requires.low
     ]
+
+pub returns-then-time-left-clause-next : goal.returns-then-time-left-clause-next
+returns-then-time-left-clause-next c = λ _.
+    let at = c.loop-after.after in
+    let none = left_none c.args.waits.now c.args.row.now c.args.device at c.loop-after.left c.on_device-time.result c.args.price c.loop-after.invariant.left c.on_device-time.ensures c.if-time-left.true in
+    omega (arith, fair_on c.args.waits.now c.args.row.now (place_on c.args.device (length c.args.lane.now)) c.args.device at c.args.price 0 refl (omega (arith, c.loop-after-test.true)) none c.requires.low)
+
+pub returns-clause-seats : goal.returns-clause-seats
+returns-clause-seats c = λ _ k lt on.
+    c.loop-after.invariant.done k lt on (omega (arith, c.requires.lane.within k (omega (arith, lt, c.args.seating.now.seats.ok.0)) on, c.loop-after-test.false))
+
+pub returns-clause-next : goal.returns-clause-next
+returns-clause-next c = λ _.
+    let at = c.loop-after.after in
+    let none = left_none c.args.waits.now c.args.row.now c.args.device at c.loop-after.left c.on_device-time.result c.args.price c.loop-after.invariant.left c.on_device-time.ensures c.if-time-left-2.false in
+    omega (arith, fair_on c.args.waits.now c.args.row.now (place_on c.args.device (length c.args.lane.now)) c.args.device at c.args.price 0 refl (omega (arith, c.loop-after.auto.after-end)) none c.requires.low)
 
 pub loop-after-preserved : goal.loop-after-preserved
 loop-after-preserved c =
