@@ -56,7 +56,9 @@ pub(crate) fn begin_by(alloc: Global, costs: &Costs, hint: &Hint) -> Result<Begu
 /// Whether so few jobs are left that to seat them among the others takes less time than to seat all
 /// anew.
 fn is_worth(begun: &Begun) -> bool {
-    begun.left.len() <= begun.seating.seats.len() / 48 + 3
+    let seats = begun.seating.seats.len();
+    let left = begun.left.len();
+    left <= seats / 4 && left <= seats / 48 + 3
 }
 
 /// No job in any seat, and these left.

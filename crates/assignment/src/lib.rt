@@ -15,6 +15,7 @@ mod all_places;
 mod answer;
 mod begun;
 mod costs;
+mod equals;
 mod fit;
 mod free_places;
 mod hint;

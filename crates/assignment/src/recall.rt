@@ -7,6 +7,7 @@
 
 use crate::adapt::adapt;
 use crate::costs::{Place, on_device};
+use crate::equals::order_equal;
 use crate::hint::{Guess, Hint};
 use crate::kept::Kept;
 use crate::seating::Seating;
@@ -40,7 +41,9 @@ fn recalled(alloc: Global, mut kept: Kept, entries: &Entries) -> Result<Hint, Al
     let mut seating = renumbered(alloc, &kept.seating, &numbers)?;
     let before = &kept.costs.waits;
     adapt(alloc, &entries.costs, &mut seating, before, gone)?;
-    guesses(alloc, &seating, entries.ids.len())
+    let mut guesses = guesses(alloc, &seating, entries.ids.len())?;
+    order_equal(alloc, &entries.costs, &mut guesses)?;
+    Ok(Hint::new(guesses))
 }
 
 /// The number of each job of the last class in the next one, if it is there.
@@ -196,14 +199,18 @@ fn renumbered(
 }
 
 /// The guesses for so many jobs.
-fn guesses(alloc: Global, seating: &Seating, jobs: usize) -> Result<Hint, AllocError> {
+fn guesses(
+    alloc: Global,
+    seating: &Seating,
+    jobs: usize,
+) -> Result<Vec<Option<Guess>>, AllocError> {
     let mut guesses = vec![in alloc; None; jobs]?;
     for (seat, place) in seating.seats.iter().enumerate() {
         let number = seating.jobs.get(seat).copied().unwrap_or(jobs);
         let price = seating.prices.get(seat).copied().unwrap_or(0);
         note(&mut guesses, number, *place, price);
     }
-    Ok(Hint::new(guesses))
+    Ok(guesses)
 }
 
 /// Notes the guess of a job.
