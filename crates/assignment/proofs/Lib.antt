@@ -18,3 +18,4 @@ pub mod Reading
 pub mod Room
 pub mod Spread
 pub mod Step
+mod Beginning

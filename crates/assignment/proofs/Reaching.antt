@@ -57,3 +57,11 @@ pub left_placed : (waits row : List ℕ) (seats : List Place) (lane : List ℕ) 
 left_placed waits row seats lane device after n left time base price E most h lt len is et short most_is reach =
     let p = placed waits row seats lane device after n (most - left) time (most - (left - time)) base price E h lt len (omega (arith, is, short)) et (omega (arith, is, short, most_is, reach)) (omega (arith, is, short, most_is)) reach in
     (p.0, p.1, p.4)
+
+fair_enough : (wait work more price rent cost : ℕ) → price ≤ wait + work → work ≤ more → price ≤ UNABLE → cost ≡ min (wait + more) UNABLE → price ≤ cost + rent
+fair_enough wait work more price rent cost low grows high is = omega arith
+
+-- once a place alone costs as much as a job is charged, so does each place before it
+pub fair_on : (waits row : List ℕ) (place : Place) (device after price rent : ℕ) → place.device ≡ device → after ≤ place.after → price ≤ get_or waits device UNABLE + (after + 1) * get_or row device UNABLE → price ≤ UNABLE → price ≤ cost_at waits row place + rent
+fair_on waits row place device after price rent on le low high =
+    fair_enough _ _ _ price rent _ low (times_le after place.after (get_or row device UNABLE) le) high (cost_here waits row place device on)

@@ -6,3 +6,4 @@ pub mod Entries
 pub mod Answer
 pub mod AllPlaces
 pub mod Lanes
+pub mod Begun

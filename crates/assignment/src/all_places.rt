@@ -10,6 +10,7 @@ ghost use Rattle.assignment.specs.Layout.{IsFilled, IsLaid};
 ghost use Rattle.assignment.specs.AllPlaces.{CanFill, ShowsAll, place_on};
 
 use crate::costs::{Costs, Place};
+use crate::hint::Hint;
 use crate::lanes::{Lane, add_to_lane, empty_lanes};
 use crate::order::longest_first;
 use crate::seating::{Seating, insert};
@@ -23,14 +24,20 @@ pub(crate) enum Shown {
     All,
 }
 
-/// Seats all jobs, one by one, where each device shows these free places.
-pub(crate) fn seat_all(alloc: Global, costs: &Costs, shown: Shown) -> Result<Seating, AllocError>
+/// Seats all jobs, one by one, where each device shows these free places. The hint is of use where it
+/// is the next one alone.
+pub(crate) fn seat_all(
+    alloc: Global,
+    costs: &Costs,
+    shown: Shown,
+    hint: &Hint,
+) -> Result<Seating, AllocError>
     requires { CanFill costs.now }
     ensures filled { IfOk result (λ s. IsFilled costs.now s) }
     ensures all { IfOk result (λ s. IsPermutation (range_with_len 0 (vec_len costs.now.rows)) s.jobs.items) }
 {
     match shown {
-        Shown::Next => solve(alloc, costs),
+        Shown::Next => solve(alloc, costs, hint),
         Shown::All => solve_densely(alloc, costs),
     }
 }

@@ -7,27 +7,34 @@ ghost use Rattle.planners.specs.Able.{EachAble};
 
 use crate::all_places::{Shown, seat_all};
 use crate::answer::{prices, total, way};
-use crate::times::{Counted, Times, read};
+use crate::kept::{Kept, Memory};
+use crate::recall::recall;
+use crate::times::{Counted, Entries, Times, read};
 use cost_table::ClassProblem;
 use planners::Planner;
 use prices::{PricedWay, fair_is_best};
 use std::alloc::{AllocError, Global};
 
-/// Shows for each device the used places and the next free one.
-#[derive(Clone, Copy, Debug)]
+/// Shows for each device the used places and the next free one. It keeps the last plan of each of some
+/// classes, and begins the next one with what is left of it.
+#[derive(Debug, Drop)]
 pub struct Lazy {
     alloc: Global,
+    memory: Memory,
 }
 
 impl Lazy {
     /// A planner that takes its memory from here.
     pub fn new(alloc: Global) -> Lazy {
-        Lazy { alloc }
+        Lazy {
+            alloc,
+            memory: Memory::new(alloc),
+        }
     }
 
     /// What [`Planner::plan_class`] answers, where each time is read by a look that is counted. The
     /// looks rise by at most `J * D` for J jobs on D devices: each time is looked up once.
-    pub fn plan_counted<T: Times>(&self, times: &mut T) -> Result<PricedWay, AllocError>
+    pub fn plan_counted<T: Times>(&mut self, times: &mut T) -> Result<PricedWay, AllocError>
         requires able { EachAble (T.class times.old) }
         requires room { T.looked times.old < 2 ^ 62 }
         ensures proved { IfOk result (λ p. IsProved (T.class times.old) p.way p.prices p.total) }
@@ -36,12 +43,12 @@ impl Lazy {
         ensures looked { let jobs = length (T.class times.old).ids in let devices = length (T.class times.old).waits in
             T.looked times.new ≤ T.looked times.old + jobs * devices }
     {
-        plan(self.alloc, times, Shown::Next)
+        plan(self.alloc, times, Shown::Next, &mut self.memory)
     }
 }
 
 impl Planner for Lazy {
-    fn plan_class(&self, class: &ClassProblem) -> Result<PricedWay, AllocError> {
+    fn plan_class(&mut self, class: &ClassProblem) -> Result<PricedWay, AllocError> {
         let mut counted = Counted::new(class);
         self.plan_counted(&mut counted)
     }
@@ -61,16 +68,23 @@ impl Dense {
 }
 
 impl Planner for Dense {
-    fn plan_class(&self, class: &ClassProblem) -> Result<PricedWay, AllocError> {
+    fn plan_class(&mut self, class: &ClassProblem) -> Result<PricedWay, AllocError> {
         let mut counted = Counted::new(class);
-        let priced = plan(self.alloc, &mut counted, Shown::All)?;
+        let mut memory = Memory::new(self.alloc);
+        let priced = plan(self.alloc, &mut counted, Shown::All, &mut memory)?;
         fair_is_best(class, &priced);
         Ok(priced)
     }
 }
 
-/// A best way of the class, found where each device shows these free places.
-fn plan<T: Times>(alloc: Global, times: &mut T, shown: Shown) -> Result<PricedWay, AllocError>
+/// A best way of the class, found where each device shows these free places. It begins with what is
+/// kept of the class, and is kept.
+fn plan<T: Times>(
+    alloc: Global,
+    times: &mut T,
+    shown: Shown,
+    memory: &mut Memory,
+) -> Result<PricedWay, AllocError>
     requires able { EachAble (T.class times.old) }
     requires room { T.looked times.old < 2 ^ 62 }
     ensures proved { IfOk result (λ p. IsProved (T.class times.old) p.way p.prices p.total) }
@@ -80,9 +94,16 @@ fn plan<T: Times>(alloc: Global, times: &mut T, shown: Shown) -> Result<PricedWa
         T.looked times.new ≤ T.looked times.old + jobs * devices }
 {
     let entries = read(alloc, times)?;
-    let seating = seat_all(alloc, &entries.costs, shown)?;
+    let hint = recall(alloc, memory.take(&entries.ids), &entries);
+    let seating = seat_all(alloc, &entries.costs, shown, &hint)?;
     let way = way(alloc, &entries, &seating)?;
     let prices = prices(alloc, &entries, &seating)?;
     let total = total(&entries.costs, &seating);
+    let Entries { ids, costs } = entries;
+    memory.keep(Kept {
+        ids,
+        costs,
+        seating,
+    });
     Ok(PricedWay { way, prices, total })
 }

@@ -7,29 +7,29 @@ ghost use Rattle.assignment.specs.Seating.{HasRoom, IsSeated};
 ghost use Rattle.assignment.specs.Lanes.{IsLaned};
 ghost use Rattle.assignment.specs.Layout.{IsFilled, IsLaid, ShowsNext, place_before};
 
-use crate::costs::{Costs, Place, UNABLE};
-use crate::lanes::{Lane, add_to_lane, empty_lanes};
-use crate::order::longest_first;
+use crate::begun::{Begun, begin_by};
+use crate::costs::{Costs, Place};
+use crate::free_places::advance;
+use crate::hint::Hint;
+use crate::lanes::{Lane, add_to_lane};
 use crate::seating::{Seating, insert, lift, slack};
 use std::alloc::{AllocError, Global};
 
-/// Seats all jobs, one by one, where each device shows its next free place alone.
-pub(crate) fn solve(alloc: Global, costs: &Costs) -> Result<Seating, AllocError>
+/// Seats all jobs, one by one, where each device shows its next free place alone. Those that can stay
+/// where the hint says are seated there first.
+pub(crate) fn solve(alloc: Global, costs: &Costs, hint: &Hint) -> Result<Seating, AllocError>
     requires { 0 < vec_len costs.now.rows → 0 < vec_len costs.now.waits }
     ensures filled { IfOk result (λ s. IsFilled costs.now s) }
     ensures all { IfOk result (λ s. IsPermutation (range_with_len 0 (vec_len costs.now.rows)) s.jobs.items) }
 {
-    let order = longest_first(alloc, costs)?;
-    let mut free = last_places(alloc, costs.waits.len())?;
-    let mut slacks = vec![in alloc; UNABLE; costs.waits.len()]?;
-    let mut lanes = empty_lanes(alloc, costs.waits.len())?;
-    let mut seating = Seating {
-        seats: Vec::new(alloc),
-        rents: Vec::new(alloc),
-        jobs: Vec::new(alloc),
-        prices: Vec::new(alloc),
-    };
-    for place in 0..order.len() {
+    let Begun {
+        mut seating,
+        mut lanes,
+        mut free,
+        mut slacks,
+        left,
+    } = begin_by(alloc, costs, hint)?;
+    for place in 0..left.len() {
         seat(
             alloc,
             costs,
@@ -37,7 +37,7 @@ pub(crate) fn solve(alloc: Global, costs: &Costs) -> Result<Seating, AllocError>
             &mut seating,
             &mut free,
             &mut slacks,
-            order[place],
+            left[place],
         )?;
     }
     Ok(seating)
@@ -75,26 +75,4 @@ fn seat(
     slacks[device] = slack(costs, seating, free[device]);
     lift(costs, seating, free, slacks);
     Ok(())
-}
-
-/// The last place of each device.
-fn last_places(alloc: Global, devices: usize) -> Result<Vec<Place>, AllocError>
-    ensures len { IfOk result (λ places. vec_len places ≡ devices) }
-    ensures places { IfOk result (λ places. (d : ℕ) → d < devices
-        → slice_index_or places.items d nowhere ≡ record { device = d; after = 0 }) }
-{
-    let mut places = Vec::new(alloc);
-    for device in 0..devices {
-        places.push(Place { device, after: 0 })?;
-    }
-    Ok(places)
-}
-
-/// Shows the place before the one that was shown.
-fn advance(free: &mut [Place], at: usize)
-    requires here { at < length free.old }
-    requires room { (slice_index_or free.old at nowhere).after < u64.MAX }
-    ensures { free.new ≡ slice_set free.old at (place_before (slice_index_or free.old at nowhere)) }
-{
-    free[at].after += 1;
 }

@@ -18,14 +18,14 @@ pub(crate) enum Kind {
 
 /// How fast a device prints, in ms.
 #[derive(Drop)]
-struct Speed {
+pub(crate) struct Speed {
     setup: u64,
     impression: u64,
 }
 
 impl Speed {
     /// How long a job of so many impressions takes.
-    fn time(&self, impressions: u64) -> u64 {
+    pub(crate) fn time(&self, impressions: u64) -> u64 {
         impressions
             .saturating_mul(self.impression)
             .saturating_add(self.setup)
@@ -60,7 +60,7 @@ pub(crate) fn made_class(
 }
 
 /// A device's speed.
-fn made_speed(random: &mut Random) -> Speed {
+pub(crate) fn made_speed(random: &mut Random) -> Speed {
     let setup = random.below(60_000);
     let impression = random.below(5_000).saturating_add(500);
     Speed { setup, impression }

@@ -6,12 +6,22 @@
 //! stops where two totals differ. Times are made of impressions and speeds, as the server makes them,
 //! or with the word `uniform` after the others each uniform at random. The same arguments give the
 //! same totals.
+//!
+//! `plan_bench estimated JOBS DEVICES SEED COUNT` plays so many events of a day on which printing takes
+//! as long as estimated, and plans at each; `otherwise` one on which it doesn't and jobs are canceled, and
+//! `moving` one on which devices come and go. Each plan is made by a planner that keeps its last one and
+//! by a new one; it stops where the totals differ or the checker doesn't say yes. The sum of the totals
+//! is written. With the word `kept` or `new` one of the two plans alone, so that it can be timed.
 #![tactic(auto)]
 
+mod day;
 mod made_class;
+mod played;
 mod random;
 
+use crate::day::{Course, Day};
 use crate::made_class::{Kind, made_class};
+use crate::played::{By, play};
 use crate::random::Random;
 use anyhow::{Context, Error, bail};
 use assignment::{Dense, Lazy};
@@ -30,6 +40,8 @@ enum Mode {
     Lazy,
     Dense,
     Compare,
+    /// A day of events.
+    Day(Course),
 }
 
 /// What the program is asked for.
@@ -37,6 +49,7 @@ enum Mode {
 struct Asked {
     mode: Mode,
     kind: Kind,
+    by: By,
     jobs: u32,
     devices: usize,
     seed: u64,
@@ -49,16 +62,21 @@ fn read_mode(word: &str) -> Result<Mode, Error> {
         "lazy" => Ok(Mode::Lazy),
         "dense" => Ok(Mode::Dense),
         "compare" => Ok(Mode::Compare),
-        _ => bail!("expected lazy, dense or compare"),
+        "estimated" => Ok(Mode::Day(Course::Estimated)),
+        "otherwise" => Ok(Mode::Day(Course::Otherwise)),
+        "moving" => Ok(Mode::Day(Course::Moving)),
+        _ => bail!("expected lazy, dense, compare, estimated, otherwise or moving"),
     }
 }
 
-/// How a word, if there is one, says that times are made.
-fn read_kind(word: Option<&str>) -> Result<Kind, Error> {
+/// How a word, if there is one, says that times are made, and by which planners a day is planned.
+fn read_last(word: Option<&str>) -> Result<(Kind, By), Error> {
     match word {
-        None => Ok(Kind::Speeds),
-        Some("uniform") => Ok(Kind::Uniform),
-        Some(_) => bail!("expected uniform, or nothing"),
+        None => Ok((Kind::Speeds, By::Both)),
+        Some("uniform") => Ok((Kind::Uniform, By::Both)),
+        Some("kept") => Ok((Kind::Speeds, By::Kept)),
+        Some("new") => Ok((Kind::Speeds, By::New)),
+        Some(_) => bail!("expected uniform, kept, new, or nothing"),
     }
 }
 
@@ -75,10 +93,11 @@ fn read_asked(rt: &HostRuntime) -> Result<Asked, Error> {
     let devices = next()?.parse()?;
     let seed = next()?.parse()?;
     let count = next()?.parse()?;
-    let kind = read_kind(words.next().as_deref())?;
+    let (kind, by) = read_last(words.next().as_deref())?;
     Ok(Asked {
         mode,
         kind,
+        by,
         jobs,
         devices,
         seed,
@@ -89,7 +108,7 @@ fn read_asked(rt: &HostRuntime) -> Result<Asked, Error> {
 /// The next class: of so many jobs and devices, or in a comparison of at most as many.
 fn next_class(alloc: Global, random: &mut Random, asked: &Asked) -> Result<ClassProblem, Error> {
     let (jobs, devices) = match asked.mode {
-        Mode::Lazy | Mode::Dense => (asked.jobs, asked.devices),
+        Mode::Lazy | Mode::Dense | Mode::Day(_) => (asked.jobs, asked.devices),
         Mode::Compare => (
             u32::try_from(random.below(u64::from(asked.jobs)))?.saturating_add(1),
             usize::try_from(random.below(asked.devices as u64))?.saturating_add(1),
@@ -99,7 +118,7 @@ fn next_class(alloc: Global, random: &mut Random, asked: &Asked) -> Result<Class
 }
 
 /// The total of the way that a planner finds.
-fn planned<P: Planner>(planner: &P, class: &ClassProblem) -> Result<u64, Error> {
+fn planned<P: Planner>(planner: &mut P, class: &ClassProblem) -> Result<u64, Error> {
     if !each_able(class) {
         bail!("a job has no device");
     }
@@ -108,8 +127,8 @@ fn planned<P: Planner>(planner: &P, class: &ClassProblem) -> Result<u64, Error> 
 
 /// The total of both planners, which must be the same, and where there are few jobs the least.
 fn compared(alloc: Global, class: &ClassProblem) -> Result<u64, Error> {
-    let total = planned(&Lazy::new(alloc), class)?;
-    if planned(&Dense::new(alloc), class)? != total {
+    let total = planned(&mut Lazy::new(alloc), class)?;
+    if planned(&mut Dense::new(alloc), class)? != total {
         bail!("the planners differ");
     }
     if class.ids().len() <= FEW_JOBS && least_total(alloc, class)? != Some(total) {
@@ -121,9 +140,9 @@ fn compared(alloc: Global, class: &ClassProblem) -> Result<u64, Error> {
 /// The total of a best way.
 fn total_of(alloc: Global, class: &ClassProblem, mode: Mode) -> Result<u64, Error> {
     match mode {
-        Mode::Lazy => planned(&Lazy::new(alloc), class),
-        Mode::Dense => planned(&Dense::new(alloc), class),
-        Mode::Compare => compared(alloc, class),
+        Mode::Lazy => planned(&mut Lazy::new(alloc), class),
+        Mode::Dense => planned(&mut Dense::new(alloc), class),
+        Mode::Compare | Mode::Day(_) => compared(alloc, class),
     }
 }
 
@@ -138,6 +157,19 @@ fn plan_all(rt: &HostRuntime, asked: &Asked) -> Result<(), Error> {
     Ok(())
 }
 
+/// Plays a day, and writes the sum of the totals of its plans.
+fn play_day(rt: &HostRuntime, asked: &Asked, course: Course) -> Result<(), Error> {
+    let jobs = asked.jobs as usize;
+    let day = Day::new(rt.alloc(), course, jobs, asked.devices, asked.seed)?;
+    let sum = play(rt.alloc(), day, asked.by, asked.count)?;
+    println!(rt; "{sum}")?;
+    Ok(())
+}
+
 fn main(rt: HostRuntime) -> Result<(), Error> {
-    plan_all(&rt, &read_asked(&rt)?)
+    let asked = read_asked(&rt)?;
+    match asked.mode {
+        Mode::Day(course) => play_day(&rt, &asked, course),
+        Mode::Lazy | Mode::Dense | Mode::Compare => plan_all(&rt, &asked),
+    }
 }

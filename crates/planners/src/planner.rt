@@ -12,7 +12,7 @@ use std::alloc::AllocError;
 pub trait Planner {
     /// A best way, with fair prices that prove it best, and its total. Each job of the class has a
     /// device that is able. The only error is out of memory.
-    fn plan_class(&self, class: &ClassProblem) -> Result<PricedWay, AllocError>
+    fn plan_class(&mut self, class: &ClassProblem) -> Result<PricedWay, AllocError>
         requires { EachAble class.now }
         ensures proved { IfOk result (λ p. IsProved class.now p.way p.prices p.total) }
         ensures best { IfOk result (λ p. IsBest class.now p.way) };

@@ -29,7 +29,7 @@ impl PrintRoom {
     /// begin a job starts the first of its list.
     ///
     /// The only error is out of memory; nothing has changed then.
-    pub fn dispatch<P: Planner>(&mut self, planner: &P, now: Moment) -> Result<bool, AllocError>
+    pub fn dispatch<P: Planner>(&mut self, planner: &mut P, now: Moment) -> Result<bool, AllocError>
         requires { self.old.last ≤ now }
         ensures idle { is_some_job (ready_of self.old) ≡ false → IsOk result }
         ensures ok { IfOk result (λ planned. DispatchedAs now self.old planned self.new) }
@@ -45,7 +45,7 @@ impl PrintRoom {
     }
 
     /// Plans the ready jobs and starts what can start, where a job is ready.
-    fn plan_and_start<P: Planner>(&mut self, planner: &P, now: Moment) -> Result<(), AllocError>
+    fn plan_and_start<P: Planner>(&mut self, planner: &mut P, now: Moment) -> Result<(), AllocError>
         requires later { self.old.last ≤ now }
         requires ready { is_some_job (ready_of self.old) ≡ true }
         ensures ok { OnOk result (DispatchedAs now self.old true self.new) }
@@ -60,7 +60,7 @@ impl PrintRoom {
     }
 
     /// Makes a plan of the ready jobs and starts what can start, where a job is ready.
-    fn plan_anew<P: Planner>(&mut self, planner: &P, now: Moment) -> Result<(), AllocError>
+    fn plan_anew<P: Planner>(&mut self, planner: &mut P, now: Moment) -> Result<(), AllocError>
         requires later { self.old.last ≤ now }
         requires ready { is_some_job (ready_of self.old) ≡ true }
         ensures ok { OnOk result (DispatchedAs now self.old true self.new) }

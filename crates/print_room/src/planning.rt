@@ -27,7 +27,7 @@ struct Planned {
 impl PrintRoom {
     /// A good plan of the ready jobs for a moment that is not before the last one. The only error is
     /// out of memory.
-    pub(crate) fn good_plan<P: Planner>(&self, planner: &P, now: Moment) -> Result<Plan, AllocError>
+    pub(crate) fn good_plan<P: Planner>(&self, planner: &mut P, now: Moment) -> Result<Plan, AllocError>
         requires { self.now.last ≤ now }
         ensures plan { IfOk result (λ plan. IsGoodPlan now self.now plan) }
         ensures spool { OnOk result (IsSpool self.now.spool) }
@@ -44,7 +44,7 @@ impl PrintRoom {
     /// ready jobs.
     fn planned_classes<P: Planner>(
         &self,
-        planner: &P,
+        planner: &mut P,
         now: Moment,
         ready: &[ReadyJob<'_>],
     ) -> Result<Vec<PlannedClass>, AllocError>
@@ -83,7 +83,7 @@ impl PrintRoom {
     /// Plans the class of a priority under the waits that those above leave.
     fn plan_class<P: Planner>(
         &self,
-        planner: &P,
+        planner: &mut P,
         priority: Priority,
         ready: &[ReadyJob<'_>],
         waits: Vec<u64>,
@@ -105,7 +105,7 @@ impl PrintRoom {
     /// Plans these jobs, those of the class of a priority.
     fn plan_jobs<P: Planner>(
         &self,
-        planner: &P,
+        planner: &mut P,
         priority: Priority,
         jobs: &[ClassJob<'_>],
         waits: Vec<u64>,

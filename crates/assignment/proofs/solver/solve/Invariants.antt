@@ -1,4 +1,4 @@
-use Rattle.std.proofs.Common.{◌≡◌, vec_len, take}
+use Rattle.std.proofs.Common.{◌≡◌, ◌++◌, vec_len, take}
 use Rattle.std.specs.List.Sorted.{IsPermutation}
 use Rattle.assignment.specs.Costs.{cost_of}
 use Rattle.assignment.specs.Seating.{HasRoom, IsSeated}
@@ -14,5 +14,5 @@ invariant-loop-place l = record {
   shows : ShowsNext (vec_len l.costs.waits) l.seating.seats.items l.free.items;
   one_each : vec_len l.slacks ≡ vec_len l.costs.waits;
   room : HasRoom (cost_of l.costs) l.seating.jobs.items l.seating.prices.items l.free.items l.slacks.items;
-  all : IsPermutation (take l.place l.order.items) l.seating.jobs.items;
+  all : IsPermutation (l.initial.seating.jobs.items ++ take l.place l.left.items) l.seating.jobs.items;
 }

@@ -1,0 +1,68 @@
+//! What a planner keeps of the classes that it planned last.
+
+use crate::costs::Costs;
+use crate::seating::Seating;
+use base_types::JobId;
+use std::alloc::Global;
+
+/// How many classes are kept.
+const MOST: usize = 8;
+
+/// A class that was planned: its jobs by rising id, what they cost and where they sit.
+#[derive(Debug, Drop)]
+pub(crate) struct Kept {
+    pub(crate) ids: Vec<JobId>,
+    pub(crate) costs: Costs,
+    pub(crate) seating: Seating,
+}
+
+/// The classes that were planned last.
+#[derive(Debug, Drop)]
+pub(crate) struct Memory {
+    classes: Vec<Kept>,
+}
+
+impl Memory {
+    /// Nothing is kept yet.
+    pub(crate) fn new(alloc: Global) -> Memory {
+        Memory {
+            classes: Vec::new(alloc),
+        }
+    }
+
+    /// Takes out the class that has the most of these jobs, if one has any.
+    pub(crate) fn take(&mut self, ids: &[JobId]) -> Option<Kept> {
+        let mut best = None;
+        let mut most = 0;
+        for (at, kept) in self.classes.iter().enumerate() {
+            let shared = shared(&kept.ids, ids);
+            if shared > most {
+                most = shared;
+                best = Some(at);
+            }
+        }
+        let at = best?;
+        if at < self.classes.len() {
+            Some(self.classes.remove(at))
+        } else {
+            None
+        }
+    }
+
+    /// Keeps a class, in place of the oldest one where there are enough. Where memory is refused it is
+    /// forgotten.
+    pub(crate) fn keep(&mut self, kept: Kept) {
+        if self.classes.len() >= MOST {
+            self.classes.remove(0);
+        }
+        let _kept = self.classes.push(kept);
+    }
+}
+
+/// How many ids two lists share, both rising.
+fn shared(these: &[JobId], those: &[JobId]) -> usize {
+    these
+        .iter()
+        .filter(|id| those.binary_search(*id).is_ok())
+        .count()
+}

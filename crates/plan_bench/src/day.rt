@@ -1,0 +1,227 @@
+//! A day of a print room, event by event: what waits, what prints, and for how long.
+
+use crate::made_class::{Speed, made_speed};
+use crate::random::Random;
+use anyhow::{Context, Error, bail};
+use base_types::JobId;
+use cost_table::{ClassProblem, Row, is_class};
+use prices::Way;
+use std::alloc::{AllocError, Global};
+
+/// How a day goes.
+#[derive(Clone, Copy, PartialEq, Eq)]
+pub(crate) enum Course {
+    /// Printing takes as long as estimated.
+    Estimated,
+    /// It takes up to a fifth less or more, and jobs are canceled.
+    Otherwise,
+    /// Devices come and go.
+    Moving,
+}
+
+/// A job that waits: its impressions, and which devices are able, as the digits of a number.
+#[derive(Clone, Copy)]
+struct Waiting {
+    id: JobId,
+    impressions: u64,
+    able: u64,
+}
+
+/// The state of a day: a moment, the jobs that wait, and of each device its speed, until when it
+/// prints, and whether it is there.
+#[derive(Drop)]
+pub(crate) struct Day {
+    course: Course,
+    random: Random,
+    most: usize,
+    next: u32,
+    now: u64,
+    jobs: Vec<Waiting>,
+    speeds: Vec<Speed>,
+    ends: Vec<u64>,
+    away: Vec<bool>,
+}
+
+impl Day {
+    /// A day that begins with so many jobs for so many idle devices.
+    pub(crate) fn new(
+        alloc: Global,
+        course: Course,
+        jobs: usize,
+        devices: usize,
+        seed: u64,
+    ) -> Result<Day, Error> {
+        let mut day = Day {
+            course,
+            random: Random::new(seed),
+            most: jobs,
+            next: 1,
+            now: 0,
+            jobs: Vec::new(alloc),
+            speeds: Vec::new(alloc),
+            ends: vec![in alloc; 0; devices]?,
+            away: vec![in alloc; false; devices]?,
+        };
+        for _ in 0..devices {
+            day.speeds.push(made_speed(&mut day.random))?;
+        }
+        for _ in 0..jobs {
+            day.take_job()?;
+        }
+        Ok(day)
+    }
+
+    /// The class of the jobs that wait.
+    pub(crate) fn class(&self, alloc: Global) -> Result<ClassProblem, Error> {
+        let mut ids = Vec::new(alloc);
+        let mut rows = Vec::new(alloc);
+        for job in &self.jobs {
+            ids.push(job.id)?;
+            rows.push(self.row(alloc, job)?)?;
+        }
+        let mut waits = Vec::new(alloc);
+        for end in &self.ends {
+            waits.push(end.saturating_sub(self.now))?;
+        }
+        if !is_class(&ids, &rows, &waits) {
+            bail!("beyond the limits of a class");
+        }
+        Ok(ClassProblem::from_rows(ids, rows, waits))
+    }
+
+    /// The times of a job. Its own device, in turn, is always able.
+    fn row(&self, alloc: Global, job: &Waiting) -> Result<Row, AllocError> {
+        let own = self.own_device(job.id);
+        let mut times = Vec::new(alloc);
+        for (device, speed) in self.speeds.iter().enumerate() {
+            let there = self.away.get(device) == Some(&false);
+            let able = device == own || there && is_able(job.able, device);
+            let time = speed.time(job.impressions);
+            times.push(if able { Some(time) } else { None })?;
+        }
+        Ok(Row::new(times))
+    }
+
+    /// The device that can always print a job.
+    fn own_device(&self, id: JobId) -> usize {
+        (id.number() as usize)
+            .checked_rem(self.speeds.len())
+            .unwrap_or(0)
+    }
+
+    /// A job comes.
+    fn take_job(&mut self) -> Result<(), Error> {
+        let id = JobId::new(self.next).context("too many jobs")?;
+        self.next = self.next.saturating_add(1);
+        let impressions = self.random.below(200).saturating_add(1);
+        let able = self.random.below(u64::MAX) | self.random.below(u64::MAX);
+        self.jobs.push(Waiting {
+            id,
+            impressions,
+            able,
+        })?;
+        Ok(())
+    }
+
+    /// The next event: a job comes or is canceled, or a device goes or comes back; else each idle
+    /// device begins the first job of its list, and the next device is done.
+    pub(crate) fn step(&mut self, way: &Way) -> Result<(), Error> {
+        match self.random.below(5) {
+            0 | 1 if self.jobs.len() < self.most => self.take_job(),
+            2 => {
+                self.disturb();
+                Ok(())
+            }
+            _ => {
+                self.begin_all(way);
+                self.go_on()
+            }
+        }
+    }
+
+    /// Disturbs the day by its course.
+    fn disturb(&mut self) {
+        match self.course {
+            Course::Estimated => {}
+            Course::Otherwise => {
+                let at = self.random.below(self.jobs.len() as u64) as usize;
+                if at < self.jobs.len() && self.jobs.len() > self.most / 2 {
+                    self.jobs.remove(at);
+                }
+            }
+            Course::Moving => {
+                let device = self.random.below(self.away.len() as u64) as usize;
+                if let Some(away) = self.away.get_mut(device) {
+                    *away = !*away;
+                }
+            }
+        }
+    }
+
+    /// Each idle device begins the first job of its list.
+    fn begin_all(&mut self, way: &Way) {
+        for (device, queue) in way.queues().iter().enumerate() {
+            if let Some(first) = queue.jobs().first() {
+                self.begin(device, *first);
+            }
+        }
+    }
+
+    /// A device begins a job, if it is idle.
+    fn begin(&mut self, device: usize, id: JobId) {
+        if self.ends.get(device).copied().unwrap_or(u64::MAX) > self.now {
+            return;
+        }
+        let time = self.time_on(device, id);
+        let lasts = self.lasts(time);
+        if let Some(end) = self.ends.get_mut(device) {
+            *end = self.now.saturating_add(lasts);
+        }
+        self.jobs.retain(|job| job.id != id);
+    }
+
+    /// The time of a job on a device.
+    fn time_on(&self, device: usize, id: JobId) -> u64 {
+        match self.speeds.get(device) {
+            Some(speed) => speed.time(impressions_of(&self.jobs, id)),
+            None => 0,
+        }
+    }
+
+    /// How long printing takes that is estimated at this time.
+    fn lasts(&mut self, time: u64) -> u64 {
+        if self.course != Course::Otherwise {
+            return time;
+        }
+        let part = self.random.below(400).saturating_add(800);
+        (time / 1000).saturating_mul(part).max(1)
+    }
+
+    /// Goes on to when the next device is done, or to the next minute.
+    fn go_on(&mut self) -> Result<(), Error> {
+        let mut next = self.now.saturating_add(60_000);
+        for end in &self.ends {
+            if *end > self.now {
+                next = next.min(*end);
+            }
+        }
+        self.now = next;
+        if self.jobs.is_empty() {
+            self.take_job()?;
+        }
+        Ok(())
+    }
+}
+
+/// The impressions of a job, of a list of them.
+fn impressions_of(jobs: &[Waiting], id: JobId) -> u64 {
+    match jobs.iter().find(|job| job.id == id) {
+        Some(job) => job.impressions,
+        None => 0,
+    }
+}
+
+/// Whether a device is one of those that a number's digits name.
+fn is_able(able: u64, device: usize) -> bool {
+    able.wrapping_shr(u32::try_from(device).unwrap_or(0)) & 1 == 1
+}

@@ -1,0 +1,63 @@
+//! Days that are planned at each event.
+
+use crate::day::{Course, Day};
+use anyhow::{Error, bail};
+use assignment::Lazy;
+use cost_table::ClassProblem;
+use plan_checker::{Verdict, check_class};
+use planners::{Planner, each_able};
+use prices::PricedWay;
+use std::alloc::Global;
+
+/// Which planners plan a day.
+#[derive(Clone, Copy, PartialEq, Eq)]
+pub(crate) enum By {
+    /// One that keeps its last plan.
+    Kept,
+    /// A new one at each event.
+    New,
+    /// Both, which must find the same total, and each plan is checked.
+    Both,
+}
+
+/// Plays so many events of a day, each planned, and gives the sum of the totals.
+pub(crate) fn play(alloc: Global, mut day: Day, by: By, events: u32) -> Result<u64, Error> {
+    let mut planner = Lazy::new(alloc);
+    let mut sum: u64 = 0;
+    for _ in 0..events {
+        let class = day.class(alloc)?;
+        let priced = match by {
+            By::New => planned(&mut Lazy::new(alloc), &class)?,
+            _ => planned(&mut planner, &class)?,
+        };
+        if by == By::Both {
+            compare(alloc, &class, &priced)?;
+        }
+        sum = sum.saturating_add(priced.total);
+        day.step(&priced.way)?;
+    }
+    Ok(sum)
+}
+
+/// What a planner finds.
+fn planned<P: Planner>(planner: &mut P, class: &ClassProblem) -> Result<PricedWay, Error> {
+    if !each_able(class) {
+        bail!("a job has no device");
+    }
+    Ok(planner.plan_class(class)?)
+}
+
+/// Compares a plan with one from nothing, and has it checked.
+fn compare(alloc: Global, class: &ClassProblem, priced: &PricedWay) -> Result<(), Error> {
+    if planned(&mut Lazy::new(alloc), class)?.total != priced.total {
+        bail!("the totals differ");
+    }
+    let lists = priced.prices.places().len();
+    if priced.way.queues().len() != class.waits().len() || lists != class.waits().len() {
+        bail!("a device has no list");
+    }
+    match check_class(class, priced) {
+        Verdict::Yes => Ok(()),
+        _ => bail!("the checker says no"),
+    }
+}
