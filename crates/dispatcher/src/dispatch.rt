@@ -56,7 +56,7 @@ impl<P: Planner + Drop> Core<P> {
         ensures err { OnErr result (self.new ≡ self.old) }
     {
         let now = moment.later(self.room.last());
-        self.room.dispatch(&self.planner, now)
+        self.room.dispatch(&mut self.planner, now)
     }
 
     /// What the last dispatch did, by whether it made a plan.
