@@ -85,7 +85,13 @@ fn known_totals(rt: HostRuntime) -> Result<(), Fail> {
 fn largest_totals(rt: HostRuntime) -> Result<(), Fail> {
     let alloc = rt.alloc();
     let class = class_of(alloc, &[LONGEST; 127], &[599_403_600_000])?;
-    assert_eq!(rt; planned(&mut Lazy::new(alloc), &class)?, 4_948_076_718_000_000);
-    assert_eq!(rt; planned(&mut Dense::new(alloc), &class)?, 4_948_076_718_000_000);
+    assert_eq!(rt;
+        planned(&mut Lazy::new(alloc), &class)?,
+        4_948_076_718_000_000
+    );
+    assert_eq!(rt;
+        planned(&mut Dense::new(alloc), &class)?,
+        4_948_076_718_000_000
+    );
     Ok(())
 }

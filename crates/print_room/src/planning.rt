@@ -27,7 +27,11 @@ struct Planned {
 impl PrintRoom {
     /// A good plan of the ready jobs for a moment that is not before the last one. The only error is
     /// out of memory.
-    pub(crate) fn good_plan<P: Planner>(&self, planner: &mut P, now: Moment) -> Result<Plan, AllocError>
+    pub(crate) fn good_plan<P: Planner>(
+        &self,
+        planner: &mut P,
+        now: Moment,
+    ) -> Result<Plan, AllocError>
         requires { self.now.last ≤ now }
         ensures plan { IfOk result (λ plan. IsGoodPlan now self.now plan) }
         ensures spool { OnOk result (IsSpool self.now.spool) }
