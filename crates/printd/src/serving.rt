@@ -104,43 +104,41 @@ fn log_of<'a>(
     }
 }
 
-/// Serves over these sockets, with the settings of a text, and records the day to a tape.
+/// Serves with these settings over these sockets, and records the day to a tape.
 fn serve_taped(
     rt: &HostRuntime,
+    settings: Settings,
     serving: &Serving<'_>,
-    text: &[u8],
     sockets: Sockets,
     log: Option<&mut LogOutput<'_>>,
     tape: &mut TapeFiles<'_>,
-) -> Result<ExitStatus, ExitStatus> {
-    let settings = settings_in(rt, file_of(serving), text)?;
-    let heads = serving.record_heads;
-    match serve_recorded(
-        rt.alloc(),
-        rt,
-        sockets,
-        settings,
-        serving.turns,
-        log,
-        tape,
-        heads,
-    ) {
+) -> Result<ExitStatus, ExitStatus>
+    requires { MeetsLimits settings }
+{
+    let (turns, heads) = (serving.turns, serving.record_heads);
+    match serve_recorded(rt.alloc(), rt, sockets, settings, turns, log, tape, heads) {
         Ok(()) => Ok(ExitStatus::Done),
         Err(error) => Err(cannot(rt, "go on serving", error)),
     }
 }
 
-/// Serves, and records the day to the files of a name.
+/// Serves with the settings of a text, and records the day to the files of a name.
 fn serve_and_record(
     rt: &HostRuntime,
+    settings: Settings,
     text: &[u8],
     serving: &Serving<'_>,
     path: &str,
-) -> Result<ExitStatus, ExitStatus> {
+) -> Result<ExitStatus, ExitStatus>
+    requires { MeetsLimits settings }
+{
     let mut log = log_of(rt, serving)?;
+    let mut tape = TapeFiles::new(rt, path, text, serving.record_heads);
     let sockets = open(rt, serving)?;
-    let mut tape = TapeFiles::begin(rt, path, text, serving.record_heads)?;
-    serve_taped(rt, serving, text, sockets, log.as_mut(), &mut tape)
+    match tape.begin() {
+        Ok(()) => serve_taped(rt, settings, serving, sockets, log.as_mut(), &mut tape),
+        Err(status) => Err(status),
+    }
 }
 
 /// Serves with these settings.
@@ -179,20 +177,12 @@ fn text_of(rt: &HostRuntime, file: Option<&str>) -> Result<Vec<u8>, ExitStatus> 
     }
 }
 
-/// Judges the settings of a text, as they are read before anything is opened.
-fn judge(rt: &HostRuntime, file: &str, text: &[u8]) -> Result<(), ExitStatus> {
-    let _settings = settings_in(rt, file, text)?;
-    Ok(())
-}
-
 /// Serves, and says where; the error is the status of what was said already.
 pub(crate) fn run_serve(rt: &HostRuntime, serving: Serving<'_>) -> Result<ExitStatus, ExitStatus> {
     let text = text_of(rt, serving.settings)?;
+    let settings = settings_in(rt, file_of(&serving), &text)?;
     match serving.record {
-        Some(path) => {
-            judge(rt, file_of(&serving), &text)?;
-            serve_and_record(rt, &text, &serving, path)
-        }
-        None => serve_settings(rt, settings_in(rt, file_of(&serving), &text)?, &serving),
+        Some(path) => serve_and_record(rt, settings, &text, &serving, path),
+        None => serve_settings(rt, settings, &serving),
     }
 }

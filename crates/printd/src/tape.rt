@@ -1,5 +1,5 @@
 //! The files of a recording.
-use crate::failure::{cannot_with, say};
+use crate::failure::{cannot_with, out_of_memory};
 use command_line::VERSION;
 use recordings::{put_goes_on, put_start};
 use serve::Tape;
@@ -23,17 +23,15 @@ const DAY: u64 = 86_400;
 pub(crate) struct TapeFiles<'a> {
     rt: &'a HostRuntime,
     path: &'a str,
-    open: Numbered,
+    /// The text of the settings with which the server starts.
+    settings: &'a [u8],
+    heads: bool,
+    /// The file that is open; none before the first.
+    file: Option<File>,
+    /// The number of the next.
+    next: u32,
     /// The day of the file that is open, counted from the beginning of 1970.
     day: u64,
-}
-
-/// A file with its name and its number.
-#[derive(Drop)]
-struct Numbered {
-    file: File,
-    name: String,
-    number: u32,
 }
 
 /// The time since the beginning of 1970.
@@ -87,49 +85,71 @@ fn make(rt: &HostRuntime, name: &str) -> io::Result<Option<File>> {
     }
 }
 
-/// Makes the first file of a number from this one on that isn't there yet.
-fn make_next(rt: &HostRuntime, path: &str, first: u32) -> io::Result<Numbered> {
-    for number in first..MOST_FILES {
-        let name = name_of(rt, path, number)?;
-        if let Some(file) = make(rt, &name)? {
-            return Ok(Numbered { file, name, number });
-        }
-    }
-    Err(io::Error::from(ErrorKind::AlreadyExists))
+/// The time as a number of ms.
+fn millis_of(time: Duration) -> u64 {
+    u64::try_from(time.as_millis()).unwrap_or(0)
 }
 
 impl<'a> TapeFiles<'a> {
-    /// Begins a recording of a server that starts with the settings of this text. The error is the status of
-    /// what was said.
-    pub(crate) fn begin(
+    /// No file is open yet.
+    pub(crate) fn new(
         rt: &'a HostRuntime,
         path: &'a str,
-        settings: &[u8],
+        settings: &'a [u8],
         heads: bool,
-    ) -> Result<TapeFiles<'a>, ExitStatus> {
-        let opened = TapeFiles::open(rt, path, settings, heads);
-        opened.map_err(|error| cannot_with(rt, "record to", path, error))
+    ) -> TapeFiles<'a> {
+        TapeFiles {
+            rt,
+            path,
+            settings,
+            heads,
+            file: None,
+            next: 0,
+            day: 0,
+        }
+    }
+
+    /// Begins the first file. The error is the status of what was said.
+    pub(crate) fn begin(&mut self) -> Result<(), ExitStatus> {
+        match self.open_first() {
+            Ok(()) => Ok(()),
+            Err(error) => Err(cannot_with(self.rt, "record to", self.path, error)),
+        }
     }
 
     /// The same; the error is the system's.
-    fn open(
-        rt: &'a HostRuntime,
-        path: &'a str,
-        settings: &[u8],
-        heads: bool,
-    ) -> io::Result<TapeFiles<'a>> {
-        let began = now(rt)?;
-        let mut open = make_next(rt, path, 0)?;
-        let millis = u64::try_from(began.as_millis()).unwrap_or(0);
-        let mut text = Vec::new(rt.alloc());
-        put_start(&mut text, settings, millis, VERSION, heads)?;
-        open.file.write_all(&text)?;
-        Ok(TapeFiles {
-            rt,
-            path,
-            open,
-            day: began.as_secs() / DAY,
-        })
+    fn open_first(&mut self) -> io::Result<()> {
+        let began = now(self.rt)?;
+        let mut text = Vec::new(self.rt.alloc());
+        put_start(
+            &mut text,
+            self.settings,
+            millis_of(began),
+            VERSION,
+            self.heads,
+        )?;
+        self.day = began.as_secs() / DAY;
+        self.open_next()?;
+        self.write(&text)
+    }
+
+    /// Opens the first file of a number from the next on that isn't there yet.
+    fn open_next(&mut self) -> io::Result<()> {
+        for number in self.next..MOST_FILES {
+            let made = self.make(number)?;
+            if made.is_some() {
+                self.file = made;
+                self.next = number.saturating_add(1);
+                return Ok(());
+            }
+        }
+        Err(io::Error::from(ErrorKind::AlreadyExists))
+    }
+
+    /// Makes the file of a number, unless it is there.
+    fn make(&self, number: u32) -> io::Result<Option<File>> {
+        let name = name_of(self.rt, self.path, number)?;
+        make(self.rt, &name)
     }
 
     /// Goes on in another file, where another day has begun.
@@ -138,29 +158,32 @@ impl<'a> TapeFiles<'a> {
         if day == self.day {
             return Ok(());
         }
-        let mut next = make_next(self.rt, self.path, self.open.number.saturating_add(1))?;
         let mut text = Vec::new(self.rt.alloc());
-        put_goes_on(&mut text, self.open.name.as_bytes())?;
-        next.file.write_all(&text)?;
-        self.open = next;
+        let before = name_of(self.rt, self.path, self.next.saturating_sub(1))?;
+        put_goes_on(&mut text, before.as_bytes())?;
         self.day = day;
-        Ok(())
+        self.open_next()?;
+        self.write(&text)
+    }
+
+    /// Writes to the file that is open.
+    fn write(&mut self, bytes: &[u8]) -> io::Result<()> {
+        match &mut self.file {
+            Some(file) => file.write_all(bytes),
+            None => Ok(()),
+        }
     }
 
     /// Appends lines.
     fn append(&mut self, lines: &[u8]) -> io::Result<()> {
         self.turn_over()?;
-        self.open.file.write_all(lines)
+        self.write(lines)
     }
 
-    /// Says that the recording has ended, and the server goes on.
-    fn say_ended(&self) {
-        let name = &self.open.name;
-        if let Ok(words) = format!(in self.rt.alloc();
-            "the recording {name} has ended; the server goes on"
-        ) {
-            say(self.rt, &words);
-        }
+    /// Says that the recording has ended, and why.
+    fn say_ended(&self, error: io::Error) {
+        let _status = cannot_with(self.rt, "record to", self.path, error);
+        let _said = eprintln!(self.rt; "printd: the recording has ended; the server goes on");
     }
 }
 
@@ -169,16 +192,13 @@ impl Tape for TapeFiles<'_> {
         match self.append(lines) {
             Ok(()) => true,
             Err(error) => {
-                let _status = cannot_with(self.rt, "record to", &self.open.name, error);
-                self.say_ended();
+                self.say_ended(error);
                 false
             }
         }
     }
 
     fn lose(&mut self) {
-        let error = io::Error::from(ErrorKind::OutOfMemory);
-        let _status = cannot_with(self.rt, "record to", &self.open.name, error);
-        self.say_ended();
+        self.say_ended(out_of_memory());
     }
 }
