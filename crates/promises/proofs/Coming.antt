@@ -30,8 +30,8 @@ use Rattle.server.specs.Law.{core_notes}
 use Rattle.promises.specs.Orders.{Handled, AreHandled, AreAt, due_by}
 use Rattle.promises.proofs.Typing.{EventOf, typed}
 use Rattle.promises.specs.Answers.{Act, ClientTalk, IsNext, IsOwed, IsStateOf, asked_by}
-use Rattle.promises.proofs.Sending.{Counts, due_at, IsFresh, IsClient, same_key, other_key, is_key, Ordered, notes_append, calm_sets, Good, one_entry, not_key, client_none, client_fresh, no_true, counts_device, ordered_then, sent_by}
-use Rattle.promises.proofs.Handling.{happened, CameAs, Goes, goes_then, goes_calm, TalkedAs, Went, talked_still, one_handled, none_closed}
+use Rattle.promises.proofs.Sending.{Counts, due_at, IsFresh, IsClient, same_key, other_key, is_key, Ordered, notes_append, calm_sets, Good, one_entry, not_key, client_none, client_fresh, no_true, counts_device, ordered_then, sent_by, IsLost, lost_device, breaks_same}
+use Rattle.promises.proofs.Handling.{happened, CameAs, Goes, goes_then, goes_calm, TalkedAs, Went, talked_still, one_handled, none_closed, LostAs, lost_by}
 use Rattle.promises.proofs.Giving.{calms_chooses, Gave, gave_still, gives_nothing, at_aside, at_here, Just_these, Loose, given, No_memory, gives_dropped, gives_declines, gives_answers}
 use Rattle.promises.proofs.Moving.{Moves, moves_calm, moves_then, moves_many, moves_settles}
 use Rattle.promises.proofs.Stepping.{IsClientAsk, silent_growth, silent_part, device_does, IsClientStep, client_hears, DeviceAsks, device_hears}
@@ -113,6 +113,7 @@ acted_event moment key id who event last new l hs l' own good there client (outc
     more : (k : ℕ) → Ordered (λ device. sent_by outcome it.mid.core device ++ []) (l.entries k) (l'.entries k) → Ordered (sent_by outcome it.mid.core) (l.entries k) (l'.entries k)
     more k o = record {
       counts = λ device is. let c = o.counts device is in (c.0, c.1 ∙ ap (λ (bytes : List ℕ). due_at (l.entries k) ++ bytes) (append-nil (sent_by outcome it.mid.core device)));
+      breaks = λ device is. breaks_same (λ of. sent_by outcome it.mid.core of ++ []) (sent_by outcome it.mid.core) device (l.entries k) (l'.entries k) (sym (append-nil (sent_by outcome it.mid.core device))) (o.breaks device is);
       device = o.device;
       fresh = o.fresh;
       client = o.client;
@@ -181,6 +182,7 @@ client_acts moment key id what l front mid back l' hs whole good a client does =
   timed = acted.timed;
   told = ap core_notes whole ∙ (notes_append front back ∙ (ap (λ (ns : List Note). ns ++ core_notes back) (ap core_notes a.chosen) ∙ acted.told));
   came = λ k device counts. came k device (k == key) refl counts;
+  lost = λ k device is. lost k device (k == key) refl is;
   talks = λ k e is of sound. talks k e (k == key) refl is of sound;
   closed = none_closed l acted.handled l' (acted.closed ∙ ap (λ (x : Ledger). x.closed) a.after);
 }
@@ -259,6 +261,10 @@ client_acts moment key id what l front mid back l' hs whole good a client does =
     came : (k device : ℕ) (t : Bool) → (k == key) ≡ t → Counts device (l'.entries k) → CameAs device acted.handled (l.entries k) (l'.entries k)
     came k device true is counts = absurd (no_name device (l'.entries k) (last k is) (counts_device device (l'.entries k) counts))
     came k device false is counts = let it = (ordered k (other_key k key is)).counts device counts in inl (it.0, it.1 ∙ sym (acted.sends device (due_at (l.entries k))))
+
+    lost : (k device : ℕ) (t : Bool) → (k == key) ≡ t → IsLost device (l'.entries k) → LostAs device acted.handled (l.entries k) (l'.entries k)
+    lost k device true is broke = absurd (no_name device (l'.entries k) (last k is) (lost_device device (l'.entries k) broke))
+    lost k device false is broke = lost_by device acted.handled acted.sent (l.entries k) (l'.entries k) (acted.sends device (due_at (l.entries k))) ((ordered k (other_key k key is)).breaks device broke)
 
     went : (e : Entry) → l'.entries key ≡ Some e → ClientTalk e.talk → e.broken ≡ false → (a.asks.comes ≡ no_memory) ⊎ IsNext l.core.settings a.entry.talk a.asks.comes a.asks.mid.talk → a.asks.mid.due ≡ a.entry.due → Went l.core key acted.handled (l.entries key) e
     went e is of sound (inl none) due = let it = acted.here e is of sound in absurd (not_given (closes_of a.new.talk) (asked_by key acted.handled) it.1.0 a.asks.comes none it.1.1)

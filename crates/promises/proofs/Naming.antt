@@ -14,8 +14,8 @@ use Rattle.server.specs.Greeting.{IsDeviceAs, IsAlone, GivesWayAt, Greets}
 use Rattle.server.specs.Law.{core_notes}
 use Rattle.promises.specs.Orders.{Handled}
 use Rattle.promises.specs.Answers.{ClientTalk}
-use Rattle.promises.proofs.Sending.{Counts, due_at, FreshTalk, IsFresh, same_key, other_key, Ordered, ordered_still, ordered_broken, ordered_given_up, notes_append, Good, one_entry, client_none}
-use Rattle.promises.proofs.Handling.{happened, CameAs, Goes, goes_calm, Awaits, awaits_event, awaits_named, gone_sends_none, TalkedAs, talked_still}
+use Rattle.promises.proofs.Sending.{Counts, due_at, FreshTalk, IsFresh, same_key, other_key, Ordered, ordered_still, ordered_broken, ordered_given_up, notes_append, Good, one_entry, client_none, IsLost, no_bytes}
+use Rattle.promises.proofs.Handling.{happened, CameAs, Goes, goes_calm, Awaits, awaits_event, awaits_named, gone_sends_none, TalkedAs, talked_still, LostAs, lost_by}
 use Rattle.promises.proofs.Giving.{at_here}
 
 -- ---- a device says its name
@@ -46,7 +46,9 @@ awaits moment device key e new l hs l' good silent named fresh due alone = recor
   told = silent;
   only = λ other is. only other is (alone.each other);
   due = λ counts. due_here (alone.each key);
+  lost_due = λ lost. due_here (alone.each key);
   came = λ other of apart counts. came other of apart counts (alone.each other);
+  lost = λ other of apart is. lost other of apart is (alone.each other);
   talks = λ other f is of sound. talks other f is of sound (alone.each other);
   closed = alone.closed;
 }
@@ -78,6 +80,10 @@ awaits moment device key e new l hs l' good silent named fresh due alone = recor
     came : (other of : ℕ) → (device == of) ≡ false → Counts of (l'.entries other) → Each other → CameAs of [] (l.entries other) (l'.entries other)
     came other of apart counts (inl (here, is)) = absurd (other_device (device_of new.talk) device of named (subst (λ (o : Option Entry). Counts of o) is counts).0 apart)
     came other of apart counts (inr (aside, sent, none)) = let it = sent.counts of counts in inl (it.0, it.1 ∙ append-nil (due_at (l.entries other)))
+
+    lost : (other of : ℕ) → (device == of) ≡ false → IsLost of (l'.entries other) → Each other → LostAs of [] (l.entries other) (l'.entries other)
+    lost other of apart broke (inl (here, is)) = absurd (other_device (device_of new.talk) device of named (subst (λ (o : Option Entry). IsLost of o) is broke).0 apart)
+    lost other of apart broke (inr (aside, sent, none)) = lost_by of [] (λ d. []) (l.entries other) (l'.entries other) (sym (append-nil (due_at (l.entries other)))) (sent.breaks of broke)
 
     talks : (other : ℕ) (f : Entry) → l'.entries other ≡ Some f → ClientTalk f.talk → f.broken ≡ false → Each other → TalkedAs l.core other [] (l.entries other) f
     talks other f is of sound (inl (here, its)) = absurd (client_none new.talk device (subst ClientTalk (sym (ap (λ (x : Entry). x.talk) (one_entry new f (sym its ∙ is)))) of) named)
