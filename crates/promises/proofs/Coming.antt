@@ -98,7 +98,7 @@ acted_event moment key id who event last new l hs l' own good there client (outc
       closed = g.closed ∙ one.closed;
       here = λ e is of sound.
           let gave = g.here e is of sound in
-          let was = (one.each key).stays gave.0 gave.1 (subst ClientTalk (sym gave.2) of) gave.3 in
+          let was = (one.each key).stays gave.0 gave.1 (subst ClientTalk (sym gave.2) of) in
           let this : new ≡ was.0 = one_entry new was.0 (sym there ∙ was.1) in
           let talk : new.talk ≡ gave.0.talk = ap (λ (x : Entry). x.talk) this ∙ was.2 in (
             sym gave.2 ∙ sym talk,

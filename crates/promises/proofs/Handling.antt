@@ -222,12 +222,12 @@ talked_then core mid key first later x y e run (inl w) before = by (before w.bef
 -- it is what it was, where these events weren't asked on it
 pub talked_still : (core : State) (key : ℕ) (handled : List Handled) (x y : Option Entry) → Stays x y → asked_by key handled ≡ [] → (e : Entry) → y ≡ Some e → ClientTalk e.talk → e.broken ≡ false → TalkedAs core key handled x e
 talked_still core key handled x y stays none e is client sound =
-    let d = stays e is client sound in
+    let d = stays e is client in
     inl (record {
       before = d.0;
       there = d.1;
       client = subst ClientTalk (sym d.2) client;
-      sound = d.3;
+      sound = d.3 sound;
       acts = [];
       are = sym d.2;
       states = All-nil (λ (a : Act). IsStateOf a.state core handled);
@@ -431,7 +431,7 @@ goes_plain moment key o l hs l' good silent core after here talks closed = recor
   where
     talked : (k : ℕ) (e : Entry) (t : Bool) → (k == key) ≡ t → (if t then o else l.entries k) ≡ Some e → ClientTalk e.talk → e.broken ≡ false → TalkedAs l.core k [] (l.entries k) e
     talked k e true same is client sound = subst (λ (j : ℕ). TalkedAs l.core j [] (l.entries j) e) (sym (same_key k key same)) (talks e is client sound)
-    talked k e false same is client sound = talked_still l.core k [] (l.entries k) (l.entries k) (λ f there of unbroken. (f, there, refl, unbroken, refl)) refl e is client sound
+    talked k e false same is client sound = talked_still l.core k [] (l.entries k) (l.entries k) (λ f there of. (f, there, refl, λ unbroken. unbroken, refl)) refl e is client sound
 
     each : (k : ℕ) → Plain (l.entries k) (l'.entries k)
     each k = subst (λ (entries : ℕ → Option Entry). Plain (l.entries k) (entries k)) (sym after) (plain_at key o l.entries here k)

@@ -253,7 +253,7 @@ goes_on [] l l' good same = record {
   told = refl;
   came = λ key device counts. inl (subst (λ (x : Ledger). Counts device (x.entries key)) same counts, ap (λ (x : Ledger). due_at (x.entries key)) same);
   lost = λ key device is. inl (subst (λ (x : Ledger). IsLost device (x.entries key)) same is, ap (λ (x : Ledger). due_at (x.entries key)) same);
-  talks = λ key. talked_still l.core key [] (l.entries key) (l'.entries key) (λ f is of sound. (f, subst (λ (x : Ledger). x.entries key ≡ Some f) same is, refl, sound, refl)) refl;
+  talks = λ key. talked_still l.core key [] (l.entries key) (l'.entries key) (λ f is of. (f, subst (λ (x : Ledger). x.entries key ≡ Some f) same is, refl, λ sound. sound, refl)) refl;
   closed = none_closed l [] l' (ap (λ (x : Ledger). x.closed) same);
 }
 goes_on (deed ∷ deeds) l l' good (mid, does, runs) =

@@ -70,7 +70,7 @@ leaves_at moment fate key e l hs l' good there it =
       whole = refl;
       came = λ device named sound. inl (subst (λ (o : Option Entry). Counts device o) (sym there) (named, sound), sym (ap due_at there));
       lost = λ device named is. inl (subst (λ (o : Option Entry). IsLost device o) (sym there) (named, is), sym (ap due_at there));
-      talks = λ client sound. talked_still l.core key [] (l.entries key) (l.entries key) (λ f is of unbroken. (f, is, refl, unbroken, refl)) refl e there client sound;
+      talks = λ client sound. talked_still l.core key [] (l.entries key) (l.entries key) (λ f is of. (f, is, refl, λ unbroken. unbroken, refl)) refl e there client sound;
     }
 
 pub moves_gone : (moment : ℕ) (device : Option ℕ) → Moves moment (IsGone moment device)

@@ -94,6 +94,11 @@ unnamed_device (Http said closes body) device is = cc
 unnamed_device (Queue items session) device is = cc
 unnamed_device (Link reports other) device is = cc
 
+named_client : (talk : Talk) (device : ℕ) → device_of talk ≡ Some device → ClientTalk (unnamed talk) → ⊥
+named_client (Http said closes body) device is client = cc
+named_client (Queue items session) device is client = cc
+named_client (Link reports other) device is client = client
+
 pub as_device : (ended : Bool) (device : ℕ) (o : Option Entry) → IsDeviceAs ended device o → IsDevice device o
 as_device ended device None is = absurd is
 as_device ended device (Some e) is = is.0
@@ -216,7 +221,7 @@ greets moment key id device name e new l front mid back l' hs whole just (inr (i
     by ended k (inl (same, its)) second =
         subst (λ (o : Option Entry). Ordered (λ d. []) o (l'.entries k)) (sym (ap l.entries same ∙ just.there))
         (subst (λ (o : Option Entry). Ordered (λ d. []) (Some e) o) (sym (ap (λ (x : Ledger). x.entries k) ended ∙ its))
-        (ordered_broken (λ d. []) e (given_up new) refl (λ d is. absurd (unnamed_device new.talk d is)) (λ client. absurd (just.link client))))
+        (ordered_broken (λ d. []) e (given_up new) refl (λ d is. absurd (unnamed_device new.talk d is)) (λ client. absurd (just.link client)) (λ client. absurd (named_client new.talk device just.named client))))
     by ended k (inr (apart, its)) (inl (same, two)) = absurd (apart same)
     by ended k (inr (apart, its)) (inr (aside, two)) =
         subst (λ (o : Option Entry). Ordered (λ d. []) (l.entries k) o) (sym (ap (λ (x : Ledger). x.entries k) ended ∙ (its ∙ (ap (λ (x : Ledger). x.entries k) just.after ∙ two)))) (ordered_still (l.entries k))

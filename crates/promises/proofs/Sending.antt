@@ -75,15 +75,15 @@ not_key k key apart = grind (arith, nat_tests, apart)
 pub no_bytes : ℕ → List ℕ
 no_bytes device = []
 
--- a client's connection that isn't broken is what it was, but for what it has read and what was taken
+-- a client's connection is what it was, but for what it has read, what was taken, and that it may break
 abbrev pub Stays : Option Entry → Option Entry → Type 0
-Stays x y = (e : Entry) → y ≡ Some e → ClientTalk e.talk → e.broken ≡ false → (d : Entry) × (x ≡ Some d) × (d.talk ≡ e.talk) × (d.broken ≡ false) × (d.due ≡ e.due)
+Stays x y = (e : Entry) → y ≡ Some e → ClientTalk e.talk → (d : Entry) × (x ≡ Some d) × (d.talk ≡ e.talk) × (e.broken ≡ false → d.broken ≡ false) × (d.due ≡ e.due)
 
 stays_then : (x y z : Option Entry) → Stays x y → Stays y z → Stays x z
-stays_then x y z p q e is client sound =
-    let mid = q e is client sound in
-    let first = p mid.0 mid.1 (subst ClientTalk (sym mid.2) client) mid.3 in
-    (first.0, first.1, first.2 ∙ mid.2, first.3, first.4 ∙ mid.4)
+stays_then x y z p q e is client =
+    let mid = q e is client in
+    let first = p mid.0 mid.1 (subst ClientTalk (sym mid.2) client) in
+    (first.0, first.1, first.2 ∙ mid.2, λ sound. first.3 (mid.3 sound), first.4 ∙ mid.4)
 
 pub one_entry : (d e : Entry) → Some d ≡ Some e → d ≡ e
 one_entry d e same = cc
@@ -123,7 +123,7 @@ ordered_same sent x none = record {
   device = λ device is. is;
   fresh = λ is. is;
   client = λ is. is;
-  stays = λ e is client sound. (e, is, refl, sound, refl);
+  stays = λ e is client. (e, is, refl, λ sound. sound, refl);
 }
 
 pub ordered_still : (x : Option Entry) → Ordered (λ device. []) x x
@@ -165,14 +165,17 @@ broken_fresh (Link reports None) e is = λ not_broken. absurd (no_true e.broken 
 broken_fresh (Link reports (Some device)) e is = tt
 
 -- a connection that is broken now, of the same peer, on which the same is due
-pub ordered_broken : (sent : ℕ → List ℕ) (d e : Entry) → e.broken ≡ true → ((device : ℕ) → device_of e.talk ≡ Some device → (device_of d.talk ≡ Some device) × (e.due ≡ d.due)) → (ClientTalk d.talk → ClientTalk e.talk) → Ordered sent (Some d) (Some e)
-ordered_broken sent d e is of_device of_client = record {
+pub ordered_broken : (sent : ℕ → List ℕ) (d e : Entry) → e.broken ≡ true → ((device : ℕ) → device_of e.talk ≡ Some device → (device_of d.talk ≡ Some device) × (e.due ≡ d.due)) → (ClientTalk d.talk → ClientTalk e.talk) → (ClientTalk e.talk → (d.talk ≡ e.talk) × (d.due ≡ e.due)) → Ordered sent (Some d) (Some e)
+ordered_broken sent d e is of_device of_client same_client = record {
   counts = λ device counts. absurd (no_true e.broken is counts.1);
   breaks = λ device lost. by device (of_device device lost.0) d.broken refl;
   device = λ device named. (of_device device named).0;
   fresh = λ fresh. broken_fresh e.talk e is;
   client = of_client;
-  stays = λ f same client sound. absurd (no_true e.broken is (ap (λ (x : Entry). x.broken) (one_entry e f same) ∙ sound));
+  stays = λ f same client.
+      let this = one_entry e f same in
+      let it = same_client (subst (λ (x : Entry). ClientTalk x.talk) (sym this) client) in
+      (d, refl, it.0 ∙ ap (λ (x : Entry). x.talk) this, λ sound. absurd (no_true e.broken is (ap (λ (x : Entry). x.broken) this ∙ sound)), it.1 ∙ ap (λ (x : Entry). x.due) this);
 }
   where
     by : (device : ℕ) → (device_of d.talk ≡ Some device) × (e.due ≡ d.due) → (t : Bool) → d.broken ≡ t → BreaksAs sent device (Some d) (Some e)
@@ -193,7 +196,7 @@ ordered_keeps d e talk same due = record {
   device = λ device is. ap device_of (sym talk) ∙ is;
   fresh = λ fresh. subst (λ (t : Talk). FreshTalk t e) (sym talk) (still_fresh d.talk d e same due fresh);
   client = λ client. subst ClientTalk (sym talk) client;
-  stays = λ f is client sound. let this = one_entry e f is in (d, refl, sym talk ∙ ap (λ (x : Entry). x.talk) this, sym same ∙ (ap (λ (x : Entry). x.broken) this ∙ sound), sym due ∙ ap (λ (x : Entry). x.due) this);
+  stays = λ f is client. let this = one_entry e f is in (d, refl, sym talk ∙ ap (λ (x : Entry). x.talk) this, λ sound. sym same ∙ (ap (λ (x : Entry). x.broken) this ∙ sound), sym due ∙ ap (λ (x : Entry). x.due) this);
 }
 
 unnamed_none : (talk : Talk) (device : ℕ) → device_of (unnamed talk) ≡ Some device → device_of talk ≡ Some device
@@ -206,8 +209,13 @@ unnamed_client (Http said closes body) client = tt
 unnamed_client (Queue items session) client = tt
 unnamed_client (Link reports device) client = absurd client
 
+unnamed_talk : (talk : Talk) → ClientTalk (unnamed talk) → talk ≡ unnamed talk
+unnamed_talk (Http said closes body) client = refl
+unnamed_talk (Queue items session) client = refl
+unnamed_talk (Link reports device) client = absurd client
+
 pub ordered_given_up : (e : Entry) → Ordered (λ device. []) (Some e) (Some (given_up e))
-ordered_given_up e = ordered_broken (λ device. []) e (given_up e) refl (λ device named. (unnamed_none e.talk device named, refl)) (unnamed_client e.talk)
+ordered_given_up e = ordered_broken (λ device. []) e (given_up e) refl (λ device named. (unnamed_none e.talk device named, refl)) (unnamed_client e.talk) (λ client. (unnamed_talk e.talk client, refl))
 
 -- ---- ledgers
 
@@ -295,7 +303,7 @@ pub calm_sets : (key : ℕ) (d e : Entry) (l : Ledger) (hs : List Happening) (l'
 calm_sets key d e l hs l' there here silent after = sent_sets (λ device. []) key d e l hs l' there here (λ other apart device is. refl) silent after
 
 pub breaking : (e : Entry) → Ordered (λ device. []) (Some e) (Some (broken e))
-breaking e = ordered_broken (λ device. []) e (broken e) refl (λ device is. (is, refl)) (λ client. client)
+breaking e = ordered_broken (λ device. []) e (broken e) refl (λ device is. (is, refl)) (λ client. client) (λ client. (refl, refl))
 
 -- ---- what is kept on a device's connection
 
@@ -335,7 +343,7 @@ owing_to device bytes e is unbroken = record {
   device = λ other named. named;
   fresh = λ fresh. named_fresh e.talk (owing bytes e) is;
   client = λ client. client;
-  stays = λ f same client sound. absurd (client_none e.talk device (subst ClientTalk (sym (ap (λ (x : Entry). x.talk) (one_entry (owing bytes e) f same))) client) is);
+  stays = λ f same client. absurd (client_none e.talk device (subst ClientTalk (sym (ap (λ (x : Entry). x.talk) (one_entry (owing bytes e) f same))) client) is);
 }
   where
     named_fresh : (talk : Talk) (it : Entry) → device_of talk ≡ Some device → FreshTalk talk it
@@ -353,7 +361,7 @@ keeps_open device key bytes e l hs l' unbroken there is others (inl it) =
     sent_sets (to_device device bytes) key e (owing bytes e) l hs l' there (owing_to device bytes e is unbroken) (λ other apart. unsent_to device bytes (l.entries other) (others other apart))
     (no_notes hs it.front it.back it.whole (ap core_notes it.first.0) (ap core_notes it.second.0)) (it.second.1 ∙ ap (λ (x : Ledger). with_entry key (owing bytes e) x) started)
 keeps_open device key bytes e l hs l' unbroken there is others (inr it) =
-    sent_sets (to_device device bytes) key e (broken e) l hs l' there (ordered_broken (to_device device bytes) e (broken e) refl (λ other named. (named, refl)) (λ client. client)) (λ other apart. unsent_to device bytes (l.entries other) (others other apart))
+    sent_sets (to_device device bytes) key e (broken e) l hs l' there (ordered_broken (to_device device bytes) e (broken e) refl (λ other named. (named, refl)) (λ client. client) (λ client. (refl, refl))) (λ other apart. unsent_to device bytes (l.entries other) (others other apart))
     (ap core_notes it.0) it.1
 
 keeps_if : (t : Bool) (device key : ℕ) (bytes : List ℕ) (e : Entry) (l : Ledger) (hs : List Happening) (l' : Ledger) → e.broken ≡ t → l.entries key ≡ Some e → device_of e.talk ≡ Some device → ((other : ℕ) → other ≢ key → IsDevice device (l.entries other) → ⊥) → If t Nothing (KeepsOpen true key bytes e) l hs l' → Sent (to_device device bytes) l hs l'
