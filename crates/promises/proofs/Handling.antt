@@ -30,7 +30,7 @@ use Rattle.server.specs.Ledger.{Ledger, at_key, job_bytes, Fate}
 use Rattle.server.specs.Keeping.{IsDevice}
 use Rattle.server.specs.Happening.{Happens, found_by}
 use Rattle.server.specs.Law.{core_notes}
-use Rattle.promises.specs.Answers.{Act, ClientTalk, AreActs, IsStateOf, is_asked, asked_by, IsAnswered}
+use Rattle.promises.specs.Answers.{Act, ClientTalk, AreActs, IsStateOf, is_asked, asked_by, IsAnswered, IsLast, BrokeAfter, IsCutOff}
 use Rattle.promises.specs.Orders.{Handled, AreHandled, AreAt, cancel_for, start_for, orders_of, names, due_by}
 use Rattle.promises.proofs.Sending.{Counts, due_at, IsFresh, counts_device, same_key, not_key, Ordered, Calm, Good, good_sent, notes_append, sent_by, orders, Stays, IsLost, BreaksAs, no_bytes, lost_device}
 
@@ -219,6 +219,119 @@ talked_then core mid key first later x y e run (inl w) before = by (before w.bef
       due = due_joined [] w.before.due e.due b.acts w.acts b.due w.due;
     })
 
+-- ---- where it broke
+
+-- it had broken before; or it went on from another, and broke; or it was accepted since, and broke
+abbrev pub StopsAs : State → ℕ → List Handled → Option Entry → Entry → Type 0
+StopsAs core key handled x e =
+    ((d : Entry) × (x ≡ Some d) × (d.broken ≡ true) × (d.talk ≡ e.talk) × (d.due ≡ e.due) × (asked_by key handled ≡ []))
+    ⊎ (((d : Entry) × (x ≡ Some d) × ClientTalk d.talk × (d.broken ≡ false) × BrokeAfter core key handled handled d.talk d.due e) ⊎ IsCutOff core key handled e)
+
+last_more : (core : State) (first later : List Handled) (after talk : Talk) → IsLast core first after talk → IsLast core (first ++ later) after talk
+last_more core first later after talk (inl is) = inl is
+last_more core first later after talk (inr (state, what, of, next)) = inr (state, what, state_more state core first later of, next)
+
+last_behind : (core mid : State) (first later : List Handled) (after talk : Talk) → AreHandled core first mid → IsLast mid later after talk → IsLast core (first ++ later) after talk
+last_behind core mid first later after talk run (inl is) = inl is
+last_behind core mid first later after talk run (inr (state, what, of, next)) = inr (state, what, state_behind state core mid first later run of, next)
+
+-- more comes, which it doesn't ask for
+broke_more : (core : State) (key : ℕ) (first later since : List Handled) (before : Talk) (base : List ℕ) (d e : Entry) → BrokeAfter core key first since before base d → d.talk ≡ e.talk → d.due ≡ e.due → asked_by key later ≡ [] → BrokeAfter core key (first ++ later) (since ++ later) before base e
+broke_more core key first later since before base d e b talk due none = record {
+  acts = b.acts;
+  after = b.after;
+  are = b.are;
+  states = states_more core first later b.acts b.states;
+  unanswered = b.unanswered;
+  asked = asked_append key since later ∙ (ap (λ (its : List Handled). asked_by key since ++ its) none ∙ (append-nil (asked_by key since) ∙ b.asked));
+  last = subst (λ (t : Talk). IsLast core (first ++ later) b.after t) talk (last_more core first later b.after d.talk b.last);
+  due = sym due ∙ b.due;
+}
+
+-- it had gone on by other acts before
+broke_behind : (core mid : State) (key : ℕ) (first later since : List Handled) (before : Talk) (base : List ℕ) (d e : Entry) (acts : List Act) → AreHandled core first mid → AreActs before acts d.talk → All (λ (a : Act). IsStateOf a.state core first) acts → asked_by key since ≡ flat_map (λ (a : Act). a.asked) acts
+    → d.due ≡ base ++ flat_map (λ (a : Act). a.bytes) acts → BrokeAfter mid key later later d.talk d.due e → BrokeAfter core key (first ++ later) (since ++ later) before base e
+broke_behind core mid key first later since before base d e acts run are states asked due b = record {
+  acts = acts ++ b.acts;
+  after = b.after;
+  are = acts_append before d.talk b.after acts b.acts are b.are;
+  states = All-append (λ (a : Act). IsStateOf a.state core (first ++ later)) acts b.acts (states_more core first later acts states) (states_behind core mid first later b.acts run b.states);
+  unanswered = b.unanswered;
+  asked = asked_append key since later
+      ∙ (ap (λ (its : List Handled). its ++ asked_by key later) asked
+      ∙ (ap (λ (its : List Handled). flat_map (λ (a : Act). a.asked) acts ++ its) b.asked
+      ∙ (sym (append_assoc (flat_map (λ (a : Act). a.asked) acts) (flat_map (λ (a : Act). a.asked) b.acts) b.unanswered) ∙ ap (λ (its : List Handled). its ++ b.unanswered) (sym (flat_map-append (λ (a : Act). a.asked) acts b.acts)))));
+  last = last_behind core mid first later b.after e.talk run b.last;
+  due = due_joined base d.due e.due acts b.acts due b.due;
+}
+
+pub stops_then : (core mid : State) (key : ℕ) (first later : List Handled) (x y : Option Entry) (e : Entry) → AreHandled core first mid → ClientTalk e.talk → StopsAs mid key later y e → ((d : Entry) → y ≡ Some d → ClientTalk d.talk → d.broken ≡ false → TalkedAs core key first x d)
+    → ((d : Entry) → y ≡ Some d → ClientTalk d.talk → d.broken ≡ true → StopsAs core key first x d) → StopsAs core key (first ++ later) x e
+stops_then core mid key first later x y e run client (inl (d, there, broken, talk, due, none)) talked stopped = by (stopped d there (subst ClientTalk (sym talk) client) broken)
+  where
+    by : StopsAs core key first x d → StopsAs core key (first ++ later) x e
+    by (inl (f, is, was, same, more, silent)) = inl (f, is, was, same ∙ talk, more ∙ due, asked_append key first later ∙ (ap (λ (its : List Handled). its ++ asked_by key later) silent ∙ none))
+    by (inr (inl (f, is, of, sound, b))) = inr (inl (f, is, of, sound, broke_more core key first later first f.talk f.due d e b talk due none))
+    by (inr (inr c)) = inr (inr (record {
+      earlier = c.earlier;
+      since = c.since ++ later;
+      whole = ap (λ (its : List Handled). its ++ later) c.whole ∙ append_assoc c.earlier c.since later;
+      door = c.door;
+      until = broke_more core key first later c.since (opening_talk c.door) [] d e c.until talk due none;
+    }))
+stops_then core mid key first later x y e run client (inr (inl (d, there, of, sound, b))) talked stopped = by (talked d there of sound)
+  where
+    by : TalkedAs core key first x d → StopsAs core key (first ++ later) x e
+    by (inl v) = inr (inl (v.before, v.there, v.client, v.sound, broke_behind core mid key first later first v.before.talk v.before.due d e v.acts run v.are v.states v.asked v.due b))
+    by (inr a) = inr (inr (record {
+      earlier = a.earlier;
+      since = a.since ++ later;
+      whole = ap (λ (its : List Handled). its ++ later) a.whole ∙ append_assoc a.earlier a.since later;
+      door = a.door;
+      until = broke_behind core mid key first later a.since (opening_talk a.door) [] d e a.acts run a.are a.states a.asked a.due b;
+    }))
+stops_then core mid key first later x y e run client (inr (inr c)) talked stopped = inr (inr (record {
+  earlier = first ++ c.earlier;
+  since = c.since;
+  whole = ap (λ (its : List Handled). first ++ its) c.whole ∙ sym (append_assoc first c.earlier c.since);
+  door = c.door;
+  until = record {
+    acts = c.until.acts;
+    after = c.until.after;
+    are = c.until.are;
+    states = states_behind core mid first later c.until.acts run c.until.states;
+    unanswered = c.until.unanswered;
+    asked = c.until.asked;
+    last = last_behind core mid first later c.until.after e.talk run c.until.last;
+    due = c.until.due;
+  };
+}))
+
+-- it broke, or had broken, where these events weren't asked on it
+pub stops_still : (core : State) (key : ℕ) (handled : List Handled) (x y : Option Entry) → Stays x y → asked_by key handled ≡ [] → (e : Entry) → y ≡ Some e → ClientTalk e.talk → e.broken ≡ true → StopsAs core key handled x e
+stops_still core key handled x y stays none e is client broken =
+    let d = stays e is client in
+    by d.0 d.1 d.2 d.4 d.0.broken refl
+  where
+    by : (d : Entry) → x ≡ Some d → d.talk ≡ e.talk → d.due ≡ e.due → (t : Bool) → d.broken ≡ t → StopsAs core key handled x e
+    by d there talk due true was = inl (d, there, was, talk, due, none)
+    by d there talk due false was = inr (inl (
+      d,
+      there,
+      subst ClientTalk (sym talk) client,
+      was,
+      record {
+        acts = [];
+        after = d.talk;
+        are = refl;
+        states = All-nil (λ (a : Act). IsStateOf a.state core handled);
+        unanswered = [];
+        asked = none;
+        last = inl talk;
+        due = sym due ∙ sym (append-nil d.due);
+      },
+    ))
+
 -- it is what it was, where these events weren't asked on it
 pub talked_still : (core : State) (key : ℕ) (handled : List Handled) (x y : Option Entry) → Stays x y → asked_by key handled ≡ [] → (e : Entry) → y ≡ Some e → ClientTalk e.talk → e.broken ≡ false → TalkedAs core key handled x e
 talked_still core key handled x y stays none e is client sound =
@@ -246,6 +359,7 @@ pub record ClosedAs (l : Ledger) (handled : List Handled) (e : Entry) : Type 0 w
   pub came : (device : ℕ) → device_of e.talk ≡ Some device → e.broken ≡ false → CameAs device before (l.entries key) (Some e)
   pub lost : (device : ℕ) → device_of e.talk ≡ Some device → e.broken ≡ true → LostAs device before (l.entries key) (Some e)
   pub talks : ClientTalk e.talk → e.broken ≡ false → TalkedAs l.core key before (l.entries key) e
+  pub stops : ClientTalk e.talk → e.broken ≡ true → StopsAs l.core key before (l.entries key) e
 
 pub record AllClosed (l : Ledger) (handled : List Handled) (l' : Ledger) : Type 0 where
   pub more : List (Entry × Fate)
@@ -266,6 +380,7 @@ pub record Goes (moment : ℕ) (l : Ledger) (hs : List Happening) (l' : Ledger) 
   pub came : (key device : ℕ) → Counts device (l'.entries key) → CameAs device handled (l.entries key) (l'.entries key)
   pub lost : (key device : ℕ) → IsLost device (l'.entries key) → LostAs device handled (l.entries key) (l'.entries key)
   pub talks : (key : ℕ) (e : Entry) → l'.entries key ≡ Some e → ClientTalk e.talk → e.broken ≡ false → TalkedAs l.core key handled (l.entries key) e
+  pub stops : (key : ℕ) (e : Entry) → l'.entries key ≡ Some e → ClientTalk e.talk → e.broken ≡ true → StopsAs l.core key handled (l.entries key) e
   pub closed : AllClosed l handled l'
 
 pub due_append : (device : ℕ) (before : List ℕ) (first later : List Handled) → due_by device before (first ++ later) ≡ due_by device (due_by device before first) later
@@ -344,12 +459,14 @@ closed_more l first later e c = record {
   came = c.came;
   lost = c.lost;
   talks = c.talks;
+  stops = c.stops;
 }
 
 closed_behind : (l mid : Ledger) (first later : List Handled) (e : Entry) → AreHandled l.core first mid.core → ((key device : ℕ) → Counts device (mid.entries key) → CameAs device first (l.entries key) (mid.entries key))
     → ((key device : ℕ) → IsLost device (mid.entries key) → LostAs device first (l.entries key) (mid.entries key))
-    → ((key : ℕ) (d : Entry) → mid.entries key ≡ Some d → ClientTalk d.talk → d.broken ≡ false → TalkedAs l.core key first (l.entries key) d) → ClosedAs mid later e → ClosedAs l (first ++ later) e
-closed_behind l mid first later e run came lost talks c = record {
+    → ((key : ℕ) (d : Entry) → mid.entries key ≡ Some d → ClientTalk d.talk → d.broken ≡ false → TalkedAs l.core key first (l.entries key) d)
+    → ((key : ℕ) (d : Entry) → mid.entries key ≡ Some d → ClientTalk d.talk → d.broken ≡ true → StopsAs l.core key first (l.entries key) d) → ClosedAs mid later e → ClosedAs l (first ++ later) e
+closed_behind l mid first later e run came lost talks stops c = record {
   key = c.key;
   before = first ++ c.before;
   behind = c.behind;
@@ -357,17 +474,19 @@ closed_behind l mid first later e run came lost talks c = record {
   came = λ device named sound. came_then device first c.before (l.entries c.key) (mid.entries c.key) (Some e) (c.came device named sound) (came c.key device);
   lost = λ device named is. lost_then device first c.before (l.entries c.key) (mid.entries c.key) (Some e) (c.lost device named is) (lost c.key device) (came c.key device);
   talks = λ client sound. talked_then l.core mid.core c.key first c.before (l.entries c.key) (mid.entries c.key) e run (c.talks client sound) (λ d there of unbroken. talks c.key d there of unbroken);
+  stops = λ client broken. stops_then l.core mid.core c.key first c.before (l.entries c.key) (mid.entries c.key) e run client (c.stops client broken) (talks c.key) (stops c.key);
 }
 
 pub all_closed_then : (l mid l' : Ledger) (first later : List Handled) → AreHandled l.core first mid.core → ((key device : ℕ) → Counts device (mid.entries key) → CameAs device first (l.entries key) (mid.entries key))
     → ((key device : ℕ) → IsLost device (mid.entries key) → LostAs device first (l.entries key) (mid.entries key))
-    → ((key : ℕ) (d : Entry) → mid.entries key ≡ Some d → ClientTalk d.talk → d.broken ≡ false → TalkedAs l.core key first (l.entries key) d) → AllClosed l first mid → AllClosed mid later l' → AllClosed l (first ++ later) l'
-all_closed_then l mid l' first later run came lost talks p q = record {
+    → ((key : ℕ) (d : Entry) → mid.entries key ≡ Some d → ClientTalk d.talk → d.broken ≡ false → TalkedAs l.core key first (l.entries key) d)
+    → ((key : ℕ) (d : Entry) → mid.entries key ≡ Some d → ClientTalk d.talk → d.broken ≡ true → StopsAs l.core key first (l.entries key) d) → AllClosed l first mid → AllClosed mid later l' → AllClosed l (first ++ later) l'
+all_closed_then l mid l' first later run came lost talks stops p q = record {
   more = p.more ++ q.more;
   closed = q.closed ∙ (ap (λ (xs : List (Entry × Fate)). xs ++ q.more) p.closed ∙ append_assoc l.closed p.more q.more);
   each = All-append (λ (it : Entry × Fate). ClosedAs l (first ++ later) it.0) p.more q.more
       (All-weaker (λ (it : Entry × Fate). ClosedAs l first it.0) (λ (it : Entry × Fate). ClosedAs l (first ++ later) it.0) (λ it c. closed_more l first later it.0 c) p.more p.each)
-      (All-weaker (λ (it : Entry × Fate). ClosedAs mid later it.0) (λ (it : Entry × Fate). ClosedAs l (first ++ later) it.0) (λ it c. closed_behind l mid first later it.0 run came lost talks c) q.more q.each);
+      (All-weaker (λ (it : Entry × Fate). ClosedAs mid later it.0) (λ (it : Entry × Fate). ClosedAs l (first ++ later) it.0) (λ it c. closed_behind l mid first later it.0 run came lost talks stops c) q.more q.each);
 }
 
 pub goes_then : (moment : ℕ) (l : Ledger) (front : List Happening) (mid : Ledger) (back : List Happening) (l' : Ledger) (hs : List Happening) → hs ≡ front ++ back → Goes moment l front mid → Goes moment mid back l' → Goes moment l hs l'
@@ -380,7 +499,8 @@ goes_then moment l front mid back l' hs whole p q = record {
   came = λ key device counts. came_then device p.handled q.handled (l.entries key) (mid.entries key) (l'.entries key) (q.came key device counts) (p.came key device);
   lost = λ key device is. lost_then device p.handled q.handled (l.entries key) (mid.entries key) (l'.entries key) (q.lost key device is) (p.lost key device) (p.came key device);
   talks = λ key e is client sound. talked_then l.core mid.core key p.handled q.handled (l.entries key) (mid.entries key) e p.run (q.talks key e is client sound) (λ d there of unbroken. p.talks key d there of unbroken);
-  closed = all_closed_then l mid l' p.handled q.handled p.run p.came p.lost p.talks p.closed q.closed;
+  stops = λ key e is client broken. stops_then l.core mid.core key p.handled q.handled (l.entries key) (mid.entries key) e p.run client (q.stops key e is client broken) (p.talks key) (p.stops key);
+  closed = all_closed_then l mid l' p.handled q.handled p.run p.came p.lost p.talks p.stops p.closed q.closed;
 }
 
 pub goes_calm : (moment : ℕ) (l : Ledger) (hs : List Happening) (l' : Ledger) → Good l → Calm l hs l' → Goes moment l hs l'
@@ -393,6 +513,7 @@ goes_calm moment l hs l' good calm = record {
   came = λ key device counts. let it = (calm.each key).counts device counts in inl (it.0, it.1 ∙ append-nil (due_at (l.entries key)));
   lost = λ key device is. lost_by device [] (λ d. []) (l.entries key) (l'.entries key) (sym (append-nil (due_at (l.entries key)))) ((calm.each key).breaks device is);
   talks = λ key. talked_still l.core key [] (l.entries key) (l'.entries key) (calm.each key).stays refl;
+  stops = λ key. stops_still l.core key [] (l.entries key) (l'.entries key) (calm.each key).stays refl;
   closed = none_closed l [] l' calm.closed;
 }
 
@@ -413,8 +534,8 @@ plain_at key o entries here other =
 
 -- a connection came, or was closed
 pub goes_plain : (moment key : ℕ) (o : Option Entry) (l : Ledger) (hs : List Happening) (l' : Ledger) → Good l → core_notes hs ≡ [] → l'.core ≡ l.core → l'.entries ≡ at_key key o l.entries → Plain (l.entries key) o
-    → ((e : Entry) → o ≡ Some e → ClientTalk e.talk → e.broken ≡ false → TalkedAs l.core key [] (l.entries key) e) → AllClosed l [] l' → Goes moment l hs l'
-goes_plain moment key o l hs l' good silent core after here talks closed = record {
+    → ((e : Entry) → o ≡ Some e → ClientTalk e.talk → e.broken ≡ false → TalkedAs l.core key [] (l.entries key) e) → ((e : Entry) → o ≡ Some e → e.broken ≡ true → ⊥) → AllClosed l [] l' → Goes moment l hs l'
+goes_plain moment key o l hs l' good silent core after here talks unbroken closed = record {
   handled = [];
   good = record {
     one = λ device k other p q. good.one device k other ((each k).device device p) ((each other).device device q);
@@ -426,12 +547,17 @@ goes_plain moment key o l hs l' good silent core after here talks closed = recor
   came = λ k device counts. inl ((each k).counts device counts);
   lost = λ k device is. inl ((each k).lost device is);
   talks = λ k e is. talked k e (k == key) refl (subst (λ (entries : ℕ → Option Entry). entries k ≡ Some e) after is);
+  stops = λ k e is. stopped k e (k == key) refl (subst (λ (entries : ℕ → Option Entry). entries k ≡ Some e) after is);
   closed = closed;
 }
   where
     talked : (k : ℕ) (e : Entry) (t : Bool) → (k == key) ≡ t → (if t then o else l.entries k) ≡ Some e → ClientTalk e.talk → e.broken ≡ false → TalkedAs l.core k [] (l.entries k) e
     talked k e true same is client sound = subst (λ (j : ℕ). TalkedAs l.core j [] (l.entries j) e) (sym (same_key k key same)) (talks e is client sound)
-    talked k e false same is client sound = talked_still l.core k [] (l.entries k) (l.entries k) (λ f there of. (f, there, refl, λ unbroken. unbroken, refl)) refl e is client sound
+    talked k e false same is client sound = talked_still l.core k [] (l.entries k) (l.entries k) (λ f there of. (f, there, refl, λ still. still, refl)) refl e is client sound
+
+    stopped : (k : ℕ) (e : Entry) (t : Bool) → (k == key) ≡ t → (if t then o else l.entries k) ≡ Some e → ClientTalk e.talk → e.broken ≡ true → StopsAs l.core k [] (l.entries k) e
+    stopped k e true same is client broken = absurd (unbroken e is broken)
+    stopped k e false same is client broken = stops_still l.core k [] (l.entries k) (l.entries k) (λ f there of. (f, there, refl, λ still. still, refl)) refl e is client broken
 
     each : (k : ℕ) → Plain (l.entries k) (l'.entries k)
     each k = subst (λ (entries : ℕ → Option Entry). Plain (l.entries k) (entries k)) (sym after) (plain_at key o l.entries here k)
@@ -456,6 +582,7 @@ goes_event moment event outcome l hs l' good it = record {
   came = λ key device counts. inl ((it.each key).counts device counts);
   lost = λ key device is. lost_by device (one_handled moment event outcome hs l' None None ∷ []) (sent_by outcome l'.core) (l.entries key) (l'.entries key) refl ((it.each key).breaks device is);
   talks = λ key. talked_still l.core key (one_handled moment event outcome hs l' None None ∷ []) (l.entries key) (l'.entries key) (it.each key).stays refl;
+  stops = λ key. stops_still l.core key (one_handled moment event outcome hs l' None None ∷ []) (l.entries key) (l'.entries key) (it.each key).stays refl;
   closed = none_closed l (one_handled moment event outcome hs l' None None ∷ []) l' it.closed;
 }
 
@@ -474,6 +601,7 @@ pub record Awaits (moment device key : ℕ) (l : Ledger) (hs : List Happening) (
   pub came : (other of : ℕ) → (device == of) ≡ false → Counts of (l'.entries other) → CameAs of handled (l.entries other) (l'.entries other)
   pub lost : (other of : ℕ) → (device == of) ≡ false → IsLost of (l'.entries other) → LostAs of handled (l.entries other) (l'.entries other)
   pub talks : (other : ℕ) (e : Entry) → l'.entries other ≡ Some e → ClientTalk e.talk → e.broken ≡ false → TalkedAs l.core other handled (l.entries other) e
+  pub stops : (other : ℕ) (e : Entry) → l'.entries other ≡ Some e → ClientTalk e.talk → e.broken ≡ true → StopsAs l.core other handled (l.entries other) e
   pub closed : l'.closed ≡ l.closed
 
 front_nil : (bytes rest : List ℕ) → bytes ++ rest ≡ [] → bytes ≡ []
@@ -504,6 +632,7 @@ awaits_event moment device key event outcome l front mid back l' hs whole p it n
       came = λ other of apart counts. came_then of p.handled q.handled (l.entries other) (mid.entries other) (l'.entries other) (q.came other of counts) (p.came other of apart);
       lost = λ other of apart is. lost_then of p.handled q.handled (l.entries other) (mid.entries other) (l'.entries other) (q.lost other of is) (p.lost other of apart) (p.came other of apart);
       talks = λ other e is client sound. talked_then l.core mid.core other p.handled q.handled (l.entries other) (mid.entries other) e p.run (q.talks other e is client sound) (λ d there of unbroken. p.talks other d there of unbroken);
+      stops = λ other e is client broken. stops_then l.core mid.core other p.handled q.handled (l.entries other) (mid.entries other) e p.run client (q.stops other e is client broken) (p.talks other) (p.stops other);
       closed = it.closed ∙ p.closed;
     }
 
@@ -521,6 +650,9 @@ awaits_named moment device key name outcome l front mid back l' hs whole p it = 
   talks = λ other e is client sound.
       talked_then l.core mid.core other p.handled (last ∷ []) (l.entries other) (mid.entries other) e p.run (talked_still mid.core other (last ∷ []) (mid.entries other) (l'.entries other) (it.each other).stays refl e is client sound)
       (λ d there of unbroken. p.talks other d there of unbroken);
+  stops = λ other e is client broken.
+      stops_then l.core mid.core other p.handled (last ∷ []) (l.entries other) (mid.entries other) e p.run client (stops_still mid.core other (last ∷ []) (mid.entries other) (l'.entries other) (it.each other).stays refl e is client broken) (p.talks other)
+      (p.stops other);
   closed = none_closed l (p.handled ++ last ∷ []) l' (it.closed ∙ p.closed);
 }
   where

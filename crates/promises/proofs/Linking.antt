@@ -33,8 +33,8 @@ use Rattle.server.specs.Turn.{Ticks, Notes, is_tick_due, TicksIfDue, Covers, Rou
 use Rattle.server.specs.Law.{core_notes, moment_of, happenings_of, happenings_in}
 use Rattle.promises.specs.Orders.{Handled, AreHandled, AreOf, due_by, AreSent, WasSent, IsFrontSent, WasHalted}
 use Rattle.promises.specs.Answers.{Act, ClientTalk, IsStateOf, IsAnswered, WasAnswered, AreAnswered}
-use Rattle.promises.proofs.Sending.{Counts, due_at, Ordered, ordered_still, ordered_keeps, Calm, notes_append, calm_still, calm_sets, breaking, Good, one_entry, IsLost}
-use Rattle.promises.proofs.Handling.{Plain, goes_plain, CameAs, Goes, handled_append, came_then, goes_then, goes_calm, TalkedAs, talked_then, talked_still, ClosedAs, AllClosed, none_closed, all_closed_then, LostAs, lost_then, CameWith}
+use Rattle.promises.proofs.Sending.{Counts, due_at, Ordered, ordered_still, ordered_keeps, Calm, notes_append, calm_still, calm_sets, breaking, Good, one_entry, IsLost, no_true}
+use Rattle.promises.proofs.Handling.{Plain, goes_plain, CameAs, Goes, handled_append, came_then, goes_then, goes_calm, TalkedAs, talked_then, talked_still, ClosedAs, AllClosed, none_closed, all_closed_then, LostAs, lost_then, CameWith, StopsAs, stops_still, stops_then}
 use Rattle.promises.proofs.Giving.{Calms, calms_nothing, calms_chooses, calms_refusal, calms_breaks}
 use Rattle.promises.proofs.Moving.{Moves, moves_calm, moves_then, moves_if, moves_each, moves_happens, moves_unanswered, closes_at, moves_settles}
 use Rattle.promises.proofs.Coming.{moves_serves}
@@ -159,9 +159,13 @@ opening_talks core door id key x e is of sound =
       due = ap (λ (y : Entry). y.due) (sym this);
     })
 
+-- and it isn't broken
+pub opening_sound : (door : Door) (id : ℕ) (e : Entry) → Some (opening_entry door id) ≡ Some e → e.broken ≡ true → ⊥
+opening_sound door id e is broken = no_true e.broken broken (ap (λ (x : Entry). x.broken) (sym (one_entry (opening_entry door id) e is)))
+
 pub moves_opens : (moment : ℕ) (door : Door) (id : ℕ) → Moves moment (Opens door id)
 moves_opens moment door id l hs l' good (inl (key, free, is, after)) =
-    goes_plain moment key (Some (opening_entry door id)) l hs l' good (ap core_notes is) (ap (λ (x : Ledger). x.core) after) (ap (λ (x : Ledger). x.entries) after) (opening_plain door id (l.entries key) free) (opening_talks l.core door id key (l.entries key)) (none_closed l [] l' (ap (λ (x : Ledger). x.closed) after))
+    goes_plain moment key (Some (opening_entry door id)) l hs l' good (ap core_notes is) (ap (λ (x : Ledger). x.core) after) (ap (λ (x : Ledger). x.entries) after) (opening_plain door id (l.entries key) free) (opening_talks l.core door id key (l.entries key)) (opening_sound door id) (none_closed l [] l' (ap (λ (x : Ledger). x.closed) after))
 moves_opens moment door id l hs l' good (inr it) = goes_calm moment l hs l' good (calm_still l hs l' (ap core_notes it.0) it.1)
 
 pub accepts_as : (moment : ℕ) (door : Door) (answer : WireAnswer ℕ) → Moves moment (AcceptsAs door answer)
@@ -242,6 +246,7 @@ pub record GoesOn_in (trace : Trace) (l l' : Ledger) : Type 0 where
   pub came : (key device : ℕ) → Counts device (l'.entries key) → CameAs device handled (l.entries key) (l'.entries key)
   pub lost : (key device : ℕ) → IsLost device (l'.entries key) → LostAs device handled (l.entries key) (l'.entries key)
   pub talks : (key : ℕ) (e : Entry) → l'.entries key ≡ Some e → ClientTalk e.talk → e.broken ≡ false → TalkedAs l.core key handled (l.entries key) e
+  pub stops : (key : ℕ) (e : Entry) → l'.entries key ≡ Some e → ClientTalk e.talk → e.broken ≡ true → StopsAs l.core key handled (l.entries key) e
   pub closed : AllClosed l handled l'
 
 pub goes_on : (trace : Trace) (l l' : Ledger) → Good l → Runs trace l l' → GoesOn_in trace l l'
@@ -254,6 +259,7 @@ goes_on [] l l' good same = record {
   came = λ key device counts. inl (subst (λ (x : Ledger). Counts device (x.entries key)) same counts, ap (λ (x : Ledger). due_at (x.entries key)) same);
   lost = λ key device is. inl (subst (λ (x : Ledger). IsLost device (x.entries key)) same is, ap (λ (x : Ledger). due_at (x.entries key)) same);
   talks = λ key. talked_still l.core key [] (l.entries key) (l'.entries key) (λ f is of. (f, subst (λ (x : Ledger). x.entries key ≡ Some f) same is, refl, λ sound. sound, refl)) refl;
+  stops = λ key. stops_still l.core key [] (l.entries key) (l'.entries key) (λ f is of. (f, subst (λ (x : Ledger). x.entries key ≡ Some f) same is, refl, λ sound. sound, refl)) refl;
   closed = none_closed l [] l' (ap (λ (x : Ledger). x.closed) same);
 }
 goes_on (deed ∷ deeds) l l' good (mid, does, runs) =
@@ -269,7 +275,8 @@ goes_on (deed ∷ deeds) l l' good (mid, does, runs) =
       came = λ key device counts. came_then device first.handled later.handled (l.entries key) (mid.entries key) (l'.entries key) (later.came key device counts) (first.came key device);
       lost = λ key device is. lost_then device first.handled later.handled (l.entries key) (mid.entries key) (l'.entries key) (later.lost key device is) (first.lost key device) (first.came key device);
       talks = λ key e is of sound. talked_then l.core mid.core key first.handled later.handled (l.entries key) (mid.entries key) e first.run (later.talks key e is of sound) (λ d there client unbroken. first.talks key d there client unbroken);
-      closed = all_closed_then l mid l' first.handled later.handled first.run first.came first.lost first.talks first.closed later.closed;
+      stops = λ key e is of broken. stops_then l.core mid.core key first.handled later.handled (l.entries key) (mid.entries key) e first.run of (later.stops key e is of broken) (first.talks key) (first.stops key);
+      closed = all_closed_then l mid l' first.handled later.handled first.run first.came first.lost first.talks first.stops first.closed later.closed;
     }
 
 pub opening_good : (opening : State) → Good (opening_ledger opening)

@@ -15,7 +15,7 @@ use Rattle.server.specs.Law.{core_notes}
 use Rattle.promises.specs.Orders.{Handled}
 use Rattle.promises.specs.Answers.{ClientTalk}
 use Rattle.promises.proofs.Sending.{Counts, due_at, FreshTalk, IsFresh, same_key, other_key, Ordered, ordered_still, ordered_broken, ordered_given_up, notes_append, Good, one_entry, client_none, IsLost, no_bytes}
-use Rattle.promises.proofs.Handling.{happened, CameAs, Goes, goes_calm, Awaits, awaits_event, awaits_named, gone_sends_none, TalkedAs, talked_still, LostAs, lost_by}
+use Rattle.promises.proofs.Handling.{happened, CameAs, Goes, goes_calm, Awaits, awaits_event, awaits_named, gone_sends_none, TalkedAs, talked_still, LostAs, lost_by, StopsAs, stops_still}
 use Rattle.promises.proofs.Giving.{at_here}
 
 -- ---- a device says its name
@@ -50,6 +50,7 @@ awaits moment device key e new l hs l' good silent named fresh due alone = recor
   came = λ other of apart counts. came other of apart counts (alone.each other);
   lost = λ other of apart is. lost other of apart is (alone.each other);
   talks = λ other f is of sound. talks other f is of sound (alone.each other);
+  stops = λ other f is of broken. stops other f is of broken (alone.each other);
   closed = alone.closed;
 }
   where
@@ -88,6 +89,10 @@ awaits moment device key e new l hs l' good silent named fresh due alone = recor
     talks : (other : ℕ) (f : Entry) → l'.entries other ≡ Some f → ClientTalk f.talk → f.broken ≡ false → Each other → TalkedAs l.core other [] (l.entries other) f
     talks other f is of sound (inl (here, its)) = absurd (client_none new.talk device (subst ClientTalk (sym (ap (λ (x : Entry). x.talk) (one_entry new f (sym its ∙ is)))) of) named)
     talks other f is of sound (inr (aside, sent, none)) = talked_still l.core other [] (l.entries other) (l'.entries other) sent.stays refl f is of sound
+
+    stops : (other : ℕ) (f : Entry) → l'.entries other ≡ Some f → ClientTalk f.talk → f.broken ≡ true → Each other → StopsAs l.core other [] (l.entries other) f
+    stops other f is of broken (inl (here, its)) = absurd (client_none new.talk device (subst ClientTalk (sym (ap (λ (x : Entry). x.talk) (one_entry new f (sym its ∙ is)))) of) named)
+    stops other f is of broken (inr (aside, sent, none)) = stops_still l.core other [] (l.entries other) (l'.entries other) sent.stays refl f is of broken
 
 pub unnamed_device : (talk : Talk) (device : ℕ) → device_of (unnamed talk) ≡ Some device → ⊥
 unnamed_device (Http said closes body) device is = cc

@@ -145,6 +145,30 @@ pub record IsAnswered (opening : State) (key : ℕ) (handled : List Handled) (e 
   pub asked : asked_by key since ≡ flat_map (λ (a : Act). a.asked) acts
   pub due : e.due ≡ flat_map (λ (a : Act). a.bytes) acts
 
+-- nothing is due by what comes next, if anything does: the connection broke at it
+abbrev pub IsLast : State → List Handled → Talk → Talk → Type 0
+IsLast opening handled after talk = (after ≡ talk) ⊎ ((state : State) × (what : Step) × IsStateOf state opening handled × IsNext state.settings after what talk)
+
+-- A connection went on by these acts and then broke: at most one more event of its own, which isn't answered,
+-- had been handled.
+pub record BrokeAfter (opening : State) (key : ℕ) (handled since : List Handled) (before : Talk) (base : List ℕ) (e : Entry) : Type 0 where
+  pub acts : List Act
+  pub after : Talk
+  pub are : AreActs before acts after
+  pub states : All (λ (a : Act). IsStateOf a.state opening handled) acts
+  pub unanswered : List Handled
+  pub asked : asked_by key since ≡ flat_map (λ (a : Act). a.asked) acts ++ unanswered
+  pub last : IsLast opening handled after e.talk
+  pub due : e.due ≡ base ++ flat_map (λ (a : Act). a.bytes) acts
+
+-- What is due on a client's connection that broke is what its acts came to until then.
+pub record IsCutOff (opening : State) (key : ℕ) (handled : List Handled) (e : Entry) : Type 0 where
+  pub earlier : List Handled
+  pub since : List Handled
+  pub whole : handled ≡ earlier ++ since
+  pub door : Door
+  pub until : BrokeAfter opening key handled since (opening_talk door) [] e
+
 -- a client's, and no device's
 abbrev pub ClientTalk : Talk → Type 0
 ClientTalk (Http said closes body) = Unit {0}
