@@ -32,7 +32,7 @@ use Rattle.server.specs.Turn as Between
 use Rattle.server.specs.Turn.{Ticks, Notes, is_tick_due, TicksIfDue, Covers, Rounds, Round, Turn, BodyAsks, BodyComes, Deed, Turned, Served_body, Reported, Ticked, Trace, DoesDeed, Runs}
 use Rattle.server.specs.Law.{core_notes, moment_of, happenings_of, happenings_in}
 use Rattle.promises.specs.Orders.{Handled, AreHandled, AreOf, due_by, AreSent, WasSent, IsFrontSent, WasHalted}
-use Rattle.promises.specs.Answers.{Act, ClientTalk, IsStateOf, IsAnswered, WasAnswered, AreAnswered}
+use Rattle.promises.specs.Answers.{Act, ClientTalk, IsStateOf, IsAnswered, WasAnswered, AreAnswered, IsCutOff, WasCutOff}
 use Rattle.promises.proofs.Sending.{Counts, due_at, Ordered, ordered_still, ordered_keeps, Calm, notes_append, calm_still, calm_sets, breaking, Good, one_entry, IsLost, no_true}
 use Rattle.promises.proofs.Handling.{Plain, goes_plain, CameAs, Goes, handled_append, came_then, goes_then, goes_calm, TalkedAs, talked_then, talked_still, ClosedAs, AllClosed, none_closed, all_closed_then, LostAs, lost_then, CameWith, StopsAs, stops_still, stops_then}
 use Rattle.promises.proofs.Giving.{Calms, calms_nothing, calms_chooses, calms_refusal, calms_breaks}
@@ -292,11 +292,11 @@ module _ (opening : State) (trace : Trace) (l : Ledger) (runs : Runs trace (open
   due_since x o handled device none (inl (counts, due)) = absurd (subst (λ (y : Option Entry). Counts device y) none counts)
   due_since x o handled device none (inr (called, due)) = due
 
+  no_entry : (y : Option Entry) (d : Entry) → y ≡ None → y ≡ Some d → ⊥
+  no_entry y d p q = cc
+
   answered_since : (x : Option Entry) (key : ℕ) (handled : List Handled) (e : Entry) → x ≡ None → TalkedAs opening key handled x e → IsAnswered opening key handled e
-  answered_since x key handled e none (inl went) = absurd (nothing x went.before none went.there)
-    where
-      nothing : (y : Option Entry) (d : Entry) → y ≡ None → y ≡ Some d → ⊥
-      nothing y d p q = cc
+  answered_since x key handled e none (inl went) = absurd (no_entry x went.before none went.there)
   answered_since x key handled e none (inr answered) = answered
 
   halted_since : (x o : Option Entry) (handled : List Handled) (device : ℕ) → x ≡ None → LostAs device handled x o → IsFrontSent handled device (due_at o)
@@ -310,6 +310,11 @@ module _ (opening : State) (trace : Trace) (l : Ledger) (runs : Runs trace (open
   -- a front of what was sent until an earlier event
   front_more : (handled before behind : List Handled) (device : ℕ) (due : List ℕ) → handled ≡ before ++ behind → IsFrontSent before device due → IsFrontSent handled device due
   front_more handled before behind device due whole (first, later, same, rest, is) = (first, later ++ behind, whole ∙ (ap (λ (its : List Handled). its ++ behind) same ∙ append_assoc first later behind), rest, is)
+
+  cut_since : (x : Option Entry) (key : ℕ) (handled : List Handled) (e : Entry) → x ≡ None → StopsAs opening key handled x e → IsCutOff opening key handled e
+  cut_since x key handled e none (inl (d, there, broken, talk, due, silent)) = absurd (no_entry x d none there)
+  cut_since x key handled e none (inr (inl (d, there, client, sound, until))) = absurd (no_entry x d none there)
+  cut_since x key handled e none (inr (inr cut)) = cut
 
   pub are_sent : AreSent opening trace l
   are_sent = record {
@@ -341,4 +346,8 @@ module _ (opening : State) (trace : Trace) (l : Ledger) (runs : Runs trace (open
     closed = subst (λ (closed : List (Entry × Fate)). All (λ (it : Entry × Fate). WasAnswered opening all.handled it.0) closed) (sym all.closed.closed)
         (All-weaker (λ (it : Entry × Fate). ClosedAs (opening_ledger opening) all.handled it.0) (λ (it : Entry × Fate). WasAnswered opening all.handled it.0)
         (λ it c client sound. (c.key, c.before, c.behind, c.whole, answered_since None c.key c.before it.0 refl (c.talks client sound))) all.closed.more all.closed.each);
+    cut_off = λ key e there client broken. cut_since None key all.handled e refl (all.stops key e there client broken);
+    closed_cut_off = subst (λ (closed : List (Entry × Fate)). All (λ (it : Entry × Fate). WasCutOff opening all.handled it.0) closed) (sym all.closed.closed)
+        (All-weaker (λ (it : Entry × Fate). ClosedAs (opening_ledger opening) all.handled it.0) (λ (it : Entry × Fate). WasCutOff opening all.handled it.0)
+        (λ it c client broken. (c.key, c.before, c.behind, c.whole, cut_since None c.key c.before it.0 refl (c.stops client broken))) all.closed.more all.closed.each);
   }

@@ -1,5 +1,5 @@
 -- What a client is answered: item by item of what it sent, the bytes that this comes to, with the reply that the core's run gave where a request asks the core.
-use Rattle.std.specs.Prelude.{ℕ, ◌≡◌, ◌⊎◌, ◌==◌, Bool, false, if◌then◌else◌, List, [], ◌∷◌, ◌++◌, All, Option, Some, None}
+use Rattle.std.specs.Prelude.{ℕ, ◌≡◌, ◌⊎◌, ◌==◌, Bool, true, false, if◌then◌else◌, List, [], ◌∷◌, ◌++◌, All, Option, Some, None}
 use Rattle.std.specs.List.{flat_map}
 use Rattle.settings_file.specs.Settings.{ServerSettings}
 use Rattle.http_front.specs.declared.item.HttpItem.{HttpItem}
@@ -179,9 +179,13 @@ ClientTalk (Link reports device) = ⊥
 abbrev pub WasAnswered : State → List Handled → Entry → Type 0
 WasAnswered opening handled e = ClientTalk e.talk → e.broken ≡ false → (key : ℕ) × (before : List Handled) × (behind : List Handled) × (handled ≡ before ++ behind) × IsAnswered opening key before e
 
+-- of a client's connection that was closed, and was broken
+abbrev pub WasCutOff : State → List Handled → Entry → Type 0
+WasCutOff opening handled e = ClientTalk e.talk → e.broken ≡ true → (key : ℕ) × (before : List Handled) × (behind : List Handled) × (handled ≡ before ++ behind) × IsCutOff opening key before e
+
 -- The events of a trace are one run of the core, which tells what the listener was told. Each open
 -- connection of a client that isn't broken is answered by it, and so was each that was closed without having
--- broken; and on each open connection all that was read was acted on, unless nothing counts any more.
+-- broken; one that broke was until then; and on each open connection all that was read was acted on, unless nothing counts any more.
 pub record AreAnswered (opening : State) (trace : Trace) (l : Ledger) : Type 0 where
   pub handled : List Handled
   pub timed : AreOf trace handled
@@ -190,3 +194,5 @@ pub record AreAnswered (opening : State) (trace : Trace) (l : Ledger) : Type 0 w
   pub answered : (key : ℕ) (e : Entry) → l.entries key ≡ Some e → ClientTalk e.talk → e.broken ≡ false → IsAnswered opening key handled e
   pub heard : (key : ℕ) (e : Entry) → l.entries key ≡ Some e → IsHeard e
   pub closed : All (λ (it : Entry × Fate). WasAnswered opening handled it.0) l.closed
+  pub cut_off : (key : ℕ) (e : Entry) → l.entries key ≡ Some e → ClientTalk e.talk → e.broken ≡ true → IsCutOff opening key handled e
+  pub closed_cut_off : All (λ (it : Entry × Fate). WasCutOff opening handled it.0) l.closed
