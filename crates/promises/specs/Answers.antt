@@ -149,8 +149,8 @@ pub record IsAnswered (opening : State) (key : ℕ) (handled : List Handled) (e 
 abbrev pub IsLast : State → List Handled → Talk → Talk → Type 0
 IsLast opening handled after talk = (after ≡ talk) ⊎ ((state : State) × (what : Step) × IsStateOf state opening handled × IsNext state.settings after what talk)
 
--- A connection went on by these acts and then broke: at most one more event of its own, which isn't answered,
--- had been handled.
+-- A connection went on by these acts and then broke. Of its events those of these acts were answered; what was
+-- handled behind them wasn't.
 pub record BrokeAfter (opening : State) (key : ℕ) (handled since : List Handled) (before : Talk) (base : List ℕ) (e : Entry) : Type 0 where
   pub acts : List Act
   pub after : Talk
