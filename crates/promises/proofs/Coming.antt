@@ -29,9 +29,9 @@ use Rattle.server.specs.Polling.{Acts, Serves}
 use Rattle.server.specs.Law.{core_notes}
 use Rattle.promises.specs.Orders.{Handled, AreHandled, AreAt, due_by}
 use Rattle.promises.proofs.Typing.{EventOf, typed}
-use Rattle.promises.specs.Answers.{Act, ClientTalk, IsNext, IsOwed, IsStateOf, asked_by}
-use Rattle.promises.proofs.Sending.{Counts, due_at, IsFresh, IsClient, same_key, other_key, is_key, Ordered, notes_append, calm_sets, Good, one_entry, not_key, client_none, client_fresh, no_true, counts_device, ordered_then, sent_by}
-use Rattle.promises.proofs.Handling.{happened, CameAs, Goes, goes_then, goes_calm, TalkedAs, Went, talked_still, one_handled, none_closed}
+use Rattle.promises.specs.Answers.{Act, ClientTalk, IsNext, IsOwed, IsStateOf, asked_by, IsLast, BrokeAfter}
+use Rattle.promises.proofs.Sending.{Counts, due_at, IsFresh, IsClient, same_key, other_key, is_key, Ordered, notes_append, calm_sets, Good, one_entry, not_key, client_none, client_fresh, no_true, counts_device, ordered_then, sent_by, IsLost, lost_device, breaks_same}
+use Rattle.promises.proofs.Handling.{happened, CameAs, Goes, goes_then, goes_calm, TalkedAs, Went, talked_still, one_handled, none_closed, LostAs, lost_by, StopsAs, stops_still}
 use Rattle.promises.proofs.Giving.{calms_chooses, Gave, gave_still, gives_nothing, at_aside, at_here, Just_these, Loose, given, No_memory, gives_dropped, gives_declines, gives_answers}
 use Rattle.promises.proofs.Moving.{Moves, moves_calm, moves_then, moves_many, moves_settles}
 use Rattle.promises.proofs.Stepping.{IsClientAsk, silent_growth, silent_part, device_does, IsClientStep, client_hears, DeviceAsks, device_hears}
@@ -42,6 +42,10 @@ use Rattle.promises.proofs.Naming.{Just, greets}
 pub not_broken : (over is : Bool) → (over || is) ≡ false → is ≡ false
 not_broken true is none = cc
 not_broken false is none = none
+
+-- where it broke nothing is due by it, or all of it
+abbrev pub HaltsAs : Step → Entry → List ℕ → List Handled → Entry → Type 0
+HaltsAs comes new base asked e = (e.due ≡ base) ⊎ ((bytes : List ℕ) × IsOwed (closes_of new.talk) comes asked bytes × (e.due ≡ base ++ bytes))
 
 -- what comes of a client's step: what the core handled, and the bytes that are due by it behind these
 pub record Acted (moment key : ℕ) (comes : Step) (new : Entry) (base : List ℕ) (l : Ledger) (hs : List Happening) (l' : Ledger) : Type 0 where
@@ -56,11 +60,16 @@ pub record Acted (moment key : ℕ) (comes : Step) (new : Entry) (base : List �
   pub client : IsClient (l'.entries key)
   pub closed : l'.closed ≡ l.closed
   pub here : (e : Entry) → l'.entries key ≡ Some e → ClientTalk e.talk → e.broken ≡ false → (e.talk ≡ new.talk) × ((bytes : List ℕ) × IsOwed (closes_of new.talk) comes (asked_by key handled) bytes × (e.due ≡ base ++ bytes))
+  pub halts : (e : Entry) → l'.entries key ≡ Some e → ClientTalk e.talk → e.broken ≡ true → (e.talk ≡ new.talk) × HaltsAs comes new base (asked_by key handled) e
+
+halts_due : (comes : Step) (new d e : Entry) (base : List ℕ) (asked : List Handled) → d.due ≡ e.due → HaltsAs comes new base asked d → HaltsAs comes new base asked e
+halts_due comes new d e base asked same (inl is) = inl (sym same ∙ is)
+halts_due comes new d e base asked same (inr (bytes, owed, is)) = inr (bytes, owed, sym same ∙ is)
 
 -- where the core handles nothing
 pub acted_calm : (moment key : ℕ) (comes : Step) (new : Entry) (base : List ℕ) (Q : Bool → List ℕ → Type 0) (l : Ledger) (hs : List Happening) (l' : Ledger) → l.entries key ≡ Some new → ClientTalk new.talk
-    → ((bytes : List ℕ) → new.broken ≡ false → Q (closes_of new.talk) bytes → (given : List ℕ) × IsOwed (closes_of new.talk) comes [] given × (new.due ++ bytes ≡ base ++ given)) → Gave key Q l hs l' → Acted moment key comes new base l hs l'
-acted_calm moment key comes new base Q l hs l' there client owed g = record {
+    → ((bytes : List ℕ) → new.broken ≡ false → Q (closes_of new.talk) bytes → (given : List ℕ) × IsOwed (closes_of new.talk) comes [] given × (new.due ++ bytes ≡ base ++ given)) → HaltsAs comes new base [] new → Gave key Q l hs l' → Acted moment key comes new base l hs l'
+acted_calm moment key comes new base Q l hs l' there client owed halted g = record {
   handled = [];
   sent = λ device. [];
   run = g.core;
@@ -76,6 +85,10 @@ acted_calm moment key comes new base Q l hs l' there client owed g = record {
       let this : new ≡ it.0 = one_entry new it.0 (sym there ∙ it.1) in
       let given = owed it.4.0 (ap (λ (x : Entry). x.broken) this ∙ it.3) (subst (λ (x : Entry). Q (closes_of x.talk) it.4.0) (sym this) it.4.1) in
       (sym it.2 ∙ ap (λ (x : Entry). x.talk) (sym this), (given.0, given.1, it.4.2 ∙ (ap (λ (x : Entry). x.due ++ it.4.0) (sym this) ∙ given.2)));
+  halts = λ e is of broken.
+      let it = g.halts e is of broken in
+      let this : new ≡ it.0 = one_entry new it.0 (sym there ∙ it.1) in
+      (sym it.2 ∙ ap (λ (x : Entry). x.talk) (sym this), halts_due comes new new e base [] (ap (λ (x : Entry). x.due) this ∙ it.3) halted);
 }
 
 -- where it handles the client's event
@@ -98,7 +111,7 @@ acted_event moment key id who event last new l hs l' own good there client (outc
       closed = g.closed ∙ one.closed;
       here = λ e is of sound.
           let gave = g.here e is of sound in
-          let was = (one.each key).stays gave.0 gave.1 (subst ClientTalk (sym gave.2) of) gave.3 in
+          let was = (one.each key).stays gave.0 gave.1 (subst ClientTalk (sym gave.2) of) in
           let this : new ≡ was.0 = one_entry new was.0 (sym there ∙ was.1) in
           let talk : new.talk ≡ gave.0.talk = ap (λ (x : Entry). x.talk) this ∙ was.2 in (
             sym gave.2 ∙ sym talk,
@@ -108,11 +121,17 @@ acted_event moment key id who event last new l hs l' own good there client (outc
               gave.4.2 ∙ ap (λ (due : List ℕ). due ++ gave.4.0) (sym was.4 ∙ ap (λ (x : Entry). x.due) (sym this)),
             ),
           );
+      halts = λ e is of broken.
+          let gave = g.halts e is of broken in
+          let was = (one.each key).stays gave.0 gave.1 (subst ClientTalk (sym gave.2) of) in
+          let this : new ≡ was.0 = one_entry new was.0 (sym there ∙ was.1) in
+          (sym gave.2 ∙ (sym was.2 ∙ ap (λ (x : Entry). x.talk) (sym this)), inl (sym gave.3 ∙ (sym was.4 ∙ ap (λ (x : Entry). x.due) (sym this))));
     }
   where
     more : (k : ℕ) → Ordered (λ device. sent_by outcome it.mid.core device ++ []) (l.entries k) (l'.entries k) → Ordered (sent_by outcome it.mid.core) (l.entries k) (l'.entries k)
     more k o = record {
       counts = λ device is. let c = o.counts device is in (c.0, c.1 ∙ ap (λ (bytes : List ℕ). due_at (l.entries k) ++ bytes) (append-nil (sent_by outcome it.mid.core device)));
+      breaks = λ device is. breaks_same (λ of. sent_by outcome it.mid.core of ++ []) (sent_by outcome it.mid.core) device (l.entries k) (l'.entries k) (sym (append-nil (sent_by outcome it.mid.core device))) (o.breaks device is);
       device = o.device;
       fresh = o.fresh;
       client = o.client;
@@ -124,9 +143,9 @@ acted_asks moment key id ask.Nothing last new l hs l' is good there client it = 
 acted_asks moment key id (ask.Broke growth) last new l hs l' is good there client it = absurd is
 acted_asks moment key id (ask.Event who event) last new l hs l' is good there client it = acted_event moment key id who event last new l hs l' is good there client it
 acted_asks moment key id (ask.Unread request) last new l hs l' is good there client it =
-    acted_calm moment key (step.Asks (ask.Unread request) last) new new.due (No_memory request) l hs l' there client (λ bytes sound these. (bytes, (refl, these), refl)) (gives_dropped key id request l hs l' it)
+    acted_calm moment key (step.Asks (ask.Unread request) last) new new.due (No_memory request) l hs l' there client (λ bytes sound these. (bytes, (refl, these), refl)) (inl refl) (gives_dropped key id request l hs l' it)
 acted_asks moment key id (ask.Lost part) last new l hs l' is good there client it =
-    acted_calm moment key (step.Asks (ask.Lost part) last) new new.due (Just_these (1 ∷ [])) l hs l' there client (λ bytes sound these. (bytes, (refl, these), refl)) (gives_declines (place_of_part part) key id (silent_part part id) l hs l' it)
+    acted_calm moment key (step.Asks (ask.Lost part) last) new new.due (Just_these (1 ∷ [])) l hs l' there client (λ bytes sound these. (bytes, (refl, these), refl)) (inl refl) (gives_declines (place_of_part part) key id (silent_part part id) l hs l' it)
 acted_asks moment key id (ask.Hello device name) last new l hs l' is good there client it = absurd is
 acted_asks moment key id (ask.Report device report) last new l hs l' is good there client it = absurd is
 acted_asks moment key id (ask.Stranger name) last new l hs l' is good there client it = absurd is
@@ -137,26 +156,26 @@ pub acted_by : (moment key id : ℕ) (comes : Step) (m new : Entry) (what : Ask)
 acted_by moment key id (step.Due due last) m new what l hs l' fine (inl (is, after)) client good there it =
     let nothing : Nothing l hs l' = subst (λ (a : Ask). Does moment key id a l hs l') is it in
     acted_calm moment key (step.Due due last) new m.due (Just_these []) l hs l' there (subst (λ (x : Entry). ClientTalk x.talk) (sym after) client)
-    (λ bytes sound none. (due_bytes due, (refl, refl), ap (λ (more : List ℕ). new.due ++ more) none ∙ (append-nil new.due ∙ ap (λ (x : Entry). x.due) after))) (gives_nothing key (Just_these []) (λ closes. refl) l hs l' nothing)
+    (λ bytes sound none. (due_bytes due, (refl, refl), ap (λ (more : List ℕ). new.due ++ more) none ∙ (append-nil new.due ∙ ap (λ (x : Entry). x.due) after))) (inr (due_bytes due, (refl, refl), ap (λ (x : Entry). x.due) after)) (gives_nothing key (Just_these []) (λ closes. refl) l hs l' nothing)
 acted_by moment key id (step.Due due last) m new what l hs l' fine (inr (is, needs, after)) client good there it =
     let told : Tells (Refused (place_of growth.Output) (Some id)) l hs l' = subst (λ (a : Ask). Does moment key id a l hs l') is it in
     acted_calm moment key (step.Due due last) new m.due (Just_these []) l hs l' there (subst (λ (x : Entry). ClientTalk x.talk) (sym after) client)
-    (λ bytes sound none. absurd (no_true new.broken (ap (λ (x : Entry). x.broken) after) sound)) (gave_still key (Just_these []) l hs l' (ap core_notes told.0 ∙ silent_growth growth.Output id) told.1 (λ closes. refl))
+    (λ bytes sound none. absurd (no_true new.broken (ap (λ (x : Entry). x.broken) after) sound)) (inl (ap (λ (x : Entry). x.due) after)) (gave_still key (Just_these []) l hs l' (ap core_notes told.0 ∙ silent_growth growth.Output id) told.1 (λ closes. refl))
 acted_by moment key id (step.Asks asked last) m new what l hs l' fine (is, after) client good there it =
     let a = acted_asks moment key id asked last new l hs l' fine good there (subst (λ (x : Entry). ClientTalk x.talk) (sym after) client) (subst (λ (a : Ask). Does moment key id a l hs l') is it) in
     subst (λ (due : List ℕ). Acted moment key (step.Asks asked last) new due l hs l') (ap (λ (x : Entry). x.due) after) a
 acted_by moment key id (step.Breaks asked) m new what l hs l' fine (is, after) client good there it =
     let told : Tells (Refused (place_of growth.Input) (Some id)) l hs l' = subst (λ (a : Ask). Does moment key id a l hs l') (is ∙ fine) it in
     acted_calm moment key (step.Breaks asked) new m.due (Just_these []) l hs l' there (subst (λ (x : Entry). ClientTalk x.talk) (sym after) client)
-    (λ bytes sound none. absurd (no_true new.broken (ap (λ (x : Entry). x.broken) after) sound)) (gave_still key (Just_these []) l hs l' (ap core_notes told.0 ∙ silent_growth growth.Input id) told.1 (λ closes. refl))
+    (λ bytes sound none. absurd (no_true new.broken (ap (λ (x : Entry). x.broken) after) sound)) (inl (ap (λ (x : Entry). x.due) after)) (gave_still key (Just_these []) l hs l' (ap core_notes told.0 ∙ silent_growth growth.Input id) told.1 (λ closes. refl))
 
 -- the next of a client's stream, as an act has it
-pub next_of : (settings : ServerSettings) (talk : Talk) (e : Entry) (comes : Step) (mid : Entry) → ClientTalk talk → e.talk ≡ talk → IsClientStep comes → Hears settings talk e comes mid → (mid.due ≡ e.due) × ((comes ≡ no_memory) ⊎ IsNext settings talk comes mid.talk)
+pub next_of : (settings : ServerSettings) (talk : Talk) (e : Entry) (comes : Step) (mid : Entry) → ClientTalk talk → e.talk ≡ talk → IsClientStep comes → Hears settings talk e comes mid → (mid.due ≡ e.due) × (((comes ≡ no_memory) × (mid.talk ≡ talk)) ⊎ IsNext settings talk comes mid.talk)
 next_of settings (Http said closes body) e comes mid client is fine next = (ap (λ (x : Entry). x.due) next.after, inr (record { item = next.item; part = next.part; comes = next.comes; is = ap (λ (x : Entry). x.talk) next.after }))
 next_of settings (Queue items session) e comes mid client is fine (inl next) =
     (ap (λ (x : Entry). x.due) next.after, inr (inl (record { said = next.said; session_after = next.session_after; comes = next.comes; is = ap (λ (x : Entry). x.talk) next.after })))
 next_of settings (Queue items session) e comes mid client is fine (inr (inl next)) = (ap (λ (x : Entry). x.due) next.after, inr (inr (next.comes, ap (λ (x : Entry). x.talk) next.after ∙ is)))
-next_of settings (Queue items session) e comes mid client is fine (inr (inr next)) = (ap (λ (x : Entry). x.due) next.1, inl next.0)
+next_of settings (Queue items session) e comes mid client is fine (inr (inr next)) = (ap (λ (x : Entry). x.due) next.1, inl (next.0, ap (λ (x : Entry). x.talk) next.1 ∙ is))
 next_of settings (Link reports device) e comes mid client is fine next = absurd client
 
 pub steps_talk : (comes : Step) (mid new : Entry) (what : Ask) → StepsTo comes mid what new → new.talk ≡ mid.talk
@@ -181,7 +200,9 @@ client_acts moment key id what l front mid back l' hs whole good a client does =
   timed = acted.timed;
   told = ap core_notes whole ∙ (notes_append front back ∙ (ap (λ (ns : List Note). ns ++ core_notes back) (ap core_notes a.chosen) ∙ acted.told));
   came = λ k device counts. came k device (k == key) refl counts;
+  lost = λ k device is. lost k device (k == key) refl is;
   talks = λ k e is of sound. talks k e (k == key) refl is of sound;
+  stops = λ k e is of broken. stops k e (k == key) refl is of broken;
   closed = none_closed l acted.handled l' (acted.closed ∙ ap (λ (x : Ledger). x.closed) a.after);
 }
   where
@@ -260,8 +281,12 @@ client_acts moment key id what l front mid back l' hs whole good a client does =
     came k device true is counts = absurd (no_name device (l'.entries k) (last k is) (counts_device device (l'.entries k) counts))
     came k device false is counts = let it = (ordered k (other_key k key is)).counts device counts in inl (it.0, it.1 ∙ sym (acted.sends device (due_at (l.entries k))))
 
-    went : (e : Entry) → l'.entries key ≡ Some e → ClientTalk e.talk → e.broken ≡ false → (a.asks.comes ≡ no_memory) ⊎ IsNext l.core.settings a.entry.talk a.asks.comes a.asks.mid.talk → a.asks.mid.due ≡ a.entry.due → Went l.core key acted.handled (l.entries key) e
-    went e is of sound (inl none) due = let it = acted.here e is of sound in absurd (not_given (closes_of a.new.talk) (asked_by key acted.handled) it.1.0 a.asks.comes none it.1.1)
+    lost : (k device : ℕ) (t : Bool) → (k == key) ≡ t → IsLost device (l'.entries k) → LostAs device acted.handled (l.entries k) (l'.entries k)
+    lost k device true is broke = absurd (no_name device (l'.entries k) (last k is) (lost_device device (l'.entries k) broke))
+    lost k device false is broke = lost_by device acted.handled acted.sent (l.entries k) (l'.entries k) (acted.sends device (due_at (l.entries k))) ((ordered k (other_key k key is)).breaks device broke)
+
+    went : (e : Entry) → l'.entries key ≡ Some e → ClientTalk e.talk → e.broken ≡ false → ((a.asks.comes ≡ no_memory) × (a.asks.mid.talk ≡ a.entry.talk)) ⊎ IsNext l.core.settings a.entry.talk a.asks.comes a.asks.mid.talk → a.asks.mid.due ≡ a.entry.due → Went l.core key acted.handled (l.entries key) e
+    went e is of sound (inl (none, still)) due = let it = acted.here e is of sound in absurd (not_given (closes_of a.new.talk) (asked_by key acted.handled) it.1.0 a.asks.comes none it.1.1)
     went e is of sound (inr next) due =
         let it = acted.here e is of sound in
         let act : Act = record { before = a.entry.talk; after = a.new.talk; what = a.asks.comes; asked = asked_by key acted.handled; bytes = it.1.0; state = l.core } in
@@ -277,8 +302,46 @@ client_acts moment key id what l front mid back l' hs whole good a client does =
           due = it.1.2 ∙ (ap (λ (bytes : List ℕ). bytes ++ it.1.0) due ∙ ap (λ (bytes : List ℕ). a.entry.due ++ bytes) (sym (append-nil it.1.0)));
         }
 
-    heard_next : (a.asks.mid.due ≡ a.entry.due) × ((a.asks.comes ≡ no_memory) ⊎ IsNext l.core.settings a.entry.talk a.asks.comes a.asks.mid.talk)
+    heard_next : (a.asks.mid.due ≡ a.entry.due) × (((a.asks.comes ≡ no_memory) × (a.asks.mid.talk ≡ a.entry.talk)) ⊎ IsNext l.core.settings a.entry.talk a.asks.comes a.asks.mid.talk)
     heard_next = next_of l.core.settings a.entry.talk a.entry a.asks.comes a.asks.mid client refl heard_so.0 a.asks.hears
+
+    -- it broke: what it came to isn't due, or it is
+    broke : (e : Entry) → e.talk ≡ a.new.talk → ((a.asks.comes ≡ no_memory) × (a.asks.mid.talk ≡ a.entry.talk)) ⊎ IsNext l.core.settings a.entry.talk a.asks.comes a.asks.mid.talk → a.asks.mid.due ≡ a.entry.due → HaltsAs a.asks.comes a.new a.asks.mid.due (asked_by key acted.handled) e
+        → BrokeAfter l.core key acted.handled acted.handled a.entry.talk a.entry.due e
+    broke e talk next due (inl is) = record {
+      acts = [];
+      after = a.entry.talk;
+      are = refl;
+      states = All-nil (λ (x : Act). IsStateOf x.state l.core acted.handled);
+      unanswered = asked_by key acted.handled;
+      asked = refl;
+      last = by next;
+      due = is ∙ (due ∙ sym (append-nil a.entry.due));
+    }
+      where
+        by : ((a.asks.comes ≡ no_memory) × (a.asks.mid.talk ≡ a.entry.talk)) ⊎ IsNext l.core.settings a.entry.talk a.asks.comes a.asks.mid.talk → IsLast l.core acted.handled a.entry.talk e.talk
+        by (inl (none, still)) = inl (sym (talk ∙ (new_talk ∙ still)))
+        by (inr comes) = inr (l.core, a.asks.comes, same_state l.core acted.handled, subst (λ (t : Talk). IsNext l.core.settings a.entry.talk a.asks.comes t) (sym (talk ∙ new_talk)) comes)
+    broke e talk (inl (none, still)) due (inr (bytes, owed, is)) = absurd (not_given (closes_of a.new.talk) (asked_by key acted.handled) bytes a.asks.comes none owed)
+    broke e talk (inr next) due (inr (bytes, owed, is)) =
+        let act : Act = record { before = a.entry.talk; after = a.new.talk; what = a.asks.comes; asked = asked_by key acted.handled; bytes = bytes; state = l.core } in
+        record {
+          acts = act ∷ [];
+          after = a.new.talk;
+          are = (refl, record { next = subst (λ (t : Talk). IsNext l.core.settings a.entry.talk a.asks.comes t) (sym new_talk) next; owed = owed }, refl);
+          states = All-cons (λ (x : Act). IsStateOf x.state l.core acted.handled) act [] (same_state l.core acted.handled) (All-nil (λ (x : Act). IsStateOf x.state l.core acted.handled));
+          unanswered = [];
+          asked = sym (append-nil (asked_by key acted.handled)) ∙ sym (append-nil (asked_by key acted.handled ++ []));
+          last = inl (sym talk);
+          due = is ∙ (ap (λ (more : List ℕ). more ++ bytes) due ∙ ap (λ (more : List ℕ). a.entry.due ++ more) (sym (append-nil bytes)));
+        }
+
+    stops : (k : ℕ) (e : Entry) (t : Bool) → (k == key) ≡ t → l'.entries k ≡ Some e → ClientTalk e.talk → e.broken ≡ true → StopsAs l.core k acted.handled (l.entries k) e
+    stops k e true same is of broken =
+        let at : k ≡ key = same_key k key same in
+        let it = acted.halts e (subst (λ (j : ℕ). l'.entries j ≡ Some e) at is) of broken in
+        subst (λ (j : ℕ). StopsAs l.core j acted.handled (l.entries j) e) (sym at) (inr (inl (a.entry, a.there, client, not_broken a.entry.over a.entry.broken a.asks.counts, broke e it.0 heard_next.1 heard_next.0 it.1)))
+    stops k e false same is of broken = stops_still l.core k acted.handled (l.entries k) (l'.entries k) (ordered k (other_key k key same)).stays (acted.aside k (other_key k key same)) e is of broken
 
     talks : (k : ℕ) (e : Entry) (t : Bool) → (k == key) ≡ t → l'.entries k ≡ Some e → ClientTalk e.talk → e.broken ≡ false → TalkedAs l.core k acted.handled (l.entries k) e
     talks k e true same is of sound =

@@ -63,6 +63,7 @@ pub record Gave (key : ℕ) (Q : Bool → List ℕ → Type 0) (l : Ledger) (hs 
   pub others : (k : ℕ) → k ≢ key → Ordered (λ device. []) (l.entries k) (l'.entries k)
   pub client : IsClient (l.entries key) → IsClient (l'.entries key)
   pub here : (e : Entry) → l'.entries key ≡ Some e → ClientTalk e.talk → e.broken ≡ false → (d : Entry) × (l.entries key ≡ Some d) × (d.talk ≡ e.talk) × (d.broken ≡ false) × ((bytes : List ℕ) × Q (closes_of d.talk) bytes × (e.due ≡ d.due ++ bytes))
+  pub halts : (e : Entry) → l'.entries key ≡ Some e → ClientTalk e.talk → e.broken ≡ true → (d : Entry) × (l.entries key ≡ Some d) × (d.talk ≡ e.talk) × (d.due ≡ e.due)
 
 abbrev pub Gives : ℕ → (Bool → List ℕ → Type 0) → Rel → Type 0
 Gives key Q R = (l : Ledger) (hs : List Happening) (l' : Ledger) → R l hs l' → Gave key Q l hs l'
@@ -76,6 +77,7 @@ gave_still key Q l hs l' silent same none = record {
   others = λ k apart. subst (λ (x : Ledger). Ordered (λ device. []) (l.entries k) (x.entries k)) (sym same) (ordered_still (l.entries k));
   client = λ is. subst (λ (x : Ledger). IsClient (x.entries key)) (sym same) is;
   here = λ e is client sound. (e, subst (λ (x : Ledger). x.entries key ≡ Some e) same is, refl, sound, ([], none (closes_of e.talk), sym (append-nil e.due)));
+  halts = λ e is client broken. (e, subst (λ (x : Ledger). x.entries key ≡ Some e) same is, refl, refl);
 }
 
 pub gives_nothing : (key : ℕ) (Q : Bool → List ℕ → Type 0) → ((closes : Bool) → Q closes []) → Gives key Q Nothing
@@ -89,8 +91,8 @@ at_here key new entries = ap (λ (t : Bool). if t then Some new else entries key
 
 -- the connection is another, of the same peer, on which these bytes are due too where it isn't broken
 pub gave_sets : (key : ℕ) (Q : Bool → List ℕ → Type 0) (d new : Entry) (l : Ledger) (hs : List Happening) (l' : Ledger) → l.entries key ≡ Some d → new.talk ≡ d.talk
-    → (new.broken ≡ false → (d.broken ≡ false) × ((bytes : List ℕ) × Q (closes_of d.talk) bytes × (new.due ≡ d.due ++ bytes))) → core_notes hs ≡ [] → l' ≡ with_entry key new l → Gave key Q l hs l'
-gave_sets key Q d new l hs l' there talk gives silent after = record {
+    → (new.broken ≡ false → (d.broken ≡ false) × ((bytes : List ℕ) × Q (closes_of d.talk) bytes × (new.due ≡ d.due ++ bytes))) → (new.broken ≡ true → d.due ≡ new.due) → core_notes hs ≡ [] → l' ≡ with_entry key new l → Gave key Q l hs l'
+gave_sets key Q d new l hs l' there talk gives breaks silent after = record {
   core = ap (λ (x : Ledger). x.core) after;
   closed = ap (λ (x : Ledger). x.closed) after;
   notes = silent;
@@ -100,6 +102,9 @@ gave_sets key Q d new l hs l' there talk gives silent after = record {
       let this : new ≡ e = one_entry new e (sym set ∙ is) in
       let given = gives (ap (λ (x : Entry). x.broken) this ∙ sound) in
       (d, there, sym talk ∙ ap (λ (x : Entry). x.talk) this, given.0, (given.1.0, given.1.1, ap (λ (x : Entry). x.due) (sym this) ∙ given.1.2));
+  halts = λ e is client broken.
+      let this : new ≡ e = one_entry new e (sym set ∙ is) in
+      (d, there, sym talk ∙ ap (λ (x : Entry). x.talk) this, breaks (ap (λ (x : Entry). x.broken) this ∙ broken) ∙ ap (λ (x : Entry). x.due) this);
 }
   where
     set : l'.entries key ≡ Some new
@@ -111,7 +116,7 @@ gave_after key Q R S still gives l hs l' it =
     let first = still l it.front it.mid it.first in
     let g = gives it.mid it.back l' it.second in
     let silent : core_notes hs ≡ [] = ap core_notes it.whole ∙ (notes_append it.front it.back ∙ (ap (λ (ns : List Note). ns ++ core_notes it.back) first.0 ∙ g.notes)) in
-    let all : Gave key Q it.mid hs l' = record { core = g.core; closed = g.closed; notes = silent; others = g.others; client = g.client; here = g.here } in
+    let all : Gave key Q it.mid hs l' = record { core = g.core; closed = g.closed; notes = silent; others = g.others; client = g.client; here = g.here; halts = g.halts } in
     subst (λ (x : Ledger). Gave key Q x hs l') first.1 all
 
 pub gave_as : (key : ℕ) (Q R : Bool → List ℕ → Type 0) (l : Ledger) (hs : List Happening) (l' : Ledger) → ((d : Entry) (bytes : List ℕ) → l.entries key ≡ Some d → Q (closes_of d.talk) bytes → R (closes_of d.talk) bytes) → Gave key Q l hs l' → Gave key R l hs l'
@@ -122,6 +127,7 @@ gave_as key Q R l hs l' weaker g = record {
   others = g.others;
   client = g.client;
   here = λ e is client sound. let it = g.here e is client sound in (it.0, it.1, it.2, it.3, (it.4.0, weaker it.0 it.4.0 it.1 it.4.1, it.4.2));
+  halts = g.halts;
 }
 
 pub still_tells : (place : Place) (id : Option ℕ) → core_notes (Told (Refused place id) ∷ []) ≡ [] → (l : Ledger) (hs : List Happening) (l' : Ledger) → Tells (Refused place id) l hs l' → (core_notes hs ≡ []) × (l' ≡ l)
@@ -139,11 +145,12 @@ gives_breaks_at key Q None l hs l' there it = record {
   others = λ k apart. subst (λ (x : Ledger). Ordered (λ device. []) (l.entries k) (x.entries k)) (sym it.1) (ordered_still (l.entries k));
   client = λ is. subst (λ (x : Ledger). IsClient (x.entries key)) (sym it.1) is;
   here = λ e is. absurd (nothing (l.entries key) there (subst (λ (x : Ledger). x.entries key ≡ Some e) it.1 is));
+  halts = λ e is. absurd (nothing (l.entries key) there (subst (λ (x : Ledger). x.entries key ≡ Some e) it.1 is));
 }
   where
     nothing : {e : Entry} → (o : Option Entry) → o ≡ None → o ≡ Some e → ⊥
     nothing o p q = cc
-gives_breaks_at key Q (Some d) l hs l' there it = gave_sets key Q d (broken d) l hs l' there refl (λ sound. absurd (no_true true refl sound)) (ap core_notes it.0) it.1
+gives_breaks_at key Q (Some d) l hs l' there it = gave_sets key Q d (broken d) l hs l' there refl (λ sound. absurd (no_true true refl sound)) (λ is. refl) (ap core_notes it.0) it.1
 
 pub gives_breaks : (key : ℕ) (Q : Bool → List ℕ → Type 0) → Gives key Q (Breaks key)
 gives_breaks key Q l hs l' it = gives_breaks_at key Q (l.entries key) l hs l' refl it
@@ -153,11 +160,11 @@ abbrev pub Just_these : List ℕ → Bool → List ℕ → Type 0
 Just_these bytes closes given = given ≡ bytes
 
 pub gives_open : (refusable : Bool) (key : ℕ) (bytes : List ℕ) (d : Entry) (l : Ledger) (hs : List Happening) (l' : Ledger) → l.entries key ≡ Some d → d.broken ≡ false → KeepsOpen refusable key bytes d l hs l' → Gave key (Just_these bytes) l hs l'
-gives_open false key bytes d l hs l' there sound it = gave_sets key (Just_these bytes) d (owing bytes d) l hs l' there refl (λ unbroken. (sound, (bytes, refl, refl))) (ap core_notes it.0) it.1
+gives_open false key bytes d l hs l' there sound it = gave_sets key (Just_these bytes) d (owing bytes d) l hs l' there refl (λ unbroken. (sound, (bytes, refl, refl))) (λ is. absurd (no_true d.broken is sound)) (ap core_notes it.0) it.1
 gives_open true key bytes d l hs l' there sound (inl it) =
-    gave_sets key (Just_these bytes) d (owing bytes d) l hs l' there refl (λ unbroken. (sound, (bytes, refl, refl)))
+    gave_sets key (Just_these bytes) d (owing bytes d) l hs l' there refl (λ unbroken. (sound, (bytes, refl, refl))) (λ is. absurd (no_true d.broken is sound))
     (ap core_notes it.whole ∙ (notes_append it.front it.back ∙ (ap (λ (ns : List Note). ns ++ core_notes it.back) (ap core_notes it.first.0) ∙ ap core_notes it.second.0))) (it.second.1 ∙ ap (λ (x : Ledger). with_entry key (owing bytes d) x) it.first.1)
-gives_open true key bytes d l hs l' there sound (inr it) = gave_sets key (Just_these bytes) d (broken d) l hs l' there refl (λ unbroken. absurd (no_true true refl unbroken)) (ap core_notes it.0) it.1
+gives_open true key bytes d l hs l' there sound (inr it) = gave_sets key (Just_these bytes) d (broken d) l hs l' there refl (λ unbroken. absurd (no_true true refl unbroken)) (λ is. refl) (ap core_notes it.0) it.1
 
 pub gives_if : (t refusable : Bool) (key : ℕ) (bytes : List ℕ) (d : Entry) (l : Ledger) (hs : List Happening) (l' : Ledger) → d.broken ≡ t → l.entries key ≡ Some d → If t Nothing (KeepsOpen refusable key bytes d) l hs l' → Gave key (Just_these bytes) l hs l'
 gives_if false refusable key bytes d l hs l' is there it = gives_open refusable key bytes d l hs l' there is it
@@ -170,6 +177,7 @@ gives_if true refusable key bytes d l hs l' is there it = record {
   here = λ e same client sound.
       let this : d ≡ e = one_entry d e (sym there ∙ subst (λ (x : Ledger). x.entries key ≡ Some e) it.1 same) in
       absurd (no_true d.broken is (ap (λ (x : Entry). x.broken) this ∙ sound));
+  halts = λ e same client broken. (e, subst (λ (x : Ledger). x.entries key ≡ Some e) it.1 same, refl, refl);
 }
 
 pub gives_at : (refusable : Entry → Bool) (key : ℕ) (bytes : List ℕ) (o : Option Entry) (l : Ledger) (hs : List Happening) (l' : Ledger) → l.entries key ≡ o → KeepsAt refusable key bytes o l hs l' → Gave key (Just_these bytes) l hs l'

@@ -30,9 +30,9 @@ use Rattle.server.specs.Ledger.{Ledger, at_key, job_bytes, Fate}
 use Rattle.server.specs.Keeping.{IsDevice}
 use Rattle.server.specs.Happening.{Happens, found_by}
 use Rattle.server.specs.Law.{core_notes}
-use Rattle.promises.specs.Answers.{Act, ClientTalk, AreActs, IsStateOf, is_asked, asked_by, IsAnswered}
+use Rattle.promises.specs.Answers.{Act, ClientTalk, AreActs, IsStateOf, is_asked, asked_by, IsAnswered, IsLast, BrokeAfter, IsCutOff}
 use Rattle.promises.specs.Orders.{Handled, AreHandled, AreAt, cancel_for, start_for, orders_of, names, due_by}
-use Rattle.promises.proofs.Sending.{Counts, due_at, IsFresh, counts_device, same_key, not_key, Ordered, Calm, Good, good_sent, notes_append, sent_by, orders, Stays}
+use Rattle.promises.proofs.Sending.{Counts, due_at, IsFresh, counts_device, same_key, not_key, Ordered, Calm, Good, good_sent, notes_append, sent_by, orders, Stays, IsLost, BreaksAs, no_bytes, lost_device}
 
 -- ---- what is told of an event
 
@@ -100,8 +100,34 @@ has_named device [] = false
 has_named device (it ∷ later) = names device it.named || has_named device later
 
 -- on a device's connection is due what was due, and what was sent since; or all since its name
+abbrev pub CameWith : ℕ → List Handled → Option Entry → List ℕ → Type 0
+CameWith device handled x due = (Counts device x × (due ≡ due_by device (due_at x) handled)) ⊎ ((has_named device handled ≡ true) × (due ≡ due_by device [] handled))
+
 abbrev pub CameAs : ℕ → List Handled → Option Entry → Option Entry → Type 0
-CameAs device handled x y = (Counts device x × (due_at y ≡ due_by device (due_at x) handled)) ⊎ ((has_named device handled ≡ true) × (due_at y ≡ due_by device [] handled))
+CameAs device handled x y = CameWith device handled x (due_at y)
+
+-- it broke at one of these: what is due on it is a front of what would be by then
+pub record Halted (device : ℕ) (handled : List Handled) (x : Option Entry) (due : List ℕ) : Type 0 where
+  pub before : List Handled
+  pub behind : List Handled
+  pub whole : handled ≡ before ++ behind
+  pub rest : List ℕ
+  pub came : CameWith device before x (due ++ rest)
+
+-- or it had broken before
+abbrev pub LostAs : ℕ → List Handled → Option Entry → Option Entry → Type 0
+LostAs device handled x y = (IsLost device x × (due_at y ≡ due_at x)) ⊎ Halted device handled x (due_at y)
+
+-- at one event, by which this is sent
+pub lost_by : (device : ℕ) (handled : List Handled) (sent : ℕ → List ℕ) (x y : Option Entry) → due_by device (due_at x) handled ≡ due_at x ++ sent device → BreaksAs sent device x y → LostAs device handled x y
+lost_by device handled sent x y sends (inl was) = inl was
+lost_by device handled sent x y sends (inr (counts, rest, due)) = inr (record {
+  before = handled;
+  behind = [];
+  whole = sym (append-nil handled);
+  rest = rest;
+  came = inl (counts, due ∙ sym sends);
+})
 
 -- ---- what clients are answered by them
 
@@ -193,15 +219,128 @@ talked_then core mid key first later x y e run (inl w) before = by (before w.bef
       due = due_joined [] w.before.due e.due b.acts w.acts b.due w.due;
     })
 
+-- ---- where it broke
+
+-- it had broken before; or it went on from another, and broke; or it was accepted since, and broke
+abbrev pub StopsAs : State → ℕ → List Handled → Option Entry → Entry → Type 0
+StopsAs core key handled x e =
+    ((d : Entry) × (x ≡ Some d) × (d.broken ≡ true) × (d.talk ≡ e.talk) × (d.due ≡ e.due) × (asked_by key handled ≡ []))
+    ⊎ (((d : Entry) × (x ≡ Some d) × ClientTalk d.talk × (d.broken ≡ false) × BrokeAfter core key handled handled d.talk d.due e) ⊎ IsCutOff core key handled e)
+
+last_more : (core : State) (first later : List Handled) (after talk : Talk) → IsLast core first after talk → IsLast core (first ++ later) after talk
+last_more core first later after talk (inl is) = inl is
+last_more core first later after talk (inr (state, what, of, next)) = inr (state, what, state_more state core first later of, next)
+
+last_behind : (core mid : State) (first later : List Handled) (after talk : Talk) → AreHandled core first mid → IsLast mid later after talk → IsLast core (first ++ later) after talk
+last_behind core mid first later after talk run (inl is) = inl is
+last_behind core mid first later after talk run (inr (state, what, of, next)) = inr (state, what, state_behind state core mid first later run of, next)
+
+-- more comes, which it doesn't ask for
+broke_more : (core : State) (key : ℕ) (first later since : List Handled) (before : Talk) (base : List ℕ) (d e : Entry) → BrokeAfter core key first since before base d → d.talk ≡ e.talk → d.due ≡ e.due → asked_by key later ≡ [] → BrokeAfter core key (first ++ later) (since ++ later) before base e
+broke_more core key first later since before base d e b talk due none = record {
+  acts = b.acts;
+  after = b.after;
+  are = b.are;
+  states = states_more core first later b.acts b.states;
+  unanswered = b.unanswered;
+  asked = asked_append key since later ∙ (ap (λ (its : List Handled). asked_by key since ++ its) none ∙ (append-nil (asked_by key since) ∙ b.asked));
+  last = subst (λ (t : Talk). IsLast core (first ++ later) b.after t) talk (last_more core first later b.after d.talk b.last);
+  due = sym due ∙ b.due;
+}
+
+-- it had gone on by other acts before
+broke_behind : (core mid : State) (key : ℕ) (first later since : List Handled) (before : Talk) (base : List ℕ) (d e : Entry) (acts : List Act) → AreHandled core first mid → AreActs before acts d.talk → All (λ (a : Act). IsStateOf a.state core first) acts → asked_by key since ≡ flat_map (λ (a : Act). a.asked) acts
+    → d.due ≡ base ++ flat_map (λ (a : Act). a.bytes) acts → BrokeAfter mid key later later d.talk d.due e → BrokeAfter core key (first ++ later) (since ++ later) before base e
+broke_behind core mid key first later since before base d e acts run are states asked due b = record {
+  acts = acts ++ b.acts;
+  after = b.after;
+  are = acts_append before d.talk b.after acts b.acts are b.are;
+  states = All-append (λ (a : Act). IsStateOf a.state core (first ++ later)) acts b.acts (states_more core first later acts states) (states_behind core mid first later b.acts run b.states);
+  unanswered = b.unanswered;
+  asked = asked_append key since later
+      ∙ (ap (λ (its : List Handled). its ++ asked_by key later) asked
+      ∙ (ap (λ (its : List Handled). flat_map (λ (a : Act). a.asked) acts ++ its) b.asked
+      ∙ (sym (append_assoc (flat_map (λ (a : Act). a.asked) acts) (flat_map (λ (a : Act). a.asked) b.acts) b.unanswered) ∙ ap (λ (its : List Handled). its ++ b.unanswered) (sym (flat_map-append (λ (a : Act). a.asked) acts b.acts)))));
+  last = last_behind core mid first later b.after e.talk run b.last;
+  due = due_joined base d.due e.due acts b.acts due b.due;
+}
+
+pub stops_then : (core mid : State) (key : ℕ) (first later : List Handled) (x y : Option Entry) (e : Entry) → AreHandled core first mid → ClientTalk e.talk → StopsAs mid key later y e → ((d : Entry) → y ≡ Some d → ClientTalk d.talk → d.broken ≡ false → TalkedAs core key first x d)
+    → ((d : Entry) → y ≡ Some d → ClientTalk d.talk → d.broken ≡ true → StopsAs core key first x d) → StopsAs core key (first ++ later) x e
+stops_then core mid key first later x y e run client (inl (d, there, broken, talk, due, none)) talked stopped = by (stopped d there (subst ClientTalk (sym talk) client) broken)
+  where
+    by : StopsAs core key first x d → StopsAs core key (first ++ later) x e
+    by (inl (f, is, was, same, more, silent)) = inl (f, is, was, same ∙ talk, more ∙ due, asked_append key first later ∙ (ap (λ (its : List Handled). its ++ asked_by key later) silent ∙ none))
+    by (inr (inl (f, is, of, sound, b))) = inr (inl (f, is, of, sound, broke_more core key first later first f.talk f.due d e b talk due none))
+    by (inr (inr c)) = inr (inr (record {
+      earlier = c.earlier;
+      since = c.since ++ later;
+      whole = ap (λ (its : List Handled). its ++ later) c.whole ∙ append_assoc c.earlier c.since later;
+      door = c.door;
+      until = broke_more core key first later c.since (opening_talk c.door) [] d e c.until talk due none;
+    }))
+stops_then core mid key first later x y e run client (inr (inl (d, there, of, sound, b))) talked stopped = by (talked d there of sound)
+  where
+    by : TalkedAs core key first x d → StopsAs core key (first ++ later) x e
+    by (inl v) = inr (inl (v.before, v.there, v.client, v.sound, broke_behind core mid key first later first v.before.talk v.before.due d e v.acts run v.are v.states v.asked v.due b))
+    by (inr a) = inr (inr (record {
+      earlier = a.earlier;
+      since = a.since ++ later;
+      whole = ap (λ (its : List Handled). its ++ later) a.whole ∙ append_assoc a.earlier a.since later;
+      door = a.door;
+      until = broke_behind core mid key first later a.since (opening_talk a.door) [] d e a.acts run a.are a.states a.asked a.due b;
+    }))
+stops_then core mid key first later x y e run client (inr (inr c)) talked stopped = inr (inr (record {
+  earlier = first ++ c.earlier;
+  since = c.since;
+  whole = ap (λ (its : List Handled). first ++ its) c.whole ∙ sym (append_assoc first c.earlier c.since);
+  door = c.door;
+  until = record {
+    acts = c.until.acts;
+    after = c.until.after;
+    are = c.until.are;
+    states = states_behind core mid first later c.until.acts run c.until.states;
+    unanswered = c.until.unanswered;
+    asked = c.until.asked;
+    last = last_behind core mid first later c.until.after e.talk run c.until.last;
+    due = c.until.due;
+  };
+}))
+
+-- it broke, or had broken, where these events weren't asked on it
+pub stops_still : (core : State) (key : ℕ) (handled : List Handled) (x y : Option Entry) → Stays x y → asked_by key handled ≡ [] → (e : Entry) → y ≡ Some e → ClientTalk e.talk → e.broken ≡ true → StopsAs core key handled x e
+stops_still core key handled x y stays none e is client broken =
+    let d = stays e is client in
+    by d.0 d.1 d.2 d.4 d.0.broken refl
+  where
+    by : (d : Entry) → x ≡ Some d → d.talk ≡ e.talk → d.due ≡ e.due → (t : Bool) → d.broken ≡ t → StopsAs core key handled x e
+    by d there talk due true was = inl (d, there, was, talk, due, none)
+    by d there talk due false was = inr (inl (
+      d,
+      there,
+      subst ClientTalk (sym talk) client,
+      was,
+      record {
+        acts = [];
+        after = d.talk;
+        are = refl;
+        states = All-nil (λ (a : Act). IsStateOf a.state core handled);
+        unanswered = [];
+        asked = none;
+        last = inl talk;
+        due = sym due ∙ sym (append-nil d.due);
+      },
+    ))
+
 -- it is what it was, where these events weren't asked on it
 pub talked_still : (core : State) (key : ℕ) (handled : List Handled) (x y : Option Entry) → Stays x y → asked_by key handled ≡ [] → (e : Entry) → y ≡ Some e → ClientTalk e.talk → e.broken ≡ false → TalkedAs core key handled x e
 talked_still core key handled x y stays none e is client sound =
-    let d = stays e is client sound in
+    let d = stays e is client in
     inl (record {
       before = d.0;
       there = d.1;
       client = subst ClientTalk (sym d.2) client;
-      sound = d.3;
+      sound = d.3 sound;
       acts = [];
       are = sym d.2;
       states = All-nil (λ (a : Act). IsStateOf a.state core handled);
@@ -218,7 +357,9 @@ pub record ClosedAs (l : Ledger) (handled : List Handled) (e : Entry) : Type 0 w
   pub behind : List Handled
   pub whole : handled ≡ before ++ behind
   pub came : (device : ℕ) → device_of e.talk ≡ Some device → e.broken ≡ false → CameAs device before (l.entries key) (Some e)
+  pub lost : (device : ℕ) → device_of e.talk ≡ Some device → e.broken ≡ true → LostAs device before (l.entries key) (Some e)
   pub talks : ClientTalk e.talk → e.broken ≡ false → TalkedAs l.core key before (l.entries key) e
+  pub stops : ClientTalk e.talk → e.broken ≡ true → StopsAs l.core key before (l.entries key) e
 
 pub record AllClosed (l : Ledger) (handled : List Handled) (l' : Ledger) : Type 0 where
   pub more : List (Entry × Fate)
@@ -237,7 +378,9 @@ pub record Goes (moment : ℕ) (l : Ledger) (hs : List Happening) (l' : Ledger) 
   pub timed : AreAt moment handled
   pub told : core_notes hs ≡ flat_map (λ (it : Handled). it.notes) handled
   pub came : (key device : ℕ) → Counts device (l'.entries key) → CameAs device handled (l.entries key) (l'.entries key)
+  pub lost : (key device : ℕ) → IsLost device (l'.entries key) → LostAs device handled (l.entries key) (l'.entries key)
   pub talks : (key : ℕ) (e : Entry) → l'.entries key ≡ Some e → ClientTalk e.talk → e.broken ≡ false → TalkedAs l.core key handled (l.entries key) e
+  pub stops : (key : ℕ) (e : Entry) → l'.entries key ≡ Some e → ClientTalk e.talk → e.broken ≡ true → StopsAs l.core key handled (l.entries key) e
   pub closed : AllClosed l handled l'
 
 pub due_append : (device : ℕ) (before : List ℕ) (first later : List Handled) → due_by device before (first ++ later) ≡ due_by device (due_by device before first) later
@@ -269,15 +412,38 @@ or_left : (x y : Bool) → x ≡ true → x || y ≡ true
 or_left true y is = refl
 or_left false y is = cc
 
-pub came_then : (device : ℕ) (first later : List Handled) (x y z : Option Entry) → CameAs device later y z → (Counts device y → CameAs device first x y) → CameAs device (first ++ later) x z
-came_then device first later x y z (inr (named, due)) before =
+pub came_with : (device : ℕ) (first later : List Handled) (x y : Option Entry) (all : List ℕ) → CameWith device later y all → (Counts device y → CameAs device first x y) → CameWith device (first ++ later) x all
+came_with device first later x y all (inr (named, due)) before =
     inr (named_append device first later ∙ or_right (has_named device first) (has_named device later) named, due ∙ (due_named device [] (due_by device [] first) later named ∙ sym (due_append device [] first later)))
-came_then device first later x y z (inl (counts, due)) before = by_first (before counts)
+came_with device first later x y all (inl (counts, due)) before = by_first (before counts)
   where
-    by_first : CameAs device first x y → CameAs device (first ++ later) x z
+    by_first : CameAs device first x y → CameWith device (first ++ later) x all
     by_first (inl (was, is)) = inl (was, due ∙ (ap (λ (bytes : List ℕ). due_by device bytes later) is ∙ sym (due_append device (due_at x) first later)))
     by_first (inr (named, is)) =
         inr (named_append device first later ∙ or_left (has_named device first) (has_named device later) named, due ∙ (ap (λ (bytes : List ℕ). due_by device bytes later) is ∙ sym (due_append device [] first later)))
+
+pub came_then : (device : ℕ) (first later : List Handled) (x y z : Option Entry) → CameAs device later y z → (Counts device y → CameAs device first x y) → CameAs device (first ++ later) x z
+came_then device first later x y z came before = came_with device first later x y (due_at z) came before
+
+pub lost_then : (device : ℕ) (first later : List Handled) (x y z : Option Entry) → LostAs device later y z → (IsLost device y → LostAs device first x y) → (Counts device y → CameAs device first x y) → LostAs device (first ++ later) x z
+lost_then device first later x y z (inr h) lost came = inr (record {
+  before = first ++ h.before;
+  behind = h.behind;
+  whole = ap (λ (its : List Handled). first ++ its) h.whole ∙ sym (append_assoc first h.before h.behind);
+  rest = h.rest;
+  came = came_with device first h.before x y (due_at z ++ h.rest) h.came came;
+})
+lost_then device first later x y z (inl (is, same)) lost came = by (lost is)
+  where
+    by : LostAs device first x y → LostAs device (first ++ later) x z
+    by (inl (was, due)) = inl (was, same ∙ due)
+    by (inr h) = inr (record {
+      before = h.before;
+      behind = h.behind ++ later;
+      whole = ap (λ (its : List Handled). its ++ later) h.whole ∙ append_assoc h.before h.behind later;
+      rest = h.rest;
+      came = subst (λ (bytes : List ℕ). CameWith device h.before x (bytes ++ h.rest)) (sym same) h.came;
+    })
 
 pub handled_append : (old mid new : State) (first later : List Handled) → AreHandled old first mid → AreHandled mid later new → AreHandled old (first ++ later) new
 handled_append old mid new [] later same rest = subst (λ (s : State). AreHandled s later new) same rest
@@ -291,28 +457,36 @@ closed_more l first later e c = record {
   behind = c.behind ++ later;
   whole = ap (λ (its : List Handled). its ++ later) c.whole ∙ append_assoc c.before c.behind later;
   came = c.came;
+  lost = c.lost;
   talks = c.talks;
+  stops = c.stops;
 }
 
 closed_behind : (l mid : Ledger) (first later : List Handled) (e : Entry) → AreHandled l.core first mid.core → ((key device : ℕ) → Counts device (mid.entries key) → CameAs device first (l.entries key) (mid.entries key))
-    → ((key : ℕ) (d : Entry) → mid.entries key ≡ Some d → ClientTalk d.talk → d.broken ≡ false → TalkedAs l.core key first (l.entries key) d) → ClosedAs mid later e → ClosedAs l (first ++ later) e
-closed_behind l mid first later e run came talks c = record {
+    → ((key device : ℕ) → IsLost device (mid.entries key) → LostAs device first (l.entries key) (mid.entries key))
+    → ((key : ℕ) (d : Entry) → mid.entries key ≡ Some d → ClientTalk d.talk → d.broken ≡ false → TalkedAs l.core key first (l.entries key) d)
+    → ((key : ℕ) (d : Entry) → mid.entries key ≡ Some d → ClientTalk d.talk → d.broken ≡ true → StopsAs l.core key first (l.entries key) d) → ClosedAs mid later e → ClosedAs l (first ++ later) e
+closed_behind l mid first later e run came lost talks stops c = record {
   key = c.key;
   before = first ++ c.before;
   behind = c.behind;
   whole = ap (λ (its : List Handled). first ++ its) c.whole ∙ sym (append_assoc first c.before c.behind);
   came = λ device named sound. came_then device first c.before (l.entries c.key) (mid.entries c.key) (Some e) (c.came device named sound) (came c.key device);
+  lost = λ device named is. lost_then device first c.before (l.entries c.key) (mid.entries c.key) (Some e) (c.lost device named is) (lost c.key device) (came c.key device);
   talks = λ client sound. talked_then l.core mid.core c.key first c.before (l.entries c.key) (mid.entries c.key) e run (c.talks client sound) (λ d there of unbroken. talks c.key d there of unbroken);
+  stops = λ client broken. stops_then l.core mid.core c.key first c.before (l.entries c.key) (mid.entries c.key) e run client (c.stops client broken) (talks c.key) (stops c.key);
 }
 
 pub all_closed_then : (l mid l' : Ledger) (first later : List Handled) → AreHandled l.core first mid.core → ((key device : ℕ) → Counts device (mid.entries key) → CameAs device first (l.entries key) (mid.entries key))
-    → ((key : ℕ) (d : Entry) → mid.entries key ≡ Some d → ClientTalk d.talk → d.broken ≡ false → TalkedAs l.core key first (l.entries key) d) → AllClosed l first mid → AllClosed mid later l' → AllClosed l (first ++ later) l'
-all_closed_then l mid l' first later run came talks p q = record {
+    → ((key device : ℕ) → IsLost device (mid.entries key) → LostAs device first (l.entries key) (mid.entries key))
+    → ((key : ℕ) (d : Entry) → mid.entries key ≡ Some d → ClientTalk d.talk → d.broken ≡ false → TalkedAs l.core key first (l.entries key) d)
+    → ((key : ℕ) (d : Entry) → mid.entries key ≡ Some d → ClientTalk d.talk → d.broken ≡ true → StopsAs l.core key first (l.entries key) d) → AllClosed l first mid → AllClosed mid later l' → AllClosed l (first ++ later) l'
+all_closed_then l mid l' first later run came lost talks stops p q = record {
   more = p.more ++ q.more;
   closed = q.closed ∙ (ap (λ (xs : List (Entry × Fate)). xs ++ q.more) p.closed ∙ append_assoc l.closed p.more q.more);
   each = All-append (λ (it : Entry × Fate). ClosedAs l (first ++ later) it.0) p.more q.more
       (All-weaker (λ (it : Entry × Fate). ClosedAs l first it.0) (λ (it : Entry × Fate). ClosedAs l (first ++ later) it.0) (λ it c. closed_more l first later it.0 c) p.more p.each)
-      (All-weaker (λ (it : Entry × Fate). ClosedAs mid later it.0) (λ (it : Entry × Fate). ClosedAs l (first ++ later) it.0) (λ it c. closed_behind l mid first later it.0 run came talks c) q.more q.each);
+      (All-weaker (λ (it : Entry × Fate). ClosedAs mid later it.0) (λ (it : Entry × Fate). ClosedAs l (first ++ later) it.0) (λ it c. closed_behind l mid first later it.0 run came lost talks stops c) q.more q.each);
 }
 
 pub goes_then : (moment : ℕ) (l : Ledger) (front : List Happening) (mid : Ledger) (back : List Happening) (l' : Ledger) (hs : List Happening) → hs ≡ front ++ back → Goes moment l front mid → Goes moment mid back l' → Goes moment l hs l'
@@ -323,8 +497,10 @@ goes_then moment l front mid back l' hs whole p q = record {
   timed = All-append (λ (it : Handled). it.moment ≡ moment) p.handled q.handled p.timed q.timed;
   told = ap core_notes whole ∙ (notes_append front back ∙ (ap (λ (ns : List Note). ns ++ core_notes back) p.told ∙ (ap (λ (ns : List Note). flat_map (λ (it : Handled). it.notes) p.handled ++ ns) q.told ∙ sym (flat_map-append (λ (it : Handled). it.notes) p.handled q.handled))));
   came = λ key device counts. came_then device p.handled q.handled (l.entries key) (mid.entries key) (l'.entries key) (q.came key device counts) (p.came key device);
+  lost = λ key device is. lost_then device p.handled q.handled (l.entries key) (mid.entries key) (l'.entries key) (q.lost key device is) (p.lost key device) (p.came key device);
   talks = λ key e is client sound. talked_then l.core mid.core key p.handled q.handled (l.entries key) (mid.entries key) e p.run (q.talks key e is client sound) (λ d there of unbroken. p.talks key d there of unbroken);
-  closed = all_closed_then l mid l' p.handled q.handled p.run p.came p.talks p.closed q.closed;
+  stops = λ key e is client broken. stops_then l.core mid.core key p.handled q.handled (l.entries key) (mid.entries key) e p.run client (q.stops key e is client broken) (p.talks key) (p.stops key);
+  closed = all_closed_then l mid l' p.handled q.handled p.run p.came p.lost p.talks p.stops p.closed q.closed;
 }
 
 pub goes_calm : (moment : ℕ) (l : Ledger) (hs : List Happening) (l' : Ledger) → Good l → Calm l hs l' → Goes moment l hs l'
@@ -335,13 +511,16 @@ goes_calm moment l hs l' good calm = record {
   timed = All-nil (λ (it : Handled). it.moment ≡ moment);
   told = calm.notes;
   came = λ key device counts. let it = (calm.each key).counts device counts in inl (it.0, it.1 ∙ append-nil (due_at (l.entries key)));
+  lost = λ key device is. lost_by device [] (λ d. []) (l.entries key) (l'.entries key) (sym (append-nil (due_at (l.entries key)))) ((calm.each key).breaks device is);
   talks = λ key. talked_still l.core key [] (l.entries key) (l'.entries key) (calm.each key).stays refl;
+  stops = λ key. stops_still l.core key [] (l.entries key) (l'.entries key) (calm.each key).stays refl;
   closed = none_closed l [] l' calm.closed;
 }
 
 -- from one connection under a key to the next, also where a client's came or was closed: no device notices
 pub record Plain (x y : Option Entry) : Type 0 where
   pub counts : (device : ℕ) → Counts device y → Counts device x × (due_at y ≡ due_at x)
+  pub lost : (device : ℕ) → IsLost device y → IsLost device x × (due_at y ≡ due_at x)
   pub device : (device : ℕ) → IsDevice device y → IsDevice device x
   pub fresh : IsFresh x → IsFresh y
 
@@ -351,12 +530,12 @@ by_test false x o y p q = q refl
 
 plain_at : (key : ℕ) (o : Option Entry) (entries : ℕ → Option Entry) → Plain (entries key) o → (other : ℕ) → Plain (entries other) (at_key key o entries other)
 plain_at key o entries here other =
-    by_test (other == key) (entries other) o (entries other) (λ is. subst (λ (k : ℕ). Plain (entries k) o) (sym (same_key other key is)) here) (λ is. record { counts = λ device counts. (counts, refl); device = λ device named. named; fresh = λ fresh. fresh })
+    by_test (other == key) (entries other) o (entries other) (λ is. subst (λ (k : ℕ). Plain (entries k) o) (sym (same_key other key is)) here) (λ is. record { counts = λ device counts. (counts, refl); lost = λ device lost. (lost, refl); device = λ device named. named; fresh = λ fresh. fresh })
 
 -- a connection came, or was closed
 pub goes_plain : (moment key : ℕ) (o : Option Entry) (l : Ledger) (hs : List Happening) (l' : Ledger) → Good l → core_notes hs ≡ [] → l'.core ≡ l.core → l'.entries ≡ at_key key o l.entries → Plain (l.entries key) o
-    → ((e : Entry) → o ≡ Some e → ClientTalk e.talk → e.broken ≡ false → TalkedAs l.core key [] (l.entries key) e) → AllClosed l [] l' → Goes moment l hs l'
-goes_plain moment key o l hs l' good silent core after here talks closed = record {
+    → ((e : Entry) → o ≡ Some e → ClientTalk e.talk → e.broken ≡ false → TalkedAs l.core key [] (l.entries key) e) → ((e : Entry) → o ≡ Some e → e.broken ≡ true → ⊥) → AllClosed l [] l' → Goes moment l hs l'
+goes_plain moment key o l hs l' good silent core after here talks unbroken closed = record {
   handled = [];
   good = record {
     one = λ device k other p q. good.one device k other ((each k).device device p) ((each other).device device q);
@@ -366,13 +545,19 @@ goes_plain moment key o l hs l' good silent core after here talks closed = recor
   timed = All-nil (λ (it : Handled). it.moment ≡ moment);
   told = silent;
   came = λ k device counts. inl ((each k).counts device counts);
+  lost = λ k device is. inl ((each k).lost device is);
   talks = λ k e is. talked k e (k == key) refl (subst (λ (entries : ℕ → Option Entry). entries k ≡ Some e) after is);
+  stops = λ k e is. stopped k e (k == key) refl (subst (λ (entries : ℕ → Option Entry). entries k ≡ Some e) after is);
   closed = closed;
 }
   where
     talked : (k : ℕ) (e : Entry) (t : Bool) → (k == key) ≡ t → (if t then o else l.entries k) ≡ Some e → ClientTalk e.talk → e.broken ≡ false → TalkedAs l.core k [] (l.entries k) e
     talked k e true same is client sound = subst (λ (j : ℕ). TalkedAs l.core j [] (l.entries j) e) (sym (same_key k key same)) (talks e is client sound)
-    talked k e false same is client sound = talked_still l.core k [] (l.entries k) (l.entries k) (λ f there of unbroken. (f, there, refl, unbroken, refl)) refl e is client sound
+    talked k e false same is client sound = talked_still l.core k [] (l.entries k) (l.entries k) (λ f there of. (f, there, refl, λ still. still, refl)) refl e is client sound
+
+    stopped : (k : ℕ) (e : Entry) (t : Bool) → (k == key) ≡ t → (if t then o else l.entries k) ≡ Some e → ClientTalk e.talk → e.broken ≡ true → StopsAs l.core k [] (l.entries k) e
+    stopped k e true same is client broken = absurd (unbroken e is broken)
+    stopped k e false same is client broken = stops_still l.core k [] (l.entries k) (l.entries k) (λ f there of. (f, there, refl, λ still. still, refl)) refl e is client broken
 
     each : (k : ℕ) → Plain (l.entries k) (l'.entries k)
     each k = subst (λ (entries : ℕ → Option Entry). Plain (l.entries k) (entries k)) (sym after) (plain_at key o l.entries here k)
@@ -395,7 +580,9 @@ goes_event moment event outcome l hs l' good it = record {
   timed = All-cons (λ (h : Handled). h.moment ≡ moment) (one_handled moment event outcome hs l' None None) [] refl (All-nil (λ (h : Handled). h.moment ≡ moment));
   told = sym (append-nil (core_notes hs));
   came = λ key device counts. inl ((it.each key).counts device counts);
+  lost = λ key device is. lost_by device (one_handled moment event outcome hs l' None None ∷ []) (sent_by outcome l'.core) (l.entries key) (l'.entries key) refl ((it.each key).breaks device is);
   talks = λ key. talked_still l.core key (one_handled moment event outcome hs l' None None ∷ []) (l.entries key) (l'.entries key) (it.each key).stays refl;
+  stops = λ key. stops_still l.core key (one_handled moment event outcome hs l' None None ∷ []) (l.entries key) (l'.entries key) (it.each key).stays refl;
   closed = none_closed l (one_handled moment event outcome hs l' None None ∷ []) l' it.closed;
 }
 
@@ -410,9 +597,21 @@ pub record Awaits (moment device key : ℕ) (l : Ledger) (hs : List Happening) (
   pub told : core_notes hs ≡ flat_map (λ (it : Handled). it.notes) handled
   pub only : (other : ℕ) → IsDevice device (l'.entries other) → other ≡ key
   pub due : Counts device (l'.entries key) → due_at (l'.entries key) ≡ []
+  pub lost_due : IsLost device (l'.entries key) → due_at (l'.entries key) ≡ []
   pub came : (other of : ℕ) → (device == of) ≡ false → Counts of (l'.entries other) → CameAs of handled (l.entries other) (l'.entries other)
+  pub lost : (other of : ℕ) → (device == of) ≡ false → IsLost of (l'.entries other) → LostAs of handled (l.entries other) (l'.entries other)
   pub talks : (other : ℕ) (e : Entry) → l'.entries other ≡ Some e → ClientTalk e.talk → e.broken ≡ false → TalkedAs l.core other handled (l.entries other) e
+  pub stops : (other : ℕ) (e : Entry) → l'.entries other ≡ Some e → ClientTalk e.talk → e.broken ≡ true → StopsAs l.core other handled (l.entries other) e
   pub closed : l'.closed ≡ l.closed
+
+front_nil : (bytes rest : List ℕ) → bytes ++ rest ≡ [] → bytes ≡ []
+front_nil [] rest is = refl
+front_nil (b ∷ bytes) rest is = cc
+
+-- where nothing was due, and nothing is sent, nothing is due once it broke
+lost_none : (sent : ℕ → List ℕ) (device : ℕ) (x y : Option Entry) → (IsLost device x → due_at x ≡ []) → (Counts device x → due_at x ≡ []) → sent device ≡ [] → BreaksAs sent device x y → due_at y ≡ []
+lost_none sent device x y lost due none (inl (was, same)) = same ∙ lost was
+lost_none sent device x y lost due none (inr (counts, rest, is)) = front_nil (due_at y) rest (is ∙ (ap (λ (bytes : List ℕ). bytes ++ sent device) (due counts) ∙ none))
 
 -- an event that sends nothing to it
 pub awaits_event : (moment device key : ℕ) (event : Event) (outcome : Outcome) (l : Ledger) (front : List Happening) (mid : Ledger) (back : List Happening) (l' : Ledger) (hs : List Happening) → hs ≡ front ++ back
@@ -429,8 +628,11 @@ awaits_event moment device key event outcome l front mid back l' hs whole p it n
       due = λ counts.
           let was = (it.each key).counts device counts in
           was.1 ∙ (ap (λ (bytes : List ℕ). bytes ++ sent_by outcome l'.core device) (p.due was.0) ∙ none);
+      lost_due = λ lost. lost_none (sent_by outcome l'.core) device (mid.entries key) (l'.entries key) p.lost_due p.due none ((it.each key).breaks device lost);
       came = λ other of apart counts. came_then of p.handled q.handled (l.entries other) (mid.entries other) (l'.entries other) (q.came other of counts) (p.came other of apart);
+      lost = λ other of apart is. lost_then of p.handled q.handled (l.entries other) (mid.entries other) (l'.entries other) (q.lost other of is) (p.lost other of apart) (p.came other of apart);
       talks = λ other e is client sound. talked_then l.core mid.core other p.handled q.handled (l.entries other) (mid.entries other) e p.run (q.talks other e is client sound) (λ d there of unbroken. p.talks other d there of unbroken);
+      stops = λ other e is client broken. stops_then l.core mid.core other p.handled q.handled (l.entries other) (mid.entries other) e p.run client (q.stops other e is client broken) (p.talks other) (p.stops other);
       closed = it.closed ∙ p.closed;
     }
 
@@ -444,9 +646,13 @@ awaits_named moment device key name outcome l front mid back l' hs whole p it = 
   timed = All-append (λ (h : Handled). h.moment ≡ moment) p.handled (last ∷ []) p.timed (All-cons (λ (h : Handled). h.moment ≡ moment) last [] refl (All-nil (λ (h : Handled). h.moment ≡ moment)));
   told = ap core_notes whole ∙ (notes_append front back ∙ (ap (λ (ns : List Note). ns ++ core_notes back) p.told ∙ (ap (λ (ns : List Note). flat_map (λ (h : Handled). h.notes) p.handled ++ ns) (sym (append-nil (core_notes back))) ∙ sym (flat_map-append (λ (h : Handled). h.notes) p.handled (last ∷ [])))));
   came = λ other of counts. by other of counts (device == of) refl;
+  lost = λ other of is. lost_at other of (device == of) refl ((it.each other).breaks of is);
   talks = λ other e is client sound.
       talked_then l.core mid.core other p.handled (last ∷ []) (l.entries other) (mid.entries other) e p.run (talked_still mid.core other (last ∷ []) (mid.entries other) (l'.entries other) (it.each other).stays refl e is client sound)
       (λ d there of unbroken. p.talks other d there of unbroken);
+  stops = λ other e is client broken.
+      stops_then l.core mid.core other p.handled (last ∷ []) (l.entries other) (mid.entries other) e p.run client (stops_still mid.core other (last ∷ []) (mid.entries other) (l'.entries other) (it.each other).stays refl e is client broken) (p.talks other)
+      (p.stops other);
   closed = none_closed l (p.handled ++ last ∷ []) l' (it.closed ∙ p.closed);
 }
   where
@@ -471,6 +677,35 @@ awaits_named moment device key name outcome l front mid back l' hs whole p it = 
     by other of counts false same =
         let was = (it.each other).counts of counts in
         came_then of p.handled (last ∷ []) (l.entries other) (mid.entries other) (l'.entries other) (inl (was.0, was.1 ∙ sym (name_test of false (due_at (mid.entries other)) same))) (p.came other of same)
+
+    sent_all : (of : ℕ) → (device == of) ≡ true → due_by of [] (p.handled ++ last ∷ []) ≡ sent_by outcome l'.core of
+    sent_all of same = due_append of [] p.handled (last ∷ []) ∙ name_test of true (due_by of [] p.handled) same
+
+    lost_at : (other of : ℕ) (t : Bool) → (device == of) ≡ t → BreaksAs (sent_by outcome l'.core) of (mid.entries other) (l'.entries other) → LostAs of (p.handled ++ last ∷ []) (l.entries other) (l'.entries other)
+    lost_at other of false same breaks =
+        lost_then of p.handled (last ∷ []) (l.entries other) (mid.entries other) (l'.entries other) (lost_by of (last ∷ []) (sent_by outcome l'.core) (mid.entries other) (l'.entries other) (name_test of false (due_at (mid.entries other)) same) breaks) (p.lost other of same) (p.came other of same)
+    lost_at other of true same (inl (was, due)) =
+        let this : IsLost device (mid.entries other) = subst (λ (d : ℕ). IsLost d (mid.entries other)) (sym (same_key device of same)) was in
+        let here : other ≡ key = p.only other (lost_device device (mid.entries other) this) in
+        let none : due_at (mid.entries other) ≡ [] = subst (λ (k : ℕ). due_at (mid.entries k) ≡ []) (sym here) (p.lost_due (subst (λ (k : ℕ). IsLost device (mid.entries k)) here this)) in
+        inr (record {
+          before = p.handled ++ last ∷ [];
+          behind = [];
+          whole = sym (append-nil (p.handled ++ last ∷ []));
+          rest = sent_by outcome l'.core of;
+          came = inr (is_named of same, ap (λ (bytes : List ℕ). bytes ++ sent_by outcome l'.core of) (due ∙ none) ∙ sym (sent_all of same));
+        })
+    lost_at other of true same (inr (counts, rest, due)) =
+        let this : Counts device (mid.entries other) = subst (λ (d : ℕ). Counts d (mid.entries other)) (sym (same_key device of same)) counts in
+        let here : other ≡ key = p.only other (counts_device device (mid.entries other) this) in
+        let none : due_at (mid.entries other) ≡ [] = subst (λ (k : ℕ). due_at (mid.entries k) ≡ []) (sym here) (p.due (subst (λ (k : ℕ). Counts device (mid.entries k)) here this)) in
+        inr (record {
+          before = p.handled ++ last ∷ [];
+          behind = [];
+          whole = sym (append-nil (p.handled ++ last ∷ []));
+          rest = rest;
+          came = inr (is_named of same, due ∙ (ap (λ (bytes : List ℕ). bytes ++ sent_by outcome l'.core of) none ∙ sym (sent_all of same)));
+        })
 
 -- ---- a device that is gone is sent nothing
 

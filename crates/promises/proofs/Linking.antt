@@ -1,5 +1,5 @@
 -- A turn, a call between turns, and a trace: what is due on the connections of devices and clients by them.
-use Rattle.std.proofs.Common.{◌≡◌, ℕ, Bool, true, false, List, [], ◌∷◌, ◌++◌, length, take, refl, sym, ◌∙◌, ap, subst, Option, Some, None, inl, inr, All}
+use Rattle.std.proofs.Common.{◌≡◌, ℕ, Bool, true, false, List, [], ◌∷◌, ◌++◌, length, take, refl, sym, ◌∙◌, ap, subst, append_assoc, Option, Some, None, inl, inr, All}
 use Rattle.std.specs.Prelude.{nat_lt}
 use Rattle.std.specs.List.{flat_map}
 use Rattle.std.proofs.lemmas.Grind.{flat_map-append}
@@ -31,10 +31,10 @@ use Rattle.server.specs.Polling.{Opens, AcceptsAs, AcceptsOne, AcceptsAt, FedWho
 use Rattle.server.specs.Turn as Between
 use Rattle.server.specs.Turn.{Ticks, Notes, is_tick_due, TicksIfDue, Covers, Rounds, Round, Turn, BodyAsks, BodyComes, Deed, Turned, Served_body, Reported, Ticked, Trace, DoesDeed, Runs}
 use Rattle.server.specs.Law.{core_notes, moment_of, happenings_of, happenings_in}
-use Rattle.promises.specs.Orders.{Handled, AreHandled, AreOf, due_by, AreSent, WasSent}
-use Rattle.promises.specs.Answers.{Act, ClientTalk, IsStateOf, IsAnswered, WasAnswered, AreAnswered}
-use Rattle.promises.proofs.Sending.{Counts, due_at, Ordered, ordered_still, ordered_keeps, Calm, notes_append, calm_still, calm_sets, breaking, Good, one_entry}
-use Rattle.promises.proofs.Handling.{Plain, goes_plain, CameAs, Goes, handled_append, came_then, goes_then, goes_calm, TalkedAs, talked_then, talked_still, ClosedAs, AllClosed, none_closed, all_closed_then}
+use Rattle.promises.specs.Orders.{Handled, AreHandled, AreOf, due_by, AreSent, WasSent, IsFrontSent, WasHalted}
+use Rattle.promises.specs.Answers.{Act, ClientTalk, IsStateOf, IsAnswered, WasAnswered, AreAnswered, IsCutOff, WasCutOff}
+use Rattle.promises.proofs.Sending.{Counts, due_at, Ordered, ordered_still, ordered_keeps, Calm, notes_append, calm_still, calm_sets, breaking, Good, one_entry, IsLost, no_true}
+use Rattle.promises.proofs.Handling.{Plain, goes_plain, CameAs, Goes, handled_append, came_then, goes_then, goes_calm, TalkedAs, talked_then, talked_still, ClosedAs, AllClosed, none_closed, all_closed_then, LostAs, lost_then, CameWith, StopsAs, stops_still, stops_then}
 use Rattle.promises.proofs.Giving.{Calms, calms_nothing, calms_chooses, calms_refusal, calms_breaks}
 use Rattle.promises.proofs.Moving.{Moves, moves_calm, moves_then, moves_if, moves_each, moves_happens, moves_unanswered, closes_at, moves_settles}
 use Rattle.promises.proofs.Coming.{moves_serves}
@@ -139,9 +139,9 @@ moves_ends moment key l hs l' good it = ends_at moment key (l.entries key) l hs 
 -- ---- accepts
 
 pub opening_plain : (door : Door) (id : ℕ) (x : Option Entry) → x ≡ None → Plain x (Some (opening_entry door id))
-opening_plain Ipp id x is = record { counts = λ device counts. cc; device = λ device named. cc; fresh = λ fresh. tt }
-opening_plain Lpd id x is = record { counts = λ device counts. cc; device = λ device named. cc; fresh = λ fresh. tt }
-opening_plain Devices id x is = record { counts = λ device counts. cc; device = λ device named. cc; fresh = λ fresh none. refl }
+opening_plain Ipp id x is = record { counts = λ device counts. cc; lost = λ device lost. cc; device = λ device named. cc; fresh = λ fresh. tt }
+opening_plain Lpd id x is = record { counts = λ device counts. cc; lost = λ device lost. cc; device = λ device named. cc; fresh = λ fresh. tt }
+opening_plain Devices id x is = record { counts = λ device counts. cc; lost = λ device lost. cc; device = λ device named. cc; fresh = λ fresh none. refl }
 
 -- a client's connection begins with nothing said, asked or due
 pub opening_talks : (core : State) (door : Door) (id key : ℕ) (x : Option Entry) (e : Entry) → Some (opening_entry door id) ≡ Some e → ClientTalk e.talk → e.broken ≡ false → TalkedAs core key [] x e
@@ -159,9 +159,13 @@ opening_talks core door id key x e is of sound =
       due = ap (λ (y : Entry). y.due) (sym this);
     })
 
+-- and it isn't broken
+pub opening_sound : (door : Door) (id : ℕ) (e : Entry) → Some (opening_entry door id) ≡ Some e → e.broken ≡ true → ⊥
+opening_sound door id e is broken = no_true e.broken broken (ap (λ (x : Entry). x.broken) (sym (one_entry (opening_entry door id) e is)))
+
 pub moves_opens : (moment : ℕ) (door : Door) (id : ℕ) → Moves moment (Opens door id)
 moves_opens moment door id l hs l' good (inl (key, free, is, after)) =
-    goes_plain moment key (Some (opening_entry door id)) l hs l' good (ap core_notes is) (ap (λ (x : Ledger). x.core) after) (ap (λ (x : Ledger). x.entries) after) (opening_plain door id (l.entries key) free) (opening_talks l.core door id key (l.entries key)) (none_closed l [] l' (ap (λ (x : Ledger). x.closed) after))
+    goes_plain moment key (Some (opening_entry door id)) l hs l' good (ap core_notes is) (ap (λ (x : Ledger). x.core) after) (ap (λ (x : Ledger). x.entries) after) (opening_plain door id (l.entries key) free) (opening_talks l.core door id key (l.entries key)) (opening_sound door id) (none_closed l [] l' (ap (λ (x : Ledger). x.closed) after))
 moves_opens moment door id l hs l' good (inr it) = goes_calm moment l hs l' good (calm_still l hs l' (ap core_notes it.0) it.1)
 
 pub accepts_as : (moment : ℕ) (door : Door) (answer : WireAnswer ℕ) → Moves moment (AcceptsAs door answer)
@@ -240,7 +244,9 @@ pub record GoesOn_in (trace : Trace) (l l' : Ledger) : Type 0 where
   pub run : AreHandled l.core handled l'.core
   pub told : core_notes (happenings_in trace) ≡ flat_map (λ (it : Handled). it.notes) handled
   pub came : (key device : ℕ) → Counts device (l'.entries key) → CameAs device handled (l.entries key) (l'.entries key)
+  pub lost : (key device : ℕ) → IsLost device (l'.entries key) → LostAs device handled (l.entries key) (l'.entries key)
   pub talks : (key : ℕ) (e : Entry) → l'.entries key ≡ Some e → ClientTalk e.talk → e.broken ≡ false → TalkedAs l.core key handled (l.entries key) e
+  pub stops : (key : ℕ) (e : Entry) → l'.entries key ≡ Some e → ClientTalk e.talk → e.broken ≡ true → StopsAs l.core key handled (l.entries key) e
   pub closed : AllClosed l handled l'
 
 pub goes_on : (trace : Trace) (l l' : Ledger) → Good l → Runs trace l l' → GoesOn_in trace l l'
@@ -251,7 +257,9 @@ goes_on [] l l' good same = record {
   run = ap (λ (x : Ledger). x.core) same;
   told = refl;
   came = λ key device counts. inl (subst (λ (x : Ledger). Counts device (x.entries key)) same counts, ap (λ (x : Ledger). due_at (x.entries key)) same);
-  talks = λ key. talked_still l.core key [] (l.entries key) (l'.entries key) (λ f is of sound. (f, subst (λ (x : Ledger). x.entries key ≡ Some f) same is, refl, sound, refl)) refl;
+  lost = λ key device is. inl (subst (λ (x : Ledger). IsLost device (x.entries key)) same is, ap (λ (x : Ledger). due_at (x.entries key)) same);
+  talks = λ key. talked_still l.core key [] (l.entries key) (l'.entries key) (λ f is of. (f, subst (λ (x : Ledger). x.entries key ≡ Some f) same is, refl, λ sound. sound, refl)) refl;
+  stops = λ key. stops_still l.core key [] (l.entries key) (l'.entries key) (λ f is of. (f, subst (λ (x : Ledger). x.entries key ≡ Some f) same is, refl, λ sound. sound, refl)) refl;
   closed = none_closed l [] l' (ap (λ (x : Ledger). x.closed) same);
 }
 goes_on (deed ∷ deeds) l l' good (mid, does, runs) =
@@ -265,8 +273,10 @@ goes_on (deed ∷ deeds) l l' good (mid, does, runs) =
       told = notes_append (happenings_of deed) (happenings_in deeds)
           ∙ (ap (λ (ns : List Note). ns ++ core_notes (happenings_in deeds)) first.told ∙ (ap (λ (ns : List Note). flat_map (λ (it : Handled). it.notes) first.handled ++ ns) later.told ∙ sym (flat_map-append (λ (it : Handled). it.notes) first.handled later.handled)));
       came = λ key device counts. came_then device first.handled later.handled (l.entries key) (mid.entries key) (l'.entries key) (later.came key device counts) (first.came key device);
+      lost = λ key device is. lost_then device first.handled later.handled (l.entries key) (mid.entries key) (l'.entries key) (later.lost key device is) (first.lost key device) (first.came key device);
       talks = λ key e is of sound. talked_then l.core mid.core key first.handled later.handled (l.entries key) (mid.entries key) e first.run (later.talks key e is of sound) (λ d there client unbroken. first.talks key d there client unbroken);
-      closed = all_closed_then l mid l' first.handled later.handled first.run first.came first.talks first.closed later.closed;
+      stops = λ key e is of broken. stops_then l.core mid.core key first.handled later.handled (l.entries key) (mid.entries key) e first.run of (later.stops key e is of broken) (first.talks key) (first.stops key);
+      closed = all_closed_then l mid l' first.handled later.handled first.run first.came first.lost first.talks first.stops first.closed later.closed;
     }
 
 pub opening_good : (opening : State) → Good (opening_ledger opening)
@@ -282,12 +292,29 @@ module _ (opening : State) (trace : Trace) (l : Ledger) (runs : Runs trace (open
   due_since x o handled device none (inl (counts, due)) = absurd (subst (λ (y : Option Entry). Counts device y) none counts)
   due_since x o handled device none (inr (called, due)) = due
 
+  no_entry : (y : Option Entry) (d : Entry) → y ≡ None → y ≡ Some d → ⊥
+  no_entry y d p q = cc
+
   answered_since : (x : Option Entry) (key : ℕ) (handled : List Handled) (e : Entry) → x ≡ None → TalkedAs opening key handled x e → IsAnswered opening key handled e
-  answered_since x key handled e none (inl went) = absurd (nothing x went.before none went.there)
-    where
-      nothing : (y : Option Entry) (d : Entry) → y ≡ None → y ≡ Some d → ⊥
-      nothing y d p q = cc
+  answered_since x key handled e none (inl went) = absurd (no_entry x went.before none went.there)
   answered_since x key handled e none (inr answered) = answered
+
+  halted_since : (x o : Option Entry) (handled : List Handled) (device : ℕ) → x ≡ None → LostAs device handled x o → IsFrontSent handled device (due_at o)
+  halted_since x o handled device none (inl (was, same)) = absurd (subst (λ (y : Option Entry). IsLost device y) none was)
+  halted_since x o handled device none (inr h) = (h.before, h.behind, h.whole, h.rest, by h.came)
+    where
+      by : CameWith device h.before x (due_at o ++ h.rest) → due_at o ++ h.rest ≡ due_by device [] h.before
+      by (inl (counts, due)) = absurd (subst (λ (y : Option Entry). Counts device y) none counts)
+      by (inr (called, due)) = due
+
+  -- a front of what was sent until an earlier event
+  front_more : (handled before behind : List Handled) (device : ℕ) (due : List ℕ) → handled ≡ before ++ behind → IsFrontSent before device due → IsFrontSent handled device due
+  front_more handled before behind device due whole (first, later, same, rest, is) = (first, later ++ behind, whole ∙ (ap (λ (its : List Handled). its ++ behind) same ∙ append_assoc first later behind), rest, is)
+
+  cut_since : (x : Option Entry) (key : ℕ) (handled : List Handled) (e : Entry) → x ≡ None → StopsAs opening key handled x e → IsCutOff opening key handled e
+  cut_since x key handled e none (inl (d, there, broken, talk, due, silent)) = absurd (no_entry x d none there)
+  cut_since x key handled e none (inr (inl (d, there, client, sound, until))) = absurd (no_entry x d none there)
+  cut_since x key handled e none (inr (inr cut)) = cut
 
   pub are_sent : AreSent opening trace l
   are_sent = record {
@@ -300,6 +327,12 @@ module _ (opening : State) (trace : Trace) (l : Ledger) (runs : Runs trace (open
     closed = subst (λ (closed : List (Entry × Fate)). All (λ (it : Entry × Fate). WasSent all.handled it.0) closed) (sym all.closed.closed)
         (All-weaker (λ (it : Entry × Fate). ClosedAs (opening_ledger opening) all.handled it.0) (λ (it : Entry × Fate). WasSent all.handled it.0)
         (λ it c device named sound. (c.before, c.behind, c.whole, due_since None (Some it.0) c.before device refl (c.came device named sound))) all.closed.more all.closed.each);
+    halted = λ key e there device named is.
+        subst (λ (o : Option Entry). IsFrontSent all.handled device (due_at o)) there
+        (halted_since None (l.entries key) all.handled device refl (all.lost key device (subst (λ (o : Option Entry). IsLost device o) (sym there) (named, is))));
+    closed_halted = subst (λ (closed : List (Entry × Fate)). All (λ (it : Entry × Fate). WasHalted all.handled it.0) closed) (sym all.closed.closed)
+        (All-weaker (λ (it : Entry × Fate). ClosedAs (opening_ledger opening) all.handled it.0) (λ (it : Entry × Fate). WasHalted all.handled it.0)
+        (λ it c device named is. front_more all.handled c.before c.behind device it.0.due c.whole (halted_since None (Some it.0) c.before device refl (c.lost device named is))) all.closed.more all.closed.each);
   }
 
   pub are_answered : ((key : ℕ) (e : Entry) → l.entries key ≡ Some e → IsHeard e) → AreAnswered opening trace l
@@ -313,4 +346,8 @@ module _ (opening : State) (trace : Trace) (l : Ledger) (runs : Runs trace (open
     closed = subst (λ (closed : List (Entry × Fate)). All (λ (it : Entry × Fate). WasAnswered opening all.handled it.0) closed) (sym all.closed.closed)
         (All-weaker (λ (it : Entry × Fate). ClosedAs (opening_ledger opening) all.handled it.0) (λ (it : Entry × Fate). WasAnswered opening all.handled it.0)
         (λ it c client sound. (c.key, c.before, c.behind, c.whole, answered_since None c.key c.before it.0 refl (c.talks client sound))) all.closed.more all.closed.each);
+    cut_off = λ key e there client broken. cut_since None key all.handled e refl (all.stops key e there client broken);
+    closed_cut_off = subst (λ (closed : List (Entry × Fate)). All (λ (it : Entry × Fate). WasCutOff opening all.handled it.0) closed) (sym all.closed.closed)
+        (All-weaker (λ (it : Entry × Fate). ClosedAs (opening_ledger opening) all.handled it.0) (λ (it : Entry × Fate). WasCutOff opening all.handled it.0)
+        (λ it c client broken. (c.key, c.before, c.behind, c.whole, cut_since None c.key c.before it.0 refl (c.stops client broken))) all.closed.more all.closed.each);
   }

@@ -14,8 +14,8 @@ use Rattle.server.specs.Greeting.{IsDeviceAs, IsAlone, GivesWayAt, Greets}
 use Rattle.server.specs.Law.{core_notes}
 use Rattle.promises.specs.Orders.{Handled}
 use Rattle.promises.specs.Answers.{ClientTalk}
-use Rattle.promises.proofs.Sending.{Counts, due_at, FreshTalk, IsFresh, same_key, other_key, Ordered, ordered_still, ordered_broken, ordered_given_up, notes_append, Good, one_entry, client_none}
-use Rattle.promises.proofs.Handling.{happened, CameAs, Goes, goes_calm, Awaits, awaits_event, awaits_named, gone_sends_none, TalkedAs, talked_still}
+use Rattle.promises.proofs.Sending.{Counts, due_at, FreshTalk, IsFresh, same_key, other_key, Ordered, ordered_still, ordered_broken, ordered_given_up, notes_append, Good, one_entry, client_none, IsLost, no_bytes}
+use Rattle.promises.proofs.Handling.{happened, CameAs, Goes, goes_calm, Awaits, awaits_event, awaits_named, gone_sends_none, TalkedAs, talked_still, LostAs, lost_by, StopsAs, stops_still}
 use Rattle.promises.proofs.Giving.{at_here}
 
 -- ---- a device says its name
@@ -46,8 +46,11 @@ awaits moment device key e new l hs l' good silent named fresh due alone = recor
   told = silent;
   only = λ other is. only other is (alone.each other);
   due = λ counts. due_here (alone.each key);
+  lost_due = λ lost. due_here (alone.each key);
   came = λ other of apart counts. came other of apart counts (alone.each other);
+  lost = λ other of apart is. lost other of apart is (alone.each other);
   talks = λ other f is of sound. talks other f is of sound (alone.each other);
+  stops = λ other f is of broken. stops other f is of broken (alone.each other);
   closed = alone.closed;
 }
   where
@@ -79,14 +82,27 @@ awaits moment device key e new l hs l' good silent named fresh due alone = recor
     came other of apart counts (inl (here, is)) = absurd (other_device (device_of new.talk) device of named (subst (λ (o : Option Entry). Counts of o) is counts).0 apart)
     came other of apart counts (inr (aside, sent, none)) = let it = sent.counts of counts in inl (it.0, it.1 ∙ append-nil (due_at (l.entries other)))
 
+    lost : (other of : ℕ) → (device == of) ≡ false → IsLost of (l'.entries other) → Each other → LostAs of [] (l.entries other) (l'.entries other)
+    lost other of apart broke (inl (here, is)) = absurd (other_device (device_of new.talk) device of named (subst (λ (o : Option Entry). IsLost of o) is broke).0 apart)
+    lost other of apart broke (inr (aside, sent, none)) = lost_by of [] (λ d. []) (l.entries other) (l'.entries other) (sym (append-nil (due_at (l.entries other)))) (sent.breaks of broke)
+
     talks : (other : ℕ) (f : Entry) → l'.entries other ≡ Some f → ClientTalk f.talk → f.broken ≡ false → Each other → TalkedAs l.core other [] (l.entries other) f
     talks other f is of sound (inl (here, its)) = absurd (client_none new.talk device (subst ClientTalk (sym (ap (λ (x : Entry). x.talk) (one_entry new f (sym its ∙ is)))) of) named)
     talks other f is of sound (inr (aside, sent, none)) = talked_still l.core other [] (l.entries other) (l'.entries other) sent.stays refl f is of sound
+
+    stops : (other : ℕ) (f : Entry) → l'.entries other ≡ Some f → ClientTalk f.talk → f.broken ≡ true → Each other → StopsAs l.core other [] (l.entries other) f
+    stops other f is of broken (inl (here, its)) = absurd (client_none new.talk device (subst ClientTalk (sym (ap (λ (x : Entry). x.talk) (one_entry new f (sym its ∙ is)))) of) named)
+    stops other f is of broken (inr (aside, sent, none)) = stops_still l.core other [] (l.entries other) (l'.entries other) sent.stays refl f is of broken
 
 pub unnamed_device : (talk : Talk) (device : ℕ) → device_of (unnamed talk) ≡ Some device → ⊥
 unnamed_device (Http said closes body) device is = cc
 unnamed_device (Queue items session) device is = cc
 unnamed_device (Link reports other) device is = cc
+
+named_client : (talk : Talk) (device : ℕ) → device_of talk ≡ Some device → ClientTalk (unnamed talk) → ⊥
+named_client (Http said closes body) device is client = cc
+named_client (Queue items session) device is client = cc
+named_client (Link reports other) device is client = client
 
 pub as_device : (ended : Bool) (device : ℕ) (o : Option Entry) → IsDeviceAs ended device o → IsDevice device o
 as_device ended device None is = absurd is
@@ -210,7 +226,7 @@ greets moment key id device name e new l front mid back l' hs whole just (inr (i
     by ended k (inl (same, its)) second =
         subst (λ (o : Option Entry). Ordered (λ d. []) o (l'.entries k)) (sym (ap l.entries same ∙ just.there))
         (subst (λ (o : Option Entry). Ordered (λ d. []) (Some e) o) (sym (ap (λ (x : Ledger). x.entries k) ended ∙ its))
-        (ordered_broken (λ d. []) e (given_up new) refl (λ d is. absurd (unnamed_device new.talk d is)) (λ client. absurd (just.link client))))
+        (ordered_broken (λ d. []) e (given_up new) refl (λ d is. absurd (unnamed_device new.talk d is)) (λ client. absurd (just.link client)) (λ client. absurd (named_client new.talk device just.named client))))
     by ended k (inr (apart, its)) (inl (same, two)) = absurd (apart same)
     by ended k (inr (apart, its)) (inr (aside, two)) =
         subst (λ (o : Option Entry). Ordered (λ d. []) (l.entries k) o) (sym (ap (λ (x : Ledger). x.entries k) ended ∙ (its ∙ (ap (λ (x : Ledger). x.entries k) just.after ∙ two)))) (ordered_still (l.entries k))

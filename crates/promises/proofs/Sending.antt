@@ -1,6 +1,6 @@
 -- What is sent to devices between one ledger and the next: by which bytes the dues of their connections grow.
 use Rattle.std.proofs.Common.{◌≡◌, ◌≢◌, ℕ, Bool, true, false, List, [], ◌∷◌, ◌++◌, refl, sym, ◌∙◌, ap, subst, append_assoc, append-nil, Option, Some, None, inl, inr, arith}
-use Rattle.std.specs.Prelude.{◌==◌, if◌then◌else◌}
+use Rattle.std.specs.Prelude.{◌==◌, ◌⊎◌, if◌then◌else◌}
 use Rattle.std.specs.List.{flat_map}
 use Rattle.std.proofs.lemmas.Grind.{flat_map-append}
 use Rattle.std.proofs.lemmas.Bool.Decides.{nat_tests}
@@ -28,6 +28,11 @@ abbrev pub Counts : ℕ → Option Entry → Type 0
 Counts device None = ⊥
 Counts device (Some e) = (device_of e.talk ≡ Some device) × (e.broken ≡ false)
 
+-- or it broke since
+abbrev pub IsLost : ℕ → Option Entry → Type 0
+IsLost device None = ⊥
+IsLost device (Some e) = (device_of e.talk ≡ Some device) × (e.broken ≡ true)
+
 abbrev pub due_at : Option Entry → List ℕ
 due_at None = []
 due_at (Some e) = e.due
@@ -51,6 +56,10 @@ pub counts_device : (device : ℕ) (o : Option Entry) → Counts device o → Is
 counts_device device None is = absurd is
 counts_device device (Some e) is = is.0
 
+pub lost_device : (device : ℕ) (o : Option Entry) → IsLost device o → IsDevice device o
+lost_device device None is = absurd is
+lost_device device (Some e) is = is.0
+
 pub same_key : (k key : ℕ) → (k == key) ≡ true → k ≡ key
 same_key k key is = grind (arith, nat_tests, is)
 
@@ -66,22 +75,38 @@ not_key k key apart = grind (arith, nat_tests, apart)
 pub no_bytes : ℕ → List ℕ
 no_bytes device = []
 
--- a client's connection that isn't broken is what it was, but for what it has read and what was taken
+-- a client's connection is what it was, but for what it has read, what was taken, and that it may break
 abbrev pub Stays : Option Entry → Option Entry → Type 0
-Stays x y = (e : Entry) → y ≡ Some e → ClientTalk e.talk → e.broken ≡ false → (d : Entry) × (x ≡ Some d) × (d.talk ≡ e.talk) × (d.broken ≡ false) × (d.due ≡ e.due)
+Stays x y = (e : Entry) → y ≡ Some e → ClientTalk e.talk → (d : Entry) × (x ≡ Some d) × (d.talk ≡ e.talk) × (e.broken ≡ false → d.broken ≡ false) × (d.due ≡ e.due)
 
 stays_then : (x y z : Option Entry) → Stays x y → Stays y z → Stays x z
-stays_then x y z p q e is client sound =
-    let mid = q e is client sound in
-    let first = p mid.0 mid.1 (subst ClientTalk (sym mid.2) client) mid.3 in
-    (first.0, first.1, first.2 ∙ mid.2, first.3, first.4 ∙ mid.4)
+stays_then x y z p q e is client =
+    let mid = q e is client in
+    let first = p mid.0 mid.1 (subst ClientTalk (sym mid.2) client) in
+    (first.0, first.1, first.2 ∙ mid.2, λ sound. first.3 (mid.3 sound), first.4 ∙ mid.4)
 
 pub one_entry : (d e : Entry) → Some d ≡ Some e → d ≡ e
 one_entry d e same = cc
 
+-- where it is broken now it was before, with the same due; or it broke, and what is due on it is a front of what would be
+abbrev pub BreaksAs : (ℕ → List ℕ) → ℕ → Option Entry → Option Entry → Type 0
+BreaksAs sent device x y = (IsLost device x × (due_at y ≡ due_at x)) ⊎ (Counts device x × (rest : List ℕ) × (due_at y ++ rest ≡ due_at x ++ sent device))
+
+breaks_then : (sent more : ℕ → List ℕ) (device : ℕ) (x y z : Option Entry) → BreaksAs more device y z → (IsLost device y → BreaksAs sent device x y) → (Counts device y → Counts device x × (due_at y ≡ due_at x ++ sent device)) → BreaksAs (λ of. sent of ++ more of) device x z
+breaks_then sent more device x y z (inl (was, same)) lost counts = by (lost was)
+  where
+    by : BreaksAs sent device x y → BreaksAs (λ of. sent of ++ more of) device x z
+    by (inl (before, is)) = inl (before, same ∙ is)
+    by (inr (before, rest, is)) =
+        inr (before, rest ++ more device, ap (λ (bytes : List ℕ). bytes ++ (rest ++ more device)) same ∙ (sym (append_assoc (due_at y) rest (more device)) ∙ (ap (λ (bytes : List ℕ). bytes ++ more device) is ∙ append_assoc (due_at x) (sent device) (more device))))
+breaks_then sent more device x y z (inr (is, rest, due)) lost counts =
+    let first = counts is in
+    inr (first.0, rest, due ∙ (ap (λ (bytes : List ℕ). bytes ++ more device) first.1 ∙ append_assoc (due_at x) (sent device) (more device)))
+
 -- from one connection under a key to the next: what was sent to each device
 pub record Ordered (sent : ℕ → List ℕ) (x y : Option Entry) : Type 0 where
   pub counts : (device : ℕ) → Counts device y → Counts device x × (due_at y ≡ due_at x ++ sent device)
+  pub breaks : (device : ℕ) → IsLost device y → BreaksAs sent device x y
   pub device : (device : ℕ) → IsDevice device y → IsDevice device x
   pub fresh : IsFresh x → IsFresh y
   pub client : IsClient x → IsClient y
@@ -94,10 +119,11 @@ Unsent sent o = (device : ℕ) → Counts device o → sent device ≡ []
 pub ordered_same : (sent : ℕ → List ℕ) (x : Option Entry) → Unsent sent x → Ordered sent x x
 ordered_same sent x none = record {
   counts = λ device is. (is, sym (append-nil (due_at x)) ∙ ap (λ (bytes : List ℕ). due_at x ++ bytes) (sym (none device is)));
+  breaks = λ device is. inl (is, refl);
   device = λ device is. is;
   fresh = λ is. is;
   client = λ is. is;
-  stays = λ e is client sound. (e, is, refl, sound, refl);
+  stays = λ e is client. (e, is, refl, λ sound. sound, refl);
 }
 
 pub ordered_still : (x : Option Entry) → Ordered (λ device. []) x x
@@ -109,6 +135,7 @@ ordered_then sent more x y z p q = record {
       let later = q.counts device is in
       let first = p.counts device later.0 in
       (first.0, later.1 ∙ (ap (λ (bytes : List ℕ). bytes ++ more device) first.1 ∙ append_assoc (due_at x) (sent device) (more device)));
+  breaks = λ device is. breaks_then sent more device x y z (q.breaks device is) (p.breaks device) (p.counts device);
   device = λ device is. p.device device (q.device device is);
   fresh = λ is. q.fresh (p.fresh is);
   client = λ is. q.client (p.client is);
@@ -137,15 +164,23 @@ broken_fresh (Queue items session) e is = tt
 broken_fresh (Link reports None) e is = λ not_broken. absurd (no_true e.broken is not_broken)
 broken_fresh (Link reports (Some device)) e is = tt
 
--- a connection that is broken now, of the same peer
-pub ordered_broken : (sent : ℕ → List ℕ) (d e : Entry) → e.broken ≡ true → ((device : ℕ) → device_of e.talk ≡ Some device → device_of d.talk ≡ Some device) → (ClientTalk d.talk → ClientTalk e.talk) → Ordered sent (Some d) (Some e)
-ordered_broken sent d e is of_device of_client = record {
+-- a connection that is broken now, of the same peer, on which the same is due
+pub ordered_broken : (sent : ℕ → List ℕ) (d e : Entry) → e.broken ≡ true → ((device : ℕ) → device_of e.talk ≡ Some device → (device_of d.talk ≡ Some device) × (e.due ≡ d.due)) → (ClientTalk d.talk → ClientTalk e.talk) → (ClientTalk e.talk → (d.talk ≡ e.talk) × (d.due ≡ e.due)) → Ordered sent (Some d) (Some e)
+ordered_broken sent d e is of_device of_client same_client = record {
   counts = λ device counts. absurd (no_true e.broken is counts.1);
-  device = of_device;
+  breaks = λ device lost. by device (of_device device lost.0) d.broken refl;
+  device = λ device named. (of_device device named).0;
   fresh = λ fresh. broken_fresh e.talk e is;
   client = of_client;
-  stays = λ f same client sound. absurd (no_true e.broken is (ap (λ (x : Entry). x.broken) (one_entry e f same) ∙ sound));
+  stays = λ f same client.
+      let this = one_entry e f same in
+      let it = same_client (subst (λ (x : Entry). ClientTalk x.talk) (sym this) client) in
+      (d, refl, it.0 ∙ ap (λ (x : Entry). x.talk) this, λ sound. absurd (no_true e.broken is (ap (λ (x : Entry). x.broken) this ∙ sound)), it.1 ∙ ap (λ (x : Entry). x.due) this);
 }
+  where
+    by : (device : ℕ) → (device_of d.talk ≡ Some device) × (e.due ≡ d.due) → (t : Bool) → d.broken ≡ t → BreaksAs sent device (Some d) (Some e)
+    by device (named, due) true was = inl ((named, was), due)
+    by device (named, due) false was = inr ((named, was), sent device, ap (λ (bytes : List ℕ). bytes ++ sent device) due)
 
 still_fresh : (talk : Talk) (d e : Entry) → e.broken ≡ d.broken → e.due ≡ d.due → FreshTalk talk d → FreshTalk talk e
 still_fresh (Http said closes body) d e same due fresh = tt
@@ -157,10 +192,11 @@ still_fresh (Link reports (Some device)) d e same due fresh = tt
 pub ordered_keeps : (d e : Entry) → e.talk ≡ d.talk → e.broken ≡ d.broken → e.due ≡ d.due → Ordered (λ device. []) (Some d) (Some e)
 ordered_keeps d e talk same due = record {
   counts = λ device is. ((ap device_of (sym talk) ∙ is.0, sym same ∙ is.1), due ∙ sym (append-nil d.due));
+  breaks = λ device is. inl ((ap device_of (sym talk) ∙ is.0, sym same ∙ is.1), due);
   device = λ device is. ap device_of (sym talk) ∙ is;
   fresh = λ fresh. subst (λ (t : Talk). FreshTalk t e) (sym talk) (still_fresh d.talk d e same due fresh);
   client = λ client. subst ClientTalk (sym talk) client;
-  stays = λ f is client sound. let this = one_entry e f is in (d, refl, sym talk ∙ ap (λ (x : Entry). x.talk) this, sym same ∙ (ap (λ (x : Entry). x.broken) this ∙ sound), sym due ∙ ap (λ (x : Entry). x.due) this);
+  stays = λ f is client. let this = one_entry e f is in (d, refl, sym talk ∙ ap (λ (x : Entry). x.talk) this, λ sound. sym same ∙ (ap (λ (x : Entry). x.broken) this ∙ sound), sym due ∙ ap (λ (x : Entry). x.due) this);
 }
 
 unnamed_none : (talk : Talk) (device : ℕ) → device_of (unnamed talk) ≡ Some device → device_of talk ≡ Some device
@@ -173,8 +209,13 @@ unnamed_client (Http said closes body) client = tt
 unnamed_client (Queue items session) client = tt
 unnamed_client (Link reports device) client = absurd client
 
+unnamed_talk : (talk : Talk) → ClientTalk (unnamed talk) → talk ≡ unnamed talk
+unnamed_talk (Http said closes body) client = refl
+unnamed_talk (Queue items session) client = refl
+unnamed_talk (Link reports device) client = absurd client
+
 pub ordered_given_up : (e : Entry) → Ordered (λ device. []) (Some e) (Some (given_up e))
-ordered_given_up e = ordered_broken (λ device. []) e (given_up e) refl (unnamed_none e.talk) (unnamed_client e.talk)
+ordered_given_up e = ordered_broken (λ device. []) e (given_up e) refl (λ device named. (unnamed_none e.talk device named, refl)) (unnamed_client e.talk) (λ client. (unnamed_talk e.talk client, refl))
 
 -- ---- ledgers
 
@@ -203,6 +244,10 @@ sent_then sent more l front mid back l' hs whole p q = record {
   each = λ key. ordered_then sent more (l.entries key) (mid.entries key) (l'.entries key) (p.each key) (q.each key);
 }
 
+pub breaks_same : (sent other : ℕ → List ℕ) (device : ℕ) (x y : Option Entry) → other device ≡ sent device → BreaksAs sent device x y → BreaksAs other device x y
+breaks_same sent other device x y same (inl was) = inl was
+breaks_same sent other device x y same (inr (counts, rest, is)) = inr (counts, rest, is ∙ ap (λ (bytes : List ℕ). due_at x ++ bytes) (sym same))
+
 pub sent_as : (sent other : ℕ → List ℕ) (l : Ledger) (hs : List Happening) (l' : Ledger) → ((device : ℕ) → other device ≡ sent device) → Sent sent l hs l' → Sent other l hs l'
 sent_as sent other l hs l' same p = record {
   core = p.core;
@@ -210,6 +255,7 @@ sent_as sent other l hs l' same p = record {
   notes = p.notes;
   each = λ key. record {
     counts = λ device is. let it = (p.each key).counts device is in (it.0, it.1 ∙ ap (λ (bytes : List ℕ). due_at (l.entries key) ++ bytes) (sym (same device)));
+    breaks = λ device is. breaks_same sent other device (l.entries key) (l'.entries key) (same device) ((p.each key).breaks device is);
     device = (p.each key).device;
     fresh = (p.each key).fresh;
     client = (p.each key).client;
@@ -257,7 +303,7 @@ pub calm_sets : (key : ℕ) (d e : Entry) (l : Ledger) (hs : List Happening) (l'
 calm_sets key d e l hs l' there here silent after = sent_sets (λ device. []) key d e l hs l' there here (λ other apart device is. refl) silent after
 
 pub breaking : (e : Entry) → Ordered (λ device. []) (Some e) (Some (broken e))
-breaking e = ordered_broken (λ device. []) e (broken e) refl (λ device is. is) (λ client. client)
+breaking e = ordered_broken (λ device. []) e (broken e) refl (λ device is. (is, refl)) (λ client. client) (λ client. (refl, refl))
 
 -- ---- what is kept on a device's connection
 
@@ -290,13 +336,14 @@ one_device o device other p q = cc
 to_this : (device other : ℕ) (bytes : List ℕ) → device ≡ other → bytes ≡ to_device device bytes other
 to_this device other bytes same = subst (λ (d : ℕ). bytes ≡ to_device device bytes d) same (sym (ap (λ (t : Bool). if t then bytes else []) (is_key device)))
 
-owing_to : (device : ℕ) (bytes : List ℕ) (e : Entry) → device_of e.talk ≡ Some device → Ordered (to_device device bytes) (Some e) (Some (owing bytes e))
-owing_to device bytes e is = record {
+owing_to : (device : ℕ) (bytes : List ℕ) (e : Entry) → device_of e.talk ≡ Some device → e.broken ≡ false → Ordered (to_device device bytes) (Some e) (Some (owing bytes e))
+owing_to device bytes e is unbroken = record {
+  breaks = λ other lost. absurd (no_true e.broken lost.1 unbroken);
   counts = λ other counts. (counts, ap (λ (more : List ℕ). e.due ++ more) (to_this device other bytes (one_device (device_of e.talk) device other is counts.0)));
   device = λ other named. named;
   fresh = λ fresh. named_fresh e.talk (owing bytes e) is;
   client = λ client. client;
-  stays = λ f same client sound. absurd (client_none e.talk device (subst ClientTalk (sym (ap (λ (x : Entry). x.talk) (one_entry (owing bytes e) f same))) client) is);
+  stays = λ f same client. absurd (client_none e.talk device (subst ClientTalk (sym (ap (λ (x : Entry). x.talk) (one_entry (owing bytes e) f same))) client) is);
 }
   where
     named_fresh : (talk : Talk) (it : Entry) → device_of talk ≡ Some device → FreshTalk talk it
@@ -308,17 +355,17 @@ owing_to device bytes e is = record {
 broken_unsent : (sent : ℕ → List ℕ) (e : Entry) → e.broken ≡ true → Unsent sent (Some e)
 broken_unsent sent e is device counts = absurd (no_true e.broken is counts.1)
 
-keeps_open : (device key : ℕ) (bytes : List ℕ) (e : Entry) (l : Ledger) (hs : List Happening) (l' : Ledger) → l.entries key ≡ Some e → device_of e.talk ≡ Some device → ((other : ℕ) → other ≢ key → IsDevice device (l.entries other) → ⊥) → KeepsOpen true key bytes e l hs l' → Sent (to_device device bytes) l hs l'
-keeps_open device key bytes e l hs l' there is others (inl it) =
+keeps_open : (device key : ℕ) (bytes : List ℕ) (e : Entry) (l : Ledger) (hs : List Happening) (l' : Ledger) → e.broken ≡ false → l.entries key ≡ Some e → device_of e.talk ≡ Some device → ((other : ℕ) → other ≢ key → IsDevice device (l.entries other) → ⊥) → KeepsOpen true key bytes e l hs l' → Sent (to_device device bytes) l hs l'
+keeps_open device key bytes e l hs l' unbroken there is others (inl it) =
     let started : it.mid ≡ l = it.first.1 in
-    sent_sets (to_device device bytes) key e (owing bytes e) l hs l' there (owing_to device bytes e is) (λ other apart. unsent_to device bytes (l.entries other) (others other apart))
+    sent_sets (to_device device bytes) key e (owing bytes e) l hs l' there (owing_to device bytes e is unbroken) (λ other apart. unsent_to device bytes (l.entries other) (others other apart))
     (no_notes hs it.front it.back it.whole (ap core_notes it.first.0) (ap core_notes it.second.0)) (it.second.1 ∙ ap (λ (x : Ledger). with_entry key (owing bytes e) x) started)
-keeps_open device key bytes e l hs l' there is others (inr it) =
-    sent_sets (to_device device bytes) key e (broken e) l hs l' there (ordered_broken (to_device device bytes) e (broken e) refl (λ other named. named) (λ client. client)) (λ other apart. unsent_to device bytes (l.entries other) (others other apart))
+keeps_open device key bytes e l hs l' unbroken there is others (inr it) =
+    sent_sets (to_device device bytes) key e (broken e) l hs l' there (ordered_broken (to_device device bytes) e (broken e) refl (λ other named. (named, refl)) (λ client. client) (λ client. (refl, refl))) (λ other apart. unsent_to device bytes (l.entries other) (others other apart))
     (ap core_notes it.0) it.1
 
 keeps_if : (t : Bool) (device key : ℕ) (bytes : List ℕ) (e : Entry) (l : Ledger) (hs : List Happening) (l' : Ledger) → e.broken ≡ t → l.entries key ≡ Some e → device_of e.talk ≡ Some device → ((other : ℕ) → other ≢ key → IsDevice device (l.entries other) → ⊥) → If t Nothing (KeepsOpen true key bytes e) l hs l' → Sent (to_device device bytes) l hs l'
-keeps_if false device key bytes e l hs l' broken there is others it = keeps_open device key bytes e l hs l' there is others it
+keeps_if false device key bytes e l hs l' broken there is others it = keeps_open device key bytes e l hs l' broken there is others it
 keeps_if true device key bytes e l hs l' broken there is others it = sent_still (to_device device bytes) l hs l' (ap core_notes it.0) it.1 unsent
   where
     here : (k : ℕ) → k ≡ key → Unsent (to_device device bytes) (l.entries k)

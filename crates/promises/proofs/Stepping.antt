@@ -200,9 +200,9 @@ pub link_fresh : (talk : Talk) (reports : List ReportRecord) (e : Entry) → tal
 link_fresh talk reports e is fresh = subst (λ (t : Talk). FreshTalk t e) is fresh
 
 -- it breaks
-pub link_breaks : (what it : Ask) (e mid new : Entry) → what ≡ it → IsDeviceAsk it → new ≡ broken mid → ((device : ℕ) → device_of mid.talk ≡ Some device → device_of e.talk ≡ Some device) → (ClientTalk e.talk → ClientTalk mid.talk) → DeviceAsks what e new
-link_breaks what it e mid new asks fine after of_device of_client =
-    inl (subst IsDeviceAsk (sym asks) fine, subst (λ (x : Entry). Ordered (λ device. []) (Some e) (Some x)) (sym after) (ordered_broken (λ device. []) e (broken mid) refl of_device of_client))
+pub link_breaks : (what it : Ask) (e mid new : Entry) → what ≡ it → IsDeviceAsk it → new ≡ broken mid → mid.due ≡ e.due → ((device : ℕ) → device_of mid.talk ≡ Some device → device_of e.talk ≡ Some device) → (ClientTalk e.talk → ClientTalk mid.talk) → (ClientTalk mid.talk → ⊥) → DeviceAsks what e new
+link_breaks what it e mid new asks fine after due of_device of_client never =
+    inl (subst IsDeviceAsk (sym asks) fine, subst (λ (x : Entry). Ordered (λ device. []) (Some e) (Some x)) (sym after) (ordered_broken (λ device. []) e (broken mid) refl (λ device named. (of_device device named, due)) of_client (λ client. absurd (never client))))
 
 pub not_client : (talk : Talk) (reports : List ReportRecord) (device : Option ℕ) → talk ≡ Link reports device → ClientTalk talk → ⊥
 not_client talk reports device is client = subst ClientTalk is client
@@ -212,7 +212,7 @@ pub named_hears : (settings : ServerSettings) (reports : List ReportRecord) (nam
 named_hears settings reports name None device_after e comes mid what new talk is after steps =
     let breaks : (what ≡ ask.Stranger name) × (new ≡ broken mid) = subst (λ (s : Step). StepsTo s mid what new) is.0 steps in
     let unknown : device_of mid.talk ≡ None = ap (λ (x : Entry). device_of x.talk) after ∙ is.1 in
-    link_breaks what (ask.Stranger name) e mid new breaks.0 tt breaks.1 (λ device named. cc) (λ client. absurd (not_client e.talk reports None talk client))
+    link_breaks what (ask.Stranger name) e mid new breaks.0 tt breaks.1 (ap (λ (x : Entry). x.due) after) (λ device named. cc) (λ client. absurd (not_client e.talk reports None talk client)) (λ client. not_client mid.talk (reports ++ SaysHello name ∷ []) device_after (ap (λ (x : Entry). x.talk) after) client)
 named_hears settings reports name (Some device) device_after e comes mid what new talk is after steps =
     let asks : (what ≡ ask.Hello device name) × (new ≡ finishing false mid) = subst (λ (s : Step). StepsTo s mid what new) is.0 steps in
     let whole : new ≡ finishing false (talking (Link (reports ++ SaysHello name ∷ []) (Some device)) e) = asks.1 ∙ ap (finishing false) (after ∙ ap (λ (d : Option ℕ). talking (Link (reports ++ SaysHello name ∷ []) d) e) is.1) in
@@ -248,10 +248,11 @@ report_hears settings reports (Some device) said device_after e comes mid what n
       subst IsDeviceAsk (sym asks.0) tt,
       subst (λ (x : Entry). Ordered (λ d. []) (Some e) (Some x)) (sym whole) (record {
         counts = λ d is. ((before ∙ is.0, is.1), sym (append-nil e.due));
+        breaks = λ d is. inl ((before ∙ is.0, is.1), refl);
         device = λ d is. before ∙ is;
         fresh = λ fresh. tt;
         client = λ client. absurd (not_client e.talk reports (Some device) talk client);
-        stays = λ f is client sound. absurd (subst ClientTalk (sym (ap (λ (x : Entry). x.talk) (one_entry (finishing false (talking (Link (reports ++ said ∷ []) (Some device)) e)) f is))) client);
+        stays = λ f is client. absurd (subst ClientTalk (sym (ap (λ (x : Entry). x.talk) (one_entry (finishing false (talking (Link (reports ++ said ∷ []) (Some device)) e)) f is))) client);
       }),
     )
 
@@ -259,7 +260,8 @@ pub device_hears : (settings : ServerSettings) (reports : List ReportRecord) (de
 device_hears settings reports device e comes mid what new talk (inl next) steps = report_hears settings reports device next.said next.device_after e comes mid what new talk next.comes next.after steps
 device_hears settings reports device e comes mid what new talk (inr (inl next)) steps =
     let breaks : (what ≡ ask.Fault device) × (new ≡ broken mid) = subst (λ (s : Step). StepsTo s mid what new) next.comes steps in
-    link_breaks what (ask.Fault device) e mid new breaks.0 tt breaks.1 (λ d is. ap (λ (x : Entry). device_of x.talk) (sym next.after) ∙ is) (λ client. absurd (not_client e.talk reports device talk client))
+    link_breaks what (ask.Fault device) e mid new breaks.0 tt breaks.1 (ap (λ (x : Entry). x.due) next.after) (λ d is. ap (λ (x : Entry). device_of x.talk) (sym next.after) ∙ is) (λ client. absurd (not_client e.talk reports device talk client))
+    (λ client. not_client e.talk reports device talk (subst (λ (x : Entry). ClientTalk x.talk) next.after client))
 device_hears settings reports device e comes mid what new talk (inr (inr next)) steps =
     let breaks : (what ≡ ask.Broke growth.Input) × (new ≡ broken mid) = subst (λ (s : Step). StepsTo s mid what new) next.0 steps in
-    link_breaks what (ask.Broke growth.Input) e mid new breaks.0 tt breaks.1 (λ d is. ap (λ (x : Entry). device_of x.talk) (sym next.1) ∙ is) (λ client. absurd (not_client e.talk reports device talk client))
+    link_breaks what (ask.Broke growth.Input) e mid new breaks.0 tt breaks.1 (ap (λ (x : Entry). x.due) next.1) (λ d is. ap (λ (x : Entry). device_of x.talk) (sym next.1) ∙ is) (λ client. absurd (not_client e.talk reports device talk client)) (λ client. not_client e.talk reports device talk (subst (λ (x : Entry). ClientTalk x.talk) next.1 client))

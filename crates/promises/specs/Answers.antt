@@ -1,5 +1,5 @@
 -- What a client is answered: item by item of what it sent, the bytes that this comes to, with the reply that the core's run gave where a request asks the core.
-use Rattle.std.specs.Prelude.{ℕ, ◌≡◌, ◌⊎◌, ◌==◌, Bool, false, if◌then◌else◌, List, [], ◌∷◌, ◌++◌, All, Option, Some, None}
+use Rattle.std.specs.Prelude.{ℕ, ◌≡◌, ◌⊎◌, ◌==◌, Bool, true, false, if◌then◌else◌, List, [], ◌∷◌, ◌++◌, All, Option, Some, None}
 use Rattle.std.specs.List.{flat_map}
 use Rattle.settings_file.specs.Settings.{ServerSettings}
 use Rattle.http_front.specs.declared.item.HttpItem.{HttpItem}
@@ -145,6 +145,30 @@ pub record IsAnswered (opening : State) (key : ℕ) (handled : List Handled) (e 
   pub asked : asked_by key since ≡ flat_map (λ (a : Act). a.asked) acts
   pub due : e.due ≡ flat_map (λ (a : Act). a.bytes) acts
 
+-- nothing is due by what comes next, if anything does: the connection broke at it
+abbrev pub IsLast : State → List Handled → Talk → Talk → Type 0
+IsLast opening handled after talk = (after ≡ talk) ⊎ ((state : State) × (what : Step) × IsStateOf state opening handled × IsNext state.settings after what talk)
+
+-- A connection went on by these acts and then broke. Of its events those of these acts were answered; what was
+-- handled behind them wasn't.
+pub record BrokeAfter (opening : State) (key : ℕ) (handled since : List Handled) (before : Talk) (base : List ℕ) (e : Entry) : Type 0 where
+  pub acts : List Act
+  pub after : Talk
+  pub are : AreActs before acts after
+  pub states : All (λ (a : Act). IsStateOf a.state opening handled) acts
+  pub unanswered : List Handled
+  pub asked : asked_by key since ≡ flat_map (λ (a : Act). a.asked) acts ++ unanswered
+  pub last : IsLast opening handled after e.talk
+  pub due : e.due ≡ base ++ flat_map (λ (a : Act). a.bytes) acts
+
+-- What is due on a client's connection that broke is what its acts came to until then.
+pub record IsCutOff (opening : State) (key : ℕ) (handled : List Handled) (e : Entry) : Type 0 where
+  pub earlier : List Handled
+  pub since : List Handled
+  pub whole : handled ≡ earlier ++ since
+  pub door : Door
+  pub until : BrokeAfter opening key handled since (opening_talk door) [] e
+
 -- a client's, and no device's
 abbrev pub ClientTalk : Talk → Type 0
 ClientTalk (Http said closes body) = Unit {0}
@@ -155,9 +179,13 @@ ClientTalk (Link reports device) = ⊥
 abbrev pub WasAnswered : State → List Handled → Entry → Type 0
 WasAnswered opening handled e = ClientTalk e.talk → e.broken ≡ false → (key : ℕ) × (before : List Handled) × (behind : List Handled) × (handled ≡ before ++ behind) × IsAnswered opening key before e
 
+-- of a client's connection that was closed, and was broken
+abbrev pub WasCutOff : State → List Handled → Entry → Type 0
+WasCutOff opening handled e = ClientTalk e.talk → e.broken ≡ true → (key : ℕ) × (before : List Handled) × (behind : List Handled) × (handled ≡ before ++ behind) × IsCutOff opening key before e
+
 -- The events of a trace are one run of the core, which tells what the listener was told. Each open
 -- connection of a client that isn't broken is answered by it, and so was each that was closed without having
--- broken; and on each open connection all that was read was acted on, unless nothing counts any more.
+-- broken; one that broke was until then; and on each open connection all that was read was acted on, unless nothing counts any more.
 pub record AreAnswered (opening : State) (trace : Trace) (l : Ledger) : Type 0 where
   pub handled : List Handled
   pub timed : AreOf trace handled
@@ -166,3 +194,5 @@ pub record AreAnswered (opening : State) (trace : Trace) (l : Ledger) : Type 0 w
   pub answered : (key : ℕ) (e : Entry) → l.entries key ≡ Some e → ClientTalk e.talk → e.broken ≡ false → IsAnswered opening key handled e
   pub heard : (key : ℕ) (e : Entry) → l.entries key ≡ Some e → IsHeard e
   pub closed : All (λ (it : Entry × Fate). WasAnswered opening handled it.0) l.closed
+  pub cut_off : (key : ℕ) (e : Entry) → l.entries key ≡ Some e → ClientTalk e.talk → e.broken ≡ true → IsCutOff opening key handled e
+  pub closed_cut_off : All (λ (it : Entry × Fate). WasCutOff opening handled it.0) l.closed

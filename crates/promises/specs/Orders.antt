@@ -1,5 +1,5 @@
 -- What a device is sent: the line of each cancel for it, and the line and the documents of each job that begins on it, as the core's run has them.
-use Rattle.std.specs.Prelude.{ℕ, ◌≡◌, ◌==◌, Bool, false, if◌then◌else◌, List, [], ◌∷◌, ◌++◌, All, Option, Some, None}
+use Rattle.std.specs.Prelude.{ℕ, ◌≡◌, ◌==◌, Bool, true, false, if◌then◌else◌, List, [], ◌∷◌, ◌++◌, All, Option, Some, None}
 use Rattle.std.specs.List.{flat_map}
 use Rattle.base_types.specs.declared.report.Report.TheVariants as report
 use Rattle.device_link.specs.Orders.{cancel_line}
@@ -96,10 +96,19 @@ due_by device before (it ∷ later) = due_by device ((if names device it.named t
 abbrev pub WasSent : List Handled → Entry → Type 0
 WasSent handled e = (device : ℕ) → device_of e.talk ≡ Some device → e.broken ≡ false → (before : List Handled) × (behind : List Handled) × (handled ≡ before ++ behind) × (e.due ≡ due_by device [] before)
 
+-- a front of what is sent to a device by these events, until one of them
+abbrev pub IsFrontSent : List Handled → ℕ → List ℕ → Type 0
+IsFrontSent handled device due = (before : List Handled) × (behind : List Handled) × (handled ≡ before ++ behind) × (rest : List ℕ) × (due ++ rest ≡ due_by device [] before)
+
+-- of a device's connection that broke
+abbrev pub WasHalted : List Handled → Entry → Type 0
+WasHalted handled e = (device : ℕ) → device_of e.talk ≡ Some device → e.broken ≡ true → IsFrontSent handled device e.due
+
 -- The events of a trace are one run of the core, which tells what the listener was told. On each open
 -- connection of a device that isn't broken, what is due is what the run has sent to the device since it said
 -- its name: each cancel's line, and of each job the line and the documents as they were when it began. So it
--- is on each that was closed without having broken, by the events until then.
+-- is on each that was closed without having broken, by the events until then. On one that broke, a front of
+-- it is due.
 pub record AreSent (opening : State) (trace : Trace) (l : Ledger) : Type 0 where
   pub handled : List Handled
   pub timed : AreOf trace handled
@@ -107,3 +116,5 @@ pub record AreSent (opening : State) (trace : Trace) (l : Ledger) : Type 0 where
   pub told : core_notes (happenings_in trace) ≡ flat_map (λ (it : Handled). it.notes) handled
   pub due : (key : ℕ) (e : Entry) (device : ℕ) → l.entries key ≡ Some e → device_of e.talk ≡ Some device → e.broken ≡ false → e.due ≡ due_by device [] handled
   pub closed : All (λ (it : Entry × Fate). WasSent handled it.0) l.closed
+  pub halted : (key : ℕ) (e : Entry) → l.entries key ≡ Some e → WasHalted handled e
+  pub closed_halted : All (λ (it : Entry × Fate). WasHalted handled it.0) l.closed

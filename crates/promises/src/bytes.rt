@@ -30,7 +30,7 @@ pub fn one_ledger()
 /// Of a trace the core's events are one run, which tells just what the listener was told. On each open
 /// connection of a device that isn't broken, what is due is what that run has sent to the device since it
 /// said its name: each cancel's line, and of each job that began on it the line and the documents, as they
-/// were when it began.
+/// were when it began. On one that broke, a front of that is due.
 pub fn devices_are_sent_their_orders()
     ensures { (opening : State) (trace : Trace) (ledger : Ledger) → Runs trace (opening_ledger opening) ledger → AreSent opening trace ledger }
 {}
@@ -39,7 +39,8 @@ pub fn devices_are_sent_their_orders()
 /// is what its acts come to, one after the other, from its first byte on: `100 Continue` where a head invites
 /// a body, an acknowledgement or a refusal, the reply that the run gave to an event that it asked for, or
 /// the status that memory for it was refused. The events of the run that it asked for are just those of its
-/// acts, in order. On each open connection all that was read was acted on, unless nothing counts any more.
+/// acts, in order. On one that broke, this is so of the acts until then. On each open connection all that was
+/// read was acted on, unless nothing counts any more.
 pub fn clients_are_answered()
     ensures { (opening : State) (trace : Trace) (ledger : Ledger) → Runs trace (opening_ledger opening) ledger → AreAnswered opening trace ledger }
 {}
