@@ -29,7 +29,7 @@ use Rattle.server.specs.Polling.{Acts, Serves}
 use Rattle.server.specs.Law.{core_notes}
 use Rattle.promises.specs.Orders.{Handled, AreHandled, AreAt, due_by}
 use Rattle.promises.proofs.Typing.{EventOf, typed}
-use Rattle.promises.specs.Answers.{Act, ClientTalk, IsNext, IsOwed, IsStateOf, asked_by, IsLast, BrokeAfter}
+use Rattle.promises.specs.Answers.{Act, ClientTalk, IsNext, IsOwed, IsStateOf, asked_by, IsLast, BrokeAfter, IsOneAtMost}
 use Rattle.promises.proofs.Sending.{Counts, due_at, IsFresh, IsClient, same_key, other_key, is_key, Ordered, notes_append, calm_sets, Good, one_entry, not_key, client_none, client_fresh, no_true, counts_device, ordered_then, sent_by, IsLost, lost_device, breaks_same}
 use Rattle.promises.proofs.Handling.{happened, CameAs, Goes, goes_then, goes_calm, TalkedAs, Went, talked_still, one_handled, none_closed, LostAs, lost_by, StopsAs, stops_still}
 use Rattle.promises.proofs.Giving.{calms_chooses, Gave, gave_still, gives_nothing, at_aside, at_here, Just_these, Loose, given, No_memory, gives_dropped, gives_declines, gives_answers}
@@ -57,6 +57,7 @@ pub record Acted (moment key : ℕ) (comes : Step) (new : Entry) (base : List �
   pub sends : (device : ℕ) (before : List ℕ) → due_by device before handled ≡ before ++ sent device
   pub others : (k : ℕ) → k ≢ key → Ordered sent (l.entries k) (l'.entries k)
   pub aside : (k : ℕ) → k ≢ key → asked_by k handled ≡ []
+  pub one : IsOneAtMost (asked_by key handled)
   pub client : IsClient (l'.entries key)
   pub closed : l'.closed ≡ l.closed
   pub here : (e : Entry) → l'.entries key ≡ Some e → ClientTalk e.talk → e.broken ≡ false → (e.talk ≡ new.talk) × ((bytes : List ℕ) × IsOwed (closes_of new.talk) comes (asked_by key handled) bytes × (e.due ≡ base ++ bytes))
@@ -78,6 +79,7 @@ acted_calm moment key comes new base Q l hs l' there client owed halted g = reco
   sends = λ device before. sym (append-nil before);
   others = g.others;
   aside = λ k apart. refl;
+  one = inl refl;
   client = g.client (subst IsClient (sym there) client);
   closed = g.closed;
   here = λ e is of sound.
@@ -107,6 +109,7 @@ acted_event moment key id who event last new l hs l' own good there client (outc
       sends = λ device before. refl;
       others = λ k apart. more k (ordered_then (sent_by outcome it.mid.core) (λ device. []) (l.entries k) (it.mid.entries k) (l'.entries k) (one.each k) (g.others k apart));
       aside = λ k apart. ap (λ (t : Bool). (if t then h ∷ [] else []) ++ []) (not_key key k (λ same. apart (sym same)));
+      one = inr (h, ap (λ (t : Bool). (if t then h ∷ [] else []) ++ []) (is_key key));
       client = g.client ((one.each key).client (subst IsClient (sym there) client));
       closed = g.closed ∙ one.closed;
       here = λ e is of sound.
@@ -314,6 +317,7 @@ client_acts moment key id what l front mid back l' hs whole good a client does =
       are = refl;
       states = All-nil (λ (x : Act). IsStateOf x.state l.core acted.handled);
       unanswered = asked_by key acted.handled;
+      one = acted.one;
       asked = refl;
       last = by next;
       due = is ∙ (due ∙ sym (append-nil a.entry.due));
@@ -331,6 +335,7 @@ client_acts moment key id what l front mid back l' hs whole good a client does =
           are = (refl, record { next = subst (λ (t : Talk). IsNext l.core.settings a.entry.talk a.asks.comes t) (sym new_talk) next; owed = owed }, refl);
           states = All-cons (λ (x : Act). IsStateOf x.state l.core acted.handled) act [] (same_state l.core acted.handled) (All-nil (λ (x : Act). IsStateOf x.state l.core acted.handled));
           unanswered = [];
+          one = inl refl;
           asked = sym (append-nil (asked_by key acted.handled)) ∙ sym (append-nil (asked_by key acted.handled ++ []));
           last = inl (sym talk);
           due = is ∙ (ap (λ (more : List ℕ). more ++ bytes) due ∙ ap (λ (more : List ℕ). a.entry.due ++ more) (sym (append-nil bytes)));

@@ -243,6 +243,7 @@ broke_more core key first later since before base d e b talk due none = record {
   are = b.are;
   states = states_more core first later b.acts b.states;
   unanswered = b.unanswered;
+  one = b.one;
   asked = asked_append key since later ∙ (ap (λ (its : List Handled). asked_by key since ++ its) none ∙ (append-nil (asked_by key since) ∙ b.asked));
   last = subst (λ (t : Talk). IsLast core (first ++ later) b.after t) talk (last_more core first later b.after d.talk b.last);
   due = sym due ∙ b.due;
@@ -257,6 +258,7 @@ broke_behind core mid key first later since before base d e acts run are states 
   are = acts_append before d.talk b.after acts b.acts are b.are;
   states = All-append (λ (a : Act). IsStateOf a.state core (first ++ later)) acts b.acts (states_more core first later acts states) (states_behind core mid first later b.acts run b.states);
   unanswered = b.unanswered;
+  one = b.one;
   asked = asked_append key since later
       ∙ (ap (λ (its : List Handled). its ++ asked_by key later) asked
       ∙ (ap (λ (its : List Handled). flat_map (λ (a : Act). a.asked) acts ++ its) b.asked
@@ -301,6 +303,7 @@ stops_then core mid key first later x y e run client (inr (inr c)) talked stoppe
     are = c.until.are;
     states = states_behind core mid first later c.until.acts run c.until.states;
     unanswered = c.until.unanswered;
+    one = c.until.one;
     asked = c.until.asked;
     last = last_behind core mid first later c.until.after e.talk run c.until.last;
     due = c.until.due;
@@ -326,6 +329,7 @@ stops_still core key handled x y stays none e is client broken =
         are = refl;
         states = All-nil (λ (a : Act). IsStateOf a.state core handled);
         unanswered = [];
+        one = inl refl;
         asked = none;
         last = inl talk;
         due = sym due ∙ sym (append-nil d.due);

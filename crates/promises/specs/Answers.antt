@@ -149,14 +149,19 @@ pub record IsAnswered (opening : State) (key : ℕ) (handled : List Handled) (e 
 abbrev pub IsLast : State → List Handled → Talk → Talk → Type 0
 IsLast opening handled after talk = (after ≡ talk) ⊎ ((state : State) × (what : Step) × IsStateOf state opening handled × IsNext state.settings after what talk)
 
--- A connection went on by these acts and then broke. Of its events those of these acts were answered; what was
--- handled behind them wasn't.
+-- none, or just one
+abbrev pub IsOneAtMost : List Handled → Type 0
+IsOneAtMost handled = (handled ≡ []) ⊎ ((it : Handled) × (handled ≡ it ∷ []))
+
+-- A connection went on by these acts and then broke. Its events are those of these acts, and at most one more,
+-- which was handled, and isn't answered.
 pub record BrokeAfter (opening : State) (key : ℕ) (handled since : List Handled) (before : Talk) (base : List ℕ) (e : Entry) : Type 0 where
   pub acts : List Act
   pub after : Talk
   pub are : AreActs before acts after
   pub states : All (λ (a : Act). IsStateOf a.state opening handled) acts
   pub unanswered : List Handled
+  pub one : IsOneAtMost unanswered
   pub asked : asked_by key since ≡ flat_map (λ (a : Act). a.asked) acts ++ unanswered
   pub last : IsLast opening handled after e.talk
   pub due : e.due ≡ base ++ flat_map (λ (a : Act). a.bytes) acts
