@@ -78,18 +78,27 @@ def no_descriptors(server):
     return [connect(server.ipp) for _ in range(8)]
 
 
+STATES = (idle, kept_alive, full_door, slow_reader, deaf_device, no_descriptors)
+
+
+def share_in(state, seconds):
+    """The part of a processor that a server uses in a state, from a second after it has begun."""
+    with Running() as server:
+        held = state(server)
+        server.processor_share(1.0)
+        share = server.processor_share(seconds)
+        for one in held:
+            one.close()
+        return share
+
+
 def main():
     seconds = float(sys.argv[1]) if len(sys.argv) > 1 else 5.0
     worst = 0.0
-    for state in (idle, kept_alive, full_door, slow_reader, deaf_device, no_descriptors):
-        with Running() as server:
-            held = state(server)
-            server.processor_share(1.0)
-            share = server.processor_share(seconds)
-            print(f"{share * 100:6.2f} %  {state.__doc__}", flush=True)
-            worst = max(worst, share)
-            for one in held:
-                one.close()
+    for state in STATES:
+        share = share_in(state, seconds)
+        print(f"{share * 100:6.2f} %  {state.__doc__}", flush=True)
+        worst = max(worst, share)
     sys.exit(worst > MOST)
 
 

@@ -11,6 +11,7 @@ import socket
 import sys
 import threading
 import time
+import typing
 
 sys.path.insert(0, str(pathlib.Path(__file__).resolve().parent / "clients"))
 from running import TOP, Running  # noqa: E402
@@ -51,12 +52,24 @@ def reply(stream):
     return int.from_bytes(body[2:4], "big")
 
 
-def print_all(server, device, count):
-    """Prints so many jobs one after the other; the resident KiB early and at the end."""
+class Soaked(typing.NamedTuple):
+    """How many seconds the jobs took, and how many of a processor; resident KiB early and at the end; open
+    descriptors at the start and at the end."""
+
+    passed: float
+    used: float
+    early_kib: float
+    late_kib: float
+    descriptors: float
+    descriptors_late: float
+
+
+def print_all(server, device, count, early):
+    """Prints so many jobs one after the other; the resident KiB after the early ones and at the end."""
     client = socket.create_connection(("127.0.0.1", server.ipp))
     client.setsockopt(socket.IPPROTO_TCP, socket.TCP_NODELAY, 1)
     stream = client.makefile("rb")
-    early = 0
+    early_kib = 0
     for number in range(1, count + 1):
         while number - device.done > WAITING:
             time.sleep(0.001)
@@ -64,29 +77,35 @@ def print_all(server, device, count):
         status = reply(stream)
         if status > 1:
             sys.exit(f"job {number} is answered {status:#06x}")
-        if number == EARLY:
-            early = server.resident_kib()
+        if number == early:
+            early_kib = server.resident_kib()
     while device.done < count:
         time.sleep(0.01)
     client.close()
-    return early, server.resident_kib()
+    return early_kib, server.resident_kib()
 
 
-def main():
-    count = int(sys.argv[1]) if len(sys.argv) > 1 else 100_000
+def soak(count, early=EARLY):
+    """Prints so many jobs by a server of its own."""
     with Running() as server:
         before = server.descriptors()
         device = Device(server.devices)
         device.start()
         start = time.monotonic()
-        early, late = print_all(server, device, count)
+        kib = print_all(server, device, count, early)
         passed = time.monotonic() - start
         device.connection.shutdown(socket.SHUT_RDWR)
         time.sleep(1)
-        print(f"{count} jobs in {passed:.0f} s, {server.processor_seconds():.1f} s of them the server's")
-        print(f"resident: {early} KiB after {EARLY} jobs, {late} KiB at the end")
-        print(f"descriptors: {before} at the start, {server.descriptors()} at the end")
-        sys.exit(late > early + early // 20)
+        return Soaked(passed, server.processor_seconds(), *kib, before, server.descriptors())
+
+
+def main():
+    count = int(sys.argv[1]) if len(sys.argv) > 1 else 100_000
+    soaked = soak(count)
+    print(f"{count} jobs in {soaked.passed:.0f} s, {soaked.used:.1f} s of them the server's")
+    print(f"resident: {soaked.early_kib} KiB after {EARLY} jobs, {soaked.late_kib} KiB at the end")
+    print(f"descriptors: {soaked.descriptors} at the start, {soaked.descriptors_late} at the end")
+    sys.exit(soaked.late_kib > soaked.early_kib + soaked.early_kib // 20)
 
 
 if __name__ == "__main__":

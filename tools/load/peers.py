@@ -1,6 +1,7 @@
 """The servers that a load is put on, each on a free port of this machine and in a folder of its own."""
 import os
 import pathlib
+import re
 import selectors
 import signal
 import socket
@@ -10,7 +11,7 @@ import threading
 import time
 
 sys.path.insert(0, str(pathlib.Path(__file__).resolve().parents[1] / "clients"))
-from running import Running  # noqa: E402
+from running import TOP, Running  # noqa: E402
 
 TICKS = os.sysconf("SC_CLK_TCK")
 # with a history of jobs cupsd takes a fifth to a half as many of them
@@ -71,19 +72,28 @@ ErrorPolicy abort-job
 OpPolicy default
 </DefaultPrinter>
 """
-# fifteen milliseconds an impression, so that five octets are one of them
 DEVICE = """[[device]]
 name = "{name}"
-rate_one = 15
+rate_one = {rate}
+setup = {setup}
 media = ["iso_a4_210x297mm"]
 formats = ["application/octet-stream", "text/plain"]
 """
-PRINTER = """[[printer]]
+SETTINGS = """version = 1
+uri_base = "ipp://localhost:631"
+operators = ["root"]
+{devices}[[printer]]
 name = "lab"
 devices = [{names}]
 media_default = "iso_a4_210x297mm"
 format_default = "application/octet-stream"
 """
+
+
+def settings_of(devices):
+    """Settings of a printer with devices: of each its name, its ms an impression, and those before a job."""
+    tables = "".join(DEVICE.format(name=name, rate=rate, setup=setup) for name, rate, setup in devices)
+    return SETTINGS.format(devices=tables, names=", ".join(f'"{name}"' for name, _, _ in devices))
 
 
 def free_port():
@@ -96,6 +106,11 @@ def processor_seconds(process):
     """The processor time of a process, and of those of its children that have ended."""
     words = pathlib.Path(f"/proc/{process}/stat").read_text().rsplit(") ", 1)[1].split()
     return sum(int(word) for word in words[11:15]) / TICKS
+
+
+def resident_kib(process):
+    """The KiB that a process has resident."""
+    return int(re.search(r"VmRSS:\s+(\d+)", pathlib.Path(f"/proc/{process}/status").read_text())[1])
 
 
 class Devices(threading.Thread):
@@ -177,15 +192,14 @@ class Jobs:
 class Ours:
     """`printd serve` with sixteen devices."""
 
-    name = "printd"
+    name, wanted = "printd", "true"
     path = "/printers/lab"
 
     def __init__(self, folder, slow=False, words=()):
         names = [f"d{number}" for number in range(16)]
         settings = folder / "load.toml"
-        text = 'version = 1\nuri_base = "ipp://localhost:631"\noperators = ["root"]\n'
-        text += "".join(DEVICE.format(name=name) for name in names)
-        settings.write_text(text + PRINTER.format(names=", ".join(f'"{name}"' for name in names)))
+        # fifteen milliseconds an impression, so that five octets are one of them
+        settings.write_text(settings_of([(name, 15, 0) for name in names]))
         self.running = Running(settings, words)
         self.names, self.slow = names, slow
 
@@ -201,8 +215,27 @@ class Ours:
         self.running.__exit__(*end)
 
 
+class SlowOurs(Ours):
+    """The same with devices that end a job when they are told so."""
+
+    def __init__(self, folder):
+        super().__init__(folder, slow=True)
+
+
+class LoneOurs(Ours):
+    """`printd serve` whose only device isn't connected."""
+
+    def __init__(self, _folder):
+        self.running = Running(TOP / "examples/lab.toml")
+
+    def __enter__(self):
+        server = self.running.__enter__()
+        self.port, self.process = server.ipp, server.process.pid
+        return self
+
+
 class Other:
-    """A server of CUPS."""
+    """A server that isn't ours."""
 
     def __enter__(self):
         self.port = free_port()
@@ -256,7 +289,7 @@ def end(child):
 class Cupsd(Other):
     """cupsd with one raw queue, whose device is /dev/null."""
 
-    name = "cupsd"
+    name, wanted = "cupsd", "/usr/sbin/cupsd"
     path = "/printers/lab"
 
     def __init__(self, folder):
@@ -278,7 +311,7 @@ class Cupsd(Other):
 class Ippeveprinter(Other):
     """ippeveprinter, which runs /bin/true for each job and takes no other while it does."""
 
-    name = "ippeveprinter"
+    name, wanted = "ippeveprinter", "/usr/sbin/ippeveprinter"
     path = "/ipp/print"
 
     def __init__(self, folder):
@@ -300,3 +333,19 @@ class Ippeveprinter(Other):
     def words(self):
         return ["/usr/sbin/ippeveprinter", "-r", "off", "-n", "localhost", "-p", str(self.port), "-d", str(self.folder),
                 "-f", "application/pdf", "-c", "/bin/true", "lab"]
+
+
+class Answerer(Other):
+    """A program that only answers each read: what of a time is the machine's, and the client's."""
+
+    name, wanted = "a program that only answers", "true"
+    path = "/"
+
+    def __init__(self, folder):
+        self.folder = folder
+
+    def prepare(self):
+        pass
+
+    def words(self):
+        return [sys.executable, str(pathlib.Path(__file__).with_name("answer.py")), str(self.port)]
