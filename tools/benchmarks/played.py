@@ -62,8 +62,8 @@ def rate(program, lines, base, count, sizes):
 def peak(program, sizes):
     """The most KiB that are resident while all jobs of a queue are there."""
     queue = traces.queues(sizes.waiting, sizes.devices)[0]
-    runs = all_rounds({"peak": lambda: traces.play(program, traces.full(queue), sizes.limit)}, sizes.rounds)["peak"]
-    return runs if isinstance(runs, str) else statistics.median(run.peak_kib for run in runs)
+    found = all_rounds({"peak": lambda: traces.peak_of(program, traces.full(queue))}, sizes.rounds)["peak"]
+    return found if isinstance(found, str) else statistics.median(found)
 
 
 def without_sockets(program, sizes):

@@ -6,7 +6,7 @@ import typing
 
 from messages import CANCEL_JOB, GET_PRINTER_ATTRIBUTES, INTEGER, PAUSE_PRINTER, PRINT_JOB, RESUME_PRINTER, attribute, head, request, requested
 from peers import settings_of
-from rounds import CannotMeasure, cost_of
+from rounds import CannotMeasure, peak_kib, seconds_of
 
 PATH, PORT = "/printers/lab", 631
 PRINTER = f"ipp://localhost:{PORT}{PATH}"
@@ -37,10 +37,9 @@ class Events(typing.NamedTuple):
 
 
 class Run(typing.NamedTuple):
-    """What came of a trace: the processor time, the most KiB that were resident, and the text that was written."""
+    """What came of a trace: the processor time, and the text that was written."""
 
     seconds: float
-    peak_kib: float
     said: str
 
 
@@ -88,8 +87,15 @@ def play(program, lines, limit):
     with tempfile.TemporaryDirectory(prefix="bench.") as folder:
         trace, written = pathlib.Path(folder, "trace"), pathlib.Path(folder, "written")
         trace.write_text("\n".join(lines) + "\n")
-        cost = cost_of([program, "replay"], trace, written, limit)
-        return Run(cost.seconds, cost.peak_kib, written.read_text())
+        return Run(seconds_of([program, "replay"], trace, written, limit), written.read_text())
+
+
+def peak_of(program, lines):
+    """The most KiB that are resident while a trace is played."""
+    with tempfile.TemporaryDirectory(prefix="bench.") as folder:
+        trace = pathlib.Path(folder, "trace")
+        trace.write_text("\n".join(lines) + "\n")
+        return peak_kib([program, "replay"], trace)
 
 
 def begun(queue, said):

@@ -2,9 +2,9 @@
 import os
 import pathlib
 import resource
+import shutil
 import statistics
 import subprocess
-import typing
 
 # what ends the measures of one peer and of no other: what it says of itself, and what a server that fails leads to
 FAILURES = (SystemExit, OSError, ValueError, LookupError, subprocess.SubprocessError)
@@ -41,15 +41,8 @@ def middles(found):
     return {name: one if isinstance(one, str) else middle(one) for name, one in found.items()}
 
 
-class Cost(typing.NamedTuple):
-    """What a program took: seconds of a processor, and the most KiB that it had resident."""
-
-    seconds: float
-    peak_kib: float
-
-
-def cost_of(words, given, written, limit):
-    """Runs a program to its end, from a file and into another, for at most so many seconds of a processor."""
+def seconds_of(words, given, written, limit):
+    """The seconds of a processor that a program takes to its end, from a file and into another; at most so many."""
     with pathlib.Path(given).open("rb") as source, pathlib.Path(written).open("wb") as sink:
         child = subprocess.Popen(words, stdin=source, stdout=sink, stderr=subprocess.DEVNULL,
                                  preexec_fn=lambda: resource.setrlimit(resource.RLIMIT_CPU, (limit, limit)))
@@ -59,4 +52,17 @@ def cost_of(words, given, written, limit):
         raise CannotMeasure(f"it took more than {limit} s of a processor")
     if child.returncode:
         raise CannotMeasure(f"{pathlib.Path(words[0]).name} ended with status {child.returncode}")
-    return Cost(used.ru_utime + used.ru_stime, used.ru_maxrss)
+    return used.ru_utime + used.ru_stime
+
+
+def peak_kib(words, given):
+    """The most KiB that a program has resident until its end, by GNU time: of a process that is forked from here the
+    system counts what this one has, too."""
+    measured = shutil.which("time")
+    if not measured:
+        raise CannotMeasure("GNU time isn't installed")
+    with pathlib.Path(given).open("rb") as source:
+        run = subprocess.run([measured, "-f", "%M", *words], stdin=source, stdout=subprocess.DEVNULL, stderr=subprocess.PIPE, text=True)
+    if run.returncode:
+        raise CannotMeasure(f"{pathlib.Path(words[0]).name} ended with status {run.returncode}")
+    return int(run.stderr.split()[-1])
