@@ -7,15 +7,15 @@
 #![tactic(auto)]
 
 mod adding;
-mod asked;
 mod attach_words;
 mod doors;
 mod read;
 mod simulate_words;
+mod subcommand;
 mod words_error;
 
-pub use asked::{AboutSettings, Asked, Log, Replaying, Serving};
 pub use attach_words::Attaching;
 pub use read::{VERSION, read_words};
 pub use simulate_words::Simulating;
+pub use subcommand::{AboutSettings, Log, Replaying, Serving, Subcommand};
 pub use words_error::WordsError;

@@ -1,10 +1,10 @@
 //! The commands of `printd`, as `clap` reads them.
 
 use crate::adding::{with_command, with_option};
-use crate::asked::{AboutSettings, Asked, Log, Replaying, Serving};
 use crate::attach_words::{attach_command, attach_words, word};
 use crate::doors::{addresses, default_address};
 use crate::simulate_words::{simulate_command, simulate_words};
+use crate::subcommand::{AboutSettings, Log, Replaying, Serving, Subcommand};
 use crate::words_error::WordsError;
 use clap::error::ErrorKind;
 use clap::{Arg, ArgAction, ArgMatches, Command, Error};
@@ -287,38 +287,41 @@ fn no_command(alloc: Global) -> WordsError {
 }
 
 /// How to attach a printer.
-fn asked_to_attach<'a>(alloc: Global, inner: &ArgMatches<'a>) -> Result<Asked<'a>, WordsError> {
+fn asked_to_attach<'a>(
+    alloc: Global,
+    inner: &ArgMatches<'a>,
+) -> Result<Subcommand<'a>, WordsError> {
     match attach_words(inner) {
-        Some(attaching) => Ok(Asked::Attach(attaching)),
+        Some(attaching) => Ok(Subcommand::Attach(attaching)),
         None => Err(no_command(alloc)),
     }
 }
 
-fn meaning<'a>(alloc: Global, found: &ArgMatches<'a>) -> Result<Asked<'a>, WordsError> {
+fn meaning<'a>(alloc: Global, found: &ArgMatches<'a>) -> Result<Subcommand<'a>, WordsError> {
     let Some((name, inner)) = found.subcommand() else {
         return Err(no_command(alloc));
     };
     if name == "serve" {
-        Ok(Asked::Serve(serve_words(alloc, inner)?))
+        Ok(Subcommand::Serve(serve_words(alloc, inner)?))
     } else if name == "settings" {
-        Ok(Asked::Settings(settings_words(inner)))
+        Ok(Subcommand::Settings(settings_words(inner)))
     } else if name == "replay" {
-        Ok(Asked::Replay(replay_words(inner)))
+        Ok(Subcommand::Replay(replay_words(inner)))
     } else if name == "log" {
-        Ok(Asked::Log {
+        Ok(Subcommand::Log {
             file: inner.get_str("file"),
         })
     } else if name == "check" {
-        Ok(Asked::Check {
+        Ok(Subcommand::Check {
             starts: inner.get_flag("starts"),
         })
     } else if name == "draw" {
-        Ok(Asked::Draw {
+        Ok(Subcommand::Draw {
             text: inner.get_flag("text"),
             trace: inner.get_str("trace"),
         })
     } else if name == "simulate" {
-        Ok(Asked::Simulate(simulate_words(alloc, inner)?))
+        Ok(Subcommand::Simulate(simulate_words(alloc, inner)?))
     } else if name == "attach" {
         asked_to_attach(alloc, inner)
     } else {
@@ -343,7 +346,7 @@ fn told(alloc: Global, error: &Error) -> WordsError {
 /// # Errors
 ///
 /// The text about the words, where they ask for help or the version or make no sense; or out of memory.
-pub fn read_words<'a>(alloc: Global, words: &'a [&'a str]) -> Result<Asked<'a>, WordsError> {
+pub fn read_words<'a>(alloc: Global, words: &'a [&'a str]) -> Result<Subcommand<'a>, WordsError> {
     match parse(alloc, words) {
         Ok(matches) => meaning(alloc, &matches),
         Err(error) => Err(told(alloc, &error)),

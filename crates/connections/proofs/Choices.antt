@@ -16,9 +16,9 @@ use Rattle.events.specs.declared.event.Event.{Event}
 use Rattle.events.specs.declared.event.Event.TheVariants as Is
 use Rattle.events.specs.SameEvent.{SameEvent}
 use Rattle.events.proofs.Sames.{same_self}
-use Rattle.requests.specs.declared.asked.Asked.{Asked}
-use Rattle.requests.specs.declared.asked.Asked.TheVariants as asks
-use Rattle.requests.specs.Asked.{Asks}
+use Rattle.requests.specs.declared.parsed_request.ParsedRequest.{ParsedRequest}
+use Rattle.requests.specs.declared.parsed_request.ParsedRequest.TheVariants as asks
+use Rattle.requests.specs.ParsedRequest.{Asks}
 use Rattle.connections.specs.declared.ask.Ask.{Ask}
 use Rattle.connections.specs.declared.ask.Ask.TheVariants as ask
 use Rattle.connections.specs.declared.ask.Client.TheVariants as client
@@ -42,7 +42,7 @@ pub record Laws : Type 0 where
   pub lpd_ends : Lpd.NoneFollows
   pub link : Link.FirstIsOne
   pub link_ends : Link.NoneFollows
-  pub asked : (body : List ℕ) (given said : Asked) → Asks body given → Asks body said → given ≡ said
+  pub asked : (body : List ℕ) (given said : ParsedRequest) → Asks body given → Asks body said → given ≡ said
 
 -- ---- asks that say the same
 
@@ -213,7 +213,7 @@ after_is (item.Refuse refusal) part e said closes body what = refl
 silent_usual : (comes : Step) → comes ≡ silent → (loss : Option Loss) → Loses comes loss → IsUsual loss
 silent_usual comes is loss a = loses_usual comes silent loss is a due_usual
 
-asked_usual : (closes : Bool) (asked : Asked) (loss : Option Loss) → Loses (asked_step closes asked) loss → IsUsual loss
+asked_usual : (closes : Bool) (asked : ParsedRequest) (loss : Option Loss) → Loses (asked_step closes asked) loss → IsUsual loss
 asked_usual closes asks.TooShort loss a = due_usual loss a
 asked_usual closes (asks.Refused status request) loss a = due_usual loss a
 asked_usual closes (asks.Event request event) loss a = inl a
@@ -222,7 +222,7 @@ asked_usual closes (asks.Event request event) loss a = inl a
 ends_agree : Laws → (closes : Bool) (body : List ℕ) (comes comes' : Step) (e : Entry) → EndsSo closes body comes → EndsSo closes body comes' → Agree comes e comes' e
 ends_agree laws closes body comes comes' e (inl a) (inl b) =
     let same : b.0 ≡ a.0 = laws.asked body b.0 a.0 b.1 a.1 in
-    agree_at comes comes' (asked_step closes a.0) e e e a.2 (b.2 ∙ ap (λ (x : Asked). asked_step closes x) same) refl refl
+    agree_at comes comes' (asked_step closes a.0) e e e a.2 (b.2 ∙ ap (λ (x : ParsedRequest). asked_step closes x) same) refl refl
 ends_agree laws closes body comes comes' e (inl a) (inr b) =
     agree_never comes comes' e e (λ loss x y. not_body loss (loses_usual comes (asked_step closes a.0) loss a.2 x (asked_usual closes a.0)) (subst (λ (c : Step). Loses c loss) b.2 y))
 ends_agree laws closes body comes comes' e (inr a) (inl b) =

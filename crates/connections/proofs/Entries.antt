@@ -3,7 +3,7 @@ use Rattle.std.proofs.Common.{◌≡◌, ◌<◌, arith, ℕ, Bool, true, false,
 use Rattle.std.specs.Prelude.{◌||◌, nat_lt}
 use Rattle.std.proofs.lemmas.Bool.Decides.{nat_tests}
 use Rattle.settings_file.specs.Settings.{ServerSettings}
-use Rattle.outputs.specs.declared.output.TheConstants.{RESERVED_BYTES}
+use Rattle.send_queues.specs.declared.queue.TheConstants.{RESERVED_BYTES}
 use Rattle.connections.specs.declared.ask.Ask.{Ask}
 use Rattle.connections.specs.declared.connection.Fed.TheVariants as how
 use Rattle.connections.specs.declared.peer.Peer.{Peer}
@@ -14,7 +14,7 @@ use Rattle.connections.specs.Steps.{due_bytes}
 use Rattle.connections.specs.Asking.{StepsTo, Asking, Feeds}
 use Rattle.connections.specs.Peers.{NextPeer, IsFedPeer}
 use Rattle.connections.specs.Connections.{ConnectionState, with_peer, Takes}
-use Rattle.connections.specs.Fits.{FitsPeer, FitsConnection, Becomes}
+use Rattle.connections.specs.Representation.{FitsPeer, RepresentsConnection, Becomes}
 use Rattle.connections.proofs.Readers.{Goes, heard, rested, fed_peer}
 
 -- ---- what waits
@@ -24,50 +24,50 @@ drop_front-append [] ys = refl
 drop_front-append (x ∷ xs) ys = drop_front-append xs ys
 
 -- what waits by the entry is what the connection holds
-pub waits : (e : Entry) (c : ConnectionState) → FitsConnection e c → waiting e ≡ c.output
+pub waits : (e : Entry) (c : ConnectionState) → RepresentsConnection e c → waiting e ≡ c.output
 waits e c f = ap (λ (due : List ℕ). drop (length e.taken) due) (sym f.due) ∙ drop_front-append e.taken c.output
 
 above : (most n : ℕ) → most < n → nat_lt most n ≡ true
 above most n more = grind (arith, nat_tests, more)
 
 -- what has no room in the reserve needs memory
-grows : (bytes : List ℕ) (e : Entry) (c : ConnectionState) → FitsConnection e c → RESERVED_BYTES < length (c.output ++ bytes) → needs_memory bytes e ≡ true
+grows : (bytes : List ℕ) (e : Entry) (c : ConnectionState) → RepresentsConnection e c → RESERVED_BYTES < length (c.output ++ bytes) → needs_memory bytes e ≡ true
 grows bytes e c f more = above RESERVED_BYTES (length (waiting e ++ bytes)) (subst (λ (w : List ℕ). RESERVED_BYTES < length (w ++ bytes)) (sym (waits e c f)) more)
 
 -- bytes that are due follow what waits
-more_due : (e : Entry) (c : ConnectionState) (bytes : List ℕ) → FitsConnection e c → e.taken ++ (c.output ++ bytes) ≡ e.due ++ bytes
+more_due : (e : Entry) (c : ConnectionState) (bytes : List ℕ) → RepresentsConnection e c → e.taken ++ (c.output ++ bytes) ≡ e.due ++ bytes
 more_due e c bytes f = sym (append_assoc e.taken c.output bytes) ∙ ap (λ (o : List ℕ). o ++ bytes) f.due
 
 -- ---- a step
 
 -- what a step comes to, of a connection whose peer is this now
-takes : (e : Entry) (talk : Talk) (c d : ConnectionState) (p : Peer) (what : Step) (asked : Ask) → FitsConnection e c → e.broken ≡ false → FitsPeer e.read talk true p → (Goes what → FitsPeer e.read talk false p) → Takes what (with_peer p c) asked d
-    → (new : Entry) × StepsTo what (talking talk e) asked new × FitsConnection new d
+takes : (e : Entry) (talk : Talk) (c d : ConnectionState) (p : Peer) (what : Step) (asked : Ask) → RepresentsConnection e c → e.broken ≡ false → FitsPeer e.read talk true p → (Goes what → FitsPeer e.read talk false p) → Takes what (with_peer p c) asked d
+    → (new : Entry) × StepsTo what (talking talk e) asked new × RepresentsConnection new d
 takes e talk c d p (step.Due due last) asked f whole off on (inl (is, now)) =
     let new : Entry = owing (due_bytes due) (finishing last (talking talk e)) in
     let on' : FitsPeer e.read talk e.broken p = subst (λ (b : Bool). FitsPeer e.read talk b p) (sym whole) (on tt) in (
       owing (due_bytes due) (finishing last (talking talk e)),
       inl (is, refl),
-      subst (λ (k : ConnectionState). FitsConnection new k) (sym now) (record { id = f.id; peer = on'; ended = f.ended; over = refl; broken = f.broken; due = more_due e c (due_bytes due) f }),
+      subst (λ (k : ConnectionState). RepresentsConnection new k) (sym now) (record { id = f.id; peer = on'; ended = f.ended; draining = refl; broken = f.broken; due = more_due e c (due_bytes due) f }),
     )
 takes e talk c d p (step.Due due last) asked f whole off on (inr (is, full, now)) =
     let new : Entry = broken (finishing last (talking talk e)) in (
       broken (finishing last (talking talk e)),
       inr (is, grows (due_bytes due) e c f full, refl),
-      subst (λ (k : ConnectionState). FitsConnection new k) (sym now) (record { id = f.id; peer = off; ended = f.ended; over = refl; broken = refl; due = f.due }),
+      subst (λ (k : ConnectionState). RepresentsConnection new k) (sym now) (record { id = f.id; peer = off; ended = f.ended; draining = refl; broken = refl; due = f.due }),
     )
 takes e talk c d p (step.Asks ask last) asked f whole off on (is, now) =
     let new : Entry = finishing last (talking talk e) in
     let on' : FitsPeer e.read talk e.broken p = subst (λ (b : Bool). FitsPeer e.read talk b p) (sym whole) (on tt) in (
       finishing last (talking talk e),
       (is, refl),
-      subst (λ (k : ConnectionState). FitsConnection new k) (sym now) (record { id = f.id; peer = on'; ended = f.ended; over = refl; broken = f.broken; due = f.due }),
+      subst (λ (k : ConnectionState). RepresentsConnection new k) (sym now) (record { id = f.id; peer = on'; ended = f.ended; draining = refl; broken = f.broken; due = f.due }),
     )
 takes e talk c d p (step.Breaks ask) asked f whole off on (is, now) =
     let new : Entry = broken (talking talk e) in (
       broken (talking talk e),
       (is, refl),
-      subst (λ (k : ConnectionState). FitsConnection new k) (sym now) (record { id = f.id; peer = off; ended = f.ended; over = f.over; broken = refl; due = f.due }),
+      subst (λ (k : ConnectionState). RepresentsConnection new k) (sym now) (record { id = f.id; peer = off; ended = f.ended; draining = f.draining; broken = refl; due = f.due }),
     )
 
 right_false : (x y : Bool) → (x || y) ≡ false → y ≡ false
@@ -75,33 +75,33 @@ right_false true y is = cc
 right_false false y is = is
 
 -- whether nothing counts any more, as the entry has it
-counts_as : (e : Entry) (c : ConnectionState) (counts : Bool) → FitsConnection e c → (c.over || c.broken) ≡ counts → (e.over || e.broken) ≡ counts
-counts_as e c counts f is = sym (ap (λ (x : Bool). x || c.broken) f.over ∙ ap (λ (y : Bool). e.over || y) f.broken) ∙ is
+counts_as : (e : Entry) (c : ConnectionState) (counts : Bool) → RepresentsConnection e c → (c.draining || c.broken) ≡ counts → (e.draining || e.broken) ≡ counts
+counts_as e c counts f is = sym (ap (λ (x : Bool). x || c.broken) f.draining ∙ ap (λ (y : Bool). e.draining || y) f.broken) ∙ is
 
 -- ---- what is asked next
 
-pub asks : (settings : ServerSettings) (what : Step) (asked : Ask) (c d : ConnectionState) (p : Peer) → (c.over || c.broken) ≡ false → NextPeer settings (Some what) c.peer p → Takes what (with_peer p c) asked d → Becomes (Asking settings (Some asked)) c d
+pub asks : (settings : ServerSettings) (what : Step) (asked : Ask) (c d : ConnectionState) (p : Peer) → (c.draining || c.broken) ≡ false → NextPeer settings (Some what) c.peer p → Takes what (with_peer p c) asked d → Becomes (Asking settings (Some asked)) c d
 asks settings what asked c d p counts next takes_ e f =
-    let counts' : (e.over || e.broken) ≡ false = counts_as e c false f counts in
-    let whole : e.broken ≡ false = right_false e.over e.broken counts' in
+    let counts' : (e.draining || e.broken) ≡ false = counts_as e c false f counts in
+    let whole : e.broken ≡ false = right_false e.draining e.broken counts' in
     let h = heard settings e c.peer p what (subst (λ (b : Bool). FitsPeer e.read e.talk b c.peer) whole f.peer) next in
     let t = takes e h.talk c d p what asked f whole h.broken h.whole takes_ in
     (t.0, record { counts = counts'; comes = what; mid = talking h.talk e; hears = h.hears; steps = t.1 }, t.2)
 
-pub rests : (settings : ServerSettings) (c d : ConnectionState) (p : Peer) → (c.over || c.broken) ≡ false → NextPeer settings None c.peer p → d ≡ with_peer p c → Becomes (Asking settings None) c d
+pub rests : (settings : ServerSettings) (c d : ConnectionState) (p : Peer) → (c.draining || c.broken) ≡ false → NextPeer settings None c.peer p → d ≡ with_peer p c → Becomes (Asking settings None) c d
 rests settings c d p counts next is e f =
-    let whole : e.broken ≡ false = right_false e.over e.broken (counts_as e c false f counts) in
+    let whole : e.broken ≡ false = right_false e.draining e.broken (counts_as e c false f counts) in
     let h = rested settings e.read e.talk c.peer p (subst (λ (b : Bool). FitsPeer e.read e.talk b c.peer) whole f.peer) next in
     let peer : FitsPeer e.read e.talk e.broken p = subst (λ (b : Bool). FitsPeer e.read e.talk b p) (sym whole) h.1 in
-    (e, (inr h.0, refl), subst (λ (k : ConnectionState). FitsConnection e k) (sym is) (record { id = f.id; peer = peer; ended = f.ended; over = f.over; broken = f.broken; due = f.due }))
+    (e, (inr h.0, refl), subst (λ (k : ConnectionState). RepresentsConnection e k) (sym is) (record { id = f.id; peer = peer; ended = f.ended; draining = f.draining; broken = f.broken; due = f.due }))
 
-pub counts_no_more : (settings : ServerSettings) (c d : ConnectionState) → (c.over || c.broken) ≡ true → d ≡ c → Becomes (Asking settings None) c d
-counts_no_more settings c d off is e f = (e, (inl (counts_as e c true f off), refl), subst (λ (k : ConnectionState). FitsConnection e k) (sym is) f)
+pub counts_no_more : (settings : ServerSettings) (c d : ConnectionState) → (c.draining || c.broken) ≡ true → d ≡ c → Becomes (Asking settings None) c d
+counts_no_more settings c d off is e f = (e, (inl (counts_as e c true f off), refl), subst (λ (k : ConnectionState). RepresentsConnection e k) (sym is) f)
 
 -- a piece was fed
-pub fed : (piece : List ℕ) (c d : ConnectionState) (p : Peer) → c.over ≡ false → IsFedPeer piece c.peer p → d ≡ with_peer p c → Becomes (Feeds piece how.Fed) c d
+pub fed : (piece : List ℕ) (c d : ConnectionState) (p : Peer) → c.draining ≡ false → IsFedPeer piece c.peer p → d ≡ with_peer p c → Becomes (Feeds piece how.Fed) c d
 fed piece c d p counts feeds is e f = (
   reading piece e,
-  (sym f.over ∙ counts, refl),
-  subst (λ (k : ConnectionState). FitsConnection (reading piece e) k) (sym is) (record { id = f.id; peer = fed_peer e.read piece e.talk e.broken c.peer p f.peer feeds; ended = f.ended; over = f.over; broken = f.broken; due = f.due }),
+  (sym f.draining ∙ counts, refl),
+  subst (λ (k : ConnectionState). RepresentsConnection (reading piece e) k) (sym is) (record { id = f.id; peer = fed_peer e.read piece e.talk e.broken c.peer p f.peer feeds; ended = f.ended; draining = f.draining; broken = f.broken; due = f.due }),
 )

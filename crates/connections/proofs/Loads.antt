@@ -16,16 +16,16 @@ use Rattle.connections.specs.declared.step.Step.TheVariants as step
 use Rattle.connections.specs.States.{IppClientState}
 use Rattle.connections.specs.Steps.{due_bytes}
 use Rattle.connections.specs.Peers.{HearsIpp, NextPeer, work}
-use Rattle.connections.specs.Connections.{ConnectionState, load, with_peer, is_over, is_broken, is_kept, Takes}
+use Rattle.connections.specs.Connections.{ConnectionState, load, with_peer, is_draining, is_broken, is_kept, Takes}
 
 at_most : (x : Bool) (n : ℕ) → (if x then 0 else n) ≤ n
 at_most true n = omega arith
 at_most false n = omega arith
 
 load_within : (c : ConnectionState) → load c ≤ 1 + work c.peer
-load_within c = at_most (c.over || c.broken) (1 + work c.peer)
+load_within c = at_most (c.draining || c.broken) (1 + work c.peer)
 
-load_counts : (c : ConnectionState) → (c.over || c.broken) ≡ false → load c ≡ 1 + work c.peer
+load_counts : (c : ConnectionState) → (c.draining || c.broken) ≡ false → load c ≡ 1 + work c.peer
 load_counts c counts = ap (λ (x : Bool). if x then 0 else 1 + work c.peer) counts
 
 none_off : (x : Bool) (n : ℕ) → (if x || true then 0 else n) ≡ 0
@@ -51,16 +51,16 @@ off_broken false n = omega arith
 
 -- a step leaves at most what the peer can bring, and nothing where it is the last
 takes_within : (what : Step) (asked : Ask) (c d : ConnectionState) (p : Peer) → Takes what (with_peer p c) asked d → load d ≤ 1 + work p
-takes_within (step.Due due last) asked c d p (inl (is, now)) = load_as (is_kept (due_bytes due) (is_over last (with_peer p c))) d (1 + work p) now (load_within (is_kept (due_bytes due) (is_over last (with_peer p c))))
-takes_within (step.Due due last) asked c d p (inr (is, full, now)) = load_as (is_broken (is_over last (with_peer p c))) d (1 + work p) now (load_within (is_broken (is_over last (with_peer p c))))
-takes_within (step.Asks ask last) asked c d p (is, now) = load_as (is_over last (with_peer p c)) d (1 + work p) now (load_within (is_over last (with_peer p c)))
+takes_within (step.Due due last) asked c d p (inl (is, now)) = load_as (is_kept (due_bytes due) (is_draining last (with_peer p c))) d (1 + work p) now (load_within (is_kept (due_bytes due) (is_draining last (with_peer p c))))
+takes_within (step.Due due last) asked c d p (inr (is, full, now)) = load_as (is_broken (is_draining last (with_peer p c))) d (1 + work p) now (load_within (is_broken (is_draining last (with_peer p c))))
+takes_within (step.Asks ask last) asked c d p (is, now) = load_as (is_draining last (with_peer p c)) d (1 + work p) now (load_within (is_draining last (with_peer p c)))
 takes_within (step.Breaks ask) asked c d p (is, now) = load_as (is_broken (with_peer p c)) d (1 + work p) now (load_within (is_broken (with_peer p c)))
 
 takes_last : (what : Step) (asked : Ask) (c d : ConnectionState) (p : Peer) → IsLast what → Takes what (with_peer p c) asked d → load d ≤ 0
-takes_last (step.Due due last) asked c d p ends (inl (is, now)) = load_as (is_kept (due_bytes due) (is_over last (with_peer p c))) d 0 now (off_last last c.broken (1 + work p) ends)
-takes_last (step.Due due last) asked c d p ends (inr (is, full, now)) = load_as (is_broken (is_over last (with_peer p c))) d 0 now (off_broken last (1 + work p))
-takes_last (step.Asks ask last) asked c d p ends (is, now) = load_as (is_over last (with_peer p c)) d 0 now (off_last last c.broken (1 + work p) ends)
-takes_last (step.Breaks ask) asked c d p ends (is, now) = load_as (is_broken (with_peer p c)) d 0 now (off_broken c.over (1 + work p))
+takes_last (step.Due due last) asked c d p ends (inl (is, now)) = load_as (is_kept (due_bytes due) (is_draining last (with_peer p c))) d 0 now (off_last last c.broken (1 + work p) ends)
+takes_last (step.Due due last) asked c d p ends (inr (is, full, now)) = load_as (is_broken (is_draining last (with_peer p c))) d 0 now (off_broken last (1 + work p))
+takes_last (step.Asks ask last) asked c d p ends (is, now) = load_as (is_draining last (with_peer p c)) d 0 now (off_last last c.broken (1 + work p) ends)
+takes_last (step.Breaks ask) asked c d p ends (is, now) = load_as (is_broken (with_peer p c)) d 0 now (off_broken c.draining (1 + work p))
 
 part_reader : (what : Step) (t u : IppClientState) → HearsIpp item.BodyPart what t u → u.reader ≡ t.reader
 part_reader (step.Due due last) t u it = ap (λ (x : IppClientState). x.reader) it.1
@@ -93,10 +93,10 @@ less settings what (of.Lpd t) (of.Device u) next = absurd next
 less settings what (of.Device t) (of.Ipp u) next = absurd next
 less settings what (of.Device t) (of.Lpd u) next = absurd next
 
-falls_by : (what : Step) (asked : Ask) (c d : ConnectionState) (p : Peer) → (c.over || c.broken) ≡ false → Less what c.peer p → Takes what (with_peer p c) asked d → load d < load c
+falls_by : (what : Step) (asked : Ask) (c d : ConnectionState) (p : Peer) → (c.draining || c.broken) ≡ false → Less what c.peer p → Takes what (with_peer p c) asked d → load d < load c
 falls_by what asked c d p counts (inl falls) takes = omega (arith, load_counts c counts, takes_within what asked c d p takes, falls)
 falls_by what asked c d p counts (inr last) takes = omega (arith, load_counts c counts, takes_last what asked c d p last takes)
 
 -- what is asked is less to bring
-pub falls : (settings : ServerSettings) (what : Step) (asked : Ask) (c d : ConnectionState) (p : Peer) → (c.over || c.broken) ≡ false → NextPeer settings (Some what) c.peer p → Takes what (with_peer p c) asked d → load d < load c
+pub falls : (settings : ServerSettings) (what : Step) (asked : Ask) (c d : ConnectionState) (p : Peer) → (c.draining || c.broken) ≡ false → NextPeer settings (Some what) c.peer p → Takes what (with_peer p c) asked d → load d < load c
 falls settings what asked c d p counts next takes = falls_by what asked c d p counts (less settings what c.peer p next) takes

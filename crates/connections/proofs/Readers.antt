@@ -35,7 +35,7 @@ use Rattle.connections.specs.Entry as entry
 use Rattle.connections.specs.Steps.{StepsDevice, StepsHello, place_of, step_of}
 use Rattle.connections.specs.Peers.{with_http, with_lpd, with_link, HearsIpp, HearsWholeItem, HearsWholeReport, NextIpp, NextLpd, NextDevice, NextPeer, IsFedPeer, link_step, Greets, ComesOf}
 use Rattle.connections.specs.Asking.{HearsIpp as NextItem, HearsItem, FindsFault, HearsReport, FindsLinkFault, Hears, IsHeardAs}
-use Rattle.connections.specs.Fits.{FitsIpp, FitsLpd, FitsDevice, FitsPeer}
+use Rattle.connections.specs.Representation.{FitsIpp, FitsLpd, FitsDevice, FitsPeer}
 
 -- what the first fault of an LPD client's stream comes to, or the lack of memory for a line
 pub next_failed : (queues : List ℕ → Bool) (t u : LpdClientState) (error : LpdError) → Lpd.Answers t.reader (Err error) u.reader → u ≡ with_lpd u.reader t → NextLpd queues (Some (step_of error)) t u

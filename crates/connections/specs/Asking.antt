@@ -97,11 +97,11 @@ IsHeardAs read (OfDevice reports device) = device_reports read ≡ record { repo
 
 -- or nothing of it counts any more
 abbrev pub IsHeard : Entry → Type 0
-IsHeard e = ((e.over || e.broken) ≡ true) ⊎ IsHeardAs e.read e.talk
+IsHeard e = ((e.draining || e.broken) ≡ true) ⊎ IsHeardAs e.read e.talk
 
 -- a connection that counts asks this
 pub record AsksNext (settings : ServerSettings) (what : Ask) (e new : Entry) : Type 0 where
-  pub counts : (e.over || e.broken) ≡ false
+  pub counts : (e.draining || e.broken) ≡ false
   pub comes : Step
   pub mid : Entry
   pub hears : Hears settings e.talk e comes mid
@@ -116,6 +116,6 @@ Asking settings (Some what) e new = AsksNext settings what e new
 
 -- a piece counts whole, or nothing counts any more, or memory for it is refused
 abbrev pub Feeds : List ℕ → Fed → Entry → Entry → Type 0
-Feeds piece fed.Useless e new = (e.over ≡ true) × (new ≡ e)
-Feeds piece fed.Fed e new = (e.over ≡ false) × (new ≡ reading piece e)
-Feeds piece (fed.Refused id) e new = (e.over ≡ false) × (id ≡ e.id) × (new ≡ broken e)
+Feeds piece fed.Discarded e new = (e.draining ≡ true) × (new ≡ e)
+Feeds piece fed.Fed e new = (e.draining ≡ false) × (new ≡ reading piece e)
+Feeds piece (fed.Refused id) e new = (e.draining ≡ false) × (id ≡ e.id) × (new ≡ broken e)

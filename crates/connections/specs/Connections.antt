@@ -1,7 +1,7 @@
 -- A connection as plain data, and what each call changes of it.
 use Rattle.std.specs.Prelude.{ℕ, ◌≡◌, ◌⊎◌, ◌||◌, ◌&&◌, ◌==◌, ◌+◌, ◌<◌, not, nat_lt, Bool, true, false, List, ◌++◌, length, if◌then◌else◌}
 use Rattle.base_types.specs.declared.limits.TheConstants.Limits.{WAITING_OUTPUT_BYTES}
-use Rattle.outputs.specs.declared.output.TheConstants.{RESERVED_BYTES}
+use Rattle.send_queues.specs.declared.queue.TheConstants.{RESERVED_BYTES}
 use Rattle.connections.specs.Steps.{due_bytes}
 use Rattle.connections.specs.Peers.{work, unnamed}
 use Rattle.connections.specs.declared.ask.Ask.{Ask}
@@ -15,21 +15,21 @@ pub record ConnectionState : Type 0 where
   pub id : ℕ
   pub peer : Peer
   pub ended : Bool
-  pub over : Bool
+  pub draining : Bool
   pub broken : Bool
   -- what waits to be taken
   pub output : List ℕ
 
 -- how much it can bring yet, at most: nothing where nothing of it counts any more
 abbrev pub load : ConnectionState → ℕ
-load c = if c.over || c.broken then 0 else 1 + work c.peer
+load c = if c.draining || c.broken then 0 else 1 + work c.peer
 
 -- its input hasn't ended, and not too much waits
 abbrev pub is_read : ConnectionState → Bool
 is_read c = not c.ended && not (nat_lt WAITING_OUTPUT_BYTES (length c.output))
 
 abbrev pub is_done : ConnectionState → Bool
-is_done c = (c.ended || c.over) && (length c.output == 0)
+is_done c = (c.ended || c.draining) && (length c.output == 0)
 
 abbrev pub with_peer : Peer → ConnectionState → ConnectionState
 with_peer peer c = record c { peer = peer }
@@ -43,26 +43,26 @@ is_broken c = record c { broken = true }
 abbrev pub is_kept : List ℕ → ConnectionState → ConnectionState
 is_kept bytes c = record c { output = c.output ++ bytes }
 
-abbrev pub is_over : Bool → ConnectionState → ConnectionState
-is_over last c = record c { over = last }
+abbrev pub is_draining : Bool → ConnectionState → ConnectionState
+is_draining last c = record c { draining = last }
 
 -- the device that said its name there has another connection
 abbrev pub gives_way : ConnectionState → ConnectionState
 gives_way c = record c { peer = unnamed c.peer; broken = true }
 
 -- bytes that become due: they wait, or memory for them is refused
-abbrev pub Keeps : List ℕ → ConnectionState → Ask → ConnectionState → Type 0
-Keeps bytes c what d =
+abbrev pub Enqueues : List ℕ → ConnectionState → Ask → ConnectionState → Type 0
+Enqueues bytes c what d =
     ((what ≡ ask.Nothing) × (d ≡ is_kept bytes c))
     ⊎ ((what ≡ ask.Broke growth.Output) × (RESERVED_BYTES < length (c.output ++ bytes)) × (d ≡ is_broken c))
 
 -- a step is taken
 abbrev pub Takes : Step → ConnectionState → Ask → ConnectionState → Type 0
-Takes (step.Due due last) c what d = Keeps (due_bytes due) (is_over last c) what d
-Takes (step.Asks asked last) c what d = (what ≡ asked) × (d ≡ is_over last c)
+Takes (step.Due due last) c what d = Enqueues (due_bytes due) (is_draining last c) what d
+Takes (step.Asks asked last) c what d = (what ≡ asked) × (d ≡ is_draining last c)
 Takes (step.Breaks asked) c what d = (what ≡ asked) × (d ≡ is_broken c)
 
 -- what became of bytes that the server owes: they wait, unless it is broken, or it breaks
-abbrev pub KeepsAs : List ℕ → Bool → ConnectionState → ConnectionState → Type 0
-KeepsAs bytes false c d = ((c.broken ≡ true) × (d ≡ c)) ⊎ ((c.broken ≡ false) × (d ≡ is_kept bytes c))
-KeepsAs bytes true c d = (c.broken ≡ false) × (d ≡ is_broken c)
+abbrev pub EnqueuesAs : List ℕ → Bool → ConnectionState → ConnectionState → Type 0
+EnqueuesAs bytes false c d = ((c.broken ≡ true) × (d ≡ c)) ⊎ ((c.broken ≡ false) × (d ≡ is_kept bytes c))
+EnqueuesAs bytes true c d = (c.broken ≡ false) × (d ≡ is_broken c)

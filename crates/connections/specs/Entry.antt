@@ -4,7 +4,7 @@ use Rattle.base_types.specs.Report.{ReportRecord}
 use Rattle.http_front.specs.Stream.{Said}
 use Rattle.lpd_reader.specs.Session.{ItemRecord}
 use Rattle.lpd_session.specs.Session.{SessionState}
-use Rattle.outputs.specs.declared.output.TheConstants.{RESERVED_BYTES}
+use Rattle.send_queues.specs.declared.queue.TheConstants.{RESERVED_BYTES}
 use Rattle.wires.specs.declared.wire.Door.{Door}
 use Rattle.wires.specs.declared.wire.Door.TheVariants.{Ipp, Lpd, Devices}
 
@@ -43,14 +43,14 @@ pub record Entry : Type 0 where
   -- its input has ended
   pub ended : Bool
   -- nothing counts that is read from now on; it closes once all that is due was taken
-  pub over : Bool
+  pub draining : Bool
   -- it is to be closed as by a fault: nothing becomes due on it any more
   pub broken : Bool
   pub taken : List ℕ
   pub due : List ℕ
 
 abbrev pub opening_entry : Door → ℕ → Entry
-opening_entry door id = record { id = id; read = []; talk = opening_talk door; ended = false; over = false; broken = false; taken = []; due = [] }
+opening_entry door id = record { id = id; read = []; talk = opening_talk door; ended = false; draining = false; broken = false; taken = []; due = [] }
 
 -- what waits to be taken
 abbrev pub waiting : Entry → List ℕ
@@ -72,7 +72,7 @@ ending e = record e { ended = true }
 
 -- whether nothing counts that is read from now on
 abbrev pub finishing : Bool → Entry → Entry
-finishing last e = record e { over = last }
+finishing last e = record e { draining = last }
 
 -- nothing becomes due on it from now on, and it is to be closed as by a fault
 abbrev pub broken : Entry → Entry

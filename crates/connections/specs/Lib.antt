@@ -6,6 +6,6 @@ pub mod Steps
 pub mod Peers
 pub mod Asking
 pub mod Connections
-pub mod Fits
+pub mod Representation
 pub mod Slots
 pub mod Choice

@@ -4,17 +4,17 @@ use Rattle.std.specs.Option.{option_map_or}
 use Rattle.settings_file.specs.Settings.{ServerSettings}
 use Rattle.wires.specs.Poll.{Poll, Closes}
 use Rattle.wires.specs.declared.wire.Door.{Door}
-use Rattle.outputs.specs.Output.{OffersFront}
-use Rattle.outputs.specs.declared.output.TheConstants.{RESERVED_BYTES}
-use Rattle.outputs.specs.declared.output.Offered.{Offered}
-use Rattle.outputs.specs.declared.output.Offered.TheVariants as offer
-use Rattle.connections.specs.declared.table.Asked.{Asked}
+use Rattle.send_queues.specs.SendQueue.{OffersFront}
+use Rattle.send_queues.specs.declared.queue.TheConstants.{RESERVED_BYTES}
+use Rattle.send_queues.specs.declared.queue.Offered.{Offered}
+use Rattle.send_queues.specs.declared.queue.Offered.TheVariants as offer
+use Rattle.connections.specs.declared.table.ConnectionAsk.{ConnectionAsk}
 use Rattle.connections.specs.declared.connection.Fed.{Fed}
 use Rattle.connections.specs.Entry.{opening_entry}
 use Rattle.connections.specs.Peers.{closes_of, device_of}
 use Rattle.connections.specs.Asking.{Asking, Feeds}
-use Rattle.connections.specs.Connections.{ConnectionState, load, KeepsAs}
-use Rattle.connections.specs.Fits.{FitsConnection, Becomes}
+use Rattle.connections.specs.Connections.{ConnectionState, load, EnqueuesAs}
+use Rattle.connections.specs.Representation.{RepresentsConnection, Becomes}
 
 abbrev pub Slots : Type 0
 Slots = List (Option ConnectionState)
@@ -39,9 +39,9 @@ abbrev pub changed_at : ℕ → (ConnectionState → ConnectionState) → List (
 changed_at key change slots = option_map_or (λ c. slice_set slots key (Some (change c))) (slice_index_or slots key None) slots
 
 -- what became of bytes that are due: they are kept, or none are, or the connection of this number broke
-abbrev pub KeepsAt : ℕ → List ℕ → Option ℕ → List (Option ConnectionState) → List (Option ConnectionState) → Type 0
-KeepsAt key bytes None old new = NoSlot key old new ⊎ OnSlot key (KeepsAs bytes false) old new
-KeepsAt key bytes (Some id) old new = OnSlot key (λ c d. (c.id ≡ id) × KeepsAs bytes true c d) old new
+abbrev pub EnqueuesAt : ℕ → List ℕ → Option ℕ → List (Option ConnectionState) → List (Option ConnectionState) → Type 0
+EnqueuesAt key bytes None old new = NoSlot key old new ⊎ OnSlot key (EnqueuesAs bytes false) old new
+EnqueuesAt key bytes (Some id) old new = OnSlot key (λ c d. (c.id ≡ id) × EnqueuesAs bytes true c d) old new
 
 -- what waits on the connection under a key
 abbrev pub output_at : ℕ → List (Option ConnectionState) → List ℕ
@@ -57,7 +57,7 @@ IsGrowth key bytes None old = Unit {0}
 IsGrowth key bytes (Some id) old = RESERVED_BYTES < length (output_at key old ++ bytes)
 
 -- what is asked next
-abbrev pub AsksAt : ServerSettings → ℕ → Option Asked → List (Option ConnectionState) → List (Option ConnectionState) → Type 0
+abbrev pub AsksAt : ServerSettings → ℕ → Option ConnectionAsk → List (Option ConnectionState) → List (Option ConnectionState) → Type 0
 AsksAt settings key None old new = NoSlot key old new ⊎ OnSlot key (Becomes (Asking settings None)) old new
 AsksAt settings key (Some asked) old new = OnSlot key (λ c d. (asked.id ≡ c.id) × Becomes (Asking settings (Some asked.ask)) c d × (load d < load c)) old new
 
@@ -98,7 +98,7 @@ LeavesAs polled key wire old device wire' new =
 pub record IsIn (door : Door) (id : ℕ) (old new : List (Option ConnectionState)) : Type 0 where
   pub key : ℕ
   pub connection : ConnectionState
-  pub is_new : FitsConnection (opening_entry door id) connection
+  pub is_new : RepresentsConnection (opening_entry door id) connection
   pub free : slice_index_or old key None ≡ None
   pub there : slice_index_or new key None ≡ Some connection
   pub others : (other : ℕ) → other ≢ key → slice_index_or new other None ≡ slice_index_or old other None

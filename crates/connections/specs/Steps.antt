@@ -5,7 +5,7 @@ use Rattle.base_types.specs.declared.report.Report.{Report}
 use Rattle.base_types.specs.Report.{ReportRecord, SaysHello, report_of}
 use Rattle.settings_file.specs.Settings.{ServerSettings}
 use Rattle.http_front.specs.Reply.{continue_head}
-use Rattle.http_front.specs.declared.refusal.Refusal.TheVariants.{BadRequest}
+use Rattle.http_front.specs.declared.refusal.HttpRejection.TheVariants.{BadRequest}
 use Rattle.http_front.specs.declared.item.HttpItem.{HttpItem}
 use Rattle.http_front.specs.declared.item.HttpItem.TheVariants as item
 use Rattle.lpd_reader.specs.declared.fault.LpdError.{LpdError}
@@ -13,11 +13,11 @@ use Rattle.lpd_reader.specs.declared.fault.LpdError.TheVariants as fault
 use Rattle.lpd_reader.specs.Session.{ItemRecord, Says, Aborts, Announces, HasFile}
 use Rattle.lpd_session.specs.Session.{SessionState}
 use Rattle.events.specs.declared.status.Status.{Status}
-use Rattle.requests.specs.declared.asked.Asked.{Asked}
-use Rattle.requests.specs.declared.asked.Asked.TheVariants as asks
-use Rattle.requests.specs.Asked.{Asks, request_id_of}
-use Rattle.replies.specs.Reply.{refusal_bytes}
-use Rattle.outputs.specs.Reply.{http_reply, refusal_head}
+use Rattle.requests.specs.declared.parsed_request.ParsedRequest.{ParsedRequest}
+use Rattle.requests.specs.declared.parsed_request.ParsedRequest.TheVariants as asks
+use Rattle.requests.specs.ParsedRequest.{Asks, request_id_of}
+use Rattle.responses.specs.Reply.{refusal_bytes}
+use Rattle.send_queues.specs.Reply.{http_reply, refusal_head}
 use Rattle.connections.specs.declared.ask.Ask.TheVariants as ask
 use Rattle.connections.specs.declared.ask.Client.TheVariants as client
 use Rattle.connections.specs.declared.ask.Growth.TheVariants as growth
@@ -53,7 +53,7 @@ no_memory = step.Breaks (ask.Broke growth.Input)
 -- ---- an IPP client
 
 -- what a whole body asks; after one under 8 bytes, which has no header, the connection closes (RFC 8010, section 3.1.1)
-abbrev pub asked_step : Bool → Asked → Step
+abbrev pub asked_step : Bool → ParsedRequest → Step
 asked_step closes asks.TooShort = step.Due (due.Refusal BadRequest) true
 asked_step closes (asks.Refused status request) = step.Due (due.Status closes status request) closes
 asked_step closes (asks.Event request event) = step.Asks (ask.Event (client.Ipp request) event) closes
@@ -61,7 +61,7 @@ asked_step closes (asks.Event request event) = step.Asks (ask.Event (client.Ipp 
 -- a whole body asks one thing, or memory to read it is refused
 abbrev pub EndsBody : Bool → List ℕ → Step → Type 0
 EndsBody closes body what =
-    ((asked : Asked) × Asks body asked × (what ≡ asked_step closes asked))
+    ((asked : ParsedRequest) × Asks body asked × (what ≡ asked_step closes asked))
     ⊎ ((request : ℕ) × (request_id_of body ≡ Some request) × (what ≡ step.Asks (ask.Unread request) closes))
 
 -- what an item comes to after a body of these bytes so far

@@ -2,15 +2,15 @@
 ghost use Rattle.std.specs.Prelude.{◌≡◌, ◌<◌, ◌++◌, IfOk, IfSome, IsTrue, OnOk, OnErr, length};
 ghost use Rattle.std.specs.List.{flat_map};
 ghost use Rattle.device_link.specs.Orders.{cancel_line, job_line};
-ghost use Rattle.outputs.specs.Reply.{http_reply};
-ghost use Rattle.outputs.specs.declared.output.TheConstants.{RESERVED_BYTES};
-ghost use Rattle.outputs.specs.Output.{OffersFront};
+ghost use Rattle.send_queues.specs.Reply.{http_reply};
+ghost use Rattle.send_queues.specs.declared.queue.TheConstants.{RESERVED_BYTES};
+ghost use Rattle.send_queues.specs.SendQueue.{OffersFront};
 ghost use Rattle.connections.specs.Entry.{opening_entry, ending, broken, given_up};
 ghost use Rattle.connections.specs.Steps.{due_bytes, http_status};
 ghost use Rattle.connections.specs.Asking.{Asking, Feeds};
 ghost use Rattle.connections.specs.Peers.{device_of, closes_of};
-ghost use Rattle.connections.specs.Connections.{load, is_read, is_done, is_ended, is_broken, gives_way, Takes, Keeps, KeepsAs};
-ghost use Rattle.connections.specs.Fits.{FitsConnection, Becomes};
+ghost use Rattle.connections.specs.Connections.{load, is_read, is_done, is_ended, is_broken, gives_way, Takes, Enqueues, EnqueuesAs};
+ghost use Rattle.connections.specs.Representation.{RepresentsConnection, Becomes};
 
 use crate::ask::{Ask, Growth};
 use crate::peer::Peer;
@@ -18,8 +18,8 @@ use crate::step::{Due, Step};
 use base_types::{DeviceId, JobId, Limits, Needs};
 use events::Status;
 use http_front::continue_head;
-use outputs::{Offered, Output};
-use replies::ipp_refusal;
+use responses::ipp_refusal;
+use send_queues::{Offered, SendQueue};
 use settings_file::Settings;
 use spool::Document;
 use std::alloc::{AllocError, Global};
@@ -30,7 +30,7 @@ use wires::{Door, Wire, WireId};
 #[derive(Clone, Copy, Debug, PartialEq, Eq)]
 pub enum Fed {
     /// Nothing counts of it any more.
-    Useless,
+    Discarded,
     Fed,
     /// Memory was refused, and the connection of this number broke.
     Refused(WireId),
@@ -44,10 +44,10 @@ pub struct Connection {
     /// Its input has ended.
     ended: bool,
     /// Nothing counts that is read from now on.
-    over: bool,
+    draining: bool,
     /// It is to be closed as by a fault.
     broken: bool,
-    output: Output,
+    output: SendQueue,
 }
 
 impl Model for Connection {
@@ -59,7 +59,7 @@ impl Model for Connection {
       id = c.id;
       peer = c.peer;
       ended = c.ended;
-      over = c.over;
+      draining = c.draining;
       broken = c.broken;
       output = c.output;
     } };
@@ -68,15 +68,15 @@ impl Model for Connection {
 impl Connection {
     /// The connection of this number on the wire, that came at a door. The only error is out of memory.
     pub fn new(alloc: Global, id: WireId, door: Door) -> Result<Connection, AllocError>
-        ensures { IfOk result (FitsConnection (opening_entry door id)) }
+        ensures { IfOk result (RepresentsConnection (opening_entry door id)) }
     {
         Ok(Connection {
             id,
             peer: Peer::new(alloc, door),
             ended: false,
-            over: false,
+            draining: false,
             broken: false,
-            output: Output::new(alloc)?,
+            output: SendQueue::new(alloc)?,
         })
     }
 
@@ -119,7 +119,7 @@ impl Connection {
     pub fn is_done(&self) -> bool
         ensures { result ≡ is_done self.now }
     {
-        (self.ended || self.over) && self.output.is_empty()
+        (self.ended || self.draining) && self.output.is_empty()
     }
 
     /// Its input has ended.
@@ -152,8 +152,8 @@ impl Connection {
     pub fn feed(&mut self, piece: &[u8]) -> Fed
         ensures { Becomes (Feeds piece.now result) self.old self.new }
     {
-        if self.over {
-            return Fed::Useless;
+        if self.draining {
+            return Fed::Discarded;
         }
         match self.peer.feed(piece) {
             Ok(()) => Fed::Fed,
@@ -170,7 +170,7 @@ impl Connection {
         ensures asks { Becomes (Asking settings.now result) self.old self.new }
         ensures falls { IfSome result (λ ask. load self.new < load self.old) }
     {
-        if self.over || self.broken {
+        if self.draining || self.broken {
             return None;
         }
         match self.peer.next(settings) {
@@ -185,11 +185,11 @@ impl Connection {
     {
         match step {
             Step::Due { due, last } => {
-                self.over = last;
+                self.draining = last;
                 self.acknowledge(due)
             }
             Step::Asks { ask, last } => {
-                self.over = last;
+                self.draining = last;
                 ask
             }
             Step::Breaks(ask) => {
@@ -201,7 +201,7 @@ impl Connection {
 
     /// This becomes due, or the connection breaks, where memory is refused.
     fn acknowledge(&mut self, due: Due) -> Ask
-        ensures { Keeps (due_bytes due) self.old result self.new }
+        ensures { Enqueues (due_bytes due) self.old result self.new }
     {
         match push(&mut self.output, due) {
             Ok(()) => Ask::Nothing,
@@ -213,8 +213,8 @@ impl Connection {
     }
 
     /// Bytes are due from now on, unless it is broken. Whether memory was refused, and it broke.
-    pub fn keep(&mut self, bytes: &[u8]) -> bool
-        ensures keeps { KeepsAs bytes.now result self.old self.new }
+    pub fn enqueue(&mut self, bytes: &[u8]) -> bool
+        ensures enqueues { EnqueuesAs bytes.now result self.old self.new }
         ensures full { IsTrue result → RESERVED_BYTES < length (self.old.output ++ bytes.now) }
     {
         if self.broken {
@@ -226,8 +226,8 @@ impl Connection {
     }
 
     /// A reply of IPP is due from now on, unless it is broken. Whether memory was refused, and it broke.
-    pub fn keep_reply(&mut self, bytes: &[u8]) -> bool
-        ensures keeps { KeepsAs (http_reply (closes_of self.old.peer) bytes.now) result self.old self.new }
+    pub fn enqueue_response(&mut self, bytes: &[u8]) -> bool
+        ensures enqueues { EnqueuesAs (http_reply (closes_of self.old.peer) bytes.now) result self.old self.new }
         ensures full { IsTrue result → RESERVED_BYTES < length (self.old.output ++ http_reply (closes_of self.old.peer) bytes.now) }
     {
         if self.broken {
@@ -241,17 +241,17 @@ impl Connection {
     /// The reply of a status alone is due from now on, unless it is broken. Whether memory was refused, and
     /// it broke.
     #[tactic(auto, unfolding(crate::specs::Steps::http_status))]
-    pub fn keep_status(&mut self, status: Status, request: u32) -> bool
-        ensures keeps { KeepsAs (http_status (closes_of self.old.peer) status request) result self.old self.new }
+    pub fn enqueue_status(&mut self, status: Status, request: u32) -> bool
+        ensures enqueues { EnqueuesAs (http_status (closes_of self.old.peer) status request) result self.old self.new }
         ensures full { IsTrue result → RESERVED_BYTES < length (self.old.output ++ http_status (closes_of self.old.peer) status request) }
     {
-        self.keep_reply(&ipp_refusal(status, request))
+        self.enqueue_response(&ipp_refusal(status, request))
     }
 
     /// The line that cancels a job is due from now on, unless it is broken. Whether memory was refused, and
     /// it broke.
-    pub fn keep_cancel(&mut self, job: JobId) -> bool
-        ensures { KeepsAs (cancel_line job) result self.old self.new }
+    pub fn enqueue_cancel(&mut self, job: JobId) -> bool
+        ensures { EnqueuesAs (cancel_line job) result self.old self.new }
     {
         if self.broken {
             return false;
@@ -263,14 +263,14 @@ impl Connection {
 
     /// A job of so many octets is due from now on, its line and then its documents, unless it is broken.
     /// Whether memory was refused, and it broke.
-    pub fn keep_job(
+    pub fn enqueue_job(
         &mut self,
         job: JobId,
         octets: usize,
         needs: &Needs,
         documents: &[Document],
     ) -> bool
-        ensures { KeepsAs (job_line job octets needs.now ++ flat_map (λ d. d.contents) documents.now) result self.old self.new }
+        ensures { EnqueuesAs (job_line job octets needs.now ++ flat_map (λ d. d.contents) documents.now) result self.old self.new }
     {
         if self.broken {
             return false;
@@ -291,7 +291,7 @@ impl Connection {
 
 /// This is due from now on. The error is out of memory.
 #[tactic(auto, unfolding(crate::specs::Steps::http_status))]
-fn push(output: &mut Output, due: Due) -> Result<(), AllocError>
+fn push(output: &mut SendQueue, due: Due) -> Result<(), AllocError>
     ensures ok { OnOk result (output.new ≡ output.old ++ due_bytes due) }
     ensures err { OnErr result (output.new ≡ output.old) }
     ensures full { OnErr result (RESERVED_BYTES < length (output.old ++ due_bytes due)) }

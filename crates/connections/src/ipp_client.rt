@@ -1,14 +1,14 @@
 //! An IPP client: requests over HTTP, whose bodies are read as they come.
 ghost use Rattle.std.specs.Prelude.{◌≡◌, OnOk, OnErr, List, ℕ};
-ghost use Rattle.requests.specs.Asked.{Asks};
+ghost use Rattle.requests.specs.ParsedRequest.{Asks};
 ghost use Rattle.requests.specs.Reader.{Heard};
 ghost use Rattle.connections.specs.Steps.{EndsBody, asked_step};
 ghost use Rattle.connections.specs.Peers.{IsNewIpp, IsFedIpp, NextIpp, HearsIpp, BeginsIpp, TakesPart, EndsIpp, LosesBody};
 
 use crate::ask::{Ask, Client, Growth};
 use crate::step::{Due, Step};
-use http_front::{HttpItem, HttpReader, Refusal};
-use requests::{Asked, AskedReader};
+use http_front::{HttpItem, HttpReader, HttpRejection};
+use requests::{ParsedRequest, RequestParser};
 use std::alloc::{AllocError, Global};
 use std::marker::Model;
 use std::mem;
@@ -21,7 +21,7 @@ pub struct IppClient {
     /// Whether the connection closes after the reply to the request that is coming.
     closes: bool,
     /// What the body of that request asks so far.
-    body: AskedReader,
+    body: RequestParser,
 }
 
 impl Model for IppClient {
@@ -41,7 +41,7 @@ impl IppClient {
             alloc,
             reader: HttpReader::new(alloc),
             closes: false,
-            body: AskedReader::new(alloc),
+            body: RequestParser::new(alloc),
         }
     }
 
@@ -88,7 +88,7 @@ impl IppClient {
         ensures { BeginsIpp closes result self.old self.new }
     {
         self.closes = closes;
-        self.body = AskedReader::new(self.alloc);
+        self.body = RequestParser::new(self.alloc);
         due(Due::Nothing, false)
     }
 
@@ -111,10 +111,10 @@ impl IppClient {
     }
 
     /// Takes the body.
-    fn take_body(&mut self) -> AskedReader
+    fn take_body(&mut self) -> RequestParser
         ensures { LosesBody result self.old self.new }
     {
-        let next = AskedReader::new(self.alloc);
+        let next = RequestParser::new(self.alloc);
         mem::replace(&mut self.body, next)
     }
 }
@@ -128,11 +128,11 @@ fn due(due: Due, last: bool) -> Step
 
 /// What a whole body comes to. A body under 8 bytes is answered 400, and the connection closes (RFC 8010,
 /// section 3.1.1).
-fn whole_step(closes: bool, body: &mut AskedReader) -> Step
+fn whole_step(closes: bool, body: &mut RequestParser) -> Step
     ensures { (bytes : List ℕ) → Heard bytes body.old → EndsBody closes bytes result }
 {
     let Some(request) = body.request_id() else {
-        return due(Due::Refusal(Refusal::BadRequest), true);
+        return due(Due::Refusal(HttpRejection::BadRequest), true);
     };
     match body.finish() {
         Ok(asked) => asked_step(closes, asked),
@@ -144,12 +144,12 @@ fn whole_step(closes: bool, body: &mut AskedReader) -> Step
 }
 
 /// What becomes of what a body asks.
-fn asked_step(closes: bool, asked: Asked) -> Step
+fn asked_step(closes: bool, asked: ParsedRequest) -> Step
     ensures { result ≡ asked_step closes asked }
 {
     match asked {
-        Asked::TooShort => due(Due::Refusal(Refusal::BadRequest), true),
-        Asked::Refused(status, request) => Step::Due {
+        ParsedRequest::TooShort => due(Due::Refusal(HttpRejection::BadRequest), true),
+        ParsedRequest::Refused(status, request) => Step::Due {
             due: Due::Status {
                 closes,
                 status,
@@ -157,7 +157,7 @@ fn asked_step(closes: bool, asked: Asked) -> Step
             },
             last: closes,
         },
-        Asked::Event(request, event) => Step::Asks {
+        ParsedRequest::Event(request, event) => Step::Asks {
             ask: Ask::Event(Client::Ipp(request), event),
             last: closes,
         },

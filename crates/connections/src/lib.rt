@@ -3,7 +3,7 @@
 //! A [`Connection`] is of an IPP client, an LPD client or a device. It is fed what comes of its peer, acts
 //! on what concerns it alone, and asks the server for the rest, one thing at a time
 //! ([`Connection::next`]): the bodies of HTTP, the files of LPD and the names of devices are its own. What
-//! is due on it waits in an [`outputs::Output`] until a wire takes it.
+//! is due on it waits in an [`send_queues::SendQueue`] until a wire takes it.
 //!
 //! Its contracts speak of an entry: all that was read, what of it was acted on, all that was due and all
 //! that was taken (`specs/Entry.antt`). Its rows are sessions of `server_tests` and traces of

@@ -1,7 +1,7 @@
 //! What the next of a peer's stream comes to on its connection.
 use crate::ask::Ask;
 use events::Status;
-use http_front::Refusal;
+use http_front::HttpRejection;
 
 /// What becomes due.
 #[derive(Clone, Copy, Debug, PartialEq, Eq)]
@@ -12,7 +12,7 @@ pub enum Due {
     /// The interim head that tells a client to go on (RFC 9110, section 15.2.1).
     Continue,
     /// The reply to a request of HTTP that is refused.
-    Refusal(Refusal),
+    Refusal(HttpRejection),
     /// The reply to a request of IPP by a status alone, under its request-id.
     Status {
         closes: bool,

@@ -4,17 +4,17 @@ ghost use Rattle.std.specs.List.{flat_map};
 ghost use Rattle.std.specs.Option.{option_map_or};
 ghost use Rattle.slab.specs.Slab.{get};
 ghost use Rattle.device_link.specs.Orders.{cancel_line, job_line};
-ghost use Rattle.outputs.specs.Reply.{http_reply};
+ghost use Rattle.send_queues.specs.Reply.{http_reply};
 ghost use Rattle.connections.specs.Steps.{http_status};
 ghost use Rattle.connections.specs.Connections.{ConnectionState, is_broken, is_ended, gives_way, is_read, is_done};
-ghost use Rattle.connections.specs.Slots.{KeepsAt, IsGrowth, AsksAt, FeedsAt, changed_at, closes_at, device_at, is_of, broken_at, ended_at, IsIn, LeavesAs, OffersAt};
+ghost use Rattle.connections.specs.Slots.{EnqueuesAt, IsGrowth, AsksAt, FeedsAt, changed_at, closes_at, device_at, is_of, broken_at, ended_at, IsIn, LeavesAs, OffersAt};
 
 use crate::ask::Ask;
 use crate::connection::{Connection, Fed};
 use base_types::{DeviceId, JobId};
 use events::Status;
 use job_objects::Job;
-use outputs::Offered;
+use send_queues::Offered;
 use settings_file::Settings;
 use slab::Slab;
 use spool::Document;
@@ -23,31 +23,35 @@ use wires::{Door, Wire, WireId};
 
 /// What a connection asks.
 #[derive(Drop)]
-pub struct Asked {
+pub struct ConnectionAsk {
     /// Its number.
     pub id: WireId,
     pub ask: Ask,
 }
 
 /// What the connection under a key asks next.
-pub fn next(connections: &mut Slab<Connection>, key: usize, settings: &Settings) -> Option<Asked>
+pub fn next(
+    connections: &mut Slab<Connection>,
+    key: usize,
+    settings: &Settings,
+) -> Option<ConnectionAsk>
     ensures { AsksAt settings.now key result connections.old.slots connections.new.slots }
 {
     let connection = connections.get_mut(key)?;
     let id = connection.id();
     match connection.next(settings) {
-        Some(ask) => Some(Asked { id, ask }),
+        Some(ask) => Some(ConnectionAsk { id, ask }),
         None => None,
     }
 }
 
 /// Bytes become due on the connection under a key. The number of one that broke, since memory was refused.
-pub fn keep(connections: &mut Slab<Connection>, key: usize, bytes: &[u8]) -> Option<WireId>
-    ensures keeps { KeepsAt key bytes.now result connections.old.slots connections.new.slots }
+pub fn enqueue(connections: &mut Slab<Connection>, key: usize, bytes: &[u8]) -> Option<WireId>
+    ensures enqueues { EnqueuesAt key bytes.now result connections.old.slots connections.new.slots }
     ensures full { IsGrowth key bytes.now result connections.old.slots }
 {
     let connection = connections.get_mut(key)?;
-    if connection.keep(bytes) {
+    if connection.enqueue(bytes) {
         return Some(connection.id());
     }
     None
@@ -55,12 +59,16 @@ pub fn keep(connections: &mut Slab<Connection>, key: usize, bytes: &[u8]) -> Opt
 
 /// A reply of IPP becomes due on the connection under a key. The number of one that broke, since memory was
 /// refused.
-pub fn keep_reply(connections: &mut Slab<Connection>, key: usize, bytes: &[u8]) -> Option<WireId>
-    ensures keeps { KeepsAt key (http_reply (closes_at key connections.old.slots) bytes.now) result connections.old.slots connections.new.slots }
+pub fn enqueue_response(
+    connections: &mut Slab<Connection>,
+    key: usize,
+    bytes: &[u8],
+) -> Option<WireId>
+    ensures enqueues { EnqueuesAt key (http_reply (closes_at key connections.old.slots) bytes.now) result connections.old.slots connections.new.slots }
     ensures full { IsGrowth key (http_reply (closes_at key connections.old.slots) bytes.now) result connections.old.slots }
 {
     let connection = connections.get_mut(key)?;
-    if connection.keep_reply(bytes) {
+    if connection.enqueue_response(bytes) {
         return Some(connection.id());
     }
     None
@@ -68,17 +76,17 @@ pub fn keep_reply(connections: &mut Slab<Connection>, key: usize, bytes: &[u8]) 
 
 /// The reply of a status alone becomes due on the connection under a key. The number of one that broke,
 /// since memory was refused.
-pub fn keep_status(
+pub fn enqueue_status(
     connections: &mut Slab<Connection>,
     key: usize,
     status: Status,
     request: u32,
 ) -> Option<WireId>
-    ensures keeps { KeepsAt key (http_status (closes_at key connections.old.slots) status request) result connections.old.slots connections.new.slots }
+    ensures enqueues { EnqueuesAt key (http_status (closes_at key connections.old.slots) status request) result connections.old.slots connections.new.slots }
     ensures full { IsGrowth key (http_status (closes_at key connections.old.slots) status request) result connections.old.slots }
 {
     let connection = connections.get_mut(key)?;
-    if connection.keep_status(status, request) {
+    if connection.enqueue_status(status, request) {
         return Some(connection.id());
     }
     None
@@ -86,11 +94,11 @@ pub fn keep_status(
 
 /// The line that cancels a job becomes due on the connection under a key. The number of one that broke,
 /// since memory was refused.
-pub fn keep_cancel(connections: &mut Slab<Connection>, key: usize, job: JobId) -> Option<WireId>
-    ensures { KeepsAt key (cancel_line job) result connections.old.slots connections.new.slots }
+pub fn enqueue_cancel(connections: &mut Slab<Connection>, key: usize, job: JobId) -> Option<WireId>
+    ensures { EnqueuesAt key (cancel_line job) result connections.old.slots connections.new.slots }
 {
     let connection = connections.get_mut(key)?;
-    if connection.keep_cancel(job) {
+    if connection.enqueue_cancel(job) {
         return Some(connection.id());
     }
     None
@@ -98,17 +106,17 @@ pub fn keep_cancel(connections: &mut Slab<Connection>, key: usize, job: JobId) -
 
 /// The job of an id becomes due on the connection under a key. The number of one that broke, since memory
 /// was refused.
-pub fn keep_job(
+pub fn enqueue_job(
     connections: &mut Slab<Connection>,
     key: usize,
     id: JobId,
     job: &Job,
     documents: &[Document],
 ) -> Option<WireId>
-    ensures { KeepsAt key (job_line id job.now.octets job.now.needs ++ flat_map (λ d. d.contents) documents.now) result connections.old.slots connections.new.slots }
+    ensures { EnqueuesAt key (job_line id job.now.octets job.now.needs ++ flat_map (λ d. d.contents) documents.now) result connections.old.slots connections.new.slots }
 {
     let connection = connections.get_mut(key)?;
-    if connection.keep_job(id, job.octets, &job.needs, documents) {
+    if connection.enqueue_job(id, job.octets, &job.needs, documents) {
         return Some(connection.id());
     }
     None

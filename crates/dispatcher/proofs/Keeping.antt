@@ -23,8 +23,8 @@ use Rattle.events.specs.declared.event.HoldUntil.{HoldUntil}
 use Rattle.events.specs.declared.event.HoldUntil.TheVariants.{NoHold, Indefinite, Unsupported}
 use Rattle.dispatcher.specs.declared.submission.Accepted.{Accepted}
 use Rattle.dispatcher.specs.declared.send_document.Sent.{Sent}
-use Rattle.dispatcher.specs.declared.checks.Refusal.{Refusal}
-use Rattle.events.specs.declared.reply.Reply.{Reply}
+use Rattle.dispatcher.specs.declared.checks.Rejection.{Rejection}
+use Rattle.events.specs.declared.effects.Effects.{Effects}
 use Rattle.dispatcher.specs.Answers.{Refuses, Shows}
 use Rattle.dispatcher.specs.GetJobs.{wanted_of}
 use Rattle.dispatcher.specs.Checks.{named_job, named_printer, printer_of_job, format_asked, unrefused}
@@ -40,8 +40,8 @@ use Rattle.dispatcher.specs.ListQueue.{ListsIt, ListsNothing}
 use Rattle.dispatcher.specs.RemoveJobs.{RemovesJobs}
 use Rattle.events.specs.declared.queue.ListQueue.{ListQueue}
 use Rattle.events.specs.declared.queue.RemoveJobs.{RemoveJobs}
-use Rattle.queues.specs.Queue.{queue_of}
-use Rattle.queues.specs.Removal.{removed_jobs}
+use Rattle.lpd_queues.specs.Queue.{queue_of}
+use Rattle.lpd_queues.specs.Removal.{removed_jobs}
 use Rattle.dispatcher.specs.Step.{StepAt}
 use Rattle.dispatcher.specs.Keeping.{StepKeeps}
 
@@ -59,7 +59,7 @@ pub record RoomKeeps (old : State) : Type 0 where
 -- ---- a document is sent only where nothing stands against it
 
 -- what comes of a first and a second check is what comes of the second, of what the first gives
-behind : {A B : Type 0} (first : Result A Refusal) (second : A → Result B Refusal) (made : B) → (first >>= second) ≡ Ok made → (a : A) × (first ≡ Ok a) × (second a ≡ Ok made)
+behind : {A B : Type 0} (first : Result A Rejection) (second : A → Result B Rejection) (made : B) → (first >>= second) ≡ Ok made → (a : A) × (first ≡ Ok a) × (second a ≡ Ok made)
 behind (Ok a) second made is = (a, refl, is)
 behind (Err refusal) second made is = absurd (cc)
 
@@ -105,60 +105,60 @@ module _ (old : State) (room : RoomKeeps old) where
   becomes : (new after : State) → new ≡ after → AllKeep old after → AllKeep old new
   becomes new after is keeps = subst (λ (s : State). AllKeep old s) (sym is) keeps
 
-  refusing : (now : ℕ) (reply : Reply) (new : State) (refusal : Refusal) → Refuses now old refusal reply new → AllKeep old new × (reply.documents.items ≡ [])
+  refusing : (now : ℕ) (reply : Effects) (new : State) (refusal : Rejection) → Refuses now old refusal reply new → AllKeep old new × (reply.documents.items ≡ [])
   refusing now reply new refusal refuses = (only_later now new refuses.state, refuses.replies.documents)
 
-  printed : (now : ℕ) (reply : Reply) (new : State) (r : Result Accepted Refusal) → MatchResult r (λ accepted. TakesJob now old accepted reply new) (λ refusal. Refuses now old refusal reply new) → AllKeep old new × (reply.documents.items ≡ [])
+  printed : (now : ℕ) (reply : Effects) (new : State) (r : Result Accepted Rejection) → MatchResult r (λ accepted. TakesJob now old accepted reply new) (λ refusal. Refuses now old refusal reply new) → AllKeep old new × (reply.documents.items ≡ [])
   printed now reply new (Ok accepted) is = (becomes new (with_job_taken now accepted.job false old) is.state (room.submits now accepted.job false), is.replies.documents)
   printed now reply new (Err refusal) refuses = refusing now reply new refusal refuses
 
-  created : (now : ℕ) (reply : Reply) (new : State) (r : Result Accepted Refusal) → MatchResult r (λ accepted. CreatesIt now old accepted reply new) (λ refusal. Refuses now old refusal reply new) → AllKeep old new × (reply.documents.items ≡ [])
+  created : (now : ℕ) (reply : Effects) (new : State) (r : Result Accepted Rejection) → MatchResult r (λ accepted. CreatesIt now old accepted reply new) (λ refusal. Refuses now old refusal reply new) → AllKeep old new × (reply.documents.items ≡ [])
   created now reply new (Ok accepted) is = (becomes new (with_job_taken now accepted.job true old) is.state (room.submits now accepted.job true), is.replies.documents)
   created now reply new (Err refusal) refuses = refusing now reply new refusal refuses
 
-  validated : (now : ℕ) (reply : Reply) (new : State) (r : Result (List IppAttribute) Refusal) → MatchResult r (λ unsupported. Validates now old unsupported reply new) (λ refusal. Refuses now old refusal reply new) → AllKeep old new × (reply.documents.items ≡ [])
+  validated : (now : ℕ) (reply : Effects) (new : State) (r : Result (List IppAttribute) Rejection) → MatchResult r (λ unsupported. Validates now old unsupported reply new) (λ refusal. Refuses now old refusal reply new) → AllKeep old new × (reply.documents.items ≡ [])
   validated now reply new (Ok unsupported) is = (only_later now new is.state, is.replies.documents)
   validated now reply new (Err refusal) refuses = refusing now reply new refusal refuses
 
-  sent : (now : ℕ) (request : SendDocument) (reply : Reply) (new : State) (r : Result Sent Refusal) → sent_of request old ≡ r → MatchResult r (λ sent. SendsIt now old request sent reply new) (λ refusal. Refuses now old refusal reply new) → AllKeep old new × (reply.documents.items ≡ [])
+  sent : (now : ℕ) (request : SendDocument) (reply : Effects) (new : State) (r : Result Sent Rejection) → sent_of request old ≡ r → MatchResult r (λ sent. SendsIt now old request sent reply new) (λ refusal. Refuses now old refusal reply new) → AllKeep old new × (reply.documents.items ≡ [])
   sent now request reply new (Ok s) found is =
       let document : DocumentRecord = record { format = s.format; contents = request.octets } in
       (becomes new (sending now s.job document request.last old) is.state (room.sends now s.job request.job.user document request.last (sent_free request old s found)), is.replies.documents)
   sent now request reply new (Err refusal) found refuses = refusing now reply new refusal refuses
 
-  canceled : (now : ℕ) (name : List ℕ) (reply : Reply) (new : State) (r : Result ℕ Refusal) → MatchResult r (λ id. CancelsIt now old name id reply new) (λ refusal. Refuses now old refusal reply new) → AllKeep old new × (reply.documents.items ≡ [])
+  canceled : (now : ℕ) (name : List ℕ) (reply : Effects) (new : State) (r : Result ℕ Rejection) → MatchResult r (λ id. CancelsIt now old name id reply new) (λ refusal. Refuses now old refusal reply new) → AllKeep old new × (reply.documents.items ≡ [])
   canceled now name reply new (Ok id) is = (becomes new (canceling now id name old) is.state (room.cancels now id name), is.documents)
   canceled now name reply new (Err refusal) refuses = refusing now reply new refusal refuses
 
-  changed : (now : ℕ) (change : JobChange) (unsupported : List IppAttribute) (reply : Reply) (new : State) (r : Result ℕ Refusal) → MatchResult r (λ id. ChangesIt now old change unsupported id reply new) (λ refusal. Refuses now old refusal reply new) → AllKeep old new × (reply.documents.items ≡ [])
+  changed : (now : ℕ) (change : JobChange) (unsupported : List IppAttribute) (reply : Effects) (new : State) (r : Result ℕ Rejection) → MatchResult r (λ id. ChangesIt now old change unsupported id reply new) (λ refusal. Refuses now old refusal reply new) → AllKeep old new × (reply.documents.items ≡ [])
   changed now change unsupported reply new (Ok id) is = (becomes new (changing now id change old) is.state (room.changes now id change), is.replies.documents)
   changed now change unsupported reply new (Err refusal) refuses = refusing now reply new refusal refuses
 
-  held : (now : ℕ) (request : JobRequest) (until : HoldUntil) (reply : Reply) (new : State) → HoldsUntil now request until old reply new → AllKeep old new × (reply.documents.items ≡ [])
+  held : (now : ℕ) (request : JobRequest) (until : HoldUntil) (reply : Effects) (new : State) → HoldsUntil now request until old reply new → AllKeep old new × (reply.documents.items ≡ [])
   held now request NoHold reply new step = changed now Change.Release [] reply new (changed_of request Change.Release now old) step
   held now request Indefinite reply new step = changed now Change.Hold [] reply new (changed_of request Change.Hold now old) step
   held now request (Unsupported attribute) reply new step = changed now Change.Hold attribute reply new (changed_of request Change.Hold now old) step
 
-  paused : (now : ℕ) (pauses : Bool) (reply : Reply) (new : State) (r : Result ℕ Refusal) → MatchResult r (λ place. PausesIt now old pauses place reply new) (λ refusal. Refuses now old refusal reply new) → AllKeep old new × (reply.documents.items ≡ [])
+  paused : (now : ℕ) (pauses : Bool) (reply : Effects) (new : State) (r : Result ℕ Rejection) → MatchResult r (λ place. PausesIt now old pauses place reply new) (λ refusal. Refuses now old refusal reply new) → AllKeep old new × (reply.documents.items ≡ [])
   paused now pauses reply new (Ok place) is = (becomes new (pausing now place pauses old) is.state (room.pauses now place pauses), is.replies.documents)
   paused now pauses reply new (Err refusal) refuses = refusing now reply new refusal refuses
 
-  shown : {A : Type 0} (now : ℕ) (reply : Reply) (new : State) (groups : A → List IppGroup) (r : Result A Refusal) → MatchResult r (λ a. Shows now old (groups a) reply new) (λ refusal. Refuses now old refusal reply new) → AllKeep old new × (reply.documents.items ≡ [])
+  shown : {A : Type 0} (now : ℕ) (reply : Effects) (new : State) (groups : A → List IppGroup) (r : Result A Rejection) → MatchResult r (λ a. Shows now old (groups a) reply new) (λ refusal. Refuses now old refusal reply new) → AllKeep old new × (reply.documents.items ≡ [])
   shown now reply new groups (Ok a) is = (only_later now new is.state, is.replies.documents)
   shown now reply new groups (Err refusal) refuses = refusing now reply new refusal refuses
 
-  filed : (now : ℕ) (reply : Reply) (new : State) (o : Option Submission) → MatchOption o (FilesNothing now old reply new) (λ job. FilesJob now old job reply new) → AllKeep old new × (reply.documents.items ≡ [])
+  filed : (now : ℕ) (reply : Effects) (new : State) (o : Option Submission) → MatchOption o (FilesNothing now old reply new) (λ job. FilesJob now old job reply new) → AllKeep old new × (reply.documents.items ≡ [])
   filed now reply new None is = (only_later now new is.state, is.answers.documents)
   filed now reply new (Some job) is = (becomes new (with_job_taken now job false old) is.state (room.submits now job false), is.answers.documents)
 
-  queue_listed : (now : ℕ) (request : ListQueue) (reply : Reply) (new : State) (o : Option ℕ) → MatchOption o (ListsNothing now old reply new) (λ place. ListsIt now old request place reply new) → AllKeep old new × (reply.documents.items ≡ [])
+  queue_listed : (now : ℕ) (request : ListQueue) (reply : Effects) (new : State) (o : Option ℕ) → MatchOption o (ListsNothing now old reply new) (λ place. ListsIt now old request place reply new) → AllKeep old new × (reply.documents.items ≡ [])
   queue_listed now request reply new None is = (only_later now new is.state, is.answers.documents)
   queue_listed now request reply new (Some place) is = (only_later now new is.state, is.documents)
 
-  removed : (now : ℕ) (request : RemoveJobs) (reply : Reply) (new : State) → RemovesJobs now request old reply new → AllKeep old new × (reply.documents.items ≡ [])
+  removed : (now : ℕ) (request : RemoveJobs) (reply : Effects) (new : State) → RemovesJobs now request old reply new → AllKeep old new × (reply.documents.items ≡ [])
   removed now request reply new is = (becomes new (canceling_each now request.agent (removed_jobs request old) old) is.state (room.removes now request.agent (removed_jobs request old)), is.documents)
 
-  pub step_keeps : (event : Event) (now : ℕ) (reply : Reply) (new : State) → StepAt event now old reply new → StepKeeps event old reply.documents.items new
+  pub step_keeps : (event : Event) (now : ℕ) (reply : Effects) (new : State) → StepAt event now old reply new → StepKeeps event old reply.documents.items new
   step_keeps (Is.PrintJob request) now reply new step = printed now reply new (asked_of request now old) step
   step_keeps (Is.ValidateJob request) now reply new step = validated now reply new (validated_of request old) step
   step_keeps (Is.CreateJob request) now reply new step = created now reply new (created_of request now old) step

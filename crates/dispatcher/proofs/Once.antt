@@ -20,23 +20,23 @@ use Rattle.events.specs.declared.event.SubmitFiles.{SubmitFiles}
 use Rattle.events.specs.declared.queue.ListQueue.{ListQueue}
 use Rattle.events.specs.declared.queue.QueueListing.{QueueListing}
 use Rattle.events.specs.declared.queue.RemoveJobs.{RemoveJobs}
-use Rattle.events.specs.declared.reply.Answer.{Answer}
-use Rattle.events.specs.declared.reply.Answer.TheVariants.{Ipp, Lpd, Nothing}
-use Rattle.events.specs.declared.reply.LpdAnswer.{LpdAnswer}
-use Rattle.events.specs.declared.reply.LpdAnswer.TheVariants.{Taken, Queue, NoQueue}
-use Rattle.events.specs.declared.reply.Reply.{Reply}
+use Rattle.events.specs.declared.effects.Response.{Response}
+use Rattle.events.specs.declared.effects.Response.TheVariants.{Ipp, Lpd, Nothing}
+use Rattle.events.specs.declared.effects.LpdResponse.{LpdResponse}
+use Rattle.events.specs.declared.effects.LpdResponse.TheVariants.{Taken, Queue, NoQueue}
+use Rattle.events.specs.declared.effects.Effects.{Effects}
 use Rattle.events.specs.Event.{is_query}
-use Rattle.events.specs.Reply.{IsAnswer, Replies, AnswersLpd}
+use Rattle.events.specs.Effects.{IsResponse, Replies, AnswersLpd}
 use Rattle.events.specs.SameEvent.{SameFiles, SameList, SameRemoval, SameEvent}
 use Rattle.events.proofs.Sames.{by_report, OfEach, by_same}
-use Rattle.queues.specs.Queue.{queue_of}
-use Rattle.queues.specs.Listing.{ShowsQueue, entries_of}
-use Rattle.queues.specs.Removal.{removed_jobs}
+use Rattle.lpd_queues.specs.Queue.{queue_of}
+use Rattle.lpd_queues.specs.Listing.{ShowsQueue, entries_of}
+use Rattle.lpd_queues.specs.Removal.{removed_jobs}
 use Rattle.print_room.specs.Activity.{job_on}
 use Rattle.print_room.specs.Jobs.{canceling_each}
 use Rattle.print_room.specs.State.{State, holding, with_device}
 use Rattle.print_room.specs.Report.{documents_out, jobs_after, state_after, Reports}
-use Rattle.dispatcher.specs.declared.checks.Refusal.{Refusal}
+use Rattle.dispatcher.specs.declared.checks.Rejection.{Rejection}
 use Rattle.dispatcher.specs.Answers.{Refuses, Shows}
 use Rattle.dispatcher.specs.Checks.{named_job, named_printer}
 use Rattle.dispatcher.specs.PrintJob.{asked_of, TakesJob}
@@ -55,14 +55,14 @@ use Rattle.dispatcher.specs.OneStep.{SameLpdAnswer, SameAnswer, SameReply, SameE
 
 -- ---- what is answered
 
-same_answers : (status : Status) (unsupported : List IppAttribute) (groups : List IppGroup) (one other : Answer) → IsAnswer status unsupported groups one → IsAnswer status unsupported groups other → SameAnswer one other
+same_answers : (status : Status) (unsupported : List IppAttribute) (groups : List IppGroup) (one other : Response) → IsResponse status unsupported groups one → IsResponse status unsupported groups other → SameAnswer one other
 same_answers status unsupported groups (Ipp one) (Ipp other) a b = record { status = a.0 ∙ sym b.0; unsupported = a.1 ∙ sym b.1; groups = a.2 ∙ sym b.2 }
 same_answers status unsupported groups (Ipp one) (Lpd other) a b = absurd b
 same_answers status unsupported groups (Ipp one) Nothing a b = absurd b
 same_answers status unsupported groups (Lpd one) other a b = absurd a
 same_answers status unsupported groups Nothing other a b = absurd a
 
-same_replies : (status : Status) (unsupported : List IppAttribute) (groups : List IppGroup) (one other : Reply) → Replies status unsupported groups one → Replies status unsupported groups other → SameReply one other
+same_replies : (status : Status) (unsupported : List IppAttribute) (groups : List IppGroup) (one other : Effects) → Replies status unsupported groups one → Replies status unsupported groups other → SameReply one other
 same_replies status unsupported groups one other a b = record {
   answer = same_answers status unsupported groups one.answer other.answer a.answer b.answer;
   cancels = a.cancels ∙ sym b.cancels;
@@ -71,28 +71,28 @@ same_replies status unsupported groups one other a b = record {
 
 -- equal answers say the same
 
-same_lpd_self : (one : LpdAnswer) → SameLpdAnswer one one
+same_lpd_self : (one : LpdResponse) → SameLpdAnswer one one
 same_lpd_self (Taken taken) = refl
 same_lpd_self (Queue listing) = record { form = refl; name = refl; state = refl; jobs = refl }
 same_lpd_self NoQueue = tt
 
-same_self : (one : Answer) → SameAnswer one one
+same_self : (one : Response) → SameAnswer one one
 same_self (Ipp one) = record { status = refl; unsupported = refl; groups = refl }
 same_self (Lpd one) = same_lpd_self one
 same_self Nothing = tt
 
-same_as : (said one other : Answer) → one ≡ said → other ≡ said → SameAnswer one other
+same_as : (said one other : Response) → one ≡ said → other ≡ said → SameAnswer one other
 same_as said one other a b =
     let both : one ≡ other = a ∙ sym b in
     subst (λ x. SameAnswer one x) both (same_self one)
 
-lpd_replies : (said : LpdAnswer) (one other : Reply) → AnswersLpd said one → AnswersLpd said other → SameReply one other
+lpd_replies : (said : LpdResponse) (one other : Effects) → AnswersLpd said one → AnswersLpd said other → SameReply one other
 lpd_replies said one other a b = record { answer = same_as (Lpd said) one.answer other.answer a.answer b.answer; cancels = a.cancels ∙ sym b.cancels; documents = a.documents ∙ sym b.documents }
 
 -- ---- judgments
 
 -- what is judged leads to one end, where what it comes to does
-judged : {T : Type 0} (r : Result T Refusal) (Comes : T → Reply → State → Type 0) (now : ℕ) (old : State) (one : Reply) (new : State) (other : Reply) (new' : State)
+judged : {T : Type 0} (r : Result T Rejection) (Comes : T → Effects → State → Type 0) (now : ℕ) (old : State) (one : Effects) (new : State) (other : Effects) (new' : State)
     → MatchResult r (λ x. Comes x one new) (λ refusal. Refuses now old refusal one new)
     → MatchResult r (λ x. Comes x other new') (λ refusal. Refuses now old refusal other new')
     → ((x : T) → Comes x one new → Comes x other new' → SameEnd one new other new') → SameEnd one new other new'
@@ -100,27 +100,27 @@ judged (Ok x) Comes now old one new other new' a b each = each x a b
 judged (Err refusal) Comes now old one new other new' a b each =
     record { state = a.state ∙ sym b.state; reply_is = same_replies refusal.status refusal.unsupported [] one other a.replies b.replies }
 
-shown : (now : ℕ) (old : State) (groups : List IppGroup) (one : Reply) (new : State) (other : Reply) (new' : State) → Shows now old groups one new → Shows now old groups other new' → SameEnd one new other new'
+shown : (now : ℕ) (old : State) (groups : List IppGroup) (one : Effects) (new : State) (other : Effects) (new' : State) → Shows now old groups one new → Shows now old groups other new' → SameEnd one new other new'
 shown now old groups one new other new' a b = record { state = a.state ∙ sym b.state; reply_is = same_replies _ [] groups one other a.replies b.replies }
 
-changed : (now : ℕ) (request : JobRequest) (change : JobChange) (unsupported : List IppAttribute) (old : State) (one : Reply) (new : State) (other : Reply) (new' : State)
+changed : (now : ℕ) (request : JobRequest) (change : JobChange) (unsupported : List IppAttribute) (old : State) (one : Effects) (new : State) (other : Effects) (new' : State)
     → ChangesJob now request change unsupported old one new → ChangesJob now request change unsupported old other new' → SameEnd one new other new'
 changed now request change unsupported old one new other new' a b =
     judged (changed_of request change now old) (ChangesIt now old change unsupported) now old one new other new' a b
     (λ id x y. record { state = x.state ∙ sym y.state; reply_is = same_replies _ unsupported [] one other x.replies y.replies })
 
-held : (now : ℕ) (request : JobRequest) (until : HoldUntil) (old : State) (one : Reply) (new : State) (other : Reply) (new' : State)
+held : (now : ℕ) (request : JobRequest) (until : HoldUntil) (old : State) (one : Effects) (new : State) (other : Effects) (new' : State)
     → HoldsUntil now request until old one new → HoldsUntil now request until old other new' → SameEnd one new other new'
 held now request NoHold old one new other new' a b = changed now request Change.Release [] old one new other new' a b
 held now request Indefinite old one new other new' a b = changed now request Change.Hold [] old one new other new' a b
 held now request (Unsupported attribute) old one new other new' a b = changed now request Change.Hold attribute old one new other new' a b
 
-filed : (now : ℕ) (old : State) (r : Option _) (one : Reply) (new : State) (other : Reply) (new' : State)
+filed : (now : ℕ) (old : State) (r : Option _) (one : Effects) (new : State) (other : Effects) (new' : State)
     → MatchOption r (FilesNothing now old one new) (λ job. FilesJob now old job one new) → MatchOption r (FilesNothing now old other new') (λ job. FilesJob now old job other new') → SameEnd one new other new'
 filed now old None one new other new' a b = record { state = a.state ∙ sym b.state; reply_is = lpd_replies (Taken false) one other a.answers b.answers }
 filed now old (Some job) one new other new' a b = record { state = a.state ∙ sym b.state; reply_is = lpd_replies (Taken true) one other a.answers b.answers }
 
-listed : (now place : ℕ) (request : ListQueue) (old : State) (one other : Answer) → IsListed now place request old one → IsListed now place request old other → SameAnswer one other
+listed : (now place : ℕ) (request : ListQueue) (old : State) (one other : Response) → IsListed now place request old one → IsListed now place request old other → SameAnswer one other
 listed now place request old (Lpd (Queue one)) (Lpd (Queue other)) a b = record { form = a.form ∙ sym b.form; name = a.name ∙ sym b.name; state = a.state_is ∙ sym b.state_is; jobs = a.jobs ∙ sym b.jobs }
 listed now place request old (Lpd (Queue one)) (Lpd (Taken other)) a b = absurd b
 listed now place request old (Lpd (Queue one)) (Lpd NoQueue) a b = absurd b
@@ -131,7 +131,7 @@ listed now place request old (Lpd NoQueue) other a b = absurd a
 listed now place request old (Ipp one) other a b = absurd a
 listed now place request old Nothing other a b = absurd a
 
-listed_by : (now : ℕ) (request : ListQueue) (old : State) (r : Option ℕ) (one : Reply) (new : State) (other : Reply) (new' : State)
+listed_by : (now : ℕ) (request : ListQueue) (old : State) (r : Option ℕ) (one : Effects) (new : State) (other : Effects) (new' : State)
     → MatchOption r (ListsNothing now old one new) (λ place. ListsIt now old request place one new) → MatchOption r (ListsNothing now old other new') (λ place. ListsIt now old request place other new') → SameEnd one new other new'
 listed_by now request old None one new other new' a b = record { state = a.state ∙ sym b.state; reply_is = lpd_replies NoQueue one other a.answers b.answers }
 listed_by now request old (Some place) one new other new' a b = record {
@@ -156,7 +156,7 @@ reported now place report old documents new documents' new' a b = match_at (slic
 
 -- ---- each event
 
-at_once : (event : Event) (now : ℕ) (old : State) (one : Reply) (new : State) (other : Reply) (new' : State) → StepAt event now old one new → StepAt event now old other new' → SameEnd one new other new'
+at_once : (event : Event) (now : ℕ) (old : State) (one : Effects) (new : State) (other : Effects) (new' : State) → StepAt event now old one new → StepAt event now old other new' → SameEnd one new other new'
 at_once (Is.PrintJob request) now old one new other new' a b =
     judged (asked_of request now old) (TakesJob now old) now old one new other new' a b
     (λ job x y. record { state = x.state ∙ sym y.state; reply_is = same_replies _ _ _ one other x.replies y.replies })
@@ -206,7 +206,7 @@ at_once Is.Tick now old one new other new' a b = record {
 filed_same : (one other : SubmitFiles) → SameFiles one other → (now : ℕ) (old : State) → filed_of one now old ≡ filed_of other now old
 filed_same one other same now old = rw (same.queue, same.owner, same.name, same.documents) refl
 
-files_as : (one other : SubmitFiles) → SameFiles one other → (now : ℕ) (old : State) (reply : Reply) (new : State) → SubmitsFiles now other old reply new → SubmitsFiles now one old reply new
+files_as : (one other : SubmitFiles) → SameFiles one other → (now : ℕ) (old : State) (reply : Effects) (new : State) → SubmitsFiles now other old reply new → SubmitsFiles now one old reply new
 files_as one other same now old reply new b =
     subst (λ r. MatchOption r (FilesNothing now old reply new) (λ job. FilesJob now old job reply new)) (sym (filed_same one other same now old)) b
 
@@ -219,19 +219,19 @@ shows_as one other same now place old listing b = record {
   jobs = b.jobs ∙ ap (λ (xs : List (List ℕ)). entries_of now place xs old) (sym same.operands);
 }
 
-listed_as : (one other : ListQueue) → SameList one other → (now place : ℕ) (old : State) (answer : Answer) → IsListed now place other old answer → IsListed now place one old answer
+listed_as : (one other : ListQueue) → SameList one other → (now place : ℕ) (old : State) (answer : Response) → IsListed now place other old answer → IsListed now place one old answer
 listed_as one other same now place old (Lpd (Queue listing)) b = shows_as one other same now place old listing b
 listed_as one other same now place old (Lpd (Taken taken)) b = absurd b
 listed_as one other same now place old (Lpd NoQueue) b = absurd b
 listed_as one other same now place old (Ipp answer) b = absurd b
 listed_as one other same now place old Nothing b = absurd b
 
-lists_at : (one other : ListQueue) → SameList one other → (now : ℕ) (old : State) (r : Option ℕ) (reply : Reply) (new : State)
+lists_at : (one other : ListQueue) → SameList one other → (now : ℕ) (old : State) (r : Option ℕ) (reply : Effects) (new : State)
     → MatchOption r (ListsNothing now old reply new) (λ place. ListsIt now old other place reply new) → MatchOption r (ListsNothing now old reply new) (λ place. ListsIt now old one place reply new)
 lists_at one other same now old None reply new b = b
 lists_at one other same now old (Some place) reply new b = record { answer = listed_as one other same now place old reply.answer b.answer; cancels = b.cancels; documents = b.documents; state = b.state }
 
-lists_as : (one other : ListQueue) → SameList one other → (now : ℕ) (old : State) (reply : Reply) (new : State) → ListsQueue now other old reply new → ListsQueue now one old reply new
+lists_as : (one other : ListQueue) → SameList one other → (now : ℕ) (old : State) (reply : Effects) (new : State) → ListsQueue now other old reply new → ListsQueue now one old reply new
 lists_as one other same now old reply new b =
     subst (λ (queue : List ℕ). MatchOption (queue_of queue old) (ListsNothing now old reply new) (λ place. ListsIt now old one place reply new)) (sym same.queue)
     (lists_at one other same now old (queue_of other.queue old) reply new b)
@@ -243,7 +243,7 @@ removed_same one other same old = rw (same.queue, same.agent, same.operands) ref
 told_same : (one other : RemoveJobs) → SameRemoval one other → (old : State) → told_of one old ≡ told_of other old
 told_same one other same old = ap (λ (ids : List ℕ). cancels_of_each ids old) (removed_same one other same old)
 
-removes_as : (one other : RemoveJobs) → SameRemoval one other → (now : ℕ) (old : State) (reply : Reply) (new : State) → RemovesJobs now other old reply new → RemovesJobs now one old reply new
+removes_as : (one other : RemoveJobs) → SameRemoval one other → (now : ℕ) (old : State) (reply : Effects) (new : State) → RemovesJobs now other old reply new → RemovesJobs now one old reply new
 removes_as one other same now old reply new b = record {
   unanswered = b.unanswered;
   cancels = b.cancels ∙ sym (told_same one other same old);
@@ -273,9 +273,9 @@ reports_as now place old one other same = by_report (ReportsAs now place old) (�
 -- ---- whatever says the same
 
 abbrev EndsAs : Event → Event → Type 0
-EndsAs one other = (now : ℕ) (old : State) (reply : Reply) (new : State) (said : Reply) (after : State) → StepAt one now old reply new → StepAt other now old said after → SameEnd reply new said after
+EndsAs one other = (now : ℕ) (old : State) (reply : Effects) (new : State) (said : Effects) (after : State) → StepAt one now old reply new → StepAt other now old said after → SameEnd reply new said after
 
-ends_as : (one other : Event) → ((now : ℕ) (old : State) (said : Reply) (after : State) → StepAt other now old said after → StepAt one now old said after) → EndsAs one other
+ends_as : (one other : Event) → ((now : ℕ) (old : State) (said : Effects) (after : State) → StepAt other now old said after → StepAt one now old said after) → EndsAs one other
 ends_as one other same now old reply new said after a b = at_once one now old reply new said after a (same now old said after b)
 
 each_end : OfEach EndsAs
@@ -288,7 +288,7 @@ each_end = record {
       (λ now old said after b. record { unanswered = b.unanswered; cancels = b.cancels; reports = reports_as now device old one other same said.documents.items after b.reports });
 }
 
-pub same_end : (old : State) (one other : Event) (moment : ℕ) (reply : Reply) (new : State) (said : Reply) (after : State) → SameEvent one other → Step old one moment reply new → Step old other moment said after → SameEnd reply new said after
+pub same_end : (old : State) (one other : Event) (moment : ℕ) (reply : Effects) (new : State) (said : Effects) (after : State) → SameEvent one other → Step old one moment reply new → Step old other moment said after → SameEnd reply new said after
 same_end old one other moment reply new said after same = by_same EndsAs each_end one other same (max moment old.last) old reply new said after
 
 -- what only asks, and what is acted on without memory

@@ -1,15 +1,15 @@
 -- What a listener is told, one note after the other; a run, and one event more.
 use Rattle.std.proofs.Common.{◌≡◌, ◌≢◌, ◌<◌, ◌+◌, ℕ, max, Bool, false, Some, None, List, [], ◌∷◌, ◌++◌, length, map, take, get_or, refl, subst, sym, ◌∙◌}
 use Rattle.std.proofs.lemmas.List.{map_more}
-use Rattle.events.specs.declared.reply.Cancel.{Cancel}
-use Rattle.events.specs.declared.reply.Reply.{Reply}
+use Rattle.events.specs.declared.effects.Cancel.{Cancel}
+use Rattle.events.specs.declared.effects.Effects.{Effects}
 use Rattle.events.specs.Event.{is_query}
 use Rattle.print_room.specs.Ready.{ready_of}
 use Rattle.dispatcher.specs.declared.run.Timed.{Timed}
 use Rattle.dispatcher.specs.declared.outcome.Outcome.{Outcome}
 use Rattle.print_room.specs.State.{State}
 use Rattle.dispatcher.specs.declared.outcome.Outcome.TheVariants.{Undispatched, Idle, Dispatched}
-use Rattle.dispatcher.specs.declared.listener.Place.TheVariants as At
+use Rattle.dispatcher.specs.declared.listener.AllocationSite.TheVariants as At
 use Rattle.dispatcher.specs.declared.run.Made.TheVariants as made
 use Rattle.dispatcher.specs.Notes.{Note, Planned, Canceled, Refused, Tells}
 use Rattle.dispatcher.specs.Plans.{PlansAs}
@@ -37,11 +37,11 @@ tells_next told old mid new cancels i cancel inside is first last =
 -- ---- an event that was answered, and its dispatch
 
 -- its cancels are told, and then one note more
-told_then : {L : Type 0} (told : L → Note → L → Type 0) (l m n : L) (reply : Reply) (cancels : List Cancel) (note : Note) → cancels ≡ reply.cancels.items → Tells told l (map Canceled cancels) m → told m note n → Tells told l (cancels_told reply ++ note ∷ []) n
+told_then : {L : Type 0} (told : L → Note → L → Type 0) (l m n : L) (reply : Effects) (cancels : List Cancel) (note : Note) → cancels ≡ reply.cancels.items → Tells told l (map Canceled cancels) m → told m note n → Tells told l (cancels_told reply ++ note ∷ []) n
 told_then told l m n reply cancels note same first last =
     tells_more told l m n (cancels_told reply) note (subst (λ (xs : List Cancel). Tells told l (map Canceled xs) m) same first) last
 
-pub comes_refused : {L : Type 0} (told : L → Note → L → Type 0) (old mid new : State) (l m n : L) (timed : Timed) (query : Bool) (reply : Reply) (cancels : List Cancel)
+pub comes_refused : {L : Type 0} (told : L → Note → L → Type 0) (old mid new : State) (l m n : L) (timed : Timed) (query : Bool) (reply : Effects) (cancels : List Cancel)
     → query ≡ is_query timed.event → query ≡ false → Step old timed.event timed.moment reply mid → cancels ≡ reply.cancels.items → Tells told l (map Canceled cancels) m
     → PlansAs told (max timed.moment mid.last) mid m made.Refused new n → Comes told old l timed (Undispatched reply) new n
 comes_refused told old mid new l m n timed query reply cancels is other step same first (ready, still, last) = (
@@ -50,7 +50,7 @@ comes_refused told old mid new l m n timed query reply cancels is other step sam
   told_then told l m n reply cancels (Refused At.Dispatch None) same first last,
 )
 
-pub comes_idle : {L : Type 0} (told : L → Note → L → Type 0) (old mid new : State) (l m n : L) (timed : Timed) (query : Bool) (reply : Reply) (cancels : List Cancel)
+pub comes_idle : {L : Type 0} (told : L → Note → L → Type 0) (old mid new : State) (l m n : L) (timed : Timed) (query : Bool) (reply : Effects) (cancels : List Cancel)
     → query ≡ is_query timed.event → query ≡ false → Step old timed.event timed.moment reply mid → cancels ≡ reply.cancels.items → Tells told l (map Canceled cancels) m
     → PlansAs told (max timed.moment mid.last) mid m made.Idle new n → Comes told old l timed (Idle reply) new n
 comes_idle told old mid new l m n timed query reply cancels is other step same first (chosen, last) = (
@@ -59,7 +59,7 @@ comes_idle told old mid new l m n timed query reply cancels is other step same f
   told_then told l m n reply cancels (Planned None []) same first last,
 )
 
-pub comes_planned : {L : Type 0} (told : L → Note → L → Type 0) (old mid new : State) (l m n : L) (timed : Timed) (query : Bool) (reply : Reply) (cancels : List Cancel)
+pub comes_planned : {L : Type 0} (told : L → Note → L → Type 0) (old mid new : State) (l m n : L) (timed : Timed) (query : Bool) (reply : Effects) (cancels : List Cancel)
     → query ≡ is_query timed.event → query ≡ false → Step old timed.event timed.moment reply mid → cancels ≡ reply.cancels.items → Tells told l (map Canceled cancels) m
     → PlansAs told (max timed.moment mid.last) mid m made.Planned new n → Comes told old l timed (Dispatched reply) new n
 comes_planned told old mid new l m n timed query reply cancels is other step same first (plan, chosen, last) = (

@@ -27,13 +27,13 @@ use Rattle.events.specs.declared.event.JobTarget.{JobTarget}
 use Rattle.events.specs.declared.event.JobTarget.TheVariants as Job
 use Rattle.events.specs.declared.status.Status.TheVariants as Went
 use Rattle.dispatcher.specs.declared.send_document.Sent.{Sent}
-use Rattle.dispatcher.specs.declared.checks.Refusal.{Refusal}
+use Rattle.dispatcher.specs.declared.checks.Rejection.{Rejection}
 use Rattle.dispatcher.specs.Answers.{Refuses}
 use Rattle.dispatcher.specs.Checks.{refused}
 use Rattle.dispatcher.specs.SendDocument.{SendsIt, sent_group, sent_of, IsShown}
 use Rattle.dispatcher.specs.Target.{job_of, if_sent_to, printer_of}
-use Rattle.events.specs.declared.reply.Reply.{Reply}
-use Rattle.events.specs.Reply.{Replies}
+use Rattle.events.specs.declared.effects.Effects.{Effects}
+use Rattle.events.specs.Effects.{Replies}
 use Rattle.print_room.specs.State.{State}
 use Rattle.print_room.specs.Jobs.{asker_of, sending}
 use Rattle.dispatcher.proofs.Keeping.{IsSent, is_sent}
@@ -181,8 +181,8 @@ job_shown request now document old sent spool is =
     let under : IsShown sent.job (sent_group old job last ∷ []) (sending now sent.job document last old) = subst (λ (id : ℕ). IsShown id (sent_group old job last ∷ []) (sending now id document last old)) is.id_is shown in
     subst (λ (groups : List IppGroup). IsShown sent.job groups (sending now sent.job document last old)) is.groups_are under
 
-pub sent_shown : (now : ℕ) (request : SendDocument) (old : State) (reply : Reply) (new : State) (sent : Sent) → IsSpool old.spool → MatchResult (sent_of request old) (λ sent. SendsIt now old request sent reply new) (λ refusal. Refuses now old refusal reply new) → sent_of request old ≡ Ok sent → Replies Went.Ok [] sent.groups reply × IsShown sent.job sent.groups new
+pub sent_shown : (now : ℕ) (request : SendDocument) (old : State) (reply : Effects) (new : State) (sent : Sent) → IsSpool old.spool → MatchResult (sent_of request old) (λ sent. SendsIt now old request sent reply new) (λ refusal. Refuses now old refusal reply new) → sent_of request old ≡ Ok sent → Replies Went.Ok [] sent.groups reply × IsShown sent.job sent.groups new
 sent_shown now request old reply new sent spool step is =
-    let sends : SendsIt now old request sent reply new = subst (λ (r : Result Sent Refusal). MatchResult r (λ sent. SendsIt now old request sent reply new) (λ refusal. Refuses now old refusal reply new)) is step in
+    let sends : SendsIt now old request sent reply new = subst (λ (r : Result Sent Rejection). MatchResult r (λ sent. SendsIt now old request sent reply new) (λ refusal. Refuses now old refusal reply new)) is step in
     let document : DocumentRecord = record { format = sent.format; contents = request.octets } in
     (sends.replies, subst (λ (s : State). IsShown sent.job sent.groups s) (sym sends.state) (job_shown request now document old sent spool (is_sent request old sent is)))

@@ -1,9 +1,9 @@
 -- What a request is answered (RFC 8011, sections 4.1.6 to 4.1.8): a status, what isn't supported, and groups.
 use Rattle.std.specs.Prelude.{ℕ, ◌≡◌, ◌==◌, if◌then◌else◌, List, [], length}
 use Rattle.ipp_codec.specs.Message.{IppAttribute, IppGroup}
-use Rattle.dispatcher.specs.declared.checks.Refusal.{Refusal}
-use Rattle.events.specs.Reply.{Replies}
-use Rattle.events.specs.declared.reply.Reply.{Reply}
+use Rattle.dispatcher.specs.declared.checks.Rejection.{Rejection}
+use Rattle.events.specs.Effects.{Replies}
+use Rattle.events.specs.declared.effects.Effects.{Effects}
 use Rattle.events.specs.declared.status.Status.{Status}
 use Rattle.events.specs.declared.status.Status.TheVariants as Went
 use Rattle.print_room.specs.State.{State}
@@ -13,11 +13,11 @@ abbrev pub taken_with : List IppAttribute → Status
 taken_with unsupported = if length unsupported == 0 then Went.Ok else Went.OkIgnoredOrSubstituted
 
 -- the refusal alone is answered, and only the last moment changes
-pub record Refuses (now : ℕ) (old : State) (refusal : Refusal) (reply : Reply) (new : State) : Type 0 where
+pub record Refuses (now : ℕ) (old : State) (refusal : Rejection) (reply : Effects) (new : State) : Type 0 where
   pub replies : Replies refusal.status refusal.unsupported [] reply
   pub state : new ≡ record old { last = now }
 
 -- these groups are answered, and only the last moment changes
-pub record Shows (now : ℕ) (old : State) (groups : List IppGroup) (reply : Reply) (new : State) : Type 0 where
+pub record Shows (now : ℕ) (old : State) (groups : List IppGroup) (reply : Effects) (new : State) : Type 0 where
   pub replies : Replies Went.Ok [] groups reply
   pub state : new ≡ record old { last = now }

@@ -3,11 +3,11 @@
 use Rattle.std.specs.Prelude.{ℕ, ◌≡◌, List, [], map, option_to_list, Result, Ok, MatchResult}
 use Rattle.text.specs.Steps.{◌>>=◌}
 use Rattle.events.specs.declared.event.JobRequest.{JobRequest}
-use Rattle.events.specs.declared.reply.Cancel.{Cancel}
-use Rattle.events.specs.declared.reply.Reply.{Reply}
-use Rattle.dispatcher.specs.declared.checks.Refusal.{Refusal}
+use Rattle.events.specs.declared.effects.Cancel.{Cancel}
+use Rattle.events.specs.declared.effects.Effects.{Effects}
+use Rattle.dispatcher.specs.declared.checks.Rejection.{Rejection}
 use Rattle.events.specs.declared.status.Status.TheVariants as Went
-use Rattle.events.specs.Reply.{IsAnswer}
+use Rattle.events.specs.Effects.{IsResponse}
 use Rattle.dispatcher.specs.Answers.{Refuses}
 use Rattle.dispatcher.specs.Checks.{named_job, unrefused}
 use Rattle.print_room.specs.State.{State}
@@ -15,7 +15,7 @@ use Rattle.print_room.specs.DeviceJobs.{device_of}
 use Rattle.print_room.specs.Jobs.{canceling_refusal, canceling}
 
 -- the id of the job that is canceled, or the first reason against it
-abbrev pub canceled_of : JobRequest → State → Result ℕ Refusal
+abbrev pub canceled_of : JobRequest → State → Result ℕ Rejection
 canceled_of request old =
     named_job request.target old >>= (λ job.
     unrefused (canceling_refusal job.id request.user old) >>= (λ _.
@@ -26,13 +26,13 @@ abbrev pub cancels_of : ℕ → State → List Cancel
 cancels_of id old = map (λ device. record { job = id; device = device }) (option_to_list (device_of old.devices id))
 
 -- the job is canceled by who asks
-pub record CancelsIt (now : ℕ) (old : State) (name : List ℕ) (id : ℕ) (reply : Reply) (new : State) : Type 0 where
-  pub answer : IsAnswer Went.Ok [] [] reply.answer
+pub record CancelsIt (now : ℕ) (old : State) (name : List ℕ) (id : ℕ) (reply : Effects) (new : State) : Type 0 where
+  pub answer : IsResponse Went.Ok [] [] reply.answer
   pub cancels : reply.cancels.items ≡ cancels_of id old
   pub documents : reply.documents.items ≡ []
   pub state : new ≡ canceling now id name old
 
 -- at most one reply and one state after it
-abbrev pub CancelsJob : ℕ → JobRequest → State → Reply → State → Type 0
+abbrev pub CancelsJob : ℕ → JobRequest → State → Effects → State → Type 0
 CancelsJob now request old reply new =
     MatchResult (canceled_of request old) (λ id. CancelsIt now old request.user id reply new) (λ refusal. Refuses now old refusal reply new)

@@ -16,7 +16,7 @@ use Rattle.events.specs.declared.event.Target.{Target}
 use Rattle.events.specs.declared.status.Status.{Status}
 use Rattle.events.specs.declared.status.Status.TheVariants as Went
 use Rattle.dispatcher.specs.declared.checks.NamedPrinter.{NamedPrinter}
-use Rattle.dispatcher.specs.declared.checks.Refusal.{Refusal}
+use Rattle.dispatcher.specs.declared.checks.Rejection.{Rejection}
 use Rattle.events.specs.declared.event.JobTarget.{JobTarget}
 use Rattle.dispatcher.specs.Target.{printer_of, job_of}
 use Rattle.job_objects.specs.Job.{JobRecord}
@@ -26,7 +26,7 @@ use Rattle.print_room.specs.Jobs.{is_operator}
 use Rattle.print_room.specs.State.{State}
 
 -- a status, and nothing that isn't supported
-abbrev pub refused : Status → Refusal
+abbrev pub refused : Status → Rejection
 refused status = record { status = status; unsupported = [] }
 
 -- what a printer offers, by what the devices are now
@@ -34,16 +34,16 @@ abbrev pub offer_of : State → PrinterEntry → OfferRecord
 offer_of state printer = record { devices = state.devices; printer = printer }
 
 -- the printer is known
-abbrev pub named_printer : Target → State → Result NamedPrinter Refusal
+abbrev pub named_printer : Target → State → Result NamedPrinter Rejection
 named_printer target state =
     option_map_or (λ found. Ok (record { place = found.0; offer = offer_of state found.1 })) (printer_of target state.settings.printers) (Err (refused Went.NotFound))
 
 -- the job is known
-abbrev pub named_job : JobTarget → State → Result JobRecord Refusal
+abbrev pub named_job : JobTarget → State → Result JobRecord Rejection
 named_job target state = option_map_or Ok (job_of target state) (Err (refused Went.NotFound))
 
 -- the printer that a job was sent to
-abbrev pub printer_of_job : JobRecord → State → Result NamedPrinter Refusal
+abbrev pub printer_of_job : JobRecord → State → Result NamedPrinter Rejection
 printer_of_job job state =
     option_map_or (λ printer. Ok (record { place = job.needs.printer; offer = offer_of state printer })) (slice_get state.settings.printers job.needs.printer) (Err (refused Went.NotFound))
 
@@ -58,14 +58,14 @@ format_of offer None = Some offer.printer.format_default
 format_of offer (Some asked) = format_named offer asked
 
 -- the document isn't compressed, and its format is supported: the format
-abbrev pub format_asked : DocumentForm → OfferRecord → Result (List ℕ) Refusal
+abbrev pub format_asked : DocumentForm → OfferRecord → Result (List ℕ) Rejection
 format_asked form offer =
     if is_compressed form.compression then Err (refused Went.CompressionNotSupported)
     else option_map_or Ok (format_of offer form.format) (Err (refused Went.FormatNotSupported))
 
 -- all of the job group is supported, or the request doesn't insist on it (section 4.1.7): what isn't
 -- supported
-abbrev pub unsupported_asked : Bool → List IppAttribute → OfferRecord → Result (List IppAttribute) Refusal
+abbrev pub unsupported_asked : Bool → List IppAttribute → OfferRecord → Result (List IppAttribute) Rejection
 unsupported_asked fidelity template offer =
     if fidelity && not (length (unsupported_of offer template) == 0) then Err (record { status = Went.AttributesNotSupported; unsupported = unsupported_of offer template })
     else Ok (unsupported_of offer template)
@@ -80,16 +80,16 @@ status_of Why.NotAuthorized = Went.NotAuthorized
 status_of Why.OutOfMemory = Went.TemporaryError
 
 -- nothing stands against a change of a job
-abbrev pub unrefused : Option SpoolRefusal → Result (Unit {0}) Refusal
+abbrev pub unrefused : Option SpoolRefusal → Result (Unit {0}) Rejection
 unrefused None = Ok tt
 unrefused (Some cause) = Err (refused (status_of cause))
 
 -- who asks is an operator
-abbrev pub by_operator : List ℕ → State → Result (Unit {0}) Refusal
+abbrev pub by_operator : List ℕ → State → Result (Unit {0}) Rejection
 by_operator name state = if is_operator name state then Ok tt else Err (refused Went.NotAuthorized)
 
 -- a job may have so many octets, and a further job is taken
-abbrev pub room_for : ℕ → State → Result (Unit {0}) Refusal
+abbrev pub room_for : ℕ → State → Result (Unit {0}) Rejection
 room_for octets state =
     if nat_lt JOB_OCTETS octets then Err (refused Went.TooLarge)
     else if is_full state.spool then Err (refused Went.Busy)

@@ -2,11 +2,11 @@
 -- far as no document is asked about, and a job whose documents are still to come.
 use Rattle.std.specs.Prelude.{ℕ, ◌≡◌, true, [], ◌∷◌, Result, MatchResult}
 use Rattle.text.specs.Steps.{◌>>=◌}
-use Rattle.events.specs.declared.event.AskedJob.{AskedJob}
-use Rattle.events.specs.declared.reply.Reply.{Reply}
+use Rattle.events.specs.declared.event.JobCreation.{JobCreation}
+use Rattle.events.specs.declared.effects.Effects.{Effects}
 use Rattle.dispatcher.specs.declared.submission.Accepted.{Accepted}
-use Rattle.dispatcher.specs.declared.checks.Refusal.{Refusal}
-use Rattle.events.specs.Reply.{Replies}
+use Rattle.dispatcher.specs.declared.checks.Rejection.{Rejection}
+use Rattle.events.specs.Effects.{Replies}
 use Rattle.dispatcher.specs.Answers.{Refuses, taken_with}
 use Rattle.dispatcher.specs.Checks.{named_printer}
 use Rattle.dispatcher.specs.Submission.{job_asked, group_of}
@@ -14,15 +14,15 @@ use Rattle.print_room.specs.State.{State}
 use Rattle.print_room.specs.Jobs.{with_job_taken}
 
 -- the job that is made, or the first reason against it
-abbrev pub created_of : AskedJob → ℕ → State → Result Accepted Refusal
+abbrev pub created_of : JobCreation → ℕ → State → Result Accepted Rejection
 created_of asked now old = named_printer asked.target old >>= job_asked asked 0 now old
 
 -- the job is answered, and kept under the next id, its documents still to come
-pub record CreatesIt (now : ℕ) (old : State) (accepted : Accepted) (reply : Reply) (new : State) : Type 0 where
+pub record CreatesIt (now : ℕ) (old : State) (accepted : Accepted) (reply : Effects) (new : State) : Type 0 where
   pub replies : Replies (taken_with accepted.unsupported) accepted.unsupported (group_of old accepted.job true ∷ []) reply
   pub state : new ≡ with_job_taken now accepted.job true old
 
 -- at most one reply and one state after it
-abbrev pub CreatesJob : ℕ → AskedJob → State → Reply → State → Type 0
+abbrev pub CreatesJob : ℕ → JobCreation → State → Effects → State → Type 0
 CreatesJob now asked old reply new =
     MatchResult (created_of asked now old) (λ accepted. CreatesIt now old accepted reply new) (λ refusal. Refuses now old refusal reply new)

@@ -2,13 +2,13 @@
 use Rattle.std.specs.Prelude.{ℕ, [], ◌∷◌, MatchResult}
 use Rattle.listings.specs.Groups.{job_group}
 use Rattle.events.specs.declared.event.GetJobAttributes.{GetJobAttributes}
-use Rattle.events.specs.declared.reply.Reply.{Reply}
+use Rattle.events.specs.declared.effects.Effects.{Effects}
 use Rattle.dispatcher.specs.Answers.{Refuses, Shows}
 use Rattle.dispatcher.specs.Checks.{named_job}
 use Rattle.print_room.specs.State.{State}
 
 -- at most one reply and one state after it
-abbrev pub ShowsJob : ℕ → GetJobAttributes → State → Reply → State → Type 0
+abbrev pub ShowsJob : ℕ → GetJobAttributes → State → Effects → State → Type 0
 ShowsJob now request old reply new =
     MatchResult (named_job request.target old)
     (λ job. Shows now old (job_group now request.requested old job ∷ []) reply new)

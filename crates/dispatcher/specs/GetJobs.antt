@@ -6,15 +6,15 @@ use Rattle.listings.specs.Groups.{job_groups}
 use Rattle.events.specs.declared.event.GetJobs.{GetJobs}
 use Rattle.events.specs.declared.event.WhichJobs.{WhichJobs}
 use Rattle.events.specs.declared.event.WhichJobs.TheVariants.{Completed, NotCompleted, Unsupported}
-use Rattle.events.specs.declared.reply.Reply.{Reply}
-use Rattle.dispatcher.specs.declared.checks.Refusal.{Refusal}
+use Rattle.events.specs.declared.effects.Effects.{Effects}
+use Rattle.dispatcher.specs.declared.checks.Rejection.{Rejection}
 use Rattle.events.specs.declared.status.Status.TheVariants as Went
 use Rattle.dispatcher.specs.Answers.{Refuses, Shows}
 use Rattle.dispatcher.specs.Checks.{named_printer}
 use Rattle.print_room.specs.State.{State}
 
 -- whether the finished jobs are asked for; a which-jobs that isn't supported is answered as it came
-abbrev pub finished_asked : WhichJobs → Result Bool Refusal
+abbrev pub finished_asked : WhichJobs → Result Bool Rejection
 finished_asked Completed = Ok true
 finished_asked NotCompleted = Ok false
 finished_asked (Unsupported attribute) = Err (record { status = Went.AttributesNotSupported; unsupported = attribute })
@@ -24,14 +24,14 @@ abbrev pub owner_asked : Bool → List ℕ → Option (List ℕ)
 owner_asked mine user = if mine then Some user else None
 
 -- the jobs that are asked for, or the first reason against it
-abbrev pub wanted_of : GetJobs → State → Result WantedJobs Refusal
+abbrev pub wanted_of : GetJobs → State → Result WantedJobs Rejection
 wanted_of request old =
     named_printer request.printer.target old >>= (λ printer.
     finished_asked request.which >>= (λ finished.
     Ok (record { printer = printer.place; finished = finished; owner = owner_asked request.mine request.printer.user; limit = request.limit })))
 
 -- at most one reply and one state after it
-abbrev pub ListsJobs : ℕ → GetJobs → State → Reply → State → Type 0
+abbrev pub ListsJobs : ℕ → GetJobs → State → Effects → State → Type 0
 ListsJobs now request old reply new =
     MatchResult (wanted_of request old)
     (λ wanted. Shows now old (job_groups wanted now request.requested old) reply new)

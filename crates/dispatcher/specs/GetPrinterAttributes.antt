@@ -2,13 +2,13 @@
 use Rattle.std.specs.Prelude.{ℕ, [], ◌∷◌, MatchResult}
 use Rattle.listings.specs.Groups.{printer_group}
 use Rattle.events.specs.declared.event.GetPrinterAttributes.{GetPrinterAttributes}
-use Rattle.events.specs.declared.reply.Reply.{Reply}
+use Rattle.events.specs.declared.effects.Effects.{Effects}
 use Rattle.dispatcher.specs.Answers.{Refuses, Shows}
 use Rattle.dispatcher.specs.Checks.{named_printer}
 use Rattle.print_room.specs.State.{State}
 
 -- at most one reply and one state after it
-abbrev pub ShowsPrinter : ℕ → GetPrinterAttributes → State → Reply → State → Type 0
+abbrev pub ShowsPrinter : ℕ → GetPrinterAttributes → State → Effects → State → Type 0
 ShowsPrinter now request old reply new =
     MatchResult (named_printer request.target old)
     (λ printer. Shows now old (printer_group printer.place printer.offer now request.requested old ∷ []) reply new)

@@ -8,39 +8,39 @@ use Rattle.events.specs.declared.event.HoldJob.{HoldJob}
 use Rattle.events.specs.declared.event.HoldUntil.{HoldUntil}
 use Rattle.events.specs.declared.event.HoldUntil.TheVariants.{NoHold, Indefinite, Unsupported}
 use Rattle.events.specs.declared.event.JobRequest.{JobRequest}
-use Rattle.events.specs.declared.reply.Reply.{Reply}
-use Rattle.dispatcher.specs.declared.checks.Refusal.{Refusal}
-use Rattle.events.specs.Reply.{Replies}
+use Rattle.events.specs.declared.effects.Effects.{Effects}
+use Rattle.dispatcher.specs.declared.checks.Rejection.{Rejection}
+use Rattle.events.specs.Effects.{Replies}
 use Rattle.dispatcher.specs.Answers.{Refuses, taken_with}
 use Rattle.dispatcher.specs.Checks.{named_job, unrefused}
 use Rattle.print_room.specs.State.{State}
 use Rattle.print_room.specs.Jobs.{asked_refusal, changing}
 
 -- the id of the job that is changed, or the first reason against it
-abbrev pub changed_of : JobRequest → JobChange → ℕ → State → Result ℕ Refusal
+abbrev pub changed_of : JobRequest → JobChange → ℕ → State → Result ℕ Rejection
 changed_of request change now old =
     named_job request.target old >>= (λ job.
     unrefused (asked_refusal job.id request.user change now old) >>= (λ _.
     Ok job.id))
 
 -- the job is changed, and what isn't supported is answered
-pub record ChangesIt (now : ℕ) (old : State) (change : JobChange) (unsupported : List IppAttribute) (id : ℕ) (reply : Reply) (new : State) : Type 0 where
+pub record ChangesIt (now : ℕ) (old : State) (change : JobChange) (unsupported : List IppAttribute) (id : ℕ) (reply : Effects) (new : State) : Type 0 where
   pub replies : Replies (taken_with unsupported) unsupported [] reply
   pub state : new ≡ changing now id change old
 
-abbrev pub ChangesJob : ℕ → JobRequest → JobChange → List IppAttribute → State → Reply → State → Type 0
+abbrev pub ChangesJob : ℕ → JobRequest → JobChange → List IppAttribute → State → Effects → State → Type 0
 ChangesJob now request change unsupported old reply new =
     MatchResult (changed_of request change now old) (λ id. ChangesIt now old change unsupported id reply new) (λ refusal. Refuses now old refusal reply new)
 
 -- `no-hold` releases the job; any other value holds it, and is answered where it isn't supported
-abbrev pub HoldsUntil : ℕ → JobRequest → HoldUntil → State → Reply → State → Type 0
+abbrev pub HoldsUntil : ℕ → JobRequest → HoldUntil → State → Effects → State → Type 0
 HoldsUntil now request NoHold old reply new = ChangesJob now request Release [] old reply new
 HoldsUntil now request Indefinite old reply new = ChangesJob now request Hold [] old reply new
 HoldsUntil now request (Unsupported attribute) old reply new = ChangesJob now request Hold attribute old reply new
 
 -- at most one reply and one state after it
-abbrev pub HoldsJob : ℕ → HoldJob → State → Reply → State → Type 0
+abbrev pub HoldsJob : ℕ → HoldJob → State → Effects → State → Type 0
 HoldsJob now request old reply new = HoldsUntil now request.job request.until old reply new
 
-abbrev pub ReleasesJob : ℕ → JobRequest → State → Reply → State → Type 0
+abbrev pub ReleasesJob : ℕ → JobRequest → State → Effects → State → Type 0
 ReleasesJob now request old reply new = ChangesJob now request Release [] old reply new

@@ -1,41 +1,41 @@
 -- What an LPD client that lists a queue is answered (RFC 1179, sections 5.3 and 5.4).
 use Rattle.std.specs.Prelude.{ℕ, ◌≡◌, [], MatchOption}
-use Rattle.events.specs.declared.reply.Answer.{Answer}
-use Rattle.events.specs.declared.reply.Answer.TheVariants.{Ipp, Lpd, Nothing}
-use Rattle.events.specs.declared.reply.LpdAnswer.{LpdAnswer}
-use Rattle.events.specs.declared.reply.LpdAnswer.TheVariants.{Taken, Queue, NoQueue}
-use Rattle.events.specs.declared.reply.Reply.{Reply}
-use Rattle.events.specs.Reply.{AnswersLpd}
+use Rattle.events.specs.declared.effects.Response.{Response}
+use Rattle.events.specs.declared.effects.Response.TheVariants.{Ipp, Lpd, Nothing}
+use Rattle.events.specs.declared.effects.LpdResponse.{LpdResponse}
+use Rattle.events.specs.declared.effects.LpdResponse.TheVariants.{Taken, Queue, NoQueue}
+use Rattle.events.specs.declared.effects.Effects.{Effects}
+use Rattle.events.specs.Effects.{AnswersLpd}
 use Rattle.events.specs.declared.queue.ListQueue.{ListQueue}
-use Rattle.queues.specs.Queue.{queue_of}
-use Rattle.queues.specs.Listing.{ShowsQueue}
+use Rattle.lpd_queues.specs.Queue.{queue_of}
+use Rattle.lpd_queues.specs.Listing.{ShowsQueue}
 use Rattle.print_room.specs.State.{State}
 
 -- the listing of the printer at a place
-abbrev pub IsListing : ℕ → ℕ → ListQueue → State → LpdAnswer → Type 0
+abbrev pub IsListing : ℕ → ℕ → ListQueue → State → LpdResponse → Type 0
 IsListing now place request state (Queue listing) = ShowsQueue now place request state listing
 IsListing now place request state (Taken taken) = ⊥
 IsListing now place request state NoQueue = ⊥
 
 -- an answer of that
-abbrev pub IsListed : ℕ → ℕ → ListQueue → State → Answer → Type 0
+abbrev pub IsListed : ℕ → ℕ → ListQueue → State → Response → Type 0
 IsListed now place request state (Lpd answer) = IsListing now place request state answer
 IsListed now place request state (Ipp answer) = ⊥
 IsListed now place request state Nothing = ⊥
 
 -- the queue is listed, and only the last moment changes
-pub record ListsIt (now : ℕ) (old : State) (request : ListQueue) (place : ℕ) (reply : Reply) (new : State) : Type 0 where
+pub record ListsIt (now : ℕ) (old : State) (request : ListQueue) (place : ℕ) (reply : Effects) (new : State) : Type 0 where
   pub answer : IsListed now place request old reply.answer
   pub cancels : reply.cancels.items ≡ []
   pub documents : reply.documents.items ≡ []
   pub state : new ≡ record old { last = now }
 
 -- the queue isn't known, and only the last moment changes
-pub record ListsNothing (now : ℕ) (old : State) (reply : Reply) (new : State) : Type 0 where
+pub record ListsNothing (now : ℕ) (old : State) (reply : Effects) (new : State) : Type 0 where
   pub answers : AnswersLpd NoQueue reply
   pub state : new ≡ record old { last = now }
 
 -- at most one reply and one state after it
-abbrev pub ListsQueue : ℕ → ListQueue → State → Reply → State → Type 0
+abbrev pub ListsQueue : ℕ → ListQueue → State → Effects → State → Type 0
 ListsQueue now request old reply new =
     MatchOption (queue_of request.queue old) (ListsNothing now old reply new) (λ place. ListsIt now old request place reply new)

@@ -2,8 +2,8 @@
 use Rattle.std.specs.Prelude.{ℕ, ◌≡◌, List, [], ◌∷◌, Option}
 use Rattle.prices.specs.Plan.{PlanRecord}
 use Rattle.print_room.specs.declared.started.Started.{Started}
-use Rattle.events.specs.declared.reply.Cancel.{Cancel}
-use Rattle.dispatcher.specs.declared.listener.Place.{Place}
+use Rattle.events.specs.declared.effects.Cancel.{Cancel}
+use Rattle.dispatcher.specs.declared.listener.AllocationSite.{AllocationSite}
 use Rattle.dispatcher.specs.declared.listener.DeviceRefusal.{DeviceRefusal}
 
 -- a dispatch with its plan, where a job was ready, and what began; a cancel that is sent; a device that is refused; a growth that was refused
@@ -11,7 +11,7 @@ pub data Note : Type 0 where
   Planned : (plan : Option PlanRecord) (started : List Started) → Note
   Canceled : (cancel : Cancel) → Note
   DeviceRefused : (id : ℕ) (why : DeviceRefusal) → Note
-  Refused : (place : Place) (id : Option ℕ) → Note
+  Refused : (place : AllocationSite) (id : Option ℕ) → Note
 
 -- these notes, one after the other, lead a listener on
 abbrev pub Tells : {L : Type 0} → (L → Note → L → Type 0) → L → List Note → L → Type 0

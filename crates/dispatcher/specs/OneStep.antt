@@ -1,11 +1,11 @@
 -- Two replies that say the same, and two ends of a step that are the same.
 use Rattle.std.specs.Prelude.{◌≡◌}
-use Rattle.events.specs.declared.reply.Answer.{Answer}
-use Rattle.events.specs.declared.reply.Answer.TheVariants.{Ipp, Lpd, Nothing}
-use Rattle.events.specs.declared.reply.IppAnswer.{IppAnswer}
-use Rattle.events.specs.declared.reply.LpdAnswer.{LpdAnswer}
-use Rattle.events.specs.declared.reply.LpdAnswer.TheVariants.{Taken, Queue, NoQueue}
-use Rattle.events.specs.declared.reply.Reply.{Reply}
+use Rattle.events.specs.declared.effects.Response.{Response}
+use Rattle.events.specs.declared.effects.Response.TheVariants.{Ipp, Lpd, Nothing}
+use Rattle.events.specs.declared.effects.IppResponse.{IppResponse}
+use Rattle.events.specs.declared.effects.LpdResponse.{LpdResponse}
+use Rattle.events.specs.declared.effects.LpdResponse.TheVariants.{Taken, Queue, NoQueue}
+use Rattle.events.specs.declared.effects.Effects.{Effects}
 use Rattle.events.specs.declared.queue.QueueListing.{QueueListing}
 use Rattle.print_room.specs.State.{State}
 
@@ -15,29 +15,29 @@ pub record SameListing (one other : QueueListing) : Type 0 where
   pub state : one.state ≡ other.state
   pub jobs : one.jobs.items ≡ other.jobs.items
 
-abbrev pub SameLpdAnswer : LpdAnswer → LpdAnswer → Type 0
+abbrev pub SameLpdAnswer : LpdResponse → LpdResponse → Type 0
 SameLpdAnswer (Taken one) (Taken other) = one ≡ other
 SameLpdAnswer (Queue one) (Queue other) = SameListing one other
 SameLpdAnswer NoQueue NoQueue = Unit {0}
 SameLpdAnswer _ _ = ⊥
 
-pub record SameIppAnswer (one other : IppAnswer) : Type 0 where
+pub record SameIppAnswer (one other : IppResponse) : Type 0 where
   pub status : one.status ≡ other.status
   pub unsupported : one.unsupported ≡ other.unsupported
   pub groups : one.groups ≡ other.groups
 
-abbrev pub SameAnswer : Answer → Answer → Type 0
+abbrev pub SameAnswer : Response → Response → Type 0
 SameAnswer (Ipp one) (Ipp other) = SameIppAnswer one other
 SameAnswer (Lpd one) (Lpd other) = SameLpdAnswer one other
 SameAnswer Nothing Nothing = Unit {0}
 SameAnswer _ _ = ⊥
 
-pub record SameReply (one other : Reply) : Type 0 where
+pub record SameReply (one other : Effects) : Type 0 where
   pub answer : SameAnswer one.answer other.answer
   pub cancels : one.cancels.items ≡ other.cancels.items
   pub documents : one.documents.items ≡ other.documents.items
 
 -- one state, and one reply
-pub record SameEnd (reply : Reply) (new : State) (reply' : Reply) (new' : State) : Type 0 where
+pub record SameEnd (reply : Effects) (new : State) (reply' : Effects) (new' : State) : Type 0 where
   pub state : new ≡ new'
   pub reply_is : SameReply reply reply'

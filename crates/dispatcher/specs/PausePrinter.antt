@@ -3,28 +3,28 @@
 use Rattle.std.specs.Prelude.{ℕ, ◌≡◌, Bool, [], Result, Ok, MatchResult}
 use Rattle.text.specs.Steps.{◌>>=◌}
 use Rattle.events.specs.declared.event.PrinterRequest.{PrinterRequest}
-use Rattle.events.specs.declared.reply.Reply.{Reply}
-use Rattle.dispatcher.specs.declared.checks.Refusal.{Refusal}
+use Rattle.events.specs.declared.effects.Effects.{Effects}
+use Rattle.dispatcher.specs.declared.checks.Rejection.{Rejection}
 use Rattle.events.specs.declared.status.Status.TheVariants as Went
-use Rattle.events.specs.Reply.{Replies}
+use Rattle.events.specs.Effects.{Replies}
 use Rattle.dispatcher.specs.Answers.{Refuses}
 use Rattle.dispatcher.specs.Checks.{named_printer, by_operator}
 use Rattle.print_room.specs.State.{State}
 use Rattle.print_room.specs.Jobs.{pausing}
 
 -- the place of the printer, or the first reason against it
-abbrev pub paused_of : PrinterRequest → State → Result ℕ Refusal
+abbrev pub paused_of : PrinterRequest → State → Result ℕ Rejection
 paused_of request old =
     named_printer request.target old >>= (λ printer.
     by_operator request.user old >>= (λ _.
     Ok printer.place))
 
 -- the printer is paused, or isn't any longer
-pub record PausesIt (now : ℕ) (old : State) (paused : Bool) (place : ℕ) (reply : Reply) (new : State) : Type 0 where
+pub record PausesIt (now : ℕ) (old : State) (paused : Bool) (place : ℕ) (reply : Effects) (new : State) : Type 0 where
   pub replies : Replies Went.Ok [] [] reply
   pub state : new ≡ pausing now place paused old
 
 -- at most one reply and one state after it
-abbrev pub SetsPaused : ℕ → PrinterRequest → Bool → State → Reply → State → Type 0
+abbrev pub SetsPaused : ℕ → PrinterRequest → Bool → State → Effects → State → Type 0
 SetsPaused now request paused old reply new =
     MatchResult (paused_of request old) (λ place. PausesIt now old paused place reply new) (λ refusal. Refuses now old refusal reply new)

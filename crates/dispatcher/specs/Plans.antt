@@ -4,7 +4,7 @@ use Rattle.prices.specs.Plan.{PlanRecord}
 use Rattle.print_room.specs.State.{State}
 use Rattle.print_room.specs.Ready.{ready_of}
 use Rattle.print_room.specs.Dispatch.{Dispatches}
-use Rattle.dispatcher.specs.declared.listener.Place.TheVariants as At
+use Rattle.dispatcher.specs.declared.listener.AllocationSite.TheVariants as At
 use Rattle.dispatcher.specs.declared.run.Made.{Made}
 use Rattle.dispatcher.specs.declared.run.Made.TheVariants as dispatch
 use Rattle.dispatcher.specs.Notes.{Note, Planned, Refused}

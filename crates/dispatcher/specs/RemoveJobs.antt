@@ -3,12 +3,12 @@
 use Rattle.std.specs.Prelude.{ℕ, ◌≡◌, if◌then◌else◌, List, []}
 use Rattle.std.specs.List.{flat_map}
 use Rattle.job_objects.specs.Job.{JobRecord}
-use Rattle.events.specs.declared.reply.Answer.TheVariants as Says
-use Rattle.events.specs.declared.reply.Cancel.{Cancel}
-use Rattle.events.specs.declared.reply.Reply.{Reply}
+use Rattle.events.specs.declared.effects.Response.TheVariants as Says
+use Rattle.events.specs.declared.effects.Cancel.{Cancel}
+use Rattle.events.specs.declared.effects.Effects.{Effects}
 use Rattle.dispatcher.specs.CancelJob.{cancels_of}
 use Rattle.events.specs.declared.queue.RemoveJobs.{RemoveJobs}
-use Rattle.queues.specs.Removal.{is_named, removed_jobs}
+use Rattle.lpd_queues.specs.Removal.{is_named, removed_jobs}
 use Rattle.print_room.specs.State.{State}
 use Rattle.print_room.specs.Jobs.{canceling_each}
 
@@ -26,7 +26,7 @@ told_of request old = cancels_of_each (removed_jobs request old) old
 
 -- One reply, which answers nothing, and one state after it. Where no job is removed, only the last moment
 -- changes.
-pub record RemovesJobs (now : ℕ) (request : RemoveJobs) (old : State) (reply : Reply) (new : State) : Type 0 where
+pub record RemovesJobs (now : ℕ) (request : RemoveJobs) (old : State) (reply : Effects) (new : State) : Type 0 where
   pub unanswered : reply.answer ≡ Says.Nothing
   pub cancels : reply.cancels.items ≡ told_of request old
   pub documents : reply.documents.items ≡ []

@@ -2,9 +2,9 @@
 use Rattle.std.specs.Prelude.{ℕ, ◌≡◌, ◌≢◌, max, true, false, List, [], ◌∷◌, ◌++◌, map, Option, Some, None}
 use Rattle.prices.specs.Plan.{PlanRecord}
 use Rattle.events.specs.declared.event.Event.{Event}
-use Rattle.events.specs.declared.reply.Reply.{Reply}
+use Rattle.events.specs.declared.effects.Effects.{Effects}
 use Rattle.events.specs.Event.{is_query}
-use Rattle.dispatcher.specs.declared.listener.Place.TheVariants as At
+use Rattle.dispatcher.specs.declared.listener.AllocationSite.TheVariants as At
 use Rattle.dispatcher.specs.declared.outcome.Outcome.{Outcome}
 use Rattle.dispatcher.specs.declared.outcome.Outcome.TheVariants.{Dropped, Queried, Undispatched, Idle, Dispatched}
 use Rattle.dispatcher.specs.declared.run.Timed.{Timed}
@@ -15,7 +15,7 @@ use Rattle.dispatcher.specs.Notes.{Note, Planned, Canceled, Refused, Tells}
 use Rattle.dispatcher.specs.Step.{Step, TakesNoMemory}
 
 -- the reply, unless the event was dropped
-abbrev pub reply_of : Outcome → Option Reply
+abbrev pub reply_of : Outcome → Option Effects
 reply_of Dropped = None
 reply_of (Queried reply) = Some reply
 reply_of (Undispatched reply) = Some reply
@@ -23,7 +23,7 @@ reply_of (Idle reply) = Some reply
 reply_of (Dispatched reply) = Some reply
 
 -- the cancels of a reply, as they are told
-abbrev pub cancels_told : Reply → List Note
+abbrev pub cancels_told : Effects → List Note
 cancels_told reply = map Canceled reply.cancels.items
 
 -- What becomes of an event, and what is told of it: the cancels of its reply, and then the dispatch. None

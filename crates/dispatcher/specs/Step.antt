@@ -3,8 +3,8 @@ use Rattle.std.specs.Prelude.{ℕ, ◌≡◌, max, true, false, [], None, IsErr}
 use Rattle.base_types.specs.declared.report.Report.{Report}
 use Rattle.events.specs.declared.event.Event.{Event}
 use Rattle.events.specs.declared.event.Event.TheVariants as Is
-use Rattle.events.specs.declared.reply.Reply.{Reply}
-use Rattle.events.specs.declared.reply.Answer.TheVariants as Says
+use Rattle.events.specs.declared.effects.Effects.{Effects}
+use Rattle.events.specs.declared.effects.Response.TheVariants as Says
 use Rattle.dispatcher.specs.Checks.{named_job, named_printer}
 use Rattle.dispatcher.specs.PrintJob.{PrintsJob, asked_of}
 use Rattle.dispatcher.specs.ValidateJob.{ValidatesJob}
@@ -19,27 +19,27 @@ use Rattle.dispatcher.specs.GetJobs.{ListsJobs, wanted_of}
 use Rattle.dispatcher.specs.SubmitFiles.{SubmitsFiles, filed_of}
 use Rattle.dispatcher.specs.ListQueue.{ListsQueue}
 use Rattle.dispatcher.specs.RemoveJobs.{RemovesJobs, told_of}
-use Rattle.queues.specs.Queue.{queue_of}
+use Rattle.lpd_queues.specs.Queue.{queue_of}
 use Rattle.print_room.specs.Report.{Reports}
 use Rattle.print_room.specs.State.{State}
 use Rattle.print_room.specs.Jobs.{expiring}
 
 -- a device's report is not answered
-pub record Reported (now device : ℕ) (report : Report) (old : State) (reply : Reply) (new : State) : Type 0 where
+pub record Reported (now device : ℕ) (report : Report) (old : State) (reply : Effects) (new : State) : Type 0 where
   pub unanswered : reply.answer ≡ Says.Nothing
   pub cancels : reply.cancels.items ≡ []
   pub reports : Reports now device report old reply.documents.items new
 
 -- A tick isn't answered. It aborts the jobs whose documents stopped coming in, and of the finished jobs
 -- the oldest may be forgotten.
-pub record Ticks (now : ℕ) (old : State) (reply : Reply) (new : State) : Type 0 where
+pub record Ticks (now : ℕ) (old : State) (reply : Effects) (new : State) : Type 0 where
   pub unanswered : reply.answer ≡ Says.Nothing
   pub cancels : reply.cancels.items ≡ []
   pub documents : reply.documents.items ≡ []
   pub state : new ≡ expiring now old
 
 -- by cases on the event, at a moment that is not before the last one
-abbrev pub StepAt : Event → ℕ → State → Reply → State → Type 0
+abbrev pub StepAt : Event → ℕ → State → Effects → State → Type 0
 StepAt (Is.PrintJob request) now old reply new = PrintsJob now request old reply new
 StepAt (Is.ValidateJob request) now old reply new = ValidatesJob now request old reply new
 StepAt (Is.CreateJob request) now old reply new = CreatesJob now request old reply new
@@ -58,7 +58,7 @@ StepAt (Is.RemoveJobs request) now old reply new = RemovesJobs now request old r
 StepAt (Is.Report device report) now old reply new = Reported now device report old reply new
 StepAt Is.Tick now old reply new = Ticks now old reply new
 
-abbrev pub Step : State → Event → ℕ → Reply → State → Type 0
+abbrev pub Step : State → Event → ℕ → Effects → State → Type 0
 Step old event moment reply new = StepAt event (max moment old.last) old reply new
 
 -- an event that is acted on without memory: all but a request that is answered more than a status, a job of

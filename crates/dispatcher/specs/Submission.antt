@@ -8,15 +8,15 @@ use Rattle.job_template.specs.Template.{template_of, medium_of}
 use Rattle.spool.specs.Document.{DocumentRecord}
 use Rattle.spool.specs.Submission.{Submission, spooled_of}
 use Rattle.spool.specs.Calls.{paused_at}
-use Rattle.events.specs.declared.event.AskedJob.{AskedJob}
+use Rattle.events.specs.declared.event.JobCreation.{JobCreation}
 use Rattle.dispatcher.specs.declared.checks.NamedPrinter.{NamedPrinter}
-use Rattle.dispatcher.specs.declared.checks.Refusal.{Refusal}
+use Rattle.dispatcher.specs.declared.checks.Rejection.{Rejection}
 use Rattle.dispatcher.specs.declared.submission.Accepted.{Accepted}
 use Rattle.dispatcher.specs.Checks.{unsupported_asked, room_for}
 use Rattle.print_room.specs.State.{State}
 
 -- the job, with what the job group comes to; its documents are added later
-abbrev pub submission_of : AskedJob → ℕ → NamedPrinter → Submission
+abbrev pub submission_of : JobCreation → ℕ → NamedPrinter → Submission
 submission_of asked now printer =
     let template = template_of printer.offer asked.template in record {
       created = now;
@@ -38,7 +38,7 @@ abbrev pub of_documents : List DocumentRecord → Accepted → Accepted
 of_documents documents accepted = record accepted { job = record accepted.job { documents = documents } }
 
 -- the job that is made of a printer for so many octets, or the first reason against it
-abbrev pub job_asked : AskedJob → ℕ → ℕ → State → NamedPrinter → Result Accepted Refusal
+abbrev pub job_asked : JobCreation → ℕ → ℕ → State → NamedPrinter → Result Accepted Rejection
 job_asked asked octets now old printer =
     unsupported_asked asked.fidelity asked.template printer.offer >>= (λ unsupported.
     room_for octets old >>= (λ _.

@@ -8,10 +8,10 @@ use Rattle.base_types.specs.Finishings.{no_finishings}
 use Rattle.spool.specs.Calls.{new_refusal}
 use Rattle.spool.specs.Submission.{Submission}
 use Rattle.events.specs.declared.event.SubmitFiles.{SubmitFiles}
-use Rattle.events.specs.declared.reply.LpdAnswer.TheVariants.{Taken}
-use Rattle.events.specs.declared.reply.Reply.{Reply}
-use Rattle.events.specs.Reply.{AnswersLpd}
-use Rattle.queues.specs.Queue.{queue_of}
+use Rattle.events.specs.declared.effects.LpdResponse.TheVariants.{Taken}
+use Rattle.events.specs.declared.effects.Effects.{Effects}
+use Rattle.events.specs.Effects.{AnswersLpd}
+use Rattle.lpd_queues.specs.Queue.{queue_of}
 use Rattle.print_room.specs.State.{State}
 use Rattle.print_room.specs.Jobs.{with_job_taken}
 
@@ -43,16 +43,16 @@ filed_of request now old =
     else option_and_then (λ place. Some (job_of_files request now old place)) (queue_of request.queue old)
 
 -- the job is kept under the next id
-pub record FilesJob (now : ℕ) (old : State) (job : Submission) (reply : Reply) (new : State) : Type 0 where
+pub record FilesJob (now : ℕ) (old : State) (job : Submission) (reply : Effects) (new : State) : Type 0 where
   pub answers : AnswersLpd (Taken true) reply
   pub state : new ≡ with_job_taken now job false old
 
 -- only the last moment changes
-pub record FilesNothing (now : ℕ) (old : State) (reply : Reply) (new : State) : Type 0 where
+pub record FilesNothing (now : ℕ) (old : State) (reply : Effects) (new : State) : Type 0 where
   pub answers : AnswersLpd (Taken false) reply
   pub state : new ≡ record old { last = now }
 
 -- at most one reply and one state after it
-abbrev pub SubmitsFiles : ℕ → SubmitFiles → State → Reply → State → Type 0
+abbrev pub SubmitsFiles : ℕ → SubmitFiles → State → Effects → State → Type 0
 SubmitsFiles now request old reply new =
     MatchOption (filed_of request now old) (FilesNothing now old reply new) (λ job. FilesJob now old job reply new)

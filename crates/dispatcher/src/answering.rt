@@ -2,9 +2,9 @@
 ghost use Rattle.std.specs.Prelude.{◌≡◌, ◌≤◌};
 ghost use Rattle.dispatcher.specs.Answers.{Refuses, Shows, taken_with};
 
-use crate::checks::Refusal;
+use crate::checks::Rejection;
 use base_types::Moment;
-use events::{AnswerGroups, Reply, Status};
+use events::{Effects, ResponseGroups, Status};
 use job_template::RequestAttributes;
 use print_room::PrintRoom;
 use std::alloc::Global;
@@ -21,23 +21,33 @@ pub(crate) fn taken_with(unsupported: &RequestAttributes) -> Status
 }
 
 /// Answers a status and what isn't supported.
-pub(crate) fn refuse(alloc: Global, room: &mut PrintRoom, refusal: Refusal, now: Moment) -> Reply
+pub(crate) fn refuse(
+    alloc: Global,
+    room: &mut PrintRoom,
+    refusal: Rejection,
+    now: Moment,
+) -> Effects
     requires { room.old.last ≤ now }
     ensures { Refuses now room.old refusal result room.new }
 {
-    let Refusal {
+    let Rejection {
         status,
         unsupported,
     } = refusal;
     room.advance(now);
-    Reply::answered(alloc, status, unsupported, AnswerGroups::new(alloc))
+    Effects::answered(alloc, status, unsupported, ResponseGroups::new(alloc))
 }
 
 /// Answers these groups.
-pub(crate) fn show(alloc: Global, room: &mut PrintRoom, groups: AnswerGroups, now: Moment) -> Reply
+pub(crate) fn show(
+    alloc: Global,
+    room: &mut PrintRoom,
+    groups: ResponseGroups,
+    now: Moment,
+) -> Effects
     requires { room.old.last ≤ now }
     ensures { Shows now room.old groups result room.new }
 {
     room.advance(now);
-    Reply::answered(alloc, Status::Ok, RequestAttributes::new(alloc), groups)
+    Effects::answered(alloc, Status::Ok, RequestAttributes::new(alloc), groups)
 }

@@ -15,7 +15,7 @@ use crate::send_document::send_document;
 use crate::submit_files::submit_files;
 use crate::validate_job::validate_job;
 use base_types::{DeviceId, Moment, Report};
-use events::{Event, Reply};
+use events::{Effects, Event};
 use print_room::PrintRoom;
 use std::alloc::{AllocError, Global};
 
@@ -29,7 +29,7 @@ pub(crate) fn apply(
     room: &mut PrintRoom,
     event: Event,
     moment: Moment,
-) -> Result<Reply, AllocError>
+) -> Result<Effects, AllocError>
     ensures ok { IfOk result (λ reply. Step room.old event moment reply room.new) }
     ensures err { OnErr result (room.new ≡ room.old) }
     ensures light { TakesNoMemory event moment room.old → IsOk result }
@@ -59,12 +59,12 @@ pub(crate) fn apply(
 }
 
 /// Time goes on: jobs whose documents stopped coming in are aborted.
-fn tick(alloc: Global, room: &mut PrintRoom, now: Moment) -> Reply
+fn tick(alloc: Global, room: &mut PrintRoom, now: Moment) -> Effects
     requires { room.old.last ≤ now }
     ensures { Ticks now room.old result room.new }
 {
     room.expire(now);
-    Reply::unanswered(alloc, Vec::new(alloc))
+    Effects::unanswered(alloc, Vec::new(alloc))
 }
 
 /// Acts on a device's report.
@@ -74,10 +74,10 @@ fn act_on(
     device: DeviceId,
     report: &Report,
     now: Moment,
-) -> Reply
+) -> Effects
     requires { room.old.last ≤ now }
     ensures { Reported now device report.now room.old result room.new }
 {
     let documents = room.report(device.place(), report, now);
-    Reply::unanswered(alloc, documents)
+    Effects::unanswered(alloc, documents)
 }

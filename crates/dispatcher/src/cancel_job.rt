@@ -4,9 +4,9 @@ ghost use Rattle.print_room.specs.Jobs.{canceling_refusal};
 ghost use Rattle.dispatcher.specs.CancelJob.{CancelsIt, CancelsJob, canceled_of, cancels_of};
 
 use crate::answering::refuse;
-use crate::checks::{Refusal, named_job, refused_change};
+use crate::checks::{Rejection, named_job, refused_change};
 use base_types::{JobId, Moment, Text};
-use events::{Cancel, JobRequest, Reply};
+use events::{Cancel, Effects, JobRequest};
 use print_room::PrintRoom;
 use std::alloc::{AllocError, Global};
 
@@ -16,7 +16,7 @@ pub(crate) fn cancel_job(
     room: &mut PrintRoom,
     request: &JobRequest,
     now: Moment,
-) -> Result<Reply, AllocError>
+) -> Result<Effects, AllocError>
     requires { room.old.last ≤ now }
     ensures ok { IfOk result (λ reply. CancelsJob now request.now room.old reply room.new) }
     ensures err { OnErr result (room.new ≡ room.old) }
@@ -29,7 +29,7 @@ pub(crate) fn cancel_job(
 }
 
 /// The job that is canceled, or the first reason against it.
-fn canceled_of(alloc: Global, room: &PrintRoom, request: &JobRequest) -> Result<JobId, Refusal>
+fn canceled_of(alloc: Global, room: &PrintRoom, request: &JobRequest) -> Result<JobId, Rejection>
     ensures ok { result ≡ canceled_of request.now room.now }
     ensures free { IfOk result (λ id. canceling_refusal id request.now.user room.now ≡ None) }
 {
@@ -47,7 +47,7 @@ fn cancel(
     id: JobId,
     name: &Text,
     now: Moment,
-) -> Result<Reply, AllocError>
+) -> Result<Effects, AllocError>
     requires later { room.old.last ≤ now }
     requires free { canceling_refusal id name.now room.old ≡ None }
     ensures ok { IfOk result (λ reply. CancelsIt now room.old name.now id reply room.new) }
@@ -55,7 +55,7 @@ fn cancel(
 {
     let cancels = cancels_of(alloc, room, id)?;
     let _canceled = room.cancel(id, name, now);
-    Ok(Reply::canceled(alloc, cancels))
+    Ok(Effects::canceled(alloc, cancels))
 }
 
 /// The cancel that is sent: to the device that has the job.

@@ -19,7 +19,7 @@ use std::alloc::Global;
 
 /// The first reason against a request, and what of it isn't supported, if that is the reason.
 #[derive(Drop)]
-pub(crate) struct Refusal {
+pub(crate) struct Rejection {
     pub(crate) status: Status,
     pub(crate) unsupported: RequestAttributes,
 }
@@ -32,10 +32,10 @@ pub(crate) struct NamedPrinter<'a> {
 }
 
 /// A refusal of a status alone.
-pub(crate) fn refused(alloc: Global, status: Status) -> Refusal
+pub(crate) fn refused(alloc: Global, status: Status) -> Rejection
     ensures { result ≡ refused status }
 {
-    Refusal {
+    Rejection {
         status,
         unsupported: RequestAttributes::new(alloc),
     }
@@ -46,7 +46,7 @@ pub(crate) fn named_printer<'a>(
     alloc: Global,
     room: &'a PrintRoom,
     target: &Target,
-) -> Result<NamedPrinter<'a>, Refusal>
+) -> Result<NamedPrinter<'a>, Rejection>
     ensures { result ≡ named_printer target.now room.now }
 {
     let printers = &room.settings().printers;
@@ -79,7 +79,7 @@ pub(crate) fn named_job<'a>(
     alloc: Global,
     room: &'a PrintRoom,
     target: &JobTarget,
-) -> Result<&'a Job, Refusal>
+) -> Result<&'a Job, Rejection>
     ensures { MatchResult result (λ job. named_job target.now room.now ≡ Ok job.now) (λ refusal. named_job target.now room.now ≡ Err refusal) }
 {
     match job_of(room, target) {
@@ -117,7 +117,7 @@ pub(crate) fn printer_of_job<'a>(
     alloc: Global,
     room: &'a PrintRoom,
     job: &Job,
-) -> Result<NamedPrinter<'a>, Refusal>
+) -> Result<NamedPrinter<'a>, Rejection>
     ensures { result ≡ printer_of_job job.now room.now }
 {
     let place = job.needs.printer.place();
@@ -131,7 +131,7 @@ pub(crate) fn printer_of_job<'a>(
 }
 
 /// What a change of a job that isn't made is answered.
-pub(crate) fn refused_change(alloc: Global, cause: SpoolRefusal) -> Refusal
+pub(crate) fn refused_change(alloc: Global, cause: SpoolRefusal) -> Rejection
     ensures { result ≡ refused (status_of cause) }
 {
     let status = match cause {
@@ -146,7 +146,7 @@ pub(crate) fn refused_change(alloc: Global, cause: SpoolRefusal) -> Refusal
 }
 
 /// Whether who asks is an operator.
-pub(crate) fn by_operator(alloc: Global, room: &PrintRoom, name: &Text) -> Result<(), Refusal>
+pub(crate) fn by_operator(alloc: Global, room: &PrintRoom, name: &Text) -> Result<(), Rejection>
     ensures { result ≡ by_operator name.now room.now }
 {
     if room.is_operator(name) {
@@ -161,7 +161,7 @@ pub(crate) fn format_asked<'a>(
     alloc: Global,
     offer: &Offer<'a>,
     form: &DocumentForm,
-) -> Result<&'a Text, Refusal>
+) -> Result<&'a Text, Rejection>
     ensures { MatchResult result (λ format. format_asked form.now offer.now ≡ Ok format.now) (λ refusal. format_asked form.now offer.now ≡ Err refusal) }
 {
     if is_compressed(&form.compression) {
@@ -200,13 +200,13 @@ pub(crate) fn unsupported_asked(
     offer: &Offer<'_>,
     fidelity: bool,
     template: RequestAttributes,
-) -> Result<RequestAttributes, Refusal>
+) -> Result<RequestAttributes, Rejection>
     ensures { result ≡ unsupported_asked fidelity template offer.now }
 {
     let mut unsupported = template;
     unsupported.make_unsupported(alloc, offer);
     if unsupported.breaks_fidelity(fidelity) {
-        return Err(Refusal {
+        return Err(Rejection {
             status: Status::AttributesNotSupported,
             unsupported,
         });
@@ -215,7 +215,7 @@ pub(crate) fn unsupported_asked(
 }
 
 /// Whether there is room for a job of so many octets.
-pub(crate) fn room_for(alloc: Global, room: &PrintRoom, octets: usize) -> Result<(), Refusal>
+pub(crate) fn room_for(alloc: Global, room: &PrintRoom, octets: usize) -> Result<(), Rejection>
     ensures { result ≡ room_for octets room.now }
 {
     if octets > Limits::JOB_OCTETS {

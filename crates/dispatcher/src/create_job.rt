@@ -5,10 +5,10 @@ ghost use Rattle.spool.specs.Calls.{new_refusal};
 ghost use Rattle.dispatcher.specs.CreateJob.{CreatesJob, CreatesIt, created_of};
 
 use crate::answering::{refuse, taken_with};
-use crate::checks::{Refusal, named_printer};
+use crate::checks::{Rejection, named_printer};
 use crate::submission::{Accepted, groups_of, job_asked};
 use base_types::Moment;
-use events::{AskedJob, Reply};
+use events::{Effects, JobCreation};
 use print_room::PrintRoom;
 use std::alloc::{AllocError, Global};
 
@@ -16,9 +16,9 @@ use std::alloc::{AllocError, Global};
 pub(crate) fn create_job(
     alloc: Global,
     room: &mut PrintRoom,
-    request: AskedJob,
+    request: JobCreation,
     now: Moment,
-) -> Result<Reply, AllocError>
+) -> Result<Effects, AllocError>
     requires { room.old.last ≤ now }
     ensures ok { IfOk result (λ reply. CreatesJob now request room.old reply room.new) }
     ensures err { OnErr result (room.new ≡ room.old) }
@@ -36,7 +36,7 @@ fn create(
     room: &mut PrintRoom,
     accepted: Accepted,
     now: Moment,
-) -> Result<Reply, AllocError>
+) -> Result<Effects, AllocError>
     requires later { room.old.last ≤ now }
     requires empty { accepted.job.documents ≡ [] }
     requires free { new_refusal room.old.spool [] ≡ None }
@@ -47,7 +47,7 @@ fn create(
     let status = taken_with(&unsupported);
     let groups = groups_of(alloc, room, &job, true)?;
     match room.create(job, now) {
-        Ok(_) => Ok(Reply::answered(alloc, status, unsupported, groups)),
+        Ok(_) => Ok(Effects::answered(alloc, status, unsupported, groups)),
         Err(_) => Err(AllocError),
     }
 }
@@ -56,9 +56,9 @@ fn create(
 fn created_by(
     alloc: Global,
     room: &PrintRoom,
-    request: AskedJob,
+    request: JobCreation,
     now: Moment,
-) -> Result<Result<Accepted, Refusal>, AllocError>
+) -> Result<Result<Accepted, Rejection>, AllocError>
     ensures ok { IfOk result (λ made. made ≡ created_of request now room.now) }
     ensures err { OnErr result (IsOk (created_of request now room.now)) }
     ensures free { IfOk result (λ made. IfOk made (λ accepted. new_refusal room.now.spool [] ≡ None)) }

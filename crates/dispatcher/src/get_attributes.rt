@@ -9,7 +9,7 @@ ghost use Rattle.dispatcher.specs.GetJobAttributes.{ShowsJob};
 use crate::answering::{refuse, show};
 use crate::checks::{NamedPrinter, named_job, named_printer};
 use base_types::{Moment, Text};
-use events::{AnswerGroups, GetJobAttributes, GetPrinterAttributes, Reply};
+use events::{Effects, GetJobAttributes, GetPrinterAttributes, ResponseGroups};
 use job_objects::Job;
 use listings::{job_group, printer_group};
 use print_room::PrintRoom;
@@ -21,7 +21,7 @@ pub(crate) fn get_printer_attributes(
     room: &mut PrintRoom,
     request: &GetPrinterAttributes,
     now: Moment,
-) -> Result<Reply, AllocError>
+) -> Result<Effects, AllocError>
     requires { room.old.last ≤ now }
     ensures ok { IfOk result (λ reply. ShowsPrinter now request.now room.old reply room.new) }
     ensures err { OnErr result (room.new ≡ room.old) }
@@ -43,11 +43,11 @@ fn printer_groups(
     printer: &NamedPrinter<'_>,
     now: Moment,
     requested: &[Text],
-) -> Result<AnswerGroups, AllocError>
+) -> Result<ResponseGroups, AllocError>
     ensures { IfOk result (λ groups. groups ≡ printer_group printer.now.place printer.now.offer now requested.now room.now ∷ []) }
 {
     let group = printer_group(alloc, room, printer.place, &printer.offer, now, requested)?;
-    AnswerGroups::one(alloc, group)
+    ResponseGroups::one(alloc, group)
 }
 
 /// Answers the attributes of a job, or why not. A refusal takes no memory.
@@ -56,7 +56,7 @@ pub(crate) fn get_job_attributes(
     room: &mut PrintRoom,
     request: &GetJobAttributes,
     now: Moment,
-) -> Result<Reply, AllocError>
+) -> Result<Effects, AllocError>
     requires { room.old.last ≤ now }
     ensures ok { IfOk result (λ reply. ShowsJob now request.now room.old reply room.new) }
     ensures err { OnErr result (room.new ≡ room.old) }
@@ -78,9 +78,9 @@ fn job_groups(
     job: &Job,
     now: Moment,
     requested: &[Text],
-) -> Result<AnswerGroups, AllocError>
+) -> Result<ResponseGroups, AllocError>
     ensures { IfOk result (λ groups. groups ≡ job_group now requested.now room.now job.now ∷ []) }
 {
     let group = job_group(alloc, room, job, now, requested)?;
-    AnswerGroups::one(alloc, group)
+    ResponseGroups::one(alloc, group)
 }

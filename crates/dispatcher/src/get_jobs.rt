@@ -5,9 +5,9 @@ ghost use Rattle.listings.specs.Groups.{job_groups};
 ghost use Rattle.dispatcher.specs.GetJobs.{ListsJobs, finished_asked, owner_asked, wanted_of};
 
 use crate::answering::{refuse, show};
-use crate::checks::{Refusal, named_printer};
+use crate::checks::{Rejection, named_printer};
 use base_types::{Moment, PrinterId, Text};
-use events::{AnswerGroups, GetJobs, Reply, Status, WhichJobs};
+use events::{Effects, GetJobs, ResponseGroups, Status, WhichJobs};
 use listings::{Wanted, job_groups};
 use print_room::PrintRoom;
 use std::alloc::{AllocError, Global};
@@ -18,7 +18,7 @@ pub(crate) fn get_jobs(
     room: &mut PrintRoom,
     request: GetJobs,
     now: Moment,
-) -> Result<Reply, AllocError>
+) -> Result<Effects, AllocError>
     requires { room.old.last ≤ now }
     ensures ok { IfOk result (λ reply. ListsJobs now request room.old reply room.new) }
     ensures err { OnErr result (room.new ≡ room.old) }
@@ -56,21 +56,21 @@ fn listed_groups(
     wanted: &Wanted<'_>,
     now: Moment,
     requested: &[Text],
-) -> Result<AnswerGroups, AllocError>
+) -> Result<ResponseGroups, AllocError>
     ensures { IfOk result (λ groups. groups ≡ job_groups wanted.now now requested.now room.now) }
 {
     let groups = job_groups(alloc, room, wanted, now, requested)?;
-    Ok(AnswerGroups::from_vec(groups))
+    Ok(ResponseGroups::from_vec(groups))
 }
 
 /// Whether the finished jobs are asked for; a which-jobs that isn't supported is answered as it came.
-fn finished_asked(which: WhichJobs) -> Result<bool, Refusal>
+fn finished_asked(which: WhichJobs) -> Result<bool, Rejection>
     ensures { result ≡ finished_asked which }
 {
     match which {
         WhichJobs::Completed => Ok(true),
         WhichJobs::NotCompleted => Ok(false),
-        WhichJobs::Unsupported(unsupported) => Err(Refusal {
+        WhichJobs::Unsupported(unsupported) => Err(Rejection {
             status: Status::AttributesNotSupported,
             unsupported,
         }),

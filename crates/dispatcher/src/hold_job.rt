@@ -6,13 +6,18 @@ ghost use Rattle.dispatcher.specs.HoldJob.{ChangesJob, HoldsJob, ReleasesJob};
 use crate::answering::{refuse, taken_with};
 use crate::checks::{named_job, refused_change};
 use base_types::Moment;
-use events::{AnswerGroups, HoldJob, HoldUntil, JobRequest, Reply};
+use events::{Effects, HoldJob, HoldUntil, JobRequest, ResponseGroups};
 use job_template::RequestAttributes;
 use print_room::PrintRoom;
 use std::alloc::Global;
 
 /// Holds a job until the time that is asked for, or says why not. It takes no memory.
-pub(crate) fn hold_job(alloc: Global, room: &mut PrintRoom, request: HoldJob, now: Moment) -> Reply
+pub(crate) fn hold_job(
+    alloc: Global,
+    room: &mut PrintRoom,
+    request: HoldJob,
+    now: Moment,
+) -> Effects
     requires { room.old.last ≤ now }
     ensures { HoldsJob now request room.old result room.new }
 {
@@ -31,7 +36,7 @@ fn hold(
     request: JobRequest,
     unsupported: RequestAttributes,
     now: Moment,
-) -> Reply
+) -> Effects
     requires { room.old.last ≤ now }
     ensures { ChangesJob now request Change.Hold unsupported room.old result room.new }
 {
@@ -42,7 +47,7 @@ fn hold(
     match room.hold(id, &request.user, now) {
         Ok(()) => {
             let status = taken_with(&unsupported);
-            Reply::answered(alloc, status, unsupported, AnswerGroups::new(alloc))
+            Effects::answered(alloc, status, unsupported, ResponseGroups::new(alloc))
         }
         Err(cause) => refuse(alloc, room, refused_change(alloc, cause), now),
     }
@@ -54,7 +59,7 @@ pub(crate) fn release_job(
     room: &mut PrintRoom,
     request: JobRequest,
     now: Moment,
-) -> Reply
+) -> Effects
     requires { room.old.last ≤ now }
     ensures { ReleasesJob now request room.old result room.new }
 {
@@ -63,7 +68,7 @@ pub(crate) fn release_job(
         Err(refusal) => return refuse(alloc, room, refusal, now),
     };
     match room.release(id, &request.user, now) {
-        Ok(()) => Reply::done(alloc),
+        Ok(()) => Effects::done(alloc),
         Err(cause) => refuse(alloc, room, refused_change(alloc, cause), now),
     }
 }

@@ -39,7 +39,7 @@ mod validate_job;
 
 pub use dispatch::Dispatched;
 pub use law::{one_step, same_needs};
-pub use listener::{DeviceRefusal, Listener, Place};
+pub use listener::{AllocationSite, DeviceRefusal, Listener};
 pub use outcome::Outcome;
 pub use print_room::Started;
 pub use run::Timed;

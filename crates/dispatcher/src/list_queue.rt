@@ -1,12 +1,12 @@
 //! What an LPD client that lists a queue is answered (RFC 1179, sections 5.3 and 5.4).
 ghost use Rattle.std.specs.Prelude.{◌≡◌, ◌≤◌, IfOk, IsOk, OnErr, None};
-ghost use Rattle.queues.specs.Queue.{queue_of};
+ghost use Rattle.lpd_queues.specs.Queue.{queue_of};
 ghost use Rattle.dispatcher.specs.ListQueue.{ListsQueue};
 
 use base_types::Moment;
-use events::{ListQueue, LpdAnswer, Reply};
+use events::{Effects, ListQueue, LpdResponse};
+use lpd_queues::{queue_listing, queue_of};
 use print_room::PrintRoom;
-use queues::{queue_listing, queue_of};
 use std::alloc::{AllocError, Global};
 
 /// Answers what the queue shows, or that it isn't known, which takes no memory.
@@ -15,16 +15,16 @@ pub(crate) fn list_queue(
     room: &mut PrintRoom,
     request: &ListQueue,
     now: Moment,
-) -> Result<Reply, AllocError>
+) -> Result<Effects, AllocError>
     requires { room.old.last ≤ now }
     ensures ok { IfOk result (λ reply. ListsQueue now request.now room.old reply room.new) }
     ensures err { OnErr result (room.new ≡ room.old) }
     ensures light { queue_of request.now.queue room.old ≡ None → IsOk result }
 {
     let answer = match queue_of(room, &request.queue) {
-        Some(place) => LpdAnswer::Queue(queue_listing(alloc, room, place, request, now)?),
-        None => LpdAnswer::NoQueue,
+        Some(place) => LpdResponse::Queue(queue_listing(alloc, room, place, request, now)?),
+        None => LpdResponse::NoQueue,
     };
     room.advance(now);
-    Ok(Reply::to_lpd(alloc, answer))
+    Ok(Effects::to_lpd(alloc, answer))
 }

@@ -2,7 +2,7 @@
 ghost use Rattle.std.specs.Prelude.{◌≡◌};
 ghost use Rattle.dispatcher.specs.Run.{reply_of};
 
-use events::Reply;
+use events::Effects;
 
 /// What becomes of an event.
 #[derive(Drop)]
@@ -11,18 +11,18 @@ pub enum Outcome {
     /// request that is refused.
     Dropped,
     /// It was a query, and answered.
-    Queried(Reply),
+    Queried(Effects),
     /// It was answered; the dispatch that follows was refused memory and changed nothing.
-    Undispatched(Reply),
+    Undispatched(Effects),
     /// It was answered, and no job is ready: no plan was made.
-    Idle(Reply),
+    Idle(Effects),
     /// It was answered, and a plan was made; [`crate::Core::begun`] has what began with it.
-    Dispatched(Reply),
+    Dispatched(Effects),
 }
 
 impl Outcome {
     /// The reply, unless the event was dropped.
-    pub fn into_reply(self) -> Option<Reply>
+    pub fn into_reply(self) -> Option<Effects>
         ensures { result ≡ reply_of self }
     {
         match self {

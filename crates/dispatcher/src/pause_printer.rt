@@ -3,9 +3,9 @@ ghost use Rattle.std.specs.Prelude.{◌≡◌, ◌≤◌};
 ghost use Rattle.dispatcher.specs.PausePrinter.{SetsPaused, paused_of};
 
 use crate::answering::refuse;
-use crate::checks::{Refusal, by_operator, named_printer};
+use crate::checks::{Rejection, by_operator, named_printer};
 use base_types::{Moment, PrinterId};
-use events::{PrinterRequest, Reply};
+use events::{Effects, PrinterRequest};
 use print_room::PrintRoom;
 use std::alloc::Global;
 
@@ -16,7 +16,7 @@ pub(crate) fn set_paused(
     request: &PrinterRequest,
     paused: bool,
     now: Moment,
-) -> Reply
+) -> Effects
     requires { room.old.last ≤ now }
     ensures { SetsPaused now request.now paused room.old result room.new }
 {
@@ -29,7 +29,7 @@ pub(crate) fn set_paused(
     } else {
         room.resume(printer, now);
     }
-    Reply::done(alloc)
+    Effects::done(alloc)
 }
 
 /// The printer, or the first reason against it.
@@ -37,7 +37,7 @@ fn paused_of(
     alloc: Global,
     room: &PrintRoom,
     request: &PrinterRequest,
-) -> Result<PrinterId, Refusal>
+) -> Result<PrinterId, Rejection>
     ensures { result ≡ paused_of request.now room.now }
 {
     let printer = named_printer(alloc, room, &request.target)?;

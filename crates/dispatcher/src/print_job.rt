@@ -5,10 +5,10 @@ ghost use Rattle.spool.specs.Calls.{new_refusal};
 ghost use Rattle.dispatcher.specs.PrintJob.{PrintsJob, TakesJob, asked_of_format, asked_of_printer, asked_of};
 
 use crate::answering::{refuse, taken_with};
-use crate::checks::{NamedPrinter, Refusal, format_asked, named_printer};
+use crate::checks::{NamedPrinter, Rejection, format_asked, named_printer};
 use crate::submission::{Accepted, groups_of, job_asked};
 use base_types::{Moment, Text};
-use events::{PrintJob, Reply};
+use events::{Effects, PrintJob};
 use print_room::PrintRoom;
 use spool::{Document, Octets};
 use std::alloc::{AllocError, Global};
@@ -19,7 +19,7 @@ pub(crate) fn print_job(
     room: &mut PrintRoom,
     request: PrintJob,
     now: Moment,
-) -> Result<Reply, AllocError>
+) -> Result<Effects, AllocError>
     requires { room.old.last ≤ now }
     ensures ok { IfOk result (λ reply. PrintsJob now request room.old reply room.new) }
     ensures err { OnErr result (room.new ≡ room.old) }
@@ -37,7 +37,7 @@ fn take(
     room: &mut PrintRoom,
     accepted: Accepted,
     now: Moment,
-) -> Result<Reply, AllocError>
+) -> Result<Effects, AllocError>
     requires later { room.old.last ≤ now }
     requires free { new_refusal room.old.spool accepted.job.documents ≡ None }
     ensures ok { IfOk result (λ reply. TakesJob now room.old accepted reply room.new) }
@@ -47,7 +47,7 @@ fn take(
     let status = taken_with(&unsupported);
     let groups = groups_of(alloc, room, &job, false)?;
     match room.submit(job, now) {
-        Ok(_) => Ok(Reply::answered(alloc, status, unsupported, groups)),
+        Ok(_) => Ok(Effects::answered(alloc, status, unsupported, groups)),
         Err(_) => Err(AllocError),
     }
 }
@@ -58,7 +58,7 @@ fn asked_by(
     room: &PrintRoom,
     request: PrintJob,
     now: Moment,
-) -> Result<Result<Accepted, Refusal>, AllocError>
+) -> Result<Result<Accepted, Rejection>, AllocError>
     ensures ok { IfOk result (λ asked. asked ≡ asked_of request now room.now) }
     ensures err { OnErr result (IsOk (asked_of request now room.now)) }
     ensures free { IfOk result (λ asked. IfOk asked (λ accepted. new_refusal room.now.spool accepted.job.documents ≡ None)) }
@@ -76,7 +76,7 @@ fn asked_of_printer(
     printer: &NamedPrinter<'_>,
     request: PrintJob,
     now: Moment,
-) -> Result<Result<Accepted, Refusal>, AllocError>
+) -> Result<Result<Accepted, Rejection>, AllocError>
     ensures ok { IfOk result (λ asked. asked ≡ asked_of_printer request now room.now printer.now) }
     ensures err { OnErr result (IsOk (asked_of_printer request now room.now printer.now)) }
     ensures free { IfOk result (λ asked. IfOk asked (λ accepted. new_refusal room.now.spool accepted.job.documents ≡ None)) }
@@ -95,7 +95,7 @@ fn asked_of_format(
     format: &Text,
     request: PrintJob,
     now: Moment,
-) -> Result<Result<Accepted, Refusal>, AllocError>
+) -> Result<Result<Accepted, Rejection>, AllocError>
     ensures ok { IfOk result (λ asked. asked ≡ asked_of_format request now room.now printer.now format.now) }
     ensures err { OnErr result (IsOk (asked_of_format request now room.now printer.now format.now)) }
     ensures free { IfOk result (λ asked. IfOk asked (λ accepted. new_refusal room.now.spool accepted.job.documents ≡ None)) }

@@ -1,14 +1,14 @@
 //! What an LPD client that removes jobs from a queue comes to (RFC 1179, section 5.5).
 ghost use Rattle.std.specs.Prelude.{◌≡◌, ◌≢◌, ◌≤◌, ◌++◌, [], IfOk, OnOk, IsOk, OnErr, option_to_list};
-ghost use Rattle.queues.specs.Removal.{active_job, named_jobs};
+ghost use Rattle.lpd_queues.specs.Removal.{active_job, named_jobs};
 ghost use Rattle.dispatcher.specs.RemoveJobs.{RemovesJobs, cancels_if_named, cancels_of_each, told_of};
 
 use crate::cancel_job::cancels_of;
 use base_types::{Moment, Text};
-use events::{Cancel, RemoveJobs, Reply};
+use events::{Cancel, Effects, RemoveJobs};
 use job_objects::Job;
+use lpd_queues::{active_job, is_named, queue_of, remove};
 use print_room::PrintRoom;
-use queues::{active_job, is_named, queue_of, remove};
 use std::alloc::{AllocError, Global};
 
 /// Removes jobs. Only a cancel that a device is told takes memory.
@@ -17,7 +17,7 @@ pub(crate) fn remove_jobs(
     room: &mut PrintRoom,
     request: &RemoveJobs,
     now: Moment,
-) -> Result<Reply, AllocError>
+) -> Result<Effects, AllocError>
     requires { room.old.last ≤ now }
     ensures ok { IfOk result (λ reply. RemovesJobs now request.now room.old reply room.new) }
     ensures err { OnErr result (room.new ≡ room.old) }
@@ -25,7 +25,7 @@ pub(crate) fn remove_jobs(
 {
     let cancels = told_of(alloc, room, request)?;
     remove(room, request, now);
-    Ok(Reply::removed(alloc, cancels))
+    Ok(Effects::removed(alloc, cancels))
 }
 
 /// The cancels that are sent for the jobs that are removed.

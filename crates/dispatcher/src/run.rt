@@ -4,7 +4,7 @@ ghost use Rattle.dispatcher.specs.Notes.{Canceled, Tells};
 ghost use Rattle.dispatcher.specs.Run.{Comes, Run};
 ghost use Rattle.dispatcher.specs.Plans.{PlansAs};
 
-use crate::listener::{Listener, Place};
+use crate::listener::{AllocationSite, Listener};
 use crate::outcome::Outcome;
 use crate::server_core::Core;
 use base_types::Moment;
@@ -71,7 +71,7 @@ impl<P: Planner + Drop> Core<P> {
                 Made::Idle
             }
             Err(_) => {
-                listener.refused(Place::Dispatch, None);
+                listener.refused(AllocationSite::Dispatch, None);
                 Made::Refused
             }
         }

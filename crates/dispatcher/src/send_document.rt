@@ -6,10 +6,10 @@ ghost use Rattle.dispatcher.specs.SendDocument.{SendsDocument, SendsIt, sent_gro
 
 use crate::answering::refuse;
 use crate::checks::{
-    NamedPrinter, Refusal, format_asked, named_job, printer_of_job, refused_change,
+    NamedPrinter, Rejection, format_asked, named_job, printer_of_job, refused_change,
 };
 use base_types::{JobId, Moment, Text};
-use events::{AnswerGroups, Reply, SendDocument, Status};
+use events::{Effects, ResponseGroups, SendDocument, Status};
 use job_objects::{Job, JobState, waiting_reasons};
 use job_template::RequestAttributes;
 use print_room::PrintRoom;
@@ -23,7 +23,7 @@ use std::alloc::{AllocError, Global};
 pub(crate) struct Sent {
     pub(crate) job: JobId,
     pub(crate) format: Text,
-    pub(crate) groups: AnswerGroups,
+    pub(crate) groups: ResponseGroups,
 }
 
 /// Adds the document of a Send-Document request to its job, or says why not.
@@ -32,7 +32,7 @@ pub(crate) fn send_document(
     room: &mut PrintRoom,
     request: SendDocument,
     now: Moment,
-) -> Result<Reply, AllocError>
+) -> Result<Effects, AllocError>
     requires { room.old.last ≤ now }
     ensures ok { IfOk result (λ reply. SendsDocument now request room.old reply room.new) }
     ensures err { OnErr result (room.new ≡ room.old) }
@@ -51,7 +51,7 @@ fn send(
     request: SendDocument,
     sent: Sent,
     now: Moment,
-) -> Result<Reply, AllocError>
+) -> Result<Effects, AllocError>
     requires later { room.old.last ≤ now }
     requires free { sending_refusal sent.job request.job.user (length request.octets) request.last room.old ≡ None }
     ensures ok { IfOk result (λ reply. SendsIt now room.old request sent reply room.new) }
@@ -75,7 +75,7 @@ fn send(
     match room.add_document(job, &asked.user, document, last, now) {
         Ok(()) => {
             let unsupported = RequestAttributes::new(alloc);
-            Ok(Reply::answered(alloc, Status::Ok, unsupported, groups))
+            Ok(Effects::answered(alloc, Status::Ok, unsupported, groups))
         }
         Err(_) => Err(AllocError),
     }
@@ -86,7 +86,7 @@ fn sent_by(
     alloc: Global,
     room: &PrintRoom,
     request: &SendDocument,
-) -> Result<Result<Sent, Refusal>, AllocError>
+) -> Result<Result<Sent, Rejection>, AllocError>
     ensures ok { IfOk result (λ made. made ≡ sent_of request.now room.now) }
     ensures err { OnErr result (IsOk (sent_of request.now room.now)) }
     ensures free { IfOk result (λ made. IfOk made (λ sent. sending_refusal sent.job request.now.job.user (length request.now.octets) request.now.last room.now ≡ None)) }
@@ -103,7 +103,7 @@ fn sent_to_job(
     room: &PrintRoom,
     job: &Job,
     request: &SendDocument,
-) -> Result<Result<Sent, Refusal>, AllocError>
+) -> Result<Result<Sent, Rejection>, AllocError>
     ensures ok { IfOk result (λ made. made ≡ sent_to_job request.now room.now job.now) }
     ensures err { OnErr result (IsOk (sent_to_job request.now room.now job.now)) }
     ensures free { IfOk result (λ made. IfOk made (λ sent. sending_refusal sent.job request.now.job.user (length request.now.octets) request.now.last room.now ≡ None)) }
@@ -121,7 +121,7 @@ fn sent_to_printer(
     job: &Job,
     printer: &NamedPrinter<'_>,
     request: &SendDocument,
-) -> Result<Result<Sent, Refusal>, AllocError>
+) -> Result<Result<Sent, Rejection>, AllocError>
     ensures ok { IfOk result (λ made. made ≡ sent_to_printer request.now room.now job.now printer.now) }
     ensures err { OnErr result (IsOk (sent_to_printer request.now room.now job.now printer.now)) }
     ensures free { IfOk result (λ made. IfOk made (λ sent. sending_refusal sent.job request.now.job.user (length request.now.octets) request.now.last room.now ≡ None)) }
@@ -139,7 +139,7 @@ fn sent_in_format(
     job: &Job,
     format: &Text,
     request: &SendDocument,
-) -> Result<Result<Sent, Refusal>, AllocError>
+) -> Result<Result<Sent, Rejection>, AllocError>
     ensures ok { IfOk result (λ made. made ≡ sent_in_format request.now room.now job.now format.now) }
     ensures err { OnErr result (IsOk (sent_in_format request.now room.now job.now format.now)) }
     ensures free { IfOk result (λ made. IfOk made (λ sent. sending_refusal sent.job request.now.job.user (length request.now.octets) request.now.last room.now ≡ None)) }
@@ -163,7 +163,7 @@ fn sent_groups(
     room: &PrintRoom,
     job: &Job,
     last: bool,
-) -> Result<AnswerGroups, AllocError>
+) -> Result<ResponseGroups, AllocError>
     ensures { IfOk result (λ groups. groups ≡ sent_group room.now job.now last ∷ []) }
 {
     let paused = room.is_paused(job.needs.printer);
@@ -171,5 +171,5 @@ fn sent_groups(
     let reasons = waiting_reasons(!last, job.held, job.stranded, paused);
     let settings = room.settings();
     let group = created_job_attributes(alloc, &settings.uri_base, job.id, state, reasons)?;
-    AnswerGroups::one(alloc, group)
+    ResponseGroups::one(alloc, group)
 }

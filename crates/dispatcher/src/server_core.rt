@@ -8,7 +8,7 @@ ghost use Rattle.dispatcher.specs.Step.{Step, TakesNoMemory};
 
 use crate::apply::apply;
 use base_types::{DeviceId, DeviceNow, JobId, Moment};
-use events::{Event, Reply};
+use events::{Effects, Event};
 use job_objects::Job;
 use planners::Planner;
 use print_room::{PrintRoom, Started};
@@ -56,7 +56,7 @@ impl<P: Planner + Drop> Core<P> {
     /// Out of memory, the event is dropped and the state is as it was. Only a request that is answered
     /// more than a status, a job of files that is taken, a queue that is listed, and a cancel that a
     /// device is told, take memory.
-    pub fn apply(&mut self, event: Event, moment: Moment) -> Result<Reply, AllocError>
+    pub fn apply(&mut self, event: Event, moment: Moment) -> Result<Effects, AllocError>
         ensures ok { IfOk result (λ reply. Step self.old event moment reply self.new) }
         ensures err { OnErr result (self.new ≡ self.old) }
         ensures light { TakesNoMemory event moment self.old → IsOk result }

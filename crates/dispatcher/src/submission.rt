@@ -3,9 +3,9 @@ ghost use Rattle.std.specs.Prelude.{◌≡◌, ◌≤◌, ◌∷◌, [], IfOk, I
 ghost use Rattle.spool.specs.Calls.{is_full, new_refusal};
 ghost use Rattle.dispatcher.specs.Submission.{job_asked, group_of};
 
-use crate::checks::{NamedPrinter, Refusal, room_for, unsupported_asked};
+use crate::checks::{NamedPrinter, Rejection, room_for, unsupported_asked};
 use base_types::{Limits, Moment, PrinterId};
-use events::{AnswerGroups, AskedJob};
+use events::{JobCreation, ResponseGroups};
 use job_objects::{JobState, waiting_reasons};
 use job_template::{RequestAttributes, medium_of, template_of};
 use print_room::PrintRoom;
@@ -26,17 +26,17 @@ pub(crate) fn job_asked(
     alloc: Global,
     room: &PrintRoom,
     printer: &NamedPrinter<'_>,
-    asked: AskedJob,
+    asked: JobCreation,
     octets: usize,
     now: Moment,
-) -> Result<Result<Accepted, Refusal>, AllocError>
+) -> Result<Result<Accepted, Rejection>, AllocError>
     ensures ok { IfOk result (λ made. made ≡ job_asked asked octets now room.now printer.now) }
     ensures err { OnErr result (IsOk (job_asked asked octets now room.now printer.now)) }
     ensures small { IfOk result (λ made. IfOk made (λ accepted. octets ≤ Limits.JOB_OCTETS)) }
     ensures empty { IfOk result (λ made. IfOk made (λ accepted. accepted.job.documents ≡ [])) }
     ensures room { IfOk result (λ made. IfOk made (λ accepted. is_full room.now.spool ≡ false)) }
 {
-    let AskedJob {
+    let JobCreation {
         user,
         name,
         impressions,
@@ -78,7 +78,7 @@ pub(crate) fn groups_of(
     room: &PrintRoom,
     job: &NewJob,
     incoming: bool,
-) -> Result<AnswerGroups, AllocError>
+) -> Result<ResponseGroups, AllocError>
     requires { new_refusal room.now.spool job.now.documents ≡ None }
     ensures { IfOk result (λ groups. groups ≡ group_of room.now job.now incoming ∷ []) }
 {
@@ -87,5 +87,5 @@ pub(crate) fn groups_of(
     let reasons = waiting_reasons(incoming, job.held, false, room.is_paused(job.printer));
     let settings = room.settings();
     let group = created_job_attributes(alloc, &settings.uri_base, id, state, reasons)?;
-    AnswerGroups::one(alloc, group)
+    ResponseGroups::one(alloc, group)
 }

@@ -5,9 +5,9 @@ ghost use Rattle.spool.specs.Calls.{new_refusal};
 ghost use Rattle.dispatcher.specs.SubmitFiles.{FilesJob, SubmitsFiles, filed_of, job_of_files};
 
 use base_types::{Finishings, Moment, PrinterId, Priority, Sides, Text};
-use events::{LpdAnswer, Reply, SubmitFiles};
+use events::{Effects, LpdResponse, SubmitFiles};
+use lpd_queues::queue_of;
 use print_room::PrintRoom;
-use queues::queue_of;
 use settings_file::PrinterSettings;
 use spool::NewJob;
 use std::alloc::{AllocError, Global};
@@ -18,7 +18,7 @@ pub(crate) fn submit_files(
     room: &mut PrintRoom,
     request: SubmitFiles,
     now: Moment,
-) -> Result<Reply, AllocError>
+) -> Result<Effects, AllocError>
     requires { room.old.last ≤ now }
     ensures ok { IfOk result (λ reply. SubmitsFiles now request room.old reply room.new) }
     ensures err { OnErr result (room.new ≡ room.old) }
@@ -28,20 +28,25 @@ pub(crate) fn submit_files(
         Some(job) => take(alloc, room, job, now),
         None => {
             room.advance(now);
-            Ok(Reply::to_lpd(alloc, LpdAnswer::Taken(false)))
+            Ok(Effects::to_lpd(alloc, LpdResponse::Taken(false)))
         }
     }
 }
 
 /// Takes a job that nothing stands against.
-fn take(alloc: Global, room: &mut PrintRoom, job: NewJob, now: Moment) -> Result<Reply, AllocError>
+fn take(
+    alloc: Global,
+    room: &mut PrintRoom,
+    job: NewJob,
+    now: Moment,
+) -> Result<Effects, AllocError>
     requires later { room.old.last ≤ now }
     requires free { new_refusal room.old.spool job.documents ≡ None }
     ensures ok { IfOk result (λ reply. FilesJob now room.old job reply room.new) }
     ensures err { OnErr result (room.new ≡ room.old) }
 {
     match room.submit(job, now) {
-        Ok(_) => Ok(Reply::to_lpd(alloc, LpdAnswer::Taken(true))),
+        Ok(_) => Ok(Effects::to_lpd(alloc, LpdResponse::Taken(true))),
         Err(_) => Err(AllocError),
     }
 }

@@ -4,9 +4,9 @@ ghost use Rattle.std.specs.Prelude.{◌≡◌, ◌≤◌};
 ghost use Rattle.dispatcher.specs.ValidateJob.{Validates, ValidatesJob, validated_of, validated_of_printer};
 
 use crate::answering::{refuse, taken_with};
-use crate::checks::{NamedPrinter, Refusal, format_asked, named_printer, unsupported_asked};
+use crate::checks::{NamedPrinter, Rejection, format_asked, named_printer, unsupported_asked};
 use base_types::Moment;
-use events::{AnswerGroups, Reply, ValidateJob};
+use events::{Effects, ResponseGroups, ValidateJob};
 use job_template::RequestAttributes;
 use print_room::PrintRoom;
 use std::alloc::Global;
@@ -17,7 +17,7 @@ pub(crate) fn validate_job(
     room: &mut PrintRoom,
     request: ValidateJob,
     now: Moment,
-) -> Reply
+) -> Effects
     requires { room.old.last ≤ now }
     ensures { ValidatesJob now request room.old result room.new }
 {
@@ -28,13 +28,18 @@ pub(crate) fn validate_job(
 }
 
 /// Answers what isn't supported.
-fn answer(alloc: Global, room: &mut PrintRoom, unsupported: RequestAttributes, now: Moment) -> Reply
+fn answer(
+    alloc: Global,
+    room: &mut PrintRoom,
+    unsupported: RequestAttributes,
+    now: Moment,
+) -> Effects
     requires { room.old.last ≤ now }
     ensures { Validates now room.old unsupported result room.new }
 {
     let status = taken_with(&unsupported);
     room.advance(now);
-    Reply::answered(alloc, status, unsupported, AnswerGroups::new(alloc))
+    Effects::answered(alloc, status, unsupported, ResponseGroups::new(alloc))
 }
 
 /// What of a request isn't supported, or the first reason against it.
@@ -42,7 +47,7 @@ fn validated(
     alloc: Global,
     room: &PrintRoom,
     request: ValidateJob,
-) -> Result<RequestAttributes, Refusal>
+) -> Result<RequestAttributes, Rejection>
     ensures { result ≡ validated_of request room.now }
 {
     let printer = named_printer(alloc, room, &request.job.target)?;
@@ -54,7 +59,7 @@ fn validated_of_printer(
     alloc: Global,
     printer: &NamedPrinter<'_>,
     request: ValidateJob,
-) -> Result<RequestAttributes, Refusal>
+) -> Result<RequestAttributes, Rejection>
     ensures { result ≡ validated_of_printer request printer.now }
 {
     let _format = format_asked(alloc, &printer.offer, &request.form)?;

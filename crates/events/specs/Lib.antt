@@ -1,5 +1,5 @@
 pub mod Status
 pub mod Target
 pub mod Event
-pub mod Reply
+pub mod Effects
 pub mod SameEvent

@@ -63,7 +63,7 @@ pub struct PrinterRequest {
 
 /// The job that a request asks for (RFC 8011, section 4.2.1): what is read of it.
 #[derive(Drop)]
-pub struct AskedJob {
+pub struct JobCreation {
     pub target: Target,
     /// Who asks, as claimed: requesting-user-name.
     pub user: Text,
@@ -89,7 +89,7 @@ pub struct DocumentForm {
 /// A Print-Job request (RFC 8011, section 4.2.1).
 #[derive(Drop)]
 pub struct PrintJob {
-    pub job: AskedJob,
+    pub job: JobCreation,
     pub form: DocumentForm,
     /// The document data.
     pub octets: Octets,
@@ -98,7 +98,7 @@ pub struct PrintJob {
 /// A Validate-Job request (RFC 8011, section 4.2.3): a Print-Job without its document data.
 #[derive(Drop)]
 pub struct ValidateJob {
-    pub job: AskedJob,
+    pub job: JobCreation,
     pub form: DocumentForm,
 }
 
@@ -185,7 +185,7 @@ pub enum Event {
     PrintJob(PrintJob),
     ValidateJob(ValidateJob),
     /// Create-Job (RFC 8011, section 4.2.4).
-    CreateJob(AskedJob),
+    CreateJob(JobCreation),
     SendDocument(SendDocument),
     /// Cancel-Job (RFC 8011, section 4.3.3).
     CancelJob(JobRequest),

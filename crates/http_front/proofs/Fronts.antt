@@ -7,8 +7,8 @@ use Rattle.text.specs.FirstLine.{first_line_of}
 use Rattle.text.specs.declared.line.FirstLine.TheVariants.{Whole, TooLong, Unfinished}
 use Rattle.base_types.specs.declared.limits.TheConstants.Limits.{HTTP_HEAD_BYTES, HTTP_BODY_BYTES, HTTP_CHUNK_LINE_BYTES, HTTP_TRAILER_BYTES}
 use Rattle.text.proofs.FirstLines.{whole_line}
-use Rattle.http_front.specs.declared.refusal.Refusal.{Refusal}
-use Rattle.http_front.specs.declared.refusal.Refusal.TheVariants.{BadRequest, ContentTooLarge, HeadTooLarge}
+use Rattle.http_front.specs.declared.refusal.HttpRejection.{HttpRejection}
+use Rattle.http_front.specs.declared.refusal.HttpRejection.TheVariants.{BadRequest, ContentTooLarge, HeadTooLarge}
 use Rattle.http_front.specs.declared.awaited.Request.{Request}
 use Rattle.http_front.specs.declared.awaited.Framing.{Framing}
 use Rattle.http_front.specs.declared.awaited.Framing.TheVariants.{Length, Chunked}
@@ -101,12 +101,12 @@ refuses_long old is begins lines = (
   lower old Head 0 Nothing is (omega arith),
 )
 
-head_whole : (bytes : List ℕ) (count : ℕ) (asked : Result Request Refusal) → begins_head bytes ≡ true → section_in HTTP_HEAD_BYTES bytes ≡ Whole count → Asks (take count bytes) asked → AtHead bytes (begun asked (drop count bytes))
+head_whole : (bytes : List ℕ) (count : ℕ) (asked : Result Request HttpRejection) → begins_head bytes ≡ true → section_in HTTP_HEAD_BYTES bytes ≡ Whole count → Asks (take count bytes) asked → AtHead bytes (begun asked (drop count bytes))
 head_whole bytes count asked begins lines asks =
     let head : HeadIn bytes (Whole count) (begun asked (drop count bytes)) = (asked, asks, refl) in
     at_lines bytes _ begins (subst (λ s. HeadIn bytes s (begun asked (drop count bytes))) (sym lines) head)
 
-pub refuses_head : (old : HttpState) (count : ℕ) (refusal : Refusal) → old.awaited ≡ Head → begins_head old.rest ≡ true → section_in HTTP_HEAD_BYTES old.rest ≡ Whole count → Asks (take count old.rest) (Err refusal) → Steps old (step.Gives (item.Refuse refusal)) (behind old count Nothing)
+pub refuses_head : (old : HttpState) (count : ℕ) (refusal : HttpRejection) → old.awaited ≡ Head → begins_head old.rest ≡ true → section_in HTTP_HEAD_BYTES old.rest ≡ Whole count → Asks (take count old.rest) (Err refusal) → Steps old (step.Gives (item.Refuse refusal)) (behind old count Nothing)
 refuses_head old count refusal is begins lines asks = (
   goes old Head (IsRefused refusal ∷ []) count Nothing is (head_whole old.rest count (Err refusal) begins lines asks),
   refl,

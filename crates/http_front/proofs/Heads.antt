@@ -9,7 +9,7 @@ use Rattle.httparse.specs.declared.borrowed.Header.{Header}
 use Rattle.httparse.specs.declared.borrowed.Request as parsed
 use Rattle.httparse.proofs.GrammarLemmas.{request_unique}
 use Rattle.base_types.specs.declared.limits.TheConstants.Limits.{HTTP_FIELDS}
-use Rattle.http_front.specs.declared.refusal.Refusal.TheVariants.{BadRequest}
+use Rattle.http_front.specs.declared.refusal.HttpRejection.TheVariants.{BadRequest}
 use Rattle.http_front.specs.Head.{Asks}
 
 -- a head at the front that is all of the bytes leaves nothing

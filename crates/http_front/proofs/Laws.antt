@@ -11,7 +11,7 @@ use Rattle.text.specs.declared.line.FirstLine.{FirstLine}
 use Rattle.text.specs.declared.line.FirstLine.TheVariants.{Whole, TooLong, Unfinished}
 use Rattle.base_types.specs.declared.limits.TheConstants.Limits.{HTTP_HEAD_BYTES, HTTP_CHUNK_LINE_BYTES, HTTP_TRAILER_BYTES}
 use Rattle.text.proofs.FirstLines.{line_grown, too_long_grown}
-use Rattle.http_front.specs.declared.refusal.Refusal.{Refusal}
+use Rattle.http_front.specs.declared.refusal.HttpRejection.{HttpRejection}
 use Rattle.http_front.specs.declared.awaited.Request.{Request}
 use Rattle.http_front.specs.declared.awaited.Awaited.{Awaited}
 use Rattle.http_front.specs.declared.awaited.Awaited.TheVariants.{Head, Invitation, Body, Size, Trailer, Nothing}
@@ -28,7 +28,7 @@ use Rattle.http_front.proofs.Fronts.{size_within, broken_grown, whole_grown}
 
 -- one front
 
-asks_one : (bytes : List ℕ) (x y : Result Request Refusal) → Asks bytes x → Asks bytes y → x ≡ y
+asks_one : (bytes : List ℕ) (x y : Result Request HttpRejection) → Asks bytes x → Asks bytes y → x ≡ y
 asks_one bytes x y (inl a) (inl b) =
     let same = (request_unique bytes a.0 b.0 [] [] a.1.0 b.1.0).0 in
     a.2 ∙ ap (λ (h : RequestHead). judged h.method h.minor (map name_and_value h.fields)) same ∙ sym b.2
@@ -92,7 +92,7 @@ if_more more false f g grown late first second = second
 as_more : (more : List ℕ) (front grown same : Front) → MoreOf more front grown → grown ≡ same → MoreOf more front same
 as_more more front grown same first is said rest next goes = first said rest next goes ∙ is
 
-begun_more : (asked : Result Request Refusal) (bytes more : List ℕ) → MoreOf more (begun asked bytes) (begun asked (bytes ++ more))
+begun_more : (asked : Result Request HttpRejection) (bytes more : List ℕ) → MoreOf more (begun asked bytes) (begun asked (bytes ++ more))
 begun_more (Ok request) bytes more = goes_more more _ bytes _
 begun_more (Err refusal) bytes more = goes_more more _ bytes _
 

@@ -5,8 +5,8 @@ use Rattle.text.specs.FirstLine.{first_line_of}
 use Rattle.text.specs.declared.line.FirstLine.{FirstLine}
 use Rattle.text.specs.declared.line.FirstLine.TheVariants.{Whole, TooLong, Unfinished}
 use Rattle.base_types.specs.declared.limits.TheConstants.Limits.{HTTP_HEAD_BYTES, HTTP_BODY_BYTES, HTTP_CHUNK_LINE_BYTES, HTTP_TRAILER_BYTES}
-use Rattle.http_front.specs.declared.refusal.Refusal.{Refusal}
-use Rattle.http_front.specs.declared.refusal.Refusal.TheVariants.{BadRequest, ContentTooLarge, HeadTooLarge}
+use Rattle.http_front.specs.declared.refusal.HttpRejection.{HttpRejection}
+use Rattle.http_front.specs.declared.refusal.HttpRejection.TheVariants.{BadRequest, ContentTooLarge, HeadTooLarge}
 use Rattle.http_front.specs.declared.awaited.Request.{Request}
 use Rattle.http_front.specs.declared.awaited.Framing.{Framing}
 use Rattle.http_front.specs.declared.awaited.Framing.TheVariants.{Length, Chunked}
@@ -57,12 +57,12 @@ goes_order place told left after holds said rest next is later ok =
 waits_order : (place : Place) → OrderOf place Waits
 waits_order place said rest next is later ok = absurd (let no : Goes said rest next ≡ Waits = is in (cc))
 
-last_order : (place : Place) (refusal : Refusal) (later : List Said) → later ≡ [] → in_order place (IsRefused refusal ∷ later) ≡ true
+last_order : (place : Place) (refusal : HttpRejection) (later : List Said) → later ≡ [] → in_order place (IsRefused refusal ∷ later) ≡ true
 last_order Between refusal later is = rw is refl
 last_order (Headed closes) refusal later is = rw is refl
 last_order (Within closes told) refusal later is = rw is refl
 
-refused_order : (place : Place) (refusal : Refusal) (bytes : List ℕ) → OrderOf place (refused refusal bytes)
+refused_order : (place : Place) (refusal : HttpRejection) (bytes : List ℕ) → OrderOf place (refused refusal bytes)
 refused_order place refusal bytes = goes_order place (IsRefused refusal ∷ []) bytes Nothing (λ later ok. last_order place refusal later (ok.1 refl))
 
 if_order : (place : Place) (t : Bool) (f g : Front) → (t ≡ true → OrderOf place f) → (t ≡ false → OrderOf place g) → OrderOf place (if t then f else g)
@@ -79,7 +79,7 @@ allows_after : (invites : Bool) (framing : Framing) (closes : Bool) → Allows (
 allows_after true framing closes = refl
 allows_after false framing closes = (allows_body_by framing closes).0
 
-begun_order : (asked : Result Request Refusal) (bytes : List ℕ) → OrderOf Between (begun asked bytes)
+begun_order : (asked : Result Request HttpRejection) (bytes : List ℕ) → OrderOf Between (begun asked bytes)
 begun_order (Ok request) bytes = goes_order Between (HasHead request.closes ∷ []) bytes (after_head request) (λ later ok. ok.0 (Headed request.closes) (allows_after request.invites request.framing request.closes))
 begun_order (Err refusal) bytes = refused_order Between refusal bytes
 

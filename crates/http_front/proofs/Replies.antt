@@ -1,10 +1,10 @@
 -- The statuses of replies.
 use Rattle.std.proofs.Common.{◌≡◌, ℕ, inl, inr, refl}
-use Rattle.http_front.specs.declared.refusal.Refusal.{Refusal}
-use Rattle.http_front.specs.declared.refusal.Refusal.TheVariants.{BadRequest, MethodNotAllowed, ContentTooLarge, UnsupportedMediaType, ExpectationFailed, HeadTooLarge, NotImplemented}
+use Rattle.http_front.specs.declared.refusal.HttpRejection.{HttpRejection}
+use Rattle.http_front.specs.declared.refusal.HttpRejection.TheVariants.{BadRequest, MethodNotAllowed, ContentTooLarge, UnsupportedMediaType, ExpectationFailed, HeadTooLarge, NotImplemented}
 use Rattle.http_front.specs.Reply.{IsReplyStatus, status_of}
 
-pub status_is_reply : (refusal : Refusal) → IsReplyStatus (status_of refusal)
+pub status_is_reply : (refusal : HttpRejection) → IsReplyStatus (status_of refusal)
 status_is_reply refusal = inr (refusal, refl)
 
 -- the status that is left when it is none of the others

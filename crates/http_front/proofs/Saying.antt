@@ -7,7 +7,7 @@ use Rattle.base_types.specs.declared.limits.TheConstants.Limits.{HTTP_HEAD_BYTES
 use Rattle.text.specs.FirstLine.{line_of, first_line_of}
 use Rattle.text.specs.declared.line.FirstLine.{FirstLine}
 use Rattle.text.specs.declared.line.FirstLine.TheVariants.{Whole, TooLong, Unfinished}
-use Rattle.http_front.specs.declared.refusal.Refusal.TheVariants.{ContentTooLarge}
+use Rattle.http_front.specs.declared.refusal.HttpRejection.TheVariants.{ContentTooLarge}
 use Rattle.http_front.specs.declared.awaited.Request.{Request}
 use Rattle.http_front.specs.declared.awaited.Framing.{Framing}
 use Rattle.http_front.specs.declared.awaited.Following.{Following}

@@ -5,8 +5,8 @@ use Rattle.std.specs.Str.{bytes_eq}
 use Rattle.httparse.specs.Grammar.{RequestHead, ReadsRequest}
 use Rattle.httparse.specs.Spans.{name_and_value}
 use Rattle.base_types.specs.declared.limits.TheConstants.Limits.{HTTP_BODY_BYTES, HTTP_FIELDS}
-use Rattle.http_front.specs.declared.refusal.Refusal.{Refusal}
-use Rattle.http_front.specs.declared.refusal.Refusal.TheVariants.{BadRequest, MethodNotAllowed, ContentTooLarge, UnsupportedMediaType, ExpectationFailed, NotImplemented}
+use Rattle.http_front.specs.declared.refusal.HttpRejection.{HttpRejection}
+use Rattle.http_front.specs.declared.refusal.HttpRejection.TheVariants.{BadRequest, MethodNotAllowed, ContentTooLarge, UnsupportedMediaType, ExpectationFailed, NotImplemented}
 use Rattle.http_front.specs.declared.awaited.Request.{Request}
 use Rattle.http_front.specs.declared.awaited.Framing.{Framing}
 use Rattle.http_front.specs.declared.awaited.Framing.TheVariants.{Length, Chunked}
@@ -21,22 +21,22 @@ is_chunked fields =
     && option_map_or (λ value. is_word value (codes "chunked")) (first_of (codes "transfer-encoding") fields) false
 
 -- HTTP/1.0 has no transfer coding, and a message with one has no length
-abbrev pub coded : ℕ → Fields → Result Framing Refusal
+abbrev pub coded : ℕ → Fields → Result Framing HttpRejection
 coded minor fields =
     if (minor == 0) || nat_lt 0 (count_of (codes "content-length") fields) then Err BadRequest
     else if is_chunked fields then Ok Chunked
     else Err NotImplemented
 
-abbrev pub within_limit : Option ℕ → Result Framing Refusal
+abbrev pub within_limit : Option ℕ → Result Framing HttpRejection
 within_limit None = Err BadRequest
 within_limit (Some count) = if nat_le count HTTP_BODY_BYTES then Ok (Length count) else Err ContentTooLarge
 
 -- by the one length that all fields agree on (RFC 9112, section 6.3); without one there is no body
-abbrev pub counted : Fields → Option (List ℕ) → Result Framing Refusal
+abbrev pub counted : Fields → Option (List ℕ) → Result Framing HttpRejection
 counted fields None = Ok (Length 0)
 counted fields (Some value) = if all_have (codes "content-length") value fields then within_limit (length_in value) else Err BadRequest
 
-abbrev pub framing_of : ℕ → Fields → Result Framing Refusal
+abbrev pub framing_of : ℕ → Fields → Result Framing HttpRejection
 framing_of minor fields =
     if nat_lt 0 (count_of (codes "transfer-encoding") fields) then coded minor fields
     else counted fields (first_of (codes "content-length") fields)
@@ -61,20 +61,20 @@ is_empty (Length count) = count == 0
 is_empty Chunked = false
 
 -- the one expectation that is known (RFC 9110, section 10.1.1): an HTTP/1.1 client waits before it sends a body
-abbrev pub expecting : ℕ → Fields → Framing → Option (List ℕ) → Result Request Refusal
+abbrev pub expecting : ℕ → Fields → Framing → Option (List ℕ) → Result Request HttpRejection
 expecting minor fields framing None = Ok (record { framing = framing; invites = false; closes = closes_after minor fields })
 expecting minor fields framing (Some value) =
     if is_word value (codes "100-continue")
     then Ok (record { framing = framing; invites = (minor == 1) && not (is_empty framing); closes = closes_after minor fields })
     else Err ExpectationFailed
 
-abbrev pub framed : ℕ → Fields → Result Framing Refusal → Result Request Refusal
+abbrev pub framed : ℕ → Fields → Result Framing HttpRejection → Result Request HttpRejection
 framed minor fields (Err refusal) = Err refusal
 framed minor fields (Ok framing) =
     if is_plain_ipp fields then expecting minor fields framing (first_of (codes "expect") fields) else Err UnsupportedMediaType
 
 -- what a head of a method, a minor version and fields asks
-abbrev pub judged : List ℕ → ℕ → Fields → Result Request Refusal
+abbrev pub judged : List ℕ → ℕ → Fields → Result Request HttpRejection
 judged method minor fields =
     if (minor == 1) && not (count_of (codes "host") fields == 1) then Err BadRequest
     else if bytes_eq method (codes "POST") then framed minor fields (framing_of minor fields)
@@ -85,7 +85,7 @@ abbrev pub IsHead : List ℕ → RequestHead → Type 0
 IsHead bytes head = ReadsRequest bytes head [] × (length head.fields ≤ HTTP_FIELDS)
 
 -- what the bytes of a head ask, which may be none of the grammar
-abbrev pub Asks : List ℕ → Result Request Refusal → Type 0
+abbrev pub Asks : List ℕ → Result Request HttpRejection → Type 0
 Asks bytes asked =
     ((head : RequestHead) × IsHead bytes head × (asked ≡ judged head.method head.minor (map name_and_value head.fields)))
     ⊎ (((head : RequestHead) → IsHead bytes head → ⊥) × (asked ≡ Err BadRequest))

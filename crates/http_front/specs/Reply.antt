@@ -1,11 +1,11 @@
 -- The heads of replies (RFC 9112, section 4; RFC 9110, section 15). A reply of 200 has a body; a refusal has none, and closes the connection.
 use Rattle.std.specs.Prelude.{ℕ, ◌≡◌, ◌==◌, ◌++◌, ◌⊎◌, if◌then◌else◌, Bool, true, false, List, [], codes, decimal}
 use Rattle.http.specs.StatusCode.{code_digits}
-use Rattle.http_front.specs.declared.refusal.Refusal.{Refusal}
-use Rattle.http_front.specs.declared.refusal.Refusal.TheVariants.{BadRequest, MethodNotAllowed, ContentTooLarge, UnsupportedMediaType, ExpectationFailed, HeadTooLarge, NotImplemented}
+use Rattle.http_front.specs.declared.refusal.HttpRejection.{HttpRejection}
+use Rattle.http_front.specs.declared.refusal.HttpRejection.TheVariants.{BadRequest, MethodNotAllowed, ContentTooLarge, UnsupportedMediaType, ExpectationFailed, HeadTooLarge, NotImplemented}
 
 -- the status of a refusal
-abbrev pub status_of : Refusal → ℕ
+abbrev pub status_of : HttpRejection → ℕ
 status_of BadRequest = 400
 status_of MethodNotAllowed = 405
 status_of ContentTooLarge = 413
@@ -16,7 +16,7 @@ status_of NotImplemented = 501
 
 -- the status of some reply: 200, or that of a refusal
 abbrev pub IsReplyStatus : ℕ → Type 0
-IsReplyStatus status = (status ≡ 200) ⊎ ((refusal : Refusal) × (status ≡ status_of refusal))
+IsReplyStatus status = (status ≡ 200) ⊎ ((refusal : HttpRejection) × (status ≡ status_of refusal))
 
 -- RFC 9110, section 15; RFC 6585, section 5
 abbrev pub phrase : ℕ → List ℕ

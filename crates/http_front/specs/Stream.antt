@@ -4,8 +4,8 @@ use Rattle.text.specs.FirstLine.{first_line_of}
 use Rattle.text.specs.declared.line.FirstLine.{FirstLine}
 use Rattle.text.specs.declared.line.FirstLine.TheVariants.{Whole, TooLong, Unfinished}
 use Rattle.base_types.specs.declared.limits.TheConstants.Limits.{HTTP_HEAD_BYTES, HTTP_BODY_BYTES, HTTP_CHUNK_LINE_BYTES, HTTP_TRAILER_BYTES}
-use Rattle.http_front.specs.declared.refusal.Refusal.{Refusal}
-use Rattle.http_front.specs.declared.refusal.Refusal.TheVariants.{BadRequest, ContentTooLarge, HeadTooLarge}
+use Rattle.http_front.specs.declared.refusal.HttpRejection.{HttpRejection}
+use Rattle.http_front.specs.declared.refusal.HttpRejection.TheVariants.{BadRequest, ContentTooLarge, HeadTooLarge}
 use Rattle.http_front.specs.declared.item.HttpItem.{HttpItem}
 use Rattle.http_front.specs.declared.item.HttpItem.TheVariants as item
 use Rattle.http_front.specs.declared.awaited.Request.{Request}
@@ -29,7 +29,7 @@ pub data Said : Type 0 where
   Invites : Said
   HasByte : ℕ → Said
   EndsBody : Said
-  IsRefused : Refusal → Said
+  IsRefused : HttpRejection → Said
 
 -- what an item says, with the part that is lent
 abbrev pub said_by : HttpItem → List ℕ → List Said
@@ -44,7 +44,7 @@ pub data Front : Type 0 where
   Goes : (said : List Said) (rest : List ℕ) (next : Awaited) → Front
   Waits : Front
 
-abbrev pub refused : Refusal → List ℕ → Front
+abbrev pub refused : HttpRejection → List ℕ → Front
 refused refusal rest = Goes (IsRefused refusal ∷ []) rest Nothing
 
 -- nothing counts after an exchange that closes the connection, and after a body too short for an IPP message, which has 8 bytes at least (RFC 8010, section 3.1.1)
@@ -58,7 +58,7 @@ body_by Chunked closes = Size HTTP_BODY_BYTES closes
 abbrev pub after_head : Request → Awaited
 after_head request = if request.invites then Invitation request.framing request.closes else body_by request.framing request.closes
 
-abbrev pub begun : Result Request Refusal → List ℕ → Front
+abbrev pub begun : Result Request HttpRejection → List ℕ → Front
 begun (Ok request) rest = Goes (HasHead request.closes ∷ []) rest (after_head request)
 begun (Err refusal) rest = refused refusal rest
 
@@ -68,7 +68,7 @@ after_body last = if last then Nothing else Head
 
 -- a head of at most so many bytes
 abbrev pub HeadIn : List ℕ → FirstLine → Front → Type 0
-HeadIn bytes (Whole count) front = (asked : Result Request Refusal) × Asks (take count bytes) asked × (front ≡ begun asked (drop count bytes))
+HeadIn bytes (Whole count) front = (asked : Result Request HttpRejection) × Asks (take count bytes) asked × (front ≡ begun asked (drop count bytes))
 HeadIn bytes TooLong front = front ≡ refused HeadTooLarge bytes
 HeadIn bytes Unfinished front = front ≡ Waits
 

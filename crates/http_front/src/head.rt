@@ -6,7 +6,7 @@ ghost use Rattle.http_front.specs.Fields.{first_of};
 
 use crate::awaited::{Framing, Request};
 use crate::fields::{all_have, any_lists, count_of, first_of};
-use crate::refusal::Refusal;
+use crate::refusal::HttpRejection;
 use crate::words::{is_word, length_in};
 use base_types::Limits;
 use httparse::{EMPTY_HEADER, Header, Status};
@@ -15,42 +15,42 @@ use text::without_parameters;
 const FIELDS: usize = Limits::HTTP_FIELDS;
 
 /// What the bytes of a head ask.
-pub(crate) fn read_head(head: &[u8]) -> Result<Request, Refusal>
+pub(crate) fn read_head(head: &[u8]) -> Result<Request, HttpRejection>
     ensures { Asks head.now result }
 {
     let mut fields = [EMPTY_HEADER; FIELDS];
     let mut request = httparse::Request::new(&mut fields);
     let Ok(Status::Complete(length)) = request.parse(head) else {
-        return Err(Refusal::BadRequest);
+        return Err(HttpRejection::BadRequest);
     };
     if length != head.len() || request.headers.len() > FIELDS {
-        return Err(Refusal::BadRequest);
+        return Err(HttpRejection::BadRequest);
     }
     let (Some(method), Some(minor)) = (request.method, request.version) else {
-        return Err(Refusal::BadRequest);
+        return Err(HttpRejection::BadRequest);
     };
     judged(method.as_bytes(), minor, request.headers)
 }
 
 /// What a head of a method, a minor version and fields asks.
-fn judged(method: &[u8], minor: u8, fields: &[Header]) -> Result<Request, Refusal>
+fn judged(method: &[u8], minor: u8, fields: &[Header]) -> Result<Request, HttpRejection>
     ensures { result ≡ judged method.now minor (map header_parts fields.now) }
 {
     if minor == 1 && count_of(b"host", fields) != 1 {
-        return Err(Refusal::BadRequest);
+        return Err(HttpRejection::BadRequest);
     }
     if method != b"POST".as_slice() {
-        return Err(Refusal::MethodNotAllowed);
+        return Err(HttpRejection::MethodNotAllowed);
     }
     let framing = framing_of(minor, fields)?;
     if !is_plain_ipp(fields) {
-        return Err(Refusal::UnsupportedMediaType);
+        return Err(HttpRejection::UnsupportedMediaType);
     }
     expecting(minor, fields, framing)
 }
 
 /// How the length of the body is told.
-fn framing_of(minor: u8, fields: &[Header]) -> Result<Framing, Refusal>
+fn framing_of(minor: u8, fields: &[Header]) -> Result<Framing, HttpRejection>
     ensures { result ≡ framing_of minor (map header_parts fields.now) }
 {
     if count_of(b"transfer-encoding", fields) > 0 {
@@ -60,14 +60,14 @@ fn framing_of(minor: u8, fields: &[Header]) -> Result<Framing, Refusal>
 }
 
 /// The framing by a transfer coding.
-fn coded(minor: u8, fields: &[Header]) -> Result<Framing, Refusal>
+fn coded(minor: u8, fields: &[Header]) -> Result<Framing, HttpRejection>
     ensures { result ≡ coded minor (map header_parts fields.now) }
 {
     if minor == 0 || count_of(b"content-length", fields) > 0 {
-        return Err(Refusal::BadRequest);
+        return Err(HttpRejection::BadRequest);
     }
     if !is_chunked(fields) {
-        return Err(Refusal::NotImplemented);
+        return Err(HttpRejection::NotImplemented);
     }
     Ok(Framing::Chunked)
 }
@@ -86,25 +86,27 @@ fn is_chunked(fields: &[Header]) -> bool
 }
 
 /// The framing by a length.
-fn counted(fields: &[Header]) -> Result<Framing, Refusal>
+fn counted(fields: &[Header]) -> Result<Framing, HttpRejection>
     ensures { result ≡ counted (map header_parts fields.now) (first_of (codes "content-length") (map header_parts fields.now)) }
 {
     let Some(value) = first_of(b"content-length", fields) else {
         return Ok(Framing::Length(0));
     };
     if !all_have(b"content-length", value, fields) {
-        return Err(Refusal::BadRequest);
+        return Err(HttpRejection::BadRequest);
     }
     within_limit(length_in(value))
 }
 
 /// A length within the limit.
-fn within_limit(length: Option<u32>) -> Result<Framing, Refusal>
+fn within_limit(length: Option<u32>) -> Result<Framing, HttpRejection>
     ensures { result ≡ within_limit length }
 {
     match length {
-        None => Err(Refusal::BadRequest),
-        Some(count) if count as usize > Limits::HTTP_BODY_BYTES => Err(Refusal::ContentTooLarge),
+        None => Err(HttpRejection::BadRequest),
+        Some(count) if count as usize > Limits::HTTP_BODY_BYTES => Err(
+            HttpRejection::ContentTooLarge,
+        ),
         Some(count) => Ok(Framing::Length(count)),
     }
 }
@@ -137,14 +139,14 @@ fn is_plain(fields: &[Header]) -> bool
 }
 
 /// What is asked where the framing is known.
-fn expecting(minor: u8, fields: &[Header], framing: Framing) -> Result<Request, Refusal>
+fn expecting(minor: u8, fields: &[Header], framing: Framing) -> Result<Request, HttpRejection>
     ensures { result ≡ expecting minor (map header_parts fields.now) framing (first_of (codes "expect") (map header_parts fields.now)) }
 {
     let closes = closes_after(minor, fields);
     let invites = match first_of(b"expect", fields) {
         None => false,
         Some(value) if is_word(value, b"100-continue") => minor == 1 && !is_empty(framing),
-        Some(_) => return Err(Refusal::ExpectationFailed),
+        Some(_) => return Err(HttpRejection::ExpectationFailed),
     };
     Ok(Request {
         framing,

@@ -1,4 +1,4 @@
-use crate::refusal::Refusal;
+use crate::refusal::HttpRejection;
 
 /// What a client's stream gives, one after the other.
 #[derive(Clone, Copy, Debug, PartialEq, Eq)]
@@ -15,5 +15,5 @@ pub enum HttpItem {
     /// The body is whole.
     BodyEnd,
     /// The request is refused. Nothing follows.
-    Refuse(Refusal),
+    Refuse(HttpRejection),
 }

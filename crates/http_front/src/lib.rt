@@ -25,5 +25,5 @@ mod words;
 pub use item::HttpItem;
 pub use law::{exchanges_in_order, given_first, one_front, one_saying, written_is_said};
 pub use reader::HttpReader;
-pub use refusal::Refusal;
+pub use refusal::HttpRejection;
 pub use reply::{continue_head, write_head};

@@ -10,7 +10,7 @@ use crate::awaited::{Awaited, Following};
 use crate::chunk::{ChunkEnd, chunk_end, size_in};
 use crate::head::read_head;
 use crate::item::HttpItem;
-use crate::refusal::Refusal;
+use crate::refusal::HttpRejection;
 use crate::section::section_in;
 use base_types::Limits;
 use std::alloc::{AllocError, Global};
@@ -142,7 +142,7 @@ impl HttpReader {
     {
         match section_in(self.rest(), Limits::HTTP_HEAD_BYTES) {
             FirstLine::Unfinished => Step::Waits,
-            FirstLine::TooLong => self.refuse(0, Refusal::HeadTooLarge),
+            FirstLine::TooLong => self.refuse(0, HttpRejection::HeadTooLarge),
             FirstLine::Whole(count) => self.take_head(count),
         }
     }
@@ -203,7 +203,7 @@ impl HttpReader {
     {
         match chunk_end(self.rest()) {
             ChunkEnd::Unfinished => Step::Waits,
-            ChunkEnd::Broken => self.refuse(0, Refusal::BadRequest),
+            ChunkEnd::Broken => self.refuse(0, HttpRejection::BadRequest),
             ChunkEnd::Whole => {
                 self.pass(2, Awaited::Size(room, closes));
                 Step::Passes
@@ -218,7 +218,7 @@ impl HttpReader {
     {
         match first_line(self.rest(), Limits::HTTP_CHUNK_LINE_BYTES) {
             FirstLine::Unfinished => Step::Waits,
-            FirstLine::TooLong => self.refuse(0, Refusal::BadRequest),
+            FirstLine::TooLong => self.refuse(0, HttpRejection::BadRequest),
             FirstLine::Whole(count) => self.take_size(count, room, closes),
         }
     }
@@ -231,7 +231,7 @@ impl HttpReader {
         ensures { Steps self.old result self.new }
     {
         let Some(size) = size_in(&self.rest()[..count + 1]) else {
-            return self.refuse(count + 1, Refusal::BadRequest);
+            return self.refuse(count + 1, HttpRejection::BadRequest);
         };
         if size == 0 {
             let length = (Limits::HTTP_BODY_BYTES as u32).saturating_sub(room);
@@ -239,7 +239,7 @@ impl HttpReader {
             return Step::Passes;
         }
         if size > u64::from(room) {
-            return self.refuse(count + 1, Refusal::ContentTooLarge);
+            return self.refuse(count + 1, HttpRejection::ContentTooLarge);
         }
         let size = size as u32;
         self.pass(
@@ -256,7 +256,7 @@ impl HttpReader {
     {
         match section_in(self.rest(), Limits::HTTP_TRAILER_BYTES) {
             FirstLine::Unfinished => Step::Waits,
-            FirstLine::TooLong => self.refuse(0, Refusal::BadRequest),
+            FirstLine::TooLong => self.refuse(0, HttpRejection::BadRequest),
             FirstLine::Whole(count) => {
                 self.pass(count, after_body(last));
                 Step::Gives(HttpItem::BodyEnd)
@@ -300,7 +300,7 @@ impl HttpReader {
     }
 
     /// Goes past so many bytes, after which nothing counts any more.
-    fn refuse(&mut self, count: usize, refusal: Refusal) -> Step
+    fn refuse(&mut self, count: usize, refusal: HttpRejection) -> Step
         requires { count ≤ length_of self.old.rest }
         ensures state { self.new ≡ record { part = []; rest = drop count self.old.rest; awaited = Awaited.Nothing } }
         ensures answer { result ≡ Step.Gives (HttpItem.Refuse refusal) }

@@ -6,7 +6,7 @@ use http::StatusCode;
 
 /// Why a request is refused: the status of the reply (RFC 9110, section 15.5 and 15.6).
 #[derive(Clone, Copy, Debug, PartialEq, Eq)]
-pub enum Refusal {
+pub enum HttpRejection {
     /// 400: a head, a framing or a chunk that breaks the grammar.
     BadRequest,
     /// 405: a method other than POST.
@@ -23,20 +23,20 @@ pub enum Refusal {
     NotImplemented,
 }
 
-impl Refusal {
+impl HttpRejection {
     /// The status of the reply.
     pub fn status(self) -> StatusCode
         ensures number { result ≡ status_of self }
         ensures reply { IsReplyStatus result }
     {
         match self {
-            Refusal::BadRequest => StatusCode::BAD_REQUEST,
-            Refusal::MethodNotAllowed => StatusCode::METHOD_NOT_ALLOWED,
-            Refusal::ContentTooLarge => StatusCode::PAYLOAD_TOO_LARGE,
-            Refusal::UnsupportedMediaType => StatusCode::UNSUPPORTED_MEDIA_TYPE,
-            Refusal::ExpectationFailed => StatusCode::EXPECTATION_FAILED,
-            Refusal::HeadTooLarge => StatusCode::REQUEST_HEADER_FIELDS_TOO_LARGE,
-            Refusal::NotImplemented => StatusCode::NOT_IMPLEMENTED,
+            HttpRejection::BadRequest => StatusCode::BAD_REQUEST,
+            HttpRejection::MethodNotAllowed => StatusCode::METHOD_NOT_ALLOWED,
+            HttpRejection::ContentTooLarge => StatusCode::PAYLOAD_TOO_LARGE,
+            HttpRejection::UnsupportedMediaType => StatusCode::UNSUPPORTED_MEDIA_TYPE,
+            HttpRejection::ExpectationFailed => StatusCode::EXPECTATION_FAILED,
+            HttpRejection::HeadTooLarge => StatusCode::REQUEST_HEADER_FIELDS_TOO_LARGE,
+            HttpRejection::NotImplemented => StatusCode::NOT_IMPLEMENTED,
         }
     }
 }

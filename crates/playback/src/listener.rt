@@ -2,9 +2,9 @@
 
 use crate::playing::Shows;
 use base_types::Text;
-use dispatcher::{DeviceRefusal, Dispatched, Listener, Place};
+use dispatcher::{AllocationSite, DeviceRefusal, Dispatched, Listener};
 use events::Cancel;
-use server::{Heard, NoteLog};
+use server::{LoggedNote, NoteLog};
 use std::alloc::{AllocError, Global};
 use std::mem;
 use transcripts::{put_cancel, put_dispatch};
@@ -47,7 +47,7 @@ impl Listener for Told {
         }
     }
 
-    fn refused(&mut self, _place: Place, _id: Option<WireId>) {
+    fn refused(&mut self, _place: AllocationSite, _id: Option<WireId>) {
         self.lost = true;
     }
 }
@@ -95,7 +95,7 @@ impl Told {
     }
 
     /// What was heard, which is then kept no more. The error is that memory was refused for it.
-    pub(crate) fn take_heard(&mut self) -> Result<Vec<Heard>, AllocError> {
+    pub(crate) fn take_heard(&mut self) -> Result<Vec<LoggedNote>, AllocError> {
         self.heard.take()
     }
 }

@@ -25,7 +25,7 @@ use crate::replaying::{log, replay};
 use crate::serving::run_serve;
 use crate::settings::run_settings;
 use crate::simulating::run_simulate;
-use command_line::{Asked, WordsError, read_words};
+use command_line::{Subcommand, WordsError, read_words};
 use std::alloc::AllocError;
 use std::io::{ErrorKind, Write};
 use std::process::ExitCode;
@@ -78,20 +78,20 @@ fn tell(rt: &HostRuntime, error: &WordsError) -> ExitStatus {
 }
 
 /// Does what the words ask for, and gives the status; the error is one of what was said already.
-fn run(rt: &HostRuntime, asked: Asked<'_>) -> Result<ExitStatus, ExitStatus> {
+fn run(rt: &HostRuntime, asked: Subcommand<'_>) -> Result<ExitStatus, ExitStatus> {
     match asked {
-        Asked::Serve(serving) => run_serve(rt, serving),
-        Asked::Settings(about) => run_settings(rt, about),
-        Asked::Replay(replaying) => replay(rt, replaying),
-        Asked::Log { file } => log(rt, file),
-        Asked::Check { starts } => Ok(check(rt, starts)),
-        Asked::Draw { text, trace: None } => Ok(draw(rt, form_of(text))),
-        Asked::Draw {
+        Subcommand::Serve(serving) => run_serve(rt, serving),
+        Subcommand::Settings(about) => run_settings(rt, about),
+        Subcommand::Replay(replaying) => replay(rt, replaying),
+        Subcommand::Log { file } => log(rt, file),
+        Subcommand::Check { starts } => Ok(check(rt, starts)),
+        Subcommand::Draw { text, trace: None } => Ok(draw(rt, form_of(text))),
+        Subcommand::Draw {
             text,
             trace: Some(file),
         } => draw_trace(rt, file, form_of(text)),
-        Asked::Simulate(simulating) => run_simulate(rt, simulating),
-        Asked::Attach(attaching) => run_attach(rt, attaching),
+        Subcommand::Simulate(simulating) => run_simulate(rt, simulating),
+        Subcommand::Attach(attaching) => run_attach(rt, attaching),
     }
 }
 

@@ -6,7 +6,7 @@ use crate::log_output::{LogFile, LogOutput};
 use crate::settings::{built_in_text, read_file, settings_in};
 use crate::tape::TapeFiles;
 use command_line::{Log, Serving};
-use serve::{serve, serve_recorded};
+use daemon::{serve, serve_recorded};
 use settings_file::Settings;
 use sockets::{Listening, Sockets};
 use std::io;

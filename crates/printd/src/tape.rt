@@ -1,8 +1,8 @@
 //! The files of a recording.
 use crate::failure::{cannot_with, out_of_memory};
 use command_line::VERSION;
+use daemon::Tape;
 use recordings::{put_goes_on, put_start};
-use serve::Tape;
 use std::alloc::AllocError;
 use std::fs::{File, OpenOptions};
 use std::io;

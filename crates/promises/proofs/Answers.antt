@@ -10,42 +10,42 @@ use Rattle.events.specs.declared.status.Status.TheVariants.{TemporaryError}
 use Rattle.events.specs.declared.queue.QueueForm.{QueueForm}
 use Rattle.events.specs.declared.queue.QueueEntry.{QueueEntry}
 use Rattle.events.specs.declared.queue.QueueListing.{QueueListing}
-use Rattle.events.specs.declared.reply.Answer.{Answer}
-use Rattle.events.specs.declared.reply.Answer.TheVariants as Says
-use Rattle.events.specs.declared.reply.IppAnswer.{IppAnswer}
-use Rattle.events.specs.declared.reply.LpdAnswer.{LpdAnswer}
-use Rattle.events.specs.declared.reply.LpdAnswer.TheVariants as Shown
-use Rattle.events.specs.declared.reply.Reply.{Reply}
+use Rattle.events.specs.declared.effects.Response.{Response}
+use Rattle.events.specs.declared.effects.Response.TheVariants as Says
+use Rattle.events.specs.declared.effects.IppResponse.{IppResponse}
+use Rattle.events.specs.declared.effects.LpdResponse.{LpdResponse}
+use Rattle.events.specs.declared.effects.LpdResponse.TheVariants as Shown
+use Rattle.events.specs.declared.effects.Effects.{Effects}
 use Rattle.events.specs.Event.{is_query}
-use Rattle.dispatcher.specs.declared.listener.Place.{Place}
-use Rattle.dispatcher.specs.declared.listener.Place.TheVariants as At
+use Rattle.dispatcher.specs.declared.listener.AllocationSite.{AllocationSite}
+use Rattle.dispatcher.specs.declared.listener.AllocationSite.TheVariants as At
 use Rattle.dispatcher.specs.Notes.{Refused}
 use Rattle.dispatcher.specs.OneStep.{SameListing, SameLpdAnswer, SameIppAnswer, SameAnswer, SameReply}
-use Rattle.replies.specs.Reply.{IsReply, reply_of, unsupported_of, message_of}
-use Rattle.replies.specs.QueueText.{printer_word, lines_of, queue_text, ack_of, text_of}
+use Rattle.responses.specs.Reply.{IsReply, reply_of, unsupported_of, message_of}
+use Rattle.responses.specs.QueueText.{printer_word, lines_of, queue_text, ack_of, text_of}
 use Rattle.events.specs.SameEvent.{SameEvent}
 use Rattle.connections.specs.declared.ask.Client.{Client}
 use Rattle.connections.specs.declared.ask.Client.TheVariants as client
 use Rattle.server.specs.Polls.{Happening, Found}
 use Rattle.server.specs.Ledger.{Ledger}
 use Rattle.server.specs.Rel.{Tells, Chooses, Then, If}
-use Rattle.server.specs.Keeping.{Breaks, Keeps, KeepsReply, KeepsStatus}
+use Rattle.server.specs.Enqueuing.{Breaks, Enqueues, EnqueuesReply, EnqueuesStatus}
 use Rattle.server.specs.Answering.{Drops, LosesReply, RepliesWith, Declines, Shows, IsTold, IsShown, Answers, IsAnswered}
 use Rattle.server.specs.Turn as Between
 use Rattle.promises.specs.OneLedger.{StepsOnce}
 use Rattle.promises.proofs.Alike.{Alike, Fixed, fixed_nothing, fixed_tells, fixed_chooses, alike_then, apart, Begins, begins_then, begins_chooses, begins_tells, is_choice, fixed_or, alike_if}
-use Rattle.promises.proofs.Due.{fixed_breaks, fixed_keeps, fixed_reply, fixed_status}
+use Rattle.promises.proofs.Due.{fixed_breaks, fixed_enqueues, fixed_reply, fixed_status}
 use Rattle.promises.proofs.Events.{answered_alike}
 
 -- ---- the bytes of answers that say the same
 
-same_message : (one other : IppAnswer) (id : ℕ) → SameIppAnswer one other → message_of one id ≡ message_of other id
+same_message : (one other : IppResponse) (id : ℕ) → SameIppAnswer one other → message_of one id ≡ message_of other id
 same_message one other id same =
     ap (λ (status : Status). reply_of status id (unsupported_of status one.unsupported ++ one.groups)) same.status
     ∙ (ap (λ (attributes : List IppAttribute). reply_of other.status id (unsupported_of other.status attributes ++ one.groups)) same.unsupported
     ∙ ap (λ (groups : List IppGroup). reply_of other.status id (unsupported_of other.status other.unsupported ++ groups)) same.groups)
 
-same_bytes : (one other : IppAnswer) (id : ℕ) (bytes said : List ℕ) → SameIppAnswer one other → IsReply one id bytes → IsReply other id said → bytes ≡ said
+same_bytes : (one other : IppResponse) (id : ℕ) (bytes said : List ℕ) → SameIppAnswer one other → IsReply one id bytes → IsReply other id said → bytes ≡ said
 same_bytes one other id bytes said same p q = p.spelt ∙ (ap spelling (same_message one other id same) ∙ sym q.spelt)
 
 same_text : (one other : QueueListing) → SameListing one other → queue_text one ≡ queue_text other
@@ -61,19 +61,19 @@ loses_reply : (key id request : ℕ) (query : Bool) → Fixed (LosesReply key id
 loses_reply key id request query = alike_then (fixed_tells (Refused At.Reply (Some id))) (alike_if query (fixed_status key TemporaryError request) (fixed_breaks key))
 
 loses_first : (key id request : ℕ) (query : Bool) → Begins is_choice false (LosesReply key id request query)
-loses_first key id request query = begins_then is_choice false (Tells (Refused At.Reply (Some id))) (If query (KeepsStatus key TemporaryError request) (Breaks key)) (begins_tells is_choice false (Refused At.Reply (Some id)) refl)
+loses_first key id request query = begins_then is_choice false (Tells (Refused At.Reply (Some id))) (If query (EnqueuesStatus key TemporaryError request) (Breaks key)) (begins_tells is_choice false (Refused At.Reply (Some id)) refl)
 
-found_reply : (key : ℕ) (bytes : List ℕ) → Begins is_choice true (Then (Chooses Found) (KeepsReply key bytes))
-found_reply key bytes = begins_then is_choice true (Chooses Found) (KeepsReply key bytes) (begins_chooses is_choice true Found refl)
+found_reply : (key : ℕ) (bytes : List ℕ) → Begins is_choice true (Then (Chooses Found) (EnqueuesReply key bytes))
+found_reply key bytes = begins_then is_choice true (Chooses Found) (EnqueuesReply key bytes) (begins_chooses is_choice true Found refl)
 
-replies_one : (key id request : ℕ) (query : Bool) (one other : IppAnswer) → SameIppAnswer one other → (l : Ledger) (hs rest : List Happening) (a : Ledger) (ks more : List Happening) (b : Ledger) → hs ++ rest ≡ ks ++ more → RepliesWith key id request query (Says.Ipp one) l hs a → RepliesWith key id request query (Says.Ipp other) l ks b → (hs ≡ ks) × (a ≡ b)
+replies_one : (key id request : ℕ) (query : Bool) (one other : IppResponse) → SameIppAnswer one other → (l : Ledger) (hs rest : List Happening) (a : Ledger) (ks more : List Happening) (b : Ledger) → hs ++ rest ≡ ks ++ more → RepliesWith key id request query (Says.Ipp one) l hs a → RepliesWith key id request query (Says.Ipp other) l ks b → (hs ≡ ks) × (a ≡ b)
 replies_one key id request query one other same l hs rest a ks more b e (inl (bytes, is, p)) (inl (said, its, q)) =
-    (alike_then (fixed_chooses Found) (fixed_reply key bytes)).one l hs rest a ks more b e p (subst (λ (x : List ℕ). Then (Chooses Found) (KeepsReply key x) l ks b) (sym (same_bytes one other request bytes said same is its)) q)
+    (alike_then (fixed_chooses Found) (fixed_reply key bytes)).one l hs rest a ks more b e p (subst (λ (x : List ℕ). Then (Chooses Found) (EnqueuesReply key x) l ks b) (sym (same_bytes one other request bytes said same is its)) q)
 replies_one key id request query one other same l hs rest a ks more b e (inl (bytes, is, p)) (inr q) = apart is_choice hs rest ks more e ((found_reply key bytes).begins l hs a p) ((loses_first key id request query).begins l ks b q)
 replies_one key id request query one other same l hs rest a ks more b e (inr p) (inl (said, its, q)) = apart is_choice ks more hs rest (sym e) ((found_reply key said).begins l ks b q) ((loses_first key id request query).begins l hs a p)
 replies_one key id request query one other same l hs rest a ks more b e (inr p) (inr q) = (loses_reply key id request query).one l hs rest a ks more b e p q
 
-same_replies : (key id request : ℕ) (query : Bool) (one other : Answer) → SameAnswer one other → Alike (RepliesWith key id request query one) (RepliesWith key id request query other)
+same_replies : (key id request : ℕ) (query : Bool) (one other : Response) → SameAnswer one other → Alike (RepliesWith key id request query one) (RepliesWith key id request query other)
 same_replies key id request query (Says.Ipp one) (Says.Ipp other) same = record { one = replies_one key id request query one other same }
 same_replies key id request query (Says.Lpd one) (Says.Lpd other) same = record { one = λ l hs rest a ks more b e p q. fixed_nothing.one l hs rest a ks more b e p q }
 same_replies key id request query Says.Nothing Says.Nothing same = record { one = λ l hs rest a ks more b e p q. fixed_nothing.one l hs rest a ks more b e p q }
@@ -89,17 +89,17 @@ fixed_dropped key id request = alike_then (fixed_tells (Refused At.Event (Some i
 
 -- ---- an LPD client
 
-pub fixed_declines : (place : Place) (key id : ℕ) → Fixed (Declines place key id)
-fixed_declines place key id = alike_then (fixed_tells (Refused place (Some id))) (fixed_keeps key (1 ∷ []))
+pub fixed_declines : (place : AllocationSite) (key id : ℕ) → Fixed (Declines place key id)
+fixed_declines place key id = alike_then (fixed_tells (Refused place (Some id))) (fixed_enqueues key (1 ∷ []))
 
 fixed_shows : (key id : ℕ) (text : List ℕ) → Fixed (Shows key id text)
 fixed_shows key id text =
-    fixed_or is_choice (begins_then is_choice true (Chooses Found) (Keeps key text) (begins_chooses is_choice true Found refl))
-    (begins_then is_choice false (Tells (Refused At.Reply (Some id))) (Breaks key) (begins_tells is_choice false (Refused At.Reply (Some id)) refl)) (alike_then (fixed_chooses Found) (fixed_keeps key text))
+    fixed_or is_choice (begins_then is_choice true (Chooses Found) (Enqueues key text) (begins_chooses is_choice true Found refl))
+    (begins_then is_choice false (Tells (Refused At.Reply (Some id))) (Breaks key) (begins_tells is_choice false (Refused At.Reply (Some id)) refl)) (alike_then (fixed_chooses Found) (fixed_enqueues key text))
     (alike_then (fixed_tells (Refused At.Reply (Some id))) (fixed_breaks key))
 
-same_told : (key id : ℕ) (one other : LpdAnswer) → SameLpdAnswer one other → Alike (IsTold key id one) (IsTold key id other)
-same_told key id (Shown.Taken one) (Shown.Taken other) same = subst (λ (taken : Bool). Alike (IsTold key id (Shown.Taken one)) (IsTold key id (Shown.Taken taken))) same (fixed_keeps key (ack_of (Shown.Taken one) ∷ []))
+same_told : (key id : ℕ) (one other : LpdResponse) → SameLpdAnswer one other → Alike (IsTold key id one) (IsTold key id other)
+same_told key id (Shown.Taken one) (Shown.Taken other) same = subst (λ (taken : Bool). Alike (IsTold key id (Shown.Taken one)) (IsTold key id (Shown.Taken taken))) same (fixed_enqueues key (ack_of (Shown.Taken one) ∷ []))
 same_told key id (Shown.Queue one) (Shown.Queue other) same = subst (λ (text : List ℕ). Alike (Shows key id (queue_text one)) (Shows key id text)) (same_text one other same) (fixed_shows key id (queue_text one))
 same_told key id Shown.NoQueue Shown.NoQueue same = fixed_shows key id (text_of Shown.NoQueue)
 same_told key id (Shown.Taken one) (Shown.Queue other) same = absurd same
@@ -109,7 +109,7 @@ same_told key id (Shown.Queue one) Shown.NoQueue same = absurd same
 same_told key id Shown.NoQueue (Shown.Taken other) same = absurd same
 same_told key id Shown.NoQueue (Shown.Queue other) same = absurd same
 
-same_shown : (key id : ℕ) (one other : Answer) → SameAnswer one other → Alike (IsShown key id one) (IsShown key id other)
+same_shown : (key id : ℕ) (one other : Response) → SameAnswer one other → Alike (IsShown key id one) (IsShown key id other)
 same_shown key id (Says.Lpd one) (Says.Lpd other) same = same_told key id one other same
 same_shown key id (Says.Ipp one) (Says.Ipp other) same = fixed_nothing
 same_shown key id Says.Nothing Says.Nothing same = fixed_nothing
@@ -122,7 +122,7 @@ same_shown key id Says.Nothing (Says.Lpd other) same = absurd same
 
 -- ---- any client
 
-same_answers : (key id : ℕ) (who : Client) (query : Bool) (one other : Reply) → SameReply one other → Alike (Answers key id who query (Some one)) (Answers key id who query (Some other))
+same_answers : (key id : ℕ) (who : Client) (query : Bool) (one other : Effects) → SameReply one other → Alike (Answers key id who query (Some one)) (Answers key id who query (Some other))
 same_answers key id (client.Ipp request) query one other same = same_replies key id request query one.answer other.answer same.answer
 same_answers key id client.LpdJob query one other same = same_shown key id one.answer other.answer same.answer
 same_answers key id client.LpdCommand query one other same = same_shown key id one.answer other.answer same.answer
@@ -133,8 +133,8 @@ none_answered key id client.LpdJob query = fixed_declines At.Event key id
 none_answered key id client.LpdCommand query = alike_then (fixed_tells (Refused At.Event (Some id))) (fixed_breaks key)
 
 none_first : (key id : ℕ) (who : Client) (query : Bool) → Begins is_choice false (Answers key id who query None)
-none_first key id (client.Ipp request) query = begins_then is_choice false (Tells (Refused At.Event (Some id))) (KeepsStatus key TemporaryError request) (begins_tells is_choice false (Refused At.Event (Some id)) refl)
-none_first key id client.LpdJob query = begins_then is_choice false (Tells (Refused At.Event (Some id))) (Keeps key (1 ∷ [])) (begins_tells is_choice false (Refused At.Event (Some id)) refl)
+none_first key id (client.Ipp request) query = begins_then is_choice false (Tells (Refused At.Event (Some id))) (EnqueuesStatus key TemporaryError request) (begins_tells is_choice false (Refused At.Event (Some id)) refl)
+none_first key id client.LpdJob query = begins_then is_choice false (Tells (Refused At.Event (Some id))) (Enqueues key (1 ∷ [])) (begins_tells is_choice false (Refused At.Event (Some id)) refl)
 none_first key id client.LpdCommand query = begins_then is_choice false (Tells (Refused At.Event (Some id))) (Breaks key) (begins_tells is_choice false (Refused At.Event (Some id)) refl)
 
 pub same_answered : (steps : StepsOnce) (moment key id : ℕ) (who : Client) (event other : Event) → SameEvent event other → is_query event ≡ is_query other → Alike (IsAnswered moment key id who event) (IsAnswered moment key id who other)
@@ -145,7 +145,7 @@ same_answered steps moment key id who event other same query =
 
 -- ---- a body that comes without HTTP
 
-answers_one : (request : ℕ) (one other : Reply) (bytes said : List ℕ) (l : Ledger) (hs rest : List Happening) (a : Ledger) (ks more : List Happening) (b : Ledger) → hs ++ rest ≡ ks ++ more → Between.Answers request (Some one) bytes l hs a → Between.Answers request (Some other) said l ks b → (hs ≡ ks) × (a ≡ b)
+answers_one : (request : ℕ) (one other : Effects) (bytes said : List ℕ) (l : Ledger) (hs rest : List Happening) (a : Ledger) (ks more : List Happening) (b : Ledger) → hs ++ rest ≡ ks ++ more → Between.Answers request (Some one) bytes l hs a → Between.Answers request (Some other) said l ks b → (hs ≡ ks) × (a ≡ b)
 answers_one request one other bytes said l hs rest a ks more b e (inl (are, p)) (inl (were, q)) = (fixed_chooses Found).one l hs rest a ks more b e p q
 answers_one request one other bytes said l hs rest a ks more b e (inl (are, p)) (inr q) = apart is_choice hs rest ks more e ((begins_chooses is_choice true Found refl).begins l hs a p) ((begins_tells is_choice false (Refused At.Reply None) refl).begins l ks b q)
 answers_one request one other bytes said l hs rest a ks more b e (inr p) (inl (were, q)) = apart is_choice ks more hs rest (sym e) ((begins_chooses is_choice true Found refl).begins l ks b q) ((begins_tells is_choice false (Refused At.Reply None) refl).begins l hs a p)

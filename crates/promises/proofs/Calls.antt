@@ -5,15 +5,15 @@ use Rattle.wires.specs.Poll.{Poll}
 use Rattle.dispatcher.specs.Notes.{Note}
 use Rattle.server.specs.Polls.{Happening, Leads, both, alone}
 use Rattle.server.specs.Law.{happenings_of, happenings_in}
-use Rattle.server.specs.Turn.{Deed, Turned, Served_body, Reported, Ticked, Trace}
+use Rattle.server.specs.Turn.{Action, Turned, Served_body, Reported, Ticked, Trace}
 use Rattle.server.specs.State.{EngineState}
-use Rattle.server.specs.Stands.{StandsAt}
+use Rattle.server.specs.Refinement.{StandsAt}
 use Rattle.server.proofs.Steps.{leads_append, leads_with}
-use Rattle.promises.specs.Calls.{Call, TakesTurn, Serves, Reports, Ticks, ByContract, AreMade, IsOf, AreOf, Keeps}
+use Rattle.promises.specs.Calls.{Call, TakesTurn, Serves, Reports, Ticks, ByContract, AreMade, IsOf, AreOf, IsAccounted}
 
 -- what one call leads to
 record Made {W N : Type 0} (polled : W → Poll → W → Type 0) (told : N → Note → N → Type 0) (call : Call) (u v : W × N) (old new : EngineState) : Type 0 where
-  deed : Deed
+  deed : Action
   is_of : IsOf call deed
   leads : Leads (both polled told) u (happenings_of deed) v
   stands : (opening : State) (trace : Trace) → StandsAt opening trace old → StandsAt opening (trace ++ deed ∷ []) new
@@ -52,8 +52,8 @@ all_made polled told (call ∷ calls) u v old new (w, mid, first, later) =
       stands = λ opening trace stands. subst (λ (t : Trace). StandsAt opening t new) (append_assoc trace (one.deed ∷ []) rest.deeds) (rest.stands opening (trace ++ one.deed ∷ []) (one.stands opening trace stands));
     }
 
-pub keeps : {W N : Type 0} (polled : W → Poll → W → Type 0) (told : N → Note → N → Type 0) (opening : State) (calls : List Call) (u v : W × N) (old new : EngineState) → StandsAt opening [] old → AreMade polled told calls u old v new → Keeps polled told opening calls u v new
-keeps polled told opening calls u v old new starts made =
+pub accounted : {W N : Type 0} (polled : W → Poll → W → Type 0) (told : N → Note → N → Type 0) (opening : State) (calls : List Call) (u v : W × N) (old new : EngineState) → StandsAt opening [] old → AreMade polled told calls u old v new → IsAccounted polled told opening calls u v new
+accounted polled told opening calls u v old new starts made =
     let all = all_made polled told calls u v old new made in
     let stands = all.stands opening [] starts in
     record { trace = all.deeds; of_calls = all.are_of; leads = all.leads; ledger = stands.0; allows = stands.1; fits = stands.2 }

@@ -6,11 +6,11 @@ use Rattle.base_types.specs.declared.report.Report.TheVariants as report
 use Rattle.settings_file.specs.Settings.{ServerSettings}
 use Rattle.events.specs.declared.event.Event.{Event}
 use Rattle.events.specs.declared.event.Event.TheVariants as Is
-use Rattle.events.specs.declared.reply.Answer.{Answer}
-use Rattle.events.specs.declared.reply.Answer.TheVariants as answered
-use Rattle.events.specs.declared.reply.LpdAnswer.{LpdAnswer}
-use Rattle.events.specs.declared.reply.LpdAnswer.TheVariants as shown
-use Rattle.events.specs.declared.reply.Reply.{Reply}
+use Rattle.events.specs.declared.effects.Response.{Response}
+use Rattle.events.specs.declared.effects.Response.TheVariants as answered
+use Rattle.events.specs.declared.effects.LpdResponse.{LpdResponse}
+use Rattle.events.specs.declared.effects.LpdResponse.TheVariants as shown
+use Rattle.events.specs.declared.effects.Effects.{Effects}
 use Rattle.events.specs.declared.status.Status.{Status}
 use Rattle.events.specs.declared.status.Status.TheVariants.{TemporaryError}
 use Rattle.events.specs.Event.{is_query}
@@ -18,18 +18,18 @@ use Rattle.device_link.specs.Orders.{cancel_line}
 use Rattle.dispatcher.specs.declared.outcome.Outcome.{Outcome}
 use Rattle.dispatcher.specs.declared.outcome.Outcome.TheVariants.{Dropped, Queried, Undispatched, Idle, Dispatched}
 use Rattle.dispatcher.specs.declared.listener.DeviceRefusal.TheVariants as why
-use Rattle.dispatcher.specs.declared.listener.Place.{Place}
-use Rattle.dispatcher.specs.declared.listener.Place.TheVariants as At
+use Rattle.dispatcher.specs.declared.listener.AllocationSite.{AllocationSite}
+use Rattle.dispatcher.specs.declared.listener.AllocationSite.TheVariants as At
 use Rattle.dispatcher.specs.Notes.{Note, DeviceRefused, Refused}
 use Rattle.dispatcher.specs.Run.{reply_of}
-use Rattle.requests.specs.declared.asked.Asked.{Asked}
-use Rattle.requests.specs.declared.asked.Asked.TheVariants as asked
-use Rattle.replies.specs.QueueText.{ack_of, text_of}
-use Rattle.outputs.specs.Output.{IsFront}
-use Rattle.outputs.specs.Reply.{http_reply}
+use Rattle.requests.specs.declared.parsed_request.ParsedRequest.{ParsedRequest}
+use Rattle.requests.specs.declared.parsed_request.ParsedRequest.TheVariants as asked
+use Rattle.responses.specs.QueueText.{ack_of, text_of}
+use Rattle.send_queues.specs.SendQueue.{IsFront}
+use Rattle.send_queues.specs.Reply.{http_reply}
 use Rattle.wires.specs.Poll.{Poll, Accepts, Reads, Writes, Closes}
-use Rattle.wires.specs.declared.wire.Answer.{Answer as WireAnswer}
-use Rattle.wires.specs.declared.wire.Answer.TheVariants as wire
+use Rattle.wires.specs.declared.wire.Progress.{Progress as WireAnswer}
+use Rattle.wires.specs.declared.wire.Progress.TheVariants as wire
 use Rattle.wires.specs.declared.wire.Door.{Door}
 use Rattle.wires.specs.declared.wire.Door.TheVariants.{Ipp, Lpd, Devices}
 use Rattle.connections.specs.declared.ask.Ask.{Ask}
@@ -45,15 +45,15 @@ use Rattle.server.specs.Polls.{Happening, Polled, Told, Choice, Found, On, Reste
 use Rattle.server.specs.Ledger.{Ledger, Fate, Drained, Broken, at_key, with_entry, job_bytes, opening_ledger}
 use Rattle.print_room.specs.State.{State}
 use Rattle.server.specs.Rel.{Rel, Nothing, Polls, Tells, Chooses, Then, If, Or, Times, Many, Each, EachOf}
-use Rattle.server.specs.Keeping.{Sets, BreaksAt, Breaks, Drops, KeepsOpen, KeepsAt, KeepsWhere, Keeps, KeepsReplyAt, KeepsReply, KeepsStatus, KeepsOn}
+use Rattle.server.specs.Enqueuing.{Sets, BreaksAt, Breaks, Drops, EnqueuesOpen, EnqueuesAt, EnqueuesWhere, Enqueues, EnqueuesReplyAt, EnqueuesReply, EnqueuesStatus, EnqueuesOn}
 use Rattle.server.specs.Happening.{now_at, found_by, Decides, Sends, Starts, StartsAll, SendsAll, Orders, Happens, Unanswered}
 use Rattle.server.specs.Closing.{Leaves, IsGone, ClosesAs, ClosesFirst, Settles}
 use Rattle.server.specs.Answering as Ans
 use Rattle.server.specs.Greeting.{GivesWayAt, GivesWay, SaysName, TakesOver, Greets}
-use Rattle.server.specs.Acting.{place_of, place_of_part, Asks, Does, ActsNext}
+use Rattle.server.specs.Acting.{place_of, place_of_part, Asks, Refines, ActsNext}
 use Rattle.server.specs.Polling.{Opens, AcceptsAs, AcceptsOne, AcceptsAt, Acts, Serves, FedWhole, FeedsAt, FeedsOne, Fails, ReadsAs, ReadsOpen, ReadsAt, is_read, ReadsOne, WritesAs, WritesOpen, WritesAt, WritesOne, is_done, EndsAt, EndsOne}
 use Rattle.server.specs.Turn as Between
-use Rattle.server.specs.Turn.{Ticks, Notes, is_tick_due, TicksIfDue, Covers, Round, Turn, BodyAsks, BodyComes, Deed, Turned, Served_body, Reported, Ticked, Trace, DoesDeed, Runs}
+use Rattle.server.specs.Turn.{Ticks, Notes, is_tick_due, TicksIfDue, Covers, Round, Turn, BodyAsks, BodyComes, Action, Turned, Served_body, Reported, Ticked, Trace, DoesDeed, Runs}
 use Rattle.server.specs.Law.{happenings_of, happenings_in}
 use Rattle.promises.specs.Carried.{Carried, nothing_carried, at_number, carry, carried, IsNew, AreNew, carried_in, NumbersDiffer, IsCarried}
 use Rattle.promises.proofs.Sending.{same_key, other_key, is_key, not_key}
@@ -65,25 +65,25 @@ record Steady (d e : Entry) : Type 0 where
   id : e.id ≡ d.id
   taken : e.taken ≡ d.taken
   more : (rest : List ℕ) × (e.due ≡ d.due ++ rest)
-  read : e.over ≡ false → e.broken ≡ false → (d.over ≡ false) × (d.broken ≡ false) × (e.read ≡ d.read)
+  read : e.draining ≡ false → e.broken ≡ false → (d.draining ≡ false) × (d.broken ≡ false) × (e.read ≡ d.read)
 
 no_more : (d e : Entry) → e.due ≡ d.due → (rest : List ℕ) × (e.due ≡ d.due ++ rest)
 no_more d e same = ([], same ∙ sym (append-nil d.due))
 
 steady_same : (e : Entry) → Steady e e
-steady_same e = record { id = refl; taken = refl; more = no_more e e refl; read = λ over sound. (over, sound, refl) }
+steady_same e = record { id = refl; taken = refl; more = no_more e e refl; read = λ draining sound. (draining, sound, refl) }
 
 steady_owing : (e : Entry) (bytes : List ℕ) → Steady e (owing bytes e)
-steady_owing e bytes = record { id = refl; taken = refl; more = (bytes, refl); read = λ over sound. (over, sound, refl) }
+steady_owing e bytes = record { id = refl; taken = refl; more = (bytes, refl); read = λ draining sound. (draining, sound, refl) }
 
 steady_broken : (e : Entry) → Steady e (broken e)
-steady_broken e = record { id = refl; taken = refl; more = no_more e (broken e) refl; read = λ over sound. cc }
+steady_broken e = record { id = refl; taken = refl; more = no_more e (broken e) refl; read = λ draining sound. cc }
 
 steady_given_up : (e : Entry) → Steady e (given_up e)
-steady_given_up e = record { id = refl; taken = refl; more = no_more e (given_up e) refl; read = λ over sound. cc }
+steady_given_up e = record { id = refl; taken = refl; more = no_more e (given_up e) refl; read = λ draining sound. cc }
 
 steady_ended : (e : Entry) → Steady e (record e { ended = true })
-steady_ended e = record { id = refl; taken = refl; more = no_more e (record e { ended = true }) refl; read = λ over sound. (over, sound, refl) }
+steady_ended e = record { id = refl; taken = refl; more = no_more e (record e { ended = true }) refl; read = λ draining sound. (draining, sound, refl) }
 
 -- what it asks changes it in this way
 steady_talk : (e mid : Entry) (talk : Talk) → mid ≡ talking talk e → (mid.id ≡ e.id) × (mid.taken ≡ e.taken) × (mid.due ≡ e.due) × (mid.read ≡ e.read)
@@ -101,51 +101,51 @@ heard_mid settings (Link reports device) e comes mid (inl next) = steady_talk e 
 heard_mid settings (Link reports device) e comes mid (inr (inl next)) = steady_mid e mid next.after
 heard_mid settings (Link reports device) e comes mid (inr (inr next)) = steady_mid e mid next.1
 
-counted : (over is : Bool) → (over || is) ≡ false → (over ≡ false) × (is ≡ false)
+counted : (draining is : Bool) → (draining || is) ≡ false → (draining ≡ false) × (is ≡ false)
 counted true is none = cc
 counted false is none = (refl, none)
 
-step_owes : (e mid new : Entry) (bytes : List ℕ) (last : Bool) → (e.over || e.broken) ≡ false → (mid.id ≡ e.id) × (mid.taken ≡ e.taken) × (mid.due ≡ e.due) × (mid.read ≡ e.read) → new ≡ owing bytes (finishing last mid) → Steady e new
+step_owes : (e mid new : Entry) (bytes : List ℕ) (last : Bool) → (e.draining || e.broken) ≡ false → (mid.id ≡ e.id) × (mid.taken ≡ e.taken) × (mid.due ≡ e.due) × (mid.read ≡ e.read) → new ≡ owing bytes (finishing last mid) → Steady e new
 step_owes e mid new bytes last counts same is =
-    let sound = counted e.over e.broken counts in
+    let sound = counted e.draining e.broken counts in
     record {
       id = ap (λ (x : Entry). x.id) is ∙ same.0;
       taken = ap (λ (x : Entry). x.taken) is ∙ same.1;
       more = (bytes, ap (λ (x : Entry). x.due) is ∙ ap (λ (due : List ℕ). due ++ bytes) same.2);
-      read = λ over unbroken. (sound.0, sound.1, ap (λ (x : Entry). x.read) is ∙ same.3);
+      read = λ draining unbroken. (sound.0, sound.1, ap (λ (x : Entry). x.read) is ∙ same.3);
     }
 
-step_asks : (e mid new : Entry) (last : Bool) → (e.over || e.broken) ≡ false → (mid.id ≡ e.id) × (mid.taken ≡ e.taken) × (mid.due ≡ e.due) × (mid.read ≡ e.read) → new ≡ finishing last mid → Steady e new
+step_asks : (e mid new : Entry) (last : Bool) → (e.draining || e.broken) ≡ false → (mid.id ≡ e.id) × (mid.taken ≡ e.taken) × (mid.due ≡ e.due) × (mid.read ≡ e.read) → new ≡ finishing last mid → Steady e new
 step_asks e mid new last counts same is =
-    let sound = counted e.over e.broken counts in
+    let sound = counted e.draining e.broken counts in
     record {
       id = ap (λ (x : Entry). x.id) is ∙ same.0;
       taken = ap (λ (x : Entry). x.taken) is ∙ same.1;
       more = no_more e new (ap (λ (x : Entry). x.due) is ∙ same.2);
-      read = λ over unbroken. (sound.0, sound.1, ap (λ (x : Entry). x.read) is ∙ same.3);
+      read = λ draining unbroken. (sound.0, sound.1, ap (λ (x : Entry). x.read) is ∙ same.3);
     }
 
-step_breaks : (e mid new : Entry) (last : Bool) → (e.over || e.broken) ≡ false → (mid.id ≡ e.id) × (mid.taken ≡ e.taken) × (mid.due ≡ e.due) × (mid.read ≡ e.read) → new ≡ broken (finishing last mid) → Steady e new
+step_breaks : (e mid new : Entry) (last : Bool) → (e.draining || e.broken) ≡ false → (mid.id ≡ e.id) × (mid.taken ≡ e.taken) × (mid.due ≡ e.due) × (mid.read ≡ e.read) → new ≡ broken (finishing last mid) → Steady e new
 step_breaks e mid new last counts same is =
-    let sound = counted e.over e.broken counts in
+    let sound = counted e.draining e.broken counts in
     record {
       id = ap (λ (x : Entry). x.id) is ∙ same.0;
       taken = ap (λ (x : Entry). x.taken) is ∙ same.1;
       more = no_more e new (ap (λ (x : Entry). x.due) is ∙ same.2);
-      read = λ over unbroken. (sound.0, sound.1, ap (λ (x : Entry). x.read) is ∙ same.3);
+      read = λ draining unbroken. (sound.0, sound.1, ap (λ (x : Entry). x.read) is ∙ same.3);
     }
 
-step_fails : (e mid new : Entry) → (e.over || e.broken) ≡ false → (mid.id ≡ e.id) × (mid.taken ≡ e.taken) × (mid.due ≡ e.due) × (mid.read ≡ e.read) → new ≡ broken mid → Steady e new
+step_fails : (e mid new : Entry) → (e.draining || e.broken) ≡ false → (mid.id ≡ e.id) × (mid.taken ≡ e.taken) × (mid.due ≡ e.due) × (mid.read ≡ e.read) → new ≡ broken mid → Steady e new
 step_fails e mid new counts same is =
-    let sound = counted e.over e.broken counts in
+    let sound = counted e.draining e.broken counts in
     record {
       id = ap (λ (x : Entry). x.id) is ∙ same.0;
       taken = ap (λ (x : Entry). x.taken) is ∙ same.1;
       more = no_more e new (ap (λ (x : Entry). x.due) is ∙ same.2);
-      read = λ over unbroken. (sound.0, sound.1, ap (λ (x : Entry). x.read) is ∙ same.3);
+      read = λ draining unbroken. (sound.0, sound.1, ap (λ (x : Entry). x.read) is ∙ same.3);
     }
 
-steady_step : (e mid new : Entry) (comes : Step) (what : Ask) → (e.over || e.broken) ≡ false → (mid.id ≡ e.id) × (mid.taken ≡ e.taken) × (mid.due ≡ e.due) × (mid.read ≡ e.read) → StepsTo comes mid what new → Steady e new
+steady_step : (e mid new : Entry) (comes : Step) (what : Ask) → (e.draining || e.broken) ≡ false → (mid.id ≡ e.id) × (mid.taken ≡ e.taken) × (mid.due ≡ e.due) × (mid.read ≡ e.read) → StepsTo comes mid what new → Steady e new
 steady_step e mid new (step.Due due last) what counts same (inl is) = step_owes e mid new (due_bytes due) last counts same is.1
 steady_step e mid new (step.Due due last) what counts same (inr is) = step_breaks e mid new last counts same is.2
 steady_step e mid new (step.Asks it last) what counts same is = step_asks e mid new last counts same is.1
@@ -162,7 +162,7 @@ record Agrees (c : Carried) (l : Ledger) : Type 0 where
   one : (key other : ℕ) (e d : Entry) → l.entries key ≡ Some e → l.entries other ≡ Some d → e.id ≡ d.id → key ≡ other
   taken : (key : ℕ) (e : Entry) → l.entries key ≡ Some e → e.taken ≡ c.taken e.id
   front : (key : ℕ) (e : Entry) → l.entries key ≡ Some e → (rest : List ℕ) × (e.due ≡ e.taken ++ rest)
-  read : (key : ℕ) (e : Entry) → l.entries key ≡ Some e → e.over ≡ false → e.broken ≡ false → e.read ≡ c.read e.id
+  read : (key : ℕ) (e : Entry) → l.entries key ≡ Some e → e.draining ≡ false → e.broken ≡ false → e.read ≡ c.read e.id
 
 -- each connection is what it was, or steady
 abbrev Follow : Ledger → Ledger → Type 0
@@ -177,9 +177,9 @@ agrees_steady c l l' a follow = record {
       let d = follow key e is in
       let f = a.front key d.0 d.1 in
       (f.0 ++ d.2.more.0, d.2.more.1 ∙ (ap (λ (xs : List ℕ). xs ++ d.2.more.0) f.1 ∙ (append_assoc d.0.taken f.0 d.2.more.0 ∙ ap (λ (xs : List ℕ). xs ++ (f.0 ++ d.2.more.0)) (sym d.2.taken))));
-  read = λ key e is over sound.
+  read = λ key e is draining sound.
       let d = follow key e is in
-      let was = d.2.read over sound in
+      let was = d.2.read draining sound in
       was.2 ∙ (a.read key d.0 d.1 was.0 was.1 ∙ ap c.read (sym d.2.id));
 }
 
@@ -270,7 +270,7 @@ carries_each_of (x ∷ xs) R r = carries_then (R x) (EachOf xs R) (r x) (carries
 carries_sets : (key : ℕ) (d e : Entry) (c : Carried) (l : Ledger) (hs : List Happening) (l' : Ledger) → Agrees c l → l.entries key ≡ Some d → Steady d e → Sets key e l hs l' → Agrees (carried c hs) l'
 carries_sets key d e c l hs l' a there steady it = carries_quiet c l hs l' a (ap (carried c) it.0) (follow_sets key d e l l' there steady it.1)
 
-carries_drops : (place : Place) (key : ℕ) (e : Entry) (c : Carried) (l : Ledger) (hs : List Happening) (l' : Ledger) → Agrees c l → l.entries key ≡ Some e → Drops place key e l hs l' → Agrees (carried c hs) l'
+carries_drops : (place : AllocationSite) (key : ℕ) (e : Entry) (c : Carried) (l : Ledger) (hs : List Happening) (l' : Ledger) → Agrees c l → l.entries key ≡ Some e → Drops place key e l hs l' → Agrees (carried c hs) l'
 carries_drops place key e c l hs l' a there it = carries_quiet c l hs l' a (ap (carried c) it.0) (follow_sets key e (broken e) l l' there (steady_broken e) it.1)
 
 -- ---- what becomes due
@@ -286,44 +286,44 @@ at_breaks key (Some e) c l hs l' there a new it = carries_sets key e (broken e) 
 carries_breaks : (key : ℕ) → Carries (Breaks key)
 carries_breaks key c l hs l' a new it = at_breaks key (l.entries key) c l hs l' refl a new it
 
-keeps_open : (refusable : Bool) (key : ℕ) (bytes : List ℕ) (e : Entry) (c : Carried) (l : Ledger) (hs : List Happening) (l' : Ledger) → l.entries key ≡ Some e → Agrees c l → AreNew c hs → KeepsOpen refusable key bytes e l hs l' → Agrees (carried c hs) l'
-keeps_open false key bytes e c l hs l' there a new it = carries_sets key e (owing bytes e) c l hs l' a there (steady_owing e bytes) it
-keeps_open true key bytes e c l hs l' there a new (inl it) =
+enqueues_open : (refusable : Bool) (key : ℕ) (bytes : List ℕ) (e : Entry) (c : Carried) (l : Ledger) (hs : List Happening) (l' : Ledger) → l.entries key ≡ Some e → Agrees c l → AreNew c hs → EnqueuesOpen refusable key bytes e l hs l' → Agrees (carried c hs) l'
+enqueues_open false key bytes e c l hs l' there a new it = carries_sets key e (owing bytes e) c l hs l' a there (steady_owing e bytes) it
+enqueues_open true key bytes e c l hs l' there a new (inl it) =
     carries_quiet c l hs l' a (ap (carried c) (it.whole ∙ (ap (λ (xs : List Happening). xs ++ it.back) it.first.0 ∙ ap (λ (xs : List Happening). Chosen Found ∷ xs) it.second.0)))
     (follow_sets key e (owing bytes e) l l' there (steady_owing e bytes) (it.second.1 ∙ ap (λ (x : Ledger). with_entry key (owing bytes e) x) it.first.1))
-keeps_open true key bytes e c l hs l' there a new (inr it) = carries_drops At.Keep key e c l hs l' a there it
+enqueues_open true key bytes e c l hs l' there a new (inr it) = carries_drops At.Enqueue key e c l hs l' a there it
 
-keeps_if : (t refusable : Bool) (key : ℕ) (bytes : List ℕ) (e : Entry) (c : Carried) (l : Ledger) (hs : List Happening) (l' : Ledger) → l.entries key ≡ Some e → Agrees c l → AreNew c hs → If t Nothing (KeepsOpen refusable key bytes e) l hs l' → Agrees (carried c hs) l'
-keeps_if true refusable key bytes e c l hs l' there a new it = carries_nothing c l hs l' a new it
-keeps_if false refusable key bytes e c l hs l' there a new it = keeps_open refusable key bytes e c l hs l' there a new it
+enqueues_if : (t refusable : Bool) (key : ℕ) (bytes : List ℕ) (e : Entry) (c : Carried) (l : Ledger) (hs : List Happening) (l' : Ledger) → l.entries key ≡ Some e → Agrees c l → AreNew c hs → If t Nothing (EnqueuesOpen refusable key bytes e) l hs l' → Agrees (carried c hs) l'
+enqueues_if true refusable key bytes e c l hs l' there a new it = carries_nothing c l hs l' a new it
+enqueues_if false refusable key bytes e c l hs l' there a new it = enqueues_open refusable key bytes e c l hs l' there a new it
 
-keeps_at : (refusable : Entry → Bool) (key : ℕ) (bytes : List ℕ) → CarriesAt key (KeepsAt refusable key bytes)
-keeps_at refusable key bytes None c l hs l' there a new it = carries_nothing c l hs l' a new it
-keeps_at refusable key bytes (Some e) c l hs l' there a new it = keeps_if e.broken (refusable e) key bytes e c l hs l' there a new it
+enqueues_at : (refusable : Entry → Bool) (key : ℕ) (bytes : List ℕ) → CarriesAt key (EnqueuesAt refusable key bytes)
+enqueues_at refusable key bytes None c l hs l' there a new it = carries_nothing c l hs l' a new it
+enqueues_at refusable key bytes (Some e) c l hs l' there a new it = enqueues_if e.broken (refusable e) key bytes e c l hs l' there a new it
 
-carries_where : (refusable : Entry → Bool) (key : ℕ) (bytes : List ℕ) → Carries (KeepsWhere refusable key bytes)
-carries_where refusable key bytes c l hs l' a new it = keeps_at refusable key bytes (l.entries key) c l hs l' refl a new it
+carries_where : (refusable : Entry → Bool) (key : ℕ) (bytes : List ℕ) → Carries (EnqueuesWhere refusable key bytes)
+carries_where refusable key bytes c l hs l' a new it = enqueues_at refusable key bytes (l.entries key) c l hs l' refl a new it
 
-carries_keeps : (key : ℕ) (bytes : List ℕ) → Carries (Keeps key bytes)
-carries_keeps key bytes = carries_where (needs_memory bytes) key bytes
+carries_enqueues : (key : ℕ) (bytes : List ℕ) → Carries (Enqueues key bytes)
+carries_enqueues key bytes = carries_where (needs_memory bytes) key bytes
 
-reply_at : (bytes : Bool → List ℕ) (key : ℕ) (o : Option Entry) → Carries (KeepsReplyAt bytes key o)
+reply_at : (bytes : Bool → List ℕ) (key : ℕ) (o : Option Entry) → Carries (EnqueuesReplyAt bytes key o)
 reply_at bytes key None = carries_nothing
-reply_at bytes key (Some e) = carries_keeps key (bytes (closes_of e.talk))
+reply_at bytes key (Some e) = carries_enqueues key (bytes (closes_of e.talk))
 
-carries_reply : (key : ℕ) (bytes : List ℕ) → Carries (KeepsReply key bytes)
+carries_reply : (key : ℕ) (bytes : List ℕ) → Carries (EnqueuesReply key bytes)
 carries_reply key bytes c l hs l' a new it = reply_at (λ closes. http_reply closes bytes) key (l.entries key) c l hs l' a new it
 
-carries_status : (key : ℕ) (status : Status) (request : ℕ) → Carries (KeepsStatus key status request)
+carries_status : (key : ℕ) (status : Status) (request : ℕ) → Carries (EnqueuesStatus key status request)
 carries_status key status request c l hs l' a new it = reply_at (λ closes. http_status closes status request) key (l.entries key) c l hs l' a new it
 
-carries_on : (device : ℕ) (bytes : List ℕ) → Carries (KeepsOn device bytes)
-carries_on device bytes c l hs l' a new (inl (key, is, it)) = carries_then (Chooses (On key)) (KeepsWhere (λ e. true) key bytes) (carries_chooses (On key)) (carries_where (λ e. true) key bytes) c l hs l' a new it
+carries_on : (device : ℕ) (bytes : List ℕ) → Carries (EnqueuesOn device bytes)
+carries_on device bytes c l hs l' a new (inl (key, is, it)) = carries_then (Chooses (On key)) (EnqueuesWhere (λ e. true) key bytes) (carries_chooses (On key)) (carries_where (λ e. true) key bytes) c l hs l' a new it
 carries_on device bytes c l hs l' a new (inr (absent, it)) = carries_nothing c l hs l' a new it
 
 -- ---- events
 
-carries_sends : (reply : Reply) → Carries (SendsAll reply)
+carries_sends : (reply : Effects) → Carries (SendsAll reply)
 carries_sends reply = carries_each_of reply.cancels.items Sends (λ cancel. carries_on cancel.device (cancel_line cancel.job))
 
 carries_starts : Carries StartsAll
@@ -359,42 +359,42 @@ carries_unanswered moment event c l hs l' a new (outcome, it) = carries_happens 
 -- ---- answers
 
 carries_dropped : (key id request : ℕ) → Carries (Ans.Drops key id request)
-carries_dropped key id request = carries_then (Tells (Refused At.Event (Some id))) (KeepsStatus key TemporaryError request) (carries_tells (Refused At.Event (Some id))) (carries_status key TemporaryError request)
+carries_dropped key id request = carries_then (Tells (Refused At.Event (Some id))) (EnqueuesStatus key TemporaryError request) (carries_tells (Refused At.Event (Some id))) (carries_status key TemporaryError request)
 
 carries_lost : (key id request : ℕ) (query : Bool) → Carries (Ans.LosesReply key id request query)
 carries_lost key id request query =
-    carries_then (Tells (Refused At.Reply (Some id))) (If query (KeepsStatus key TemporaryError request) (Breaks key)) (carries_tells (Refused At.Reply (Some id)))
-    (carries_if query (KeepsStatus key TemporaryError request) (Breaks key) (carries_status key TemporaryError request) (carries_breaks key))
+    carries_then (Tells (Refused At.Reply (Some id))) (If query (EnqueuesStatus key TemporaryError request) (Breaks key)) (carries_tells (Refused At.Reply (Some id)))
+    (carries_if query (EnqueuesStatus key TemporaryError request) (Breaks key) (carries_status key TemporaryError request) (carries_breaks key))
 
-carries_replies_with : (key id request : ℕ) (query : Bool) (answer : Answer) → Carries (Ans.RepliesWith key id request query answer)
-carries_replies_with key id request query (answered.Ipp answer) c l hs l' a new (inl (bytes, is, it)) = carries_then (Chooses Found) (KeepsReply key bytes) (carries_chooses Found) (carries_reply key bytes) c l hs l' a new it
+carries_replies_with : (key id request : ℕ) (query : Bool) (answer : Response) → Carries (Ans.RepliesWith key id request query answer)
+carries_replies_with key id request query (answered.Ipp answer) c l hs l' a new (inl (bytes, is, it)) = carries_then (Chooses Found) (EnqueuesReply key bytes) (carries_chooses Found) (carries_reply key bytes) c l hs l' a new it
 carries_replies_with key id request query (answered.Ipp answer) c l hs l' a new (inr it) = carries_lost key id request query c l hs l' a new it
 carries_replies_with key id request query (answered.Lpd answer) c l hs l' a new it = carries_nothing c l hs l' a new it
 carries_replies_with key id request query answered.Nothing c l hs l' a new it = carries_nothing c l hs l' a new it
 
-carries_replies : (key id request : ℕ) (query : Bool) (reply : Option Reply) → Carries (Ans.Replies key id request query reply)
+carries_replies : (key id request : ℕ) (query : Bool) (reply : Option Effects) → Carries (Ans.Replies key id request query reply)
 carries_replies key id request query (Some reply) = carries_replies_with key id request query reply.answer
 carries_replies key id request query None = carries_dropped key id request
 
-carries_declines : (place : Place) (key id : ℕ) → Carries (Ans.Declines place key id)
-carries_declines place key id = carries_then (Tells (Refused place (Some id))) (Keeps key (1 ∷ [])) (carries_tells (Refused place (Some id))) (carries_keeps key (1 ∷ []))
+carries_declines : (place : AllocationSite) (key id : ℕ) → Carries (Ans.Declines place key id)
+carries_declines place key id = carries_then (Tells (Refused place (Some id))) (Enqueues key (1 ∷ [])) (carries_tells (Refused place (Some id))) (carries_enqueues key (1 ∷ []))
 
 carries_shows : (key id : ℕ) (text : List ℕ) → Carries (Ans.Shows key id text)
 carries_shows key id text =
-    carries_or (Then (Chooses Found) (Keeps key text)) (Then (Tells (Refused At.Reply (Some id))) (Breaks key)) (carries_then (Chooses Found) (Keeps key text) (carries_chooses Found) (carries_keeps key text))
+    carries_or (Then (Chooses Found) (Enqueues key text)) (Then (Tells (Refused At.Reply (Some id))) (Breaks key)) (carries_then (Chooses Found) (Enqueues key text) (carries_chooses Found) (carries_enqueues key text))
     (carries_then (Tells (Refused At.Reply (Some id))) (Breaks key) (carries_tells (Refused At.Reply (Some id))) (carries_breaks key))
 
-carries_told : (key id : ℕ) (answer : LpdAnswer) → Carries (Ans.IsTold key id answer)
-carries_told key id (shown.Taken taken) = carries_keeps key (ack_of (shown.Taken taken) ∷ [])
+carries_told : (key id : ℕ) (answer : LpdResponse) → Carries (Ans.IsTold key id answer)
+carries_told key id (shown.Taken taken) = carries_enqueues key (ack_of (shown.Taken taken) ∷ [])
 carries_told key id (shown.Queue listing) = carries_shows key id (text_of (shown.Queue listing))
 carries_told key id shown.NoQueue = carries_shows key id (text_of shown.NoQueue)
 
-carries_shown : (key id : ℕ) (answer : Answer) → Carries (Ans.IsShown key id answer)
+carries_shown : (key id : ℕ) (answer : Response) → Carries (Ans.IsShown key id answer)
 carries_shown key id (answered.Lpd answer) = carries_told key id answer
 carries_shown key id (answered.Ipp answer) = carries_nothing
 carries_shown key id answered.Nothing = carries_nothing
 
-carries_answers : (key id : ℕ) (who : Client) (query : Bool) (reply : Option Reply) → Carries (Ans.Answers key id who query reply)
+carries_answers : (key id : ℕ) (who : Client) (query : Bool) (reply : Option Effects) → Carries (Ans.Answers key id who query reply)
 carries_answers key id (client.Ipp request) query reply = carries_replies key id request query reply
 carries_answers key id client.LpdJob query (Some reply) = carries_shown key id reply.answer
 carries_answers key id client.LpdJob query None = carries_declines At.Event key id
@@ -409,7 +409,7 @@ out_of key e c l l' a there after = record {
   one = λ k o d f is its same. let it = was k d is in let other = was o f its in a.one k o d f it.1 other.1 same;
   taken = λ k d is. a.taken k d (was k d is).1;
   front = λ k d is. a.front k d (was k d is).1;
-  read = λ k d is over sound. a.read k d (was k d is).1 over sound;
+  read = λ k d is draining sound. a.read k d (was k d is).1 draining sound;
 }
   where
     by : (k : ℕ) (d : Entry) → ((k ≡ key) × (at_key key None l.entries k ≡ None)) ⊎ ((k ≢ key) × (at_key key None l.entries k ≡ l.entries k)) → at_key key None l.entries k ≡ Some d → (k ≢ key) × (l.entries k ≡ Some d)
@@ -464,7 +464,7 @@ carries_greets moment key id device name c l hs l' a new (inr (inl (old, has, it
 carries_greets moment key id device name c l hs l' a new (inr (inr (old, has, it))) =
     carries_then (GivesWay key) (Tells (DeviceRefused id (why.Connected device))) (carries_way key) (carries_tells (DeviceRefused id (why.Connected device))) c l hs l' a new it
 
-carries_does : (moment key id : ℕ) (what : Ask) → Carries (Does moment key id what)
+carries_does : (moment key id : ℕ) (what : Ask) → Carries (Refines moment key id what)
 carries_does moment key id ask.Nothing = carries_nothing
 carries_does moment key id (ask.Broke growth) = carries_tells (Refused (place_of growth) (Some id))
 carries_does moment key id (ask.Event who event) =
@@ -482,7 +482,7 @@ carries_asks key id what c l hs l' a new it =
 
 carries_acts : (moment key : ℕ) → Carries (Acts moment key)
 carries_acts moment key =
-    carries_then (ActsNext moment key) (Settles moment) (λ c l hs l' a new it. carries_then (Asks key it.0 it.1) (Does moment key it.0 it.1) (carries_asks key it.0 it.1) (carries_does moment key it.0 it.1) c l hs l' a new it.2) (carries_settles moment)
+    carries_then (ActsNext moment key) (Settles moment) (λ c l hs l' a new it. carries_then (Asks key it.0 it.1) (Refines moment key it.0 it.1) (carries_asks key it.0 it.1) (carries_does moment key it.0 it.1) c l hs l' a new it.2) (carries_settles moment)
 
 carries_serves : (moment key : ℕ) → Carries (Serves moment key)
 carries_serves moment key c l hs l' a new it = carries_then (Many (Acts moment key)) (Chooses Rested) (carries_many (Acts moment key) (carries_acts moment key)) (carries_chooses Rested) c l hs l' a new it.0
@@ -494,13 +494,13 @@ carries_fails moment key = carries_then (Breaks key) (Settles moment) (carries_b
 
 -- another connection under a key, of the same number, of which this was carried: what it read, or what it took
 agrees_with : (key : ℕ) (d e : Entry) (c c' : Carried) (l l' : Ledger) → Agrees c l → l.entries key ≡ Some d → l'.entries ≡ at_key key (Some e) l.entries → e.id ≡ d.id → c'.open_now ≡ c.open_now
-    → ((id : ℕ) → id ≢ d.id → (c'.taken id ≡ c.taken id) × (c'.read id ≡ c.read id)) → e.taken ≡ c'.taken d.id → ((rest : List ℕ) × (e.due ≡ e.taken ++ rest)) → (e.over ≡ false → e.broken ≡ false → e.read ≡ c'.read d.id) → Agrees c' l'
+    → ((id : ℕ) → id ≢ d.id → (c'.taken id ≡ c.taken id) × (c'.read id ≡ c.read id)) → e.taken ≡ c'.taken d.id → ((rest : List ℕ) × (e.due ≡ e.taken ++ rest)) → (e.draining ≡ false → e.broken ≡ false → e.read ≡ c'.read d.id) → Agrees c' l'
 agrees_with key d e c c' l l' a at after number still others taken front read = record {
   there = λ k f is. ap (λ (open_now : ℕ → Bool). open_now f.id) still ∙ there_at k f is (at_cases key (Some e) l.entries k);
   one = λ k o f g is its same. one_at k o f g is its same (at_cases key (Some e) l.entries k) (at_cases key (Some e) l.entries o);
   taken = λ k f is. taken_at k f is (at_cases key (Some e) l.entries k);
   front = λ k f is. front_at k f is (at_cases key (Some e) l.entries k);
-  read = λ k f is over sound. read_at k f is over sound (at_cases key (Some e) l.entries k);
+  read = λ k f is draining sound. read_at k f is draining sound (at_cases key (Some e) l.entries k);
 }
   where
     Each : ℕ → Type 0
@@ -533,11 +533,11 @@ agrees_with key d e c c' l l' a at after number still others taken front read = 
     front_at k f is (inl (same, its)) = subst (λ (x : Entry). (rest : List ℕ) × (x.due ≡ x.taken ++ rest)) (is_this k f is its) front
     front_at k f is (inr (apart, its)) = a.front k f (is_old k f is its)
 
-    read_at : (k : ℕ) (f : Entry) → l'.entries k ≡ Some f → f.over ≡ false → f.broken ≡ false → Each k → f.read ≡ c'.read f.id
-    read_at k f is over sound (inl (same, its)) =
+    read_at : (k : ℕ) (f : Entry) → l'.entries k ≡ Some f → f.draining ≡ false → f.broken ≡ false → Each k → f.read ≡ c'.read f.id
+    read_at k f is draining sound (inl (same, its)) =
         let this = is_this k f is its in
-        subst (λ (x : Entry). x.read ≡ c'.read x.id) this (read (ap (λ (x : Entry). x.over) this ∙ over) (ap (λ (x : Entry). x.broken) this ∙ sound) ∙ ap c'.read (sym number))
-    read_at k f is over sound (inr (apart, its)) = a.read k f (is_old k f is its) over sound ∙ sym (others f.id (differs k f apart (is_old k f is its))).1
+        subst (λ (x : Entry). x.read ≡ c'.read x.id) this (read (ap (λ (x : Entry). x.draining) this ∙ draining) (ap (λ (x : Entry). x.broken) this ∙ sound) ∙ ap c'.read (sym number))
+    read_at k f is draining sound (inr (apart, its)) = a.read k f (is_old k f is its) draining sound ∙ sym (others f.id (differs k f apart (is_old k f is its))).1
 
 at_this : {A : Type 0} (id : ℕ) (value : A) (table : ℕ → A) → at_number id value table id ≡ value
 at_this id value table = ap (λ (t : Bool). if t then value else table id) (is_key id)
@@ -547,11 +547,11 @@ at_other id value table other apart = ap (λ (t : Bool). if t then value else ta
 
 -- a read brought these bytes, after which the connection is this one
 agrees_read : (key : ℕ) (d e : Entry) (bytes : List ℕ) (c : Carried) (l l' : Ledger) → Agrees c l → l.entries key ≡ Some d → l' ≡ with_entry key e l → e.id ≡ d.id → e.taken ≡ d.taken → e.due ≡ d.due
-    → (e.over ≡ false → e.broken ≡ false → (d.over ≡ false) × (d.broken ≡ false) × (e.read ≡ d.read ++ bytes)) → Agrees (carry c (Reads d.id (wire.Done bytes))) l'
+    → (e.draining ≡ false → e.broken ≡ false → (d.draining ≡ false) × (d.broken ≡ false) × (e.read ≡ d.read ++ bytes)) → Agrees (carry c (Reads d.id (wire.Done bytes))) l'
 agrees_read key d e bytes c l l' a at after number taken due read =
     agrees_with key d e c (carry c (Reads d.id (wire.Done bytes))) l l' a at (ap (λ (x : Ledger). x.entries) after) number refl (λ id apart. (refl, at_other d.id (c.read d.id ++ bytes) c.read id apart)) (taken ∙ a.taken key d at)
     (let f = a.front key d at in (f.0, due ∙ (f.1 ∙ ap (λ (xs : List ℕ). xs ++ f.0) (sym taken))))
-    (λ over sound. let was = read over sound in was.2 ∙ (ap (λ (xs : List ℕ). xs ++ bytes) (a.read key d at was.0 was.1) ∙ sym (at_this d.id (c.read d.id ++ bytes) c.read)))
+    (λ draining sound. let was = read draining sound in was.2 ∙ (ap (λ (xs : List ℕ). xs ++ bytes) (a.read key d at was.0 was.1) ∙ sym (at_this d.id (c.read d.id ++ bytes) c.read)))
 
 -- what follows a read that brought bytes
 abbrev Fed : ℕ → List ℕ → Rel → Type 0
@@ -559,7 +559,7 @@ Fed key bytes R = (e : Entry) (c : Carried) (l : Ledger) (hs : List Happening) (
 
 -- the connection is set to another, and then more comes
 fed_then : (key : ℕ) (d e : Entry) (bytes : List ℕ) (hs front back : List Happening) (S : Rel) (c : Carried) (l mid l' : Ledger) → Carries S → Agrees c l → l.entries key ≡ Some d → hs ≡ front ++ back → ((k : Carried) → carried k front ≡ k) → mid ≡ with_entry key e l → e.id ≡ d.id → e.taken ≡ d.taken → e.due ≡ d.due
-    → (e.over ≡ false → e.broken ≡ false → (d.over ≡ false) × (d.broken ≡ false) × (e.read ≡ d.read ++ bytes)) → AreNew (carry c (Reads d.id (wire.Done bytes))) hs → S mid back l' → Agrees (carried (carry c (Reads d.id (wire.Done bytes))) hs) l'
+    → (e.draining ≡ false → e.broken ≡ false → (d.draining ≡ false) × (d.broken ≡ false) × (e.read ≡ d.read ++ bytes)) → AreNew (carry c (Reads d.id (wire.Done bytes))) hs → S mid back l' → Agrees (carried (carry c (Reads d.id (wire.Done bytes))) hs) l'
 fed_then key d e bytes hs front back S c l mid l' s a there whole silent after number taken due read new it =
     let k = carry c (Reads d.id (wire.Done bytes)) in
     let first : Agrees (carried k front) mid = subst (λ (x : Carried). Agrees x mid) (sym (silent k)) (agrees_read key d e bytes c l mid a there after number taken due read) in
@@ -568,24 +568,24 @@ fed_then key d e bytes hs front back S c l mid l' s a there whole silent after n
 
 fed_whole : (moment key : ℕ) (e : Entry) (bytes : List ℕ) (c : Carried) (l : Ledger) (hs : List Happening) (l' : Ledger) → Agrees c l → l.entries key ≡ Some e → AreNew (carry c (Reads e.id (wire.Done bytes))) hs → FedWhole moment key e bytes l hs l' → Agrees (carried (carry c (Reads e.id (wire.Done bytes))) hs) l'
 fed_whole moment key e bytes c l hs l' a there new (inl it) =
-    fed_then key e (reading bytes e) bytes hs it.front it.back (Serves moment key) c l it.mid l' (carries_serves moment key) a there it.whole (λ k. ap (carried k) it.first.0) it.first.1 refl refl refl (λ over sound. (over, sound, refl)) new it.second
+    fed_then key e (reading bytes e) bytes hs it.front it.back (Serves moment key) c l it.mid l' (carries_serves moment key) a there it.whole (λ k. ap (carried k) it.first.0) it.first.1 refl refl refl (λ draining sound. (draining, sound, refl)) new it.second
 fed_whole moment key e bytes c l hs l' a there new (inr it) =
-    fed_then key e (broken e) bytes hs it.front it.back (Settles moment) c l it.mid l' (carries_settles moment) a there it.whole (λ k. ap (carried k) it.first.0) it.first.1 refl refl refl (λ over sound. cc) new it.second
+    fed_then key e (broken e) bytes hs it.front it.back (Settles moment) c l it.mid l' (carries_settles moment) a there it.whole (λ k. ap (carried k) it.first.0) it.first.1 refl refl refl (λ draining sound. cc) new it.second
 
-fed_open : (t : Bool) (moment key : ℕ) (e : Entry) (bytes : List ℕ) (c : Carried) (l : Ledger) (hs : List Happening) (l' : Ledger) → e.over ≡ t → Agrees c l → l.entries key ≡ Some e → AreNew (carry c (Reads e.id (wire.Done bytes))) hs → If t (Sets key e) (FedWhole moment key e bytes) l hs l' → Agrees (carried (carry c (Reads e.id (wire.Done bytes))) hs) l'
-fed_open true moment key e bytes c l hs l' over a there new it =
-    subst (λ (x : Carried). Agrees x l') (sym (ap (carried (carry c (Reads e.id (wire.Done bytes)))) it.0)) (agrees_read key e e bytes c l l' a there it.1 refl refl refl (λ counts sound. absurd (untrue e.over over counts)))
+fed_open : (t : Bool) (moment key : ℕ) (e : Entry) (bytes : List ℕ) (c : Carried) (l : Ledger) (hs : List Happening) (l' : Ledger) → e.draining ≡ t → Agrees c l → l.entries key ≡ Some e → AreNew (carry c (Reads e.id (wire.Done bytes))) hs → If t (Sets key e) (FedWhole moment key e bytes) l hs l' → Agrees (carried (carry c (Reads e.id (wire.Done bytes))) hs) l'
+fed_open true moment key e bytes c l hs l' draining a there new it =
+    subst (λ (x : Carried). Agrees x l') (sym (ap (carried (carry c (Reads e.id (wire.Done bytes)))) it.0)) (agrees_read key e e bytes c l l' a there it.1 refl refl refl (λ counts sound. absurd (untrue e.draining draining counts)))
   where
     untrue : (t : Bool) → t ≡ true → t ≡ false → ⊥
     untrue true p q = cc
     untrue false p q = cc
-fed_open false moment key e bytes c l hs l' over a there new it = fed_whole moment key e bytes c l hs l' a there new it
+fed_open false moment key e bytes c l hs l' draining a there new it = fed_whole moment key e bytes c l hs l' a there new it
 
 feeds_at : (moment key : ℕ) (bytes : List ℕ) (o : Option Entry) (e : Entry) (c : Carried) (l : Ledger) (hs : List Happening) (l' : Ledger) → o ≡ Some e → Agrees c l → l.entries key ≡ Some e → AreNew (carry c (Reads e.id (wire.Done bytes))) hs → FeedsAt moment key bytes o l hs l' → Agrees (carried (carry c (Reads e.id (wire.Done bytes))) hs) l'
 feeds_at moment key bytes None e c l hs l' is a there new it = cc
 feeds_at moment key bytes (Some d) e c l hs l' is a there new it =
     let this : FeedsAt moment key bytes (Some e) l hs l' = subst (λ (x : Entry). FeedsAt moment key bytes (Some x) l hs l') (some_one d e is) it in
-    fed_open e.over moment key e bytes c l hs l' refl a there new this
+    fed_open e.draining moment key e bytes c l hs l' refl a there new this
 
 polled : (poll : Poll) (R : Rel) (c : Carried) (l : Ledger) (hs : List Happening) (l' : Ledger) → AreNew c hs → (it : Then (Polls poll) R l hs l') → IsNew c poll × AreNew (carry c poll) it.back × (hs ≡ Polled poll ∷ it.back) × R l it.back l'
 polled poll R c l hs l' new it =
@@ -635,7 +635,7 @@ writes_done : (key n : ℕ) (e : Entry) (offered : List ℕ) (c : Carried) (l l'
 writes_done key n e offered c l l' a there front after =
     agrees_with key e (record e { taken = e.taken ++ take n offered }) c (carry c (Writes e.id offered (wire.Done n))) l l' a there (ap (λ (x : Ledger). x.entries) after) refl refl
     (λ id apart. (at_other e.id (c.taken e.id ++ take n offered) c.taken id apart, refl)) (ap (λ (xs : List ℕ). xs ++ take n offered) (a.taken key e there) ∙ sym (at_this e.id (c.taken e.id ++ take n offered) c.taken))
-    (drop n offered ++ front.rest, due) (λ over sound. a.read key e there over sound)
+    (drop n offered ++ front.rest, due) (λ draining sound. a.read key e there draining sound)
   where
     due : e.due ≡ (e.taken ++ take n offered) ++ (drop n offered ++ front.rest)
     due =
@@ -695,7 +695,7 @@ given c l door id a none = record {
   one = a.one;
   taken = λ key e is. a.taken key e is ∙ sym (at_other id [] c.taken e.id (apart key e is));
   front = a.front;
-  read = λ key e is over sound. a.read key e is over sound ∙ sym (at_other id [] c.read e.id (apart key e is));
+  read = λ key e is draining sound. a.read key e is draining sound ∙ sym (at_other id [] c.read e.id (apart key e is));
 }
   where
     apart : (key : ℕ) (e : Entry) → l.entries key ≡ Some e → e.id ≢ id
@@ -707,7 +707,7 @@ opened key id door c l l' a none after = record {
   one = λ k o e d is its same. one_at k o e d is its same (at_cases key (Some (opening_entry door id)) l.entries k) (at_cases key (Some (opening_entry door id)) l.entries o);
   taken = λ k e is. taken_at k e is (at_cases key (Some (opening_entry door id)) l.entries k);
   front = λ k e is. front_at k e is (at_cases key (Some (opening_entry door id)) l.entries k);
-  read = λ k e is over sound. read_at k e is over sound (at_cases key (Some (opening_entry door id)) l.entries k);
+  read = λ k e is draining sound. read_at k e is draining sound (at_cases key (Some (opening_entry door id)) l.entries k);
 }
   where
     before : Agrees (carry c (Accepts door (wire.Done id))) l
@@ -743,9 +743,9 @@ opened key id door c l l' a none after = record {
     front_at k e is (inl (same, its)) = subst (λ (x : Entry). (rest : List ℕ) × (x.due ≡ x.taken ++ rest)) (is_new k e is its) ([], refl)
     front_at k e is (inr (apart, its)) = a.front k e (is_old k e is its)
 
-    read_at : (k : ℕ) (e : Entry) → l'.entries k ≡ Some e → e.over ≡ false → e.broken ≡ false → Each k → e.read ≡ (carry c (Accepts door (wire.Done id))).read e.id
-    read_at k e is over sound (inl (same, its)) = subst (λ (x : Entry). x.read ≡ (carry c (Accepts door (wire.Done id))).read x.id) (is_new k e is its) (sym (at_this id [] c.read))
-    read_at k e is over sound (inr (apart, its)) = before.read k e (is_old k e is its) over sound
+    read_at : (k : ℕ) (e : Entry) → l'.entries k ≡ Some e → e.draining ≡ false → e.broken ≡ false → Each k → e.read ≡ (carry c (Accepts door (wire.Done id))).read e.id
+    read_at k e is draining sound (inl (same, its)) = subst (λ (x : Entry). x.read ≡ (carry c (Accepts door (wire.Done id))).read x.id) (is_new k e is its) (sym (at_this id [] c.read))
+    read_at k e is draining sound (inr (apart, its)) = before.read k e (is_old k e is its) draining sound
 
 -- it was closed at once
 refused : (id : ℕ) (door : Door) (c : Carried) (l : Ledger) → Agrees c l → c.open_now id ≡ false → Agrees (carry (carry c (Accepts door (wire.Done id))) (Closes id)) l
@@ -802,12 +802,12 @@ carries_turn moment =
     (carries_then (AcceptsAt Ipp) (Then (AcceptsAt Lpd) (Then (AcceptsAt Devices) (Round moment))) (carries_accepts Ipp)
     (carries_then (AcceptsAt Lpd) (Then (AcceptsAt Devices) (Round moment)) (carries_accepts Lpd) (carries_then (AcceptsAt Devices) (Round moment) (carries_accepts Devices) (carries_round moment)))))
 
-between_answers : (request : ℕ) (reply : Option Reply) (bytes : List ℕ) → Carries (Between.Answers request reply bytes)
+between_answers : (request : ℕ) (reply : Option Effects) (bytes : List ℕ) → Carries (Between.Answers request reply bytes)
 between_answers request (Some reply) bytes c l hs l' a new (inl (are, it)) = carries_chooses Found c l hs l' a new it
 between_answers request (Some reply) bytes c l hs l' a new (inr it) = carries_tells (Refused At.Reply None) c l hs l' a new it
 between_answers request None bytes c l hs l' a new it = carries_tells (Refused At.Event None) c l hs l' a new it
 
-body_asks : (moment : ℕ) (it : Asked) (served : Between.Outcome) → Carries (BodyAsks moment it served)
+body_asks : (moment : ℕ) (it : ParsedRequest) (served : Between.Outcome) → Carries (BodyAsks moment it served)
 body_asks moment asked.TooShort served c l hs l' a new it = carries_nothing c l hs l' a new it.1
 body_asks moment (asked.Refused status request) served c l hs l' a new (is, inl it) = carries_chooses Found c l hs l' a new it
 body_asks moment (asked.Refused status request) served c l hs l' a new (is, inr it) = carries_tells (Refused At.Reply None) c l hs l' a new it
@@ -818,7 +818,7 @@ body_comes : (moment : ℕ) (body : List ℕ) (served : Between.Outcome) → Car
 body_comes moment body served c l hs l' a new (inl (it, asks, comes)) = carries_then (Chooses Found) (BodyAsks moment it served) (carries_chooses Found) (body_asks moment it served) c l hs l' a new comes
 body_comes moment body served c l hs l' a new (inr it) = carries_tells (Refused At.Event None) c l hs l' a new it
 
-carries_deed : (deed : Deed) (c : Carried) (l l' : Ledger) → Agrees c l → AreNew c (happenings_of deed) → DoesDeed deed l l' → Agrees (carried c (happenings_of deed)) l'
+carries_deed : (deed : Action) (c : Carried) (l l' : Ledger) → Agrees c l → AreNew c (happenings_of deed) → DoesDeed deed l l' → Agrees (carried c (happenings_of deed)) l'
 carries_deed (Turned moment hs) c l l' a new it = carries_turn moment c l hs l' a new it
 carries_deed (Served_body moment body answer hs) c l l' a new (served, same, it) = body_comes moment body served c l hs l' a new it
 carries_deed (Reported moment device said hs) c l l' a new (what, same, it) = carries_unanswered moment (Is.Report device what) c l hs l' a new it
@@ -834,7 +834,7 @@ carries_trace (deed ∷ deeds) c l l' a new (mid, does, runs) =
     (carries_trace deeds (carried c (happenings_of deed)) mid l' (carries_deed deed c l mid a both.0 does) both.1 runs)
 
 nothing_agrees : (opening : State) → Agrees nothing_carried (opening_ledger opening)
-nothing_agrees opening = record { there = λ key e is. cc; one = λ key other e d is its same. cc; taken = λ key e is. cc; front = λ key e is. cc; read = λ key e is over sound. cc }
+nothing_agrees opening = record { there = λ key e is. cc; one = λ key other e d is its same. cc; taken = λ key e is. cc; front = λ key e is. cc; read = λ key e is draining sound. cc }
 
 pub is_carried : (opening : State) (trace : Trace) (l : Ledger) → Runs trace (opening_ledger opening) l → NumbersDiffer trace → IsCarried trace l
 is_carried opening trace l runs new =

@@ -3,27 +3,27 @@ use Rattle.std.proofs.Common.{◌≡◌, ℕ, Bool, true, false, List, [], ◌�
 use Rattle.device_link.specs.Orders.{cancel_line}
 use Rattle.print_room.specs.declared.started.Started.{Started}
 use Rattle.events.specs.declared.status.Status.{Status}
-use Rattle.events.specs.declared.reply.Cancel.{Cancel}
-use Rattle.outputs.specs.Reply.{http_reply}
-use Rattle.dispatcher.specs.declared.listener.Place.{Place}
-use Rattle.dispatcher.specs.declared.listener.Place.TheVariants.{Keep}
+use Rattle.events.specs.declared.effects.Cancel.{Cancel}
+use Rattle.send_queues.specs.Reply.{http_reply}
+use Rattle.dispatcher.specs.declared.listener.AllocationSite.{AllocationSite}
+use Rattle.dispatcher.specs.declared.listener.AllocationSite.TheVariants.{Enqueue}
 use Rattle.dispatcher.specs.Notes.{Refused}
 use Rattle.connections.specs.Entry.{Entry, closes_of, broken, owing, needs_memory}
 use Rattle.connections.specs.Steps.{http_status}
 use Rattle.server.specs.Polls.{Happening, Told, Found, On}
 use Rattle.server.specs.Ledger.{Ledger, with_entry, job_bytes}
 use Rattle.server.specs.Rel.{Chooses, Then}
-use Rattle.server.specs.Keeping.{Sets, BreaksAt, Breaks, Drops, KeepsOpen, KeepsAt, KeepsWhere, Keeps, KeepsReplyAt, KeepsReply, KeepsStatus, KeepsOn}
+use Rattle.server.specs.Enqueuing.{Sets, BreaksAt, Breaks, Drops, EnqueuesOpen, EnqueuesAt, EnqueuesWhere, Enqueues, EnqueuesReplyAt, EnqueuesReply, EnqueuesStatus, EnqueuesOn}
 use Rattle.server.specs.Happening.{Sends, Starts, StartsAll}
 use Rattle.promises.proofs.Alike.{Fixed, fixed_just, fixed_nothing, fixed_chooses, alike_then, Begins, begins_just, begins_then, begins_chooses, is_choice, choice_one, fixed_or, alike_if, fixed_each_of}
 
 pub fixed_sets : (key : ℕ) (e : Entry) → Fixed (Sets key e)
 fixed_sets key e = fixed_just (λ l. []) (λ l. with_entry key e l)
 
-pub fixed_drops : (place : Place) (key : ℕ) (e : Entry) → Fixed (Drops place key e)
+pub fixed_drops : (place : AllocationSite) (key : ℕ) (e : Entry) → Fixed (Drops place key e)
 fixed_drops place key e = fixed_just (λ l. Told (Refused place (Some e.id)) ∷ []) (λ l. with_entry key (broken e) l)
 
-pub drops_tells : (place : Place) (key : ℕ) (e : Entry) → Begins is_choice false (Drops place key e)
+pub drops_tells : (place : AllocationSite) (key : ℕ) (e : Entry) → Begins is_choice false (Drops place key e)
 drops_tells place key e = record { begins = λ l hs a it. begins_just is_choice false (Told (Refused place (Some e.id))) [] hs refl it.0 }
 
 breaks_at : (key : ℕ) (o : Option Entry) → Fixed (BreaksAt key o)
@@ -33,31 +33,31 @@ breaks_at key (Some e) = fixed_sets key (broken e)
 pub fixed_breaks : (key : ℕ) → Fixed (Breaks key)
 fixed_breaks key = record { one = λ l hs rest a ks more b e p q. (breaks_at key (l.entries key)).one l hs rest a ks more b e p q }
 
-keeps_open : (refusable : Bool) (key : ℕ) (bytes : List ℕ) (e : Entry) → Fixed (KeepsOpen refusable key bytes e)
-keeps_open refusable key bytes e =
+enqueues_open : (refusable : Bool) (key : ℕ) (bytes : List ℕ) (e : Entry) → Fixed (EnqueuesOpen refusable key bytes e)
+enqueues_open refusable key bytes e =
     let kept : Fixed (Sets key (owing bytes e)) = fixed_sets key (owing bytes e) in
     alike_if refusable
-    (fixed_or is_choice (begins_then is_choice true (Chooses Found) (Sets key (owing bytes e)) (begins_chooses is_choice true Found refl)) (drops_tells Keep key e) (alike_then (fixed_chooses Found) kept) (fixed_drops Keep key e))
+    (fixed_or is_choice (begins_then is_choice true (Chooses Found) (Sets key (owing bytes e)) (begins_chooses is_choice true Found refl)) (drops_tells Enqueue key e) (alike_then (fixed_chooses Found) kept) (fixed_drops Enqueue key e))
     kept
 
-keeps_at : (refusable : Entry → Bool) (key : ℕ) (bytes : List ℕ) (o : Option Entry) → Fixed (KeepsAt refusable key bytes o)
-keeps_at refusable key bytes None = fixed_nothing
-keeps_at refusable key bytes (Some e) = alike_if e.broken fixed_nothing (keeps_open (refusable e) key bytes e)
+enqueues_at : (refusable : Entry → Bool) (key : ℕ) (bytes : List ℕ) (o : Option Entry) → Fixed (EnqueuesAt refusable key bytes o)
+enqueues_at refusable key bytes None = fixed_nothing
+enqueues_at refusable key bytes (Some e) = alike_if e.broken fixed_nothing (enqueues_open (refusable e) key bytes e)
 
-pub fixed_keeps_where : (refusable : Entry → Bool) (key : ℕ) (bytes : List ℕ) → Fixed (KeepsWhere refusable key bytes)
-fixed_keeps_where refusable key bytes = record { one = λ l hs rest a ks more b e p q. (keeps_at refusable key bytes (l.entries key)).one l hs rest a ks more b e p q }
+pub fixed_enqueues_where : (refusable : Entry → Bool) (key : ℕ) (bytes : List ℕ) → Fixed (EnqueuesWhere refusable key bytes)
+fixed_enqueues_where refusable key bytes = record { one = λ l hs rest a ks more b e p q. (enqueues_at refusable key bytes (l.entries key)).one l hs rest a ks more b e p q }
 
-pub fixed_keeps : (key : ℕ) (bytes : List ℕ) → Fixed (Keeps key bytes)
-fixed_keeps key bytes = fixed_keeps_where (needs_memory bytes) key bytes
+pub fixed_enqueues : (key : ℕ) (bytes : List ℕ) → Fixed (Enqueues key bytes)
+fixed_enqueues key bytes = fixed_enqueues_where (needs_memory bytes) key bytes
 
-reply_at : (bytes : Bool → List ℕ) (key : ℕ) (o : Option Entry) → Fixed (KeepsReplyAt bytes key o)
+reply_at : (bytes : Bool → List ℕ) (key : ℕ) (o : Option Entry) → Fixed (EnqueuesReplyAt bytes key o)
 reply_at bytes key None = fixed_nothing
-reply_at bytes key (Some e) = fixed_keeps key (bytes (closes_of e.talk))
+reply_at bytes key (Some e) = fixed_enqueues key (bytes (closes_of e.talk))
 
-pub fixed_reply : (key : ℕ) (bytes : List ℕ) → Fixed (KeepsReply key bytes)
+pub fixed_reply : (key : ℕ) (bytes : List ℕ) → Fixed (EnqueuesReply key bytes)
 fixed_reply key bytes = record { one = λ l hs rest a ks more b e p q. (reply_at (λ closes. http_reply closes bytes) key (l.entries key)).one l hs rest a ks more b e p q }
 
-pub fixed_status : (key : ℕ) (status : Status) (request : ℕ) → Fixed (KeepsStatus key status request)
+pub fixed_status : (key : ℕ) (status : Status) (request : ℕ) → Fixed (EnqueuesStatus key status request)
 fixed_status key status request = record { one = λ l hs rest a ks more b e p q. (reply_at (λ closes. http_status closes status request) key (l.entries key)).one l hs rest a ks more b e p q }
 
 -- ---- by the device
@@ -65,22 +65,22 @@ fixed_status key status request = record { one = λ l hs rest a ks more b e p q.
 same_key : (key other : ℕ) → On key ≡ On other → key ≡ other
 same_key key other same = cc
 
-keeps_on : (device : ℕ) (bytes : List ℕ) (l : Ledger) (hs rest : List Happening) (a : Ledger) (ks more : List Happening) (b : Ledger) → hs ++ rest ≡ ks ++ more → KeepsOn device bytes l hs a → KeepsOn device bytes l ks b → (hs ≡ ks) × (a ≡ b)
-keeps_on device bytes l hs rest a ks more b e (inl (key, is, p)) (inl (other, its, q)) =
-    let same : key ≡ other = same_key key other (choice_one (On key) (On other) (KeepsWhere (λ x. true) key bytes) (KeepsWhere (λ x. true) other bytes) l hs rest a ks more b e p q) in
-    (alike_then (fixed_chooses (On key)) (fixed_keeps_where (λ x. true) key bytes)).one l hs rest a ks more b e p (subst (λ (k : ℕ). Then (Chooses (On k)) (KeepsWhere (λ x. true) k bytes) l ks b) (sym same) q)
-keeps_on device bytes l hs rest a ks more b e (inl (key, is, p)) (inr (none, q)) = absurd (none key is)
-keeps_on device bytes l hs rest a ks more b e (inr (none, p)) (inl (key, is, q)) = absurd (none key is)
-keeps_on device bytes l hs rest a ks more b e (inr (none, p)) (inr (nor, q)) = fixed_nothing.one l hs rest a ks more b e p q
+enqueues_on : (device : ℕ) (bytes : List ℕ) (l : Ledger) (hs rest : List Happening) (a : Ledger) (ks more : List Happening) (b : Ledger) → hs ++ rest ≡ ks ++ more → EnqueuesOn device bytes l hs a → EnqueuesOn device bytes l ks b → (hs ≡ ks) × (a ≡ b)
+enqueues_on device bytes l hs rest a ks more b e (inl (key, is, p)) (inl (other, its, q)) =
+    let same : key ≡ other = same_key key other (choice_one (On key) (On other) (EnqueuesWhere (λ x. true) key bytes) (EnqueuesWhere (λ x. true) other bytes) l hs rest a ks more b e p q) in
+    (alike_then (fixed_chooses (On key)) (fixed_enqueues_where (λ x. true) key bytes)).one l hs rest a ks more b e p (subst (λ (k : ℕ). Then (Chooses (On k)) (EnqueuesWhere (λ x. true) k bytes) l ks b) (sym same) q)
+enqueues_on device bytes l hs rest a ks more b e (inl (key, is, p)) (inr (none, q)) = absurd (none key is)
+enqueues_on device bytes l hs rest a ks more b e (inr (none, p)) (inl (key, is, q)) = absurd (none key is)
+enqueues_on device bytes l hs rest a ks more b e (inr (none, p)) (inr (nor, q)) = fixed_nothing.one l hs rest a ks more b e p q
 
-pub fixed_keeps_on : (device : ℕ) (bytes : List ℕ) → Fixed (KeepsOn device bytes)
-fixed_keeps_on device bytes = record { one = keeps_on device bytes }
+pub fixed_enqueues_on : (device : ℕ) (bytes : List ℕ) → Fixed (EnqueuesOn device bytes)
+fixed_enqueues_on device bytes = record { one = enqueues_on device bytes }
 
 pub fixed_sends : (cancel : Cancel) → Fixed (Sends cancel)
-fixed_sends cancel = fixed_keeps_on cancel.device (cancel_line cancel.job)
+fixed_sends cancel = fixed_enqueues_on cancel.device (cancel_line cancel.job)
 
 pub fixed_starts : (start : Started) → Fixed (Starts start)
-fixed_starts start = record { one = λ l hs rest a ks more b e p q. (fixed_keeps_on start.device (job_bytes l.core start.job)).one l hs rest a ks more b e p q }
+fixed_starts start = record { one = λ l hs rest a ks more b e p q. (fixed_enqueues_on start.device (job_bytes l.core start.job)).one l hs rest a ks more b e p q }
 
 pub fixed_starts_all : Fixed StartsAll
 fixed_starts_all = record { one = λ l hs rest a ks more b e p q. (fixed_each_of l.core.begun Starts fixed_starts).one l hs rest a ks more b e p q }

@@ -7,12 +7,12 @@ use Rattle.print_room.specs.State.{State}
 use Rattle.print_room.specs.Dispatch.{beginning_all, marked_state}
 use Rattle.events.specs.declared.event.Event.{Event}
 use Rattle.events.specs.declared.event.Event.TheVariants as Is
-use Rattle.events.specs.declared.reply.Reply.{Reply}
-use Rattle.events.specs.declared.reply.Cancel.{Cancel}
+use Rattle.events.specs.declared.effects.Effects.{Effects}
+use Rattle.events.specs.declared.effects.Cancel.{Cancel}
 use Rattle.events.specs.Event.{is_query}
 use Rattle.dispatcher.specs.declared.outcome.Outcome.{Outcome}
 use Rattle.dispatcher.specs.declared.outcome.Outcome.TheVariants.{Dropped, Queried, Undispatched, Idle, Dispatched}
-use Rattle.dispatcher.specs.declared.listener.Place.TheVariants as At
+use Rattle.dispatcher.specs.declared.listener.AllocationSite.TheVariants as At
 use Rattle.dispatcher.specs.Notes.{Note, Planned, Canceled, Refused}
 use Rattle.dispatcher.specs.OneStep.{SameReply}
 use Rattle.dispatcher.specs.Run.{reply_of, cancels_told, Handles}
@@ -58,7 +58,7 @@ pub record SameWay (one : Outcome) (notes : List Note) (new : State) (other : Ou
   pub notes_are : notes ≡ said
   pub state : new ≡ after
 
-told_same : (one other : Reply) → SameReply one other → cancels_told one ≡ cancels_told other
+told_same : (one other : Effects) → SameReply one other → cancels_told one ≡ cancels_told other
 told_same one other same = ap (λ (cancels : List Cancel). map Canceled cancels) same.cancels
 
 -- what is told behind the same cancels is one
@@ -67,12 +67,12 @@ last_one [] x y rest more e = cc
 last_one (cancel ∷ cancels) x y rest more e = last_one cancels x y rest more (cc)
 
 -- what two events tell last, whose cancels are the same
-told_last : (one other : Reply) (notes said : List Note) (x y : Note) (rest more : List Happening) → SameReply one other → notes ≡ cancels_told one ++ x ∷ [] → said ≡ cancels_told other ++ y ∷ [] → map Told notes ++ rest ≡ map Told said ++ more → x ≡ y
+told_last : (one other : Effects) (notes said : List Note) (x y : Note) (rest more : List Happening) → SameReply one other → notes ≡ cancels_told one ++ x ∷ [] → said ≡ cancels_told other ++ y ∷ [] → map Told notes ++ rest ≡ map Told said ++ more → x ≡ y
 told_last one other notes said x y rest more same is its e =
     let left : notes ≡ map Canceled other.cancels.items ++ x ∷ [] = is ∙ ap (λ (ns : List Note). ns ++ x ∷ []) (told_same one other same) in
     last_one other.cancels.items x y rest more (sym (ap (λ (ns : List Note). map Told ns ++ rest) left) ∙ (e ∙ ap (λ (ns : List Note). map Told ns ++ more) its))
 
-both_told : (one other : Reply) (notes said : List Note) (x y : Note) → SameReply one other → notes ≡ cancels_told one ++ x ∷ [] → said ≡ cancels_told other ++ y ∷ [] → x ≡ y → notes ≡ said
+both_told : (one other : Effects) (notes said : List Note) (x y : Note) → SameReply one other → notes ≡ cancels_told one ++ x ∷ [] → said ≡ cancels_told other ++ y ∷ [] → x ≡ y → notes ≡ said
 both_told one other notes said x y same is its last = is ∙ (ap (λ (ns : List Note). ns ++ x ∷ []) (told_same one other same) ∙ (ap (λ (n : Note). cancels_told other ++ n ∷ []) last ∙ sym its))
 
 -- a query isn't dispatched
@@ -90,51 +90,51 @@ module _ (steps : StepsOnce) where
   -- what is handled of events that say the same, where neither is dropped and one list goes on from both
   handled_one : (moment : ℕ) (event other : Event) (old : State) (outcome said : Outcome) (notes heard : List Note) (new after : State) (rest more : List Happening) → SameEvent event other → is_query event ≡ is_query other → IsKept outcome → IsKept said
       → map Told notes ++ rest ≡ map Told heard ++ more → Handles moment event old outcome notes new → Handles moment other old said heard after → SameWay outcome notes new said heard after
-  handled_one moment event other old Dropped said notes heard new after rest more same query kept keeps e p q = absurd kept
-  handled_one moment event other old (Queried reply) Dropped notes heard new after rest more same query kept keeps e p q = absurd keeps
-  handled_one moment event other old (Undispatched reply) Dropped notes heard new after rest more same query kept keeps e p q = absurd keeps
-  handled_one moment event other old (Idle reply) Dropped notes heard new after rest more same query kept keeps e p q = absurd keeps
-  handled_one moment event other old (Dispatched reply) Dropped notes heard new after rest more same query kept keeps e p q = absurd keeps
-  handled_one moment event other old (Queried reply) (Queried answer) notes heard new after rest more same query kept keeps e (asks, step, is) (asked, stepped, its) =
+  handled_one moment event other old Dropped said notes heard new after rest more same query kept enqueues e p q = absurd kept
+  handled_one moment event other old (Queried reply) Dropped notes heard new after rest more same query kept enqueues e p q = absurd enqueues
+  handled_one moment event other old (Undispatched reply) Dropped notes heard new after rest more same query kept enqueues e p q = absurd enqueues
+  handled_one moment event other old (Idle reply) Dropped notes heard new after rest more same query kept enqueues e p q = absurd enqueues
+  handled_one moment event other old (Dispatched reply) Dropped notes heard new after rest more same query kept enqueues e p q = absurd enqueues
+  handled_one moment event other old (Queried reply) (Queried answer) notes heard new after rest more same query kept enqueues e (asks, step, is) (asked, stepped, its) =
       let end = steps old event other moment reply new answer after same step stepped in
       record { outcome = end.reply_is; notes_are = is ∙ (told_same reply answer end.reply_is ∙ sym its); state = end.state }
-  handled_one moment event other old (Queried reply) (Undispatched answer) notes heard new after rest more same query kept keeps e p q = not_both (is_query event) (is_query other) query p.0 q.0
-  handled_one moment event other old (Queried reply) (Idle answer) notes heard new after rest more same query kept keeps e p q = not_both (is_query event) (is_query other) query p.0 q.0
-  handled_one moment event other old (Queried reply) (Dispatched answer) notes heard new after rest more same query kept keeps e p q = not_both (is_query event) (is_query other) query p.0 q.0
-  handled_one moment event other old (Undispatched reply) (Queried answer) notes heard new after rest more same query kept keeps e p q = not_both (is_query other) (is_query event) (sym query) q.0 p.0
-  handled_one moment event other old (Idle reply) (Queried answer) notes heard new after rest more same query kept keeps e p q = not_both (is_query other) (is_query event) (sym query) q.0 p.0
-  handled_one moment event other old (Dispatched reply) (Queried answer) notes heard new after rest more same query kept keeps e p q = not_both (is_query other) (is_query event) (sym query) q.0 p.0
-  handled_one moment event other old (Undispatched reply) (Undispatched answer) notes heard new after rest more same query kept keeps e (asks, step, ready, is) (asked, stepped, able, its) =
+  handled_one moment event other old (Queried reply) (Undispatched answer) notes heard new after rest more same query kept enqueues e p q = not_both (is_query event) (is_query other) query p.0 q.0
+  handled_one moment event other old (Queried reply) (Idle answer) notes heard new after rest more same query kept enqueues e p q = not_both (is_query event) (is_query other) query p.0 q.0
+  handled_one moment event other old (Queried reply) (Dispatched answer) notes heard new after rest more same query kept enqueues e p q = not_both (is_query event) (is_query other) query p.0 q.0
+  handled_one moment event other old (Undispatched reply) (Queried answer) notes heard new after rest more same query kept enqueues e p q = not_both (is_query other) (is_query event) (sym query) q.0 p.0
+  handled_one moment event other old (Idle reply) (Queried answer) notes heard new after rest more same query kept enqueues e p q = not_both (is_query other) (is_query event) (sym query) q.0 p.0
+  handled_one moment event other old (Dispatched reply) (Queried answer) notes heard new after rest more same query kept enqueues e p q = not_both (is_query other) (is_query event) (sym query) q.0 p.0
+  handled_one moment event other old (Undispatched reply) (Undispatched answer) notes heard new after rest more same query kept enqueues e (asks, step, ready, is) (asked, stepped, able, its) =
       let end = steps old event other moment reply new answer after same step stepped in
       record { outcome = end.reply_is; notes_are = both_told reply answer notes heard (Refused At.Dispatch None) (Refused At.Dispatch None) end.reply_is is its refl; state = end.state }
-  handled_one moment event other old (Undispatched reply) (Idle answer) notes heard new after rest more same query kept keeps e (asks, step, ready, is) (asked, mid, stepped, made, its) =
+  handled_one moment event other old (Undispatched reply) (Idle answer) notes heard new after rest more same query kept enqueues e (asks, step, ready, is) (asked, mid, stepped, made, its) =
       let end = steps old event other moment reply new answer mid same step stepped in
       let last : Refused At.Dispatch None ≡ Planned None [] = told_last reply answer notes heard (Refused At.Dispatch None) (Planned None []) rest more end.reply_is is its e in
       absurd (cc)
-  handled_one moment event other old (Undispatched reply) (Dispatched answer) notes heard new after rest more same query kept keeps e (asks, step, ready, is) (asked, mid, stepped, plan, made, its) =
+  handled_one moment event other old (Undispatched reply) (Dispatched answer) notes heard new after rest more same query kept enqueues e (asks, step, ready, is) (asked, mid, stepped, plan, made, its) =
       let end = steps old event other moment reply new answer mid same step stepped in
       let last : Refused At.Dispatch None ≡ Planned (Some plan) after.begun = told_last reply answer notes heard (Refused At.Dispatch None) (Planned (Some plan) after.begun) rest more end.reply_is is its e in
       absurd (cc)
-  handled_one moment event other old (Idle reply) (Undispatched answer) notes heard new after rest more same query kept keeps e (asks, mid, step, made, is) (asked, stepped, able, its) =
+  handled_one moment event other old (Idle reply) (Undispatched answer) notes heard new after rest more same query kept enqueues e (asks, mid, step, made, is) (asked, stepped, able, its) =
       let end = steps old event other moment reply mid answer after same step stepped in
       let last : Planned None [] ≡ Refused At.Dispatch None = told_last reply answer notes heard (Planned None []) (Refused At.Dispatch None) rest more end.reply_is is its e in
       absurd (cc)
-  handled_one moment event other old (Idle reply) (Idle answer) notes heard new after rest more same query kept keeps e (asks, mid, step, made, is) (asked, next, stepped, found, its) =
+  handled_one moment event other old (Idle reply) (Idle answer) notes heard new after rest more same query kept enqueues e (asks, mid, step, made, is) (asked, next, stepped, found, its) =
       let end = steps old event other moment reply mid answer next same step stepped in
       record { outcome = end.reply_is; notes_are = both_told reply answer notes heard (Planned None []) (Planned None []) end.reply_is is its refl; state = made.2 ∙ (end.state ∙ sym found.2) }
-  handled_one moment event other old (Idle reply) (Dispatched answer) notes heard new after rest more same query kept keeps e (asks, mid, step, made, is) (asked, next, stepped, plan, found, its) =
+  handled_one moment event other old (Idle reply) (Dispatched answer) notes heard new after rest more same query kept enqueues e (asks, mid, step, made, is) (asked, next, stepped, plan, found, its) =
       let end = steps old event other moment reply mid answer next same step stepped in
       let last : Planned None [] ≡ Planned (Some plan) after.begun = told_last reply answer notes heard (Planned None []) (Planned (Some plan) after.begun) rest more end.reply_is is its e in
       absurd (cc)
-  handled_one moment event other old (Dispatched reply) (Undispatched answer) notes heard new after rest more same query kept keeps e (asks, mid, step, plan, made, is) (asked, stepped, able, its) =
+  handled_one moment event other old (Dispatched reply) (Undispatched answer) notes heard new after rest more same query kept enqueues e (asks, mid, step, plan, made, is) (asked, stepped, able, its) =
       let end = steps old event other moment reply mid answer after same step stepped in
       let last : Planned (Some plan) new.begun ≡ Refused At.Dispatch None = told_last reply answer notes heard (Planned (Some plan) new.begun) (Refused At.Dispatch None) rest more end.reply_is is its e in
       absurd (cc)
-  handled_one moment event other old (Dispatched reply) (Idle answer) notes heard new after rest more same query kept keeps e (asks, mid, step, plan, made, is) (asked, next, stepped, found, its) =
+  handled_one moment event other old (Dispatched reply) (Idle answer) notes heard new after rest more same query kept enqueues e (asks, mid, step, plan, made, is) (asked, next, stepped, found, its) =
       let end = steps old event other moment reply mid answer next same step stepped in
       let last : Planned (Some plan) new.begun ≡ Planned None [] = told_last reply answer notes heard (Planned (Some plan) new.begun) (Planned None []) rest more end.reply_is is its e in
       absurd (cc)
-  handled_one moment event other old (Dispatched reply) (Dispatched answer) notes heard new after rest more same query kept keeps e (asks, mid, step, plan, made, is) (asked, next, stepped, chosen, found, its) =
+  handled_one moment event other old (Dispatched reply) (Dispatched answer) notes heard new after rest more same query kept enqueues e (asks, mid, step, plan, made, is) (asked, next, stepped, chosen, found, its) =
       let end = steps old event other moment reply mid answer next same step stepped in
       let last : Planned (Some plan) new.begun ≡ Planned (Some chosen) after.begun = told_last reply answer notes heard (Planned (Some plan) new.begun) (Planned (Some chosen) after.begun) rest more end.reply_is is its e in
       let one = same_plan plan chosen new.begun after.begun last in
@@ -150,7 +150,7 @@ module _ (steps : StepsOnce) where
 
   -- ---- what becomes due then
 
-  same_sent : (one other : Reply) → SameReply one other → Alike (SendsAll one) (SendsAll other)
+  same_sent : (one other : Effects) → SameReply one other → Alike (SendsAll one) (SendsAll other)
   same_sent one other same = subst (λ (cancels : List Cancel). Alike (SendsAll one) (EachOf cancels Sends)) same.cancels (fixed_each_of one.cancels.items Sends fixed_sends)
 
   same_orders : (one other : Outcome) → SameOutcome one other → Alike (Orders one) (Orders other)
@@ -221,11 +221,11 @@ module _ (steps : StepsOnce) where
 
   decided_one : (moment : ℕ) (event other : Event) (outcome said : Outcome) (l : Ledger) (hs rest : List Happening) (a : Ledger) (ks more : List Happening) (b : Ledger) → SameEvent event other → is_query event ≡ is_query other → IsKept outcome → IsKept said
       → hs ++ rest ≡ ks ++ more → Decides moment event outcome l hs a → Decides moment other said l ks b → SameOutcome outcome said × (hs ≡ ks) × (a ≡ b)
-  decided_one moment event other outcome said l hs rest a ks more b same query kept keeps e p q =
+  decided_one moment event other outcome said l hs rest a ks more b same query kept enqueues e p q =
       let left : hs ≡ Chosen Found ∷ map Told p.notes = p.told ∙ ap (λ (xs : List Happening). xs ++ map Told p.notes) (found_kept outcome kept) in
-      let right : ks ≡ Chosen Found ∷ map Told q.notes = q.told ∙ ap (λ (xs : List Happening). xs ++ map Told q.notes) (found_kept said keeps) in
+      let right : ks ≡ Chosen Found ∷ map Told q.notes = q.told ∙ ap (λ (xs : List Happening). xs ++ map Told q.notes) (found_kept said enqueues) in
       let both : Chosen Found ∷ (map Told p.notes ++ rest) ≡ Chosen Found ∷ (map Told q.notes ++ more) = sym (ap (λ (xs : List Happening). xs ++ rest) left) ∙ (e ∙ ap (λ (xs : List Happening). xs ++ more) right) in
-      let way = handled_one moment event other l.core outcome said p.notes q.notes p.state q.state rest more same query kept keeps (behind_head (Chosen Found) (map Told p.notes ++ rest) (map Told q.notes ++ more) both) p.handles q.handles in (
+      let way = handled_one moment event other l.core outcome said p.notes q.notes p.state q.state rest more same query kept enqueues (behind_head (Chosen Found) (map Told p.notes ++ rest) (map Told q.notes ++ more) both) p.handles q.handles in (
         way.outcome,
         left ∙ (ap (λ (ns : List Note). Chosen Found ∷ map Told ns) way.notes_are ∙ sym right),
         p.after ∙ (ap (λ (s : State). record l { core = s; undispatched = undispatched_after outcome l.undispatched }) way.state
@@ -235,9 +235,9 @@ module _ (steps : StepsOnce) where
   -- an event and what its devices are sent, where it isn't dropped
   happened_one : (moment : ℕ) (event other : Event) (outcome said : Outcome) (l : Ledger) (hs rest : List Happening) (a : Ledger) (ks more : List Happening) (b : Ledger) → SameEvent event other → is_query event ≡ is_query other → IsKept outcome → IsKept said
       → hs ++ rest ≡ ks ++ more → Happens moment event outcome l hs a → Happens moment other said l ks b → SameOutcome outcome said × (hs ≡ ks) × (a ≡ b)
-  happened_one moment event other outcome said l hs rest a ks more b same query kept keeps e p q =
+  happened_one moment event other outcome said l hs rest a ks more b same query kept enqueues e p q =
       then_one (Decides moment event outcome) (Decides moment other said) (Orders outcome) (Orders said) l hs rest a ks more b e p q
-      (λ left right both. decided_one moment event other outcome said l p.front left p.mid q.front right q.mid same query kept keeps both p.first q.first)
+      (λ left right both. decided_one moment event other outcome said l p.front left p.mid q.front right q.mid same query kept enqueues both p.first q.first)
       (λ way. same_orders outcome said way)
 
   -- one that is dropped does nothing
@@ -281,8 +281,8 @@ module _ (steps : StepsOnce) where
   -- ---- one that is answered
 
   -- an event, and what answers it: where it is dropped that is told first
-  pub answered_alike : (moment : ℕ) (event other : Event) (Q R : Option Reply → Rel) → SameEvent event other → is_query event ≡ is_query other → Begins is_choice false (Q None) → Begins is_choice false (R None) → Alike (Q None) (R None)
-      → ((one two : Reply) → SameReply one two → Alike (Q (Some one)) (R (Some two)))
+  pub answered_alike : (moment : ℕ) (event other : Event) (Q R : Option Effects → Rel) → SameEvent event other → is_query event ≡ is_query other → Begins is_choice false (Q None) → Begins is_choice false (R None) → Alike (Q None) (R None)
+      → ((one two : Effects) → SameReply one two → Alike (Q (Some one)) (R (Some two)))
       → Alike (λ l hs a. (outcome : Outcome) × Then (Happens moment event outcome) (Q (reply_of outcome)) l hs a) (λ l hs a. (outcome : Outcome) × Then (Happens moment other outcome) (R (reply_of outcome)) l hs a)
   answered_alike moment event other Q R same query tells told dropped answered = record { one = λ l hs rest a ks more b e (outcome, p) (said, q). by_kind outcome said l hs rest a ks more b e (kept_or outcome) (kept_or said) p q }
     where
@@ -314,26 +314,26 @@ module _ (steps : StepsOnce) where
       replies (Dispatched one) (Idle two) way = absurd way
 
       -- one that is dropped, with what is told of it
-      told_first : (x : Event) (S : Option Reply → Rel) → Begins is_choice false (S None) → (l : Ledger) (hs : List Happening) (a : Ledger) → Then (Happens moment x Dropped) (S None) l hs a → BeginsAs is_choice false hs
+      told_first : (x : Event) (S : Option Effects → Rel) → Begins is_choice false (S None) → (l : Ledger) (hs : List Happening) (a : Ledger) → Then (Happens moment x Dropped) (S None) l hs a → BeginsAs is_choice false hs
       told_first x S begins l hs a it =
           let none = dropped_one moment x l it.front it.mid it.first in
           subst (BeginsAs is_choice false) (sym (it.whole ∙ ap (λ (xs : List Happening). xs ++ it.back) none.0)) (begins.begins it.mid it.back a it.second)
 
-      chosen_first : (x : Event) (S : Option Reply → Rel) (outcome : Outcome) → IsKept outcome → (l : Ledger) (hs : List Happening) (a : Ledger) → Then (Happens moment x outcome) (S (reply_of outcome)) l hs a → BeginsAs is_choice true hs
+      chosen_first : (x : Event) (S : Option Effects → Rel) (outcome : Outcome) → IsKept outcome → (l : Ledger) (hs : List Happening) (a : Ledger) → Then (Happens moment x outcome) (S (reply_of outcome)) l hs a → BeginsAs is_choice true hs
       chosen_first x S outcome kept l hs a it = subst (BeginsAs is_choice true) (sym it.whole) (begins_append is_choice true it.front it.back (found_first moment x outcome l it.front it.mid kept it.first))
 
-      as_dropped : (x : Event) (S : Option Reply → Rel) (outcome : Outcome) (l : Ledger) (hs : List Happening) (a : Ledger) → outcome ≡ Dropped → Then (Happens moment x outcome) (S (reply_of outcome)) l hs a → Then (Happens moment x Dropped) (S None) l hs a
+      as_dropped : (x : Event) (S : Option Effects → Rel) (outcome : Outcome) (l : Ledger) (hs : List Happening) (a : Ledger) → outcome ≡ Dropped → Then (Happens moment x outcome) (S (reply_of outcome)) l hs a → Then (Happens moment x Dropped) (S None) l hs a
       as_dropped x S outcome l hs a is it = subst (λ (o : Outcome). Then (Happens moment x o) (S (reply_of o)) l hs a) is it
 
       by_kind : (outcome said : Outcome) (l : Ledger) (hs rest : List Happening) (a : Ledger) (ks more : List Happening) (b : Ledger) → hs ++ rest ≡ ks ++ more → IsKept outcome ⊎ (outcome ≡ Dropped) → IsKept said ⊎ (said ≡ Dropped)
           → Then (Happens moment event outcome) (Q (reply_of outcome)) l hs a → Then (Happens moment other said) (R (reply_of said)) l ks b → (hs ≡ ks) × (a ≡ b)
-      by_kind outcome said l hs rest a ks more b e (inl kept) (inl keeps) p q =
+      by_kind outcome said l hs rest a ks more b e (inl kept) (inl enqueues) p q =
           let it = then_one (Happens moment event outcome) (Happens moment other said) (Q (reply_of outcome)) (R (reply_of said)) l hs rest a ks more b e p q
-          (λ left right both. happened_one moment event other outcome said l p.front left p.mid q.front right q.mid same query kept keeps both p.first q.first)
+          (λ left right both. happened_one moment event other outcome said l p.front left p.mid q.front right q.mid same query kept enqueues both p.first q.first)
           (λ way. replies outcome said way) in
           (it.1, it.2)
       by_kind outcome said l hs rest a ks more b e (inl kept) (inr is) p q = apart is_choice hs rest ks more e (chosen_first event Q outcome kept l hs a p) (told_first other R told l ks b (as_dropped other R said l ks b is q))
-      by_kind outcome said l hs rest a ks more b e (inr is) (inl keeps) p q = apart is_choice ks more hs rest (sym e) (chosen_first other R said keeps l ks b q) (told_first event Q tells l hs a (as_dropped event Q outcome l hs a is p))
+      by_kind outcome said l hs rest a ks more b e (inr is) (inl enqueues) p q = apart is_choice ks more hs rest (sym e) (chosen_first other R said enqueues l ks b q) (told_first event Q tells l hs a (as_dropped event Q outcome l hs a is p))
       by_kind outcome said l hs rest a ks more b e (inr is) (inr its) p q =
           let left = as_dropped event Q outcome l hs a is p in
           let right = as_dropped other R said l ks b its q in

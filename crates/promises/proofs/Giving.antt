@@ -1,19 +1,19 @@
 -- What is due on a client's connection by what it is answered.
 use Rattle.std.proofs.Common.{◌≡◌, ◌≢◌, ℕ, Bool, true, false, List, [], ◌∷◌, ◌++◌, refl, sym, ◌∙◌, ap, subst, append-nil, Option, Some, None, ◌⊎◌, inl, inr}
 use Rattle.std.specs.Prelude.{if◌then◌else◌}
-use Rattle.events.specs.declared.reply.Answer.{Answer}
-use Rattle.events.specs.declared.reply.Answer.TheVariants as answered
-use Rattle.events.specs.declared.reply.LpdAnswer.{LpdAnswer}
-use Rattle.events.specs.declared.reply.LpdAnswer.TheVariants as shown
-use Rattle.events.specs.declared.reply.Reply.{Reply}
+use Rattle.events.specs.declared.effects.Response.{Response}
+use Rattle.events.specs.declared.effects.Response.TheVariants as answered
+use Rattle.events.specs.declared.effects.LpdResponse.{LpdResponse}
+use Rattle.events.specs.declared.effects.LpdResponse.TheVariants as shown
+use Rattle.events.specs.declared.effects.Effects.{Effects}
 use Rattle.events.specs.declared.status.Status.{Status}
 use Rattle.events.specs.declared.status.Status.TheVariants.{TemporaryError}
-use Rattle.dispatcher.specs.declared.listener.Place.{Place}
-use Rattle.dispatcher.specs.declared.listener.Place.TheVariants as At
+use Rattle.dispatcher.specs.declared.listener.AllocationSite.{AllocationSite}
+use Rattle.dispatcher.specs.declared.listener.AllocationSite.TheVariants as At
 use Rattle.dispatcher.specs.Notes.{Note, Refused}
-use Rattle.replies.specs.Reply.{IsReply}
-use Rattle.replies.specs.QueueText.{ack_of, text_of}
-use Rattle.outputs.specs.Reply.{http_reply}
+use Rattle.responses.specs.Reply.{IsReply}
+use Rattle.responses.specs.QueueText.{ack_of, text_of}
+use Rattle.send_queues.specs.Reply.{http_reply}
 use Rattle.connections.specs.declared.ask.Client.{Client}
 use Rattle.connections.specs.declared.ask.Client.TheVariants as client
 use Rattle.connections.specs.Steps.{http_status, silent}
@@ -21,7 +21,7 @@ use Rattle.connections.specs.Entry.{Entry, closes_of, broken, owing, needs_memor
 use Rattle.server.specs.Polls.{Happening, Told, Choice, Found}
 use Rattle.server.specs.Ledger.{Ledger, at_key, with_entry}
 use Rattle.server.specs.Rel.{Rel, Nothing, Tells, Chooses, Then, If}
-use Rattle.server.specs.Keeping.{BreaksAt, Breaks, KeepsOpen, KeepsAt, Keeps, KeepsReplyAt, KeepsReply, KeepsStatus}
+use Rattle.server.specs.Enqueuing.{BreaksAt, Breaks, EnqueuesOpen, EnqueuesAt, Enqueues, EnqueuesReplyAt, EnqueuesReply, EnqueuesStatus}
 use Rattle.server.specs.Answering as Ans
 use Rattle.server.specs.Law.{core_notes}
 use Rattle.promises.proofs.Typing.{IsTyped, IsTypedReply}
@@ -43,7 +43,7 @@ calms_chooses choice l hs l' it = calm_still l hs l' (ap core_notes it.0) it.1
 pub calms_then : (R S : Rel) → Calms R → Calms S → Calms (Then R S)
 calms_then R S r s l hs l' it = sent_then (λ device. []) (λ device. []) l it.front it.mid it.back l' hs it.whole (r l it.front it.mid it.first) (s it.mid it.back l' it.second)
 
-pub calms_refusal : (place : Place) (id : Option ℕ) → core_notes (Told (Refused place id) ∷ []) ≡ [] → Calms (Tells (Refused place id))
+pub calms_refusal : (place : AllocationSite) (id : Option ℕ) → core_notes (Told (Refused place id) ∷ []) ≡ [] → Calms (Tells (Refused place id))
 calms_refusal place id silent l hs l' it = calm_still l hs l' (ap core_notes it.0 ∙ silent) it.1
 
 pub breaks_at : (key : ℕ) (o : Option Entry) (l : Ledger) (hs : List Happening) (l' : Ledger) → l.entries key ≡ o → BreaksAt key o l hs l' → Calm l hs l'
@@ -130,7 +130,7 @@ gave_as key Q R l hs l' weaker g = record {
   halts = g.halts;
 }
 
-pub still_tells : (place : Place) (id : Option ℕ) → core_notes (Told (Refused place id) ∷ []) ≡ [] → (l : Ledger) (hs : List Happening) (l' : Ledger) → Tells (Refused place id) l hs l' → (core_notes hs ≡ []) × (l' ≡ l)
+pub still_tells : (place : AllocationSite) (id : Option ℕ) → core_notes (Told (Refused place id) ∷ []) ≡ [] → (l : Ledger) (hs : List Happening) (l' : Ledger) → Tells (Refused place id) l hs l' → (core_notes hs ≡ []) × (l' ≡ l)
 still_tells place id silent l hs l' it = (ap core_notes it.0 ∙ silent, it.1)
 
 pub still_found : (l : Ledger) (hs : List Happening) (l' : Ledger) → Chooses Found l hs l' → (core_notes hs ≡ []) × (l' ≡ l)
@@ -159,14 +159,14 @@ gives_breaks key Q l hs l' it = gives_breaks_at key Q (l.entries key) l hs l' re
 abbrev pub Just_these : List ℕ → Bool → List ℕ → Type 0
 Just_these bytes closes given = given ≡ bytes
 
-pub gives_open : (refusable : Bool) (key : ℕ) (bytes : List ℕ) (d : Entry) (l : Ledger) (hs : List Happening) (l' : Ledger) → l.entries key ≡ Some d → d.broken ≡ false → KeepsOpen refusable key bytes d l hs l' → Gave key (Just_these bytes) l hs l'
+pub gives_open : (refusable : Bool) (key : ℕ) (bytes : List ℕ) (d : Entry) (l : Ledger) (hs : List Happening) (l' : Ledger) → l.entries key ≡ Some d → d.broken ≡ false → EnqueuesOpen refusable key bytes d l hs l' → Gave key (Just_these bytes) l hs l'
 gives_open false key bytes d l hs l' there sound it = gave_sets key (Just_these bytes) d (owing bytes d) l hs l' there refl (λ unbroken. (sound, (bytes, refl, refl))) (λ is. absurd (no_true d.broken is sound)) (ap core_notes it.0) it.1
 gives_open true key bytes d l hs l' there sound (inl it) =
     gave_sets key (Just_these bytes) d (owing bytes d) l hs l' there refl (λ unbroken. (sound, (bytes, refl, refl))) (λ is. absurd (no_true d.broken is sound))
     (ap core_notes it.whole ∙ (notes_append it.front it.back ∙ (ap (λ (ns : List Note). ns ++ core_notes it.back) (ap core_notes it.first.0) ∙ ap core_notes it.second.0))) (it.second.1 ∙ ap (λ (x : Ledger). with_entry key (owing bytes d) x) it.first.1)
 gives_open true key bytes d l hs l' there sound (inr it) = gave_sets key (Just_these bytes) d (broken d) l hs l' there refl (λ unbroken. absurd (no_true true refl unbroken)) (λ is. refl) (ap core_notes it.0) it.1
 
-pub gives_if : (t refusable : Bool) (key : ℕ) (bytes : List ℕ) (d : Entry) (l : Ledger) (hs : List Happening) (l' : Ledger) → d.broken ≡ t → l.entries key ≡ Some d → If t Nothing (KeepsOpen refusable key bytes d) l hs l' → Gave key (Just_these bytes) l hs l'
+pub gives_if : (t refusable : Bool) (key : ℕ) (bytes : List ℕ) (d : Entry) (l : Ledger) (hs : List Happening) (l' : Ledger) → d.broken ≡ t → l.entries key ≡ Some d → If t Nothing (EnqueuesOpen refusable key bytes d) l hs l' → Gave key (Just_these bytes) l hs l'
 gives_if false refusable key bytes d l hs l' is there it = gives_open refusable key bytes d l hs l' there is it
 gives_if true refusable key bytes d l hs l' is there it = record {
   core = ap (λ (x : Ledger). x.core) it.1;
@@ -180,47 +180,47 @@ gives_if true refusable key bytes d l hs l' is there it = record {
   halts = λ e same client broken. (e, subst (λ (x : Ledger). x.entries key ≡ Some e) it.1 same, refl, refl);
 }
 
-pub gives_at : (refusable : Entry → Bool) (key : ℕ) (bytes : List ℕ) (o : Option Entry) (l : Ledger) (hs : List Happening) (l' : Ledger) → l.entries key ≡ o → KeepsAt refusable key bytes o l hs l' → Gave key (Just_these bytes) l hs l'
+pub gives_at : (refusable : Entry → Bool) (key : ℕ) (bytes : List ℕ) (o : Option Entry) (l : Ledger) (hs : List Happening) (l' : Ledger) → l.entries key ≡ o → EnqueuesAt refusable key bytes o l hs l' → Gave key (Just_these bytes) l hs l'
 gives_at refusable key bytes None l hs l' there it = gives_breaks_at key (Just_these bytes) None l hs l' there it
 gives_at refusable key bytes (Some d) l hs l' there it = gives_if d.broken (refusable d) key bytes d l hs l' refl there it
 
-pub gives_keeps : (key : ℕ) (bytes : List ℕ) → Gives key (Just_these bytes) (Keeps key bytes)
-gives_keeps key bytes l hs l' it = gives_at (needs_memory bytes) key bytes (l.entries key) l hs l' refl it
+pub gives_enqueues : (key : ℕ) (bytes : List ℕ) → Gives key (Just_these bytes) (Enqueues key bytes)
+gives_enqueues key bytes l hs l' it = gives_at (needs_memory bytes) key bytes (l.entries key) l hs l' refl it
 
 -- by what its request said of closing
 abbrev pub By_closing : (Bool → List ℕ) → Bool → List ℕ → Type 0
 By_closing bytes closes given = given ≡ bytes closes
 
-pub gives_reply_at : (bytes : Bool → List ℕ) (key : ℕ) (o : Option Entry) (l : Ledger) (hs : List Happening) (l' : Ledger) → l.entries key ≡ o → KeepsReplyAt bytes key o l hs l' → Gave key (By_closing bytes) l hs l'
+pub gives_reply_at : (bytes : Bool → List ℕ) (key : ℕ) (o : Option Entry) (l : Ledger) (hs : List Happening) (l' : Ledger) → l.entries key ≡ o → EnqueuesReplyAt bytes key o l hs l' → Gave key (By_closing bytes) l hs l'
 gives_reply_at bytes key None l hs l' there it = gives_breaks_at key (By_closing bytes) None l hs l' there it
 gives_reply_at bytes key (Some d) l hs l' there it =
-    gave_as key (Just_these (bytes (closes_of d.talk))) (By_closing bytes) l hs l' (λ e given is these. these ∙ ap (λ (x : Entry). bytes (closes_of x.talk)) (one_entry d e (sym there ∙ is))) (gives_keeps key (bytes (closes_of d.talk)) l hs l' it)
+    gave_as key (Just_these (bytes (closes_of d.talk))) (By_closing bytes) l hs l' (λ e given is these. these ∙ ap (λ (x : Entry). bytes (closes_of x.talk)) (one_entry d e (sym there ∙ is))) (gives_enqueues key (bytes (closes_of d.talk)) l hs l' it)
 
-pub gives_reply : (key : ℕ) (bytes : List ℕ) → Gives key (By_closing (λ closes. http_reply closes bytes)) (KeepsReply key bytes)
+pub gives_reply : (key : ℕ) (bytes : List ℕ) → Gives key (By_closing (λ closes. http_reply closes bytes)) (EnqueuesReply key bytes)
 gives_reply key bytes l hs l' it = gives_reply_at (λ closes. http_reply closes bytes) key (l.entries key) l hs l' refl it
 
-pub gives_status : (key : ℕ) (status : Status) (request : ℕ) → Gives key (By_closing (λ closes. http_status closes status request)) (KeepsStatus key status request)
+pub gives_status : (key : ℕ) (status : Status) (request : ℕ) → Gives key (By_closing (λ closes. http_status closes status request)) (EnqueuesStatus key status request)
 gives_status key status request l hs l' it = gives_reply_at (λ closes. http_status closes status request) key (l.entries key) l hs l' refl it
 
 -- ---- answers
 
 -- what becomes due by an answer of any kind
-abbrev pub LooseIpp : Bool → ℕ → Answer → List ℕ → Type 0
+abbrev pub LooseIpp : Bool → ℕ → Response → List ℕ → Type 0
 LooseIpp closes request (answered.Ipp answer) bytes = ((spelt : List ℕ) × IsReply answer request spelt × (bytes ≡ http_reply closes spelt)) ⊎ (bytes ≡ http_status closes TemporaryError request)
 LooseIpp closes request (answered.Lpd answer) bytes = bytes ≡ []
 LooseIpp closes request answered.Nothing bytes = bytes ≡ []
 
-abbrev pub LooseText : LpdAnswer → List ℕ → Type 0
+abbrev pub LooseText : LpdResponse → List ℕ → Type 0
 LooseText (shown.Taken taken) bytes = bytes ≡ ack_of (shown.Taken taken) ∷ []
 LooseText (shown.Queue listing) bytes = bytes ≡ text_of (shown.Queue listing)
 LooseText shown.NoQueue bytes = bytes ≡ text_of shown.NoQueue
 
-abbrev pub LooseLpd : Answer → List ℕ → Type 0
+abbrev pub LooseLpd : Response → List ℕ → Type 0
 LooseLpd (answered.Lpd answer) bytes = LooseText answer bytes
 LooseLpd (answered.Ipp answer) bytes = bytes ≡ []
 LooseLpd answered.Nothing bytes = bytes ≡ []
 
-abbrev pub Loose : Bool → Client → Option Reply → List ℕ → Type 0
+abbrev pub Loose : Bool → Client → Option Effects → List ℕ → Type 0
 Loose closes (client.Ipp request) (Some reply) bytes = LooseIpp closes request reply.answer bytes
 Loose closes (client.Ipp request) None bytes = bytes ≡ http_status closes TemporaryError request
 Loose closes client.LpdJob (Some reply) bytes = LooseLpd reply.answer bytes
@@ -229,26 +229,26 @@ Loose closes client.LpdCommand (Some reply) bytes = LooseLpd reply.answer bytes
 Loose closes client.LpdCommand None bytes = ⊥
 
 -- where it is answered in its own way
-pub given_ipp : (closes : Bool) (request : ℕ) (answer : Answer) (bytes : List ℕ) → IsTyped (client.Ipp request) answer → LooseIpp closes request answer bytes → GivenIpp closes request answer bytes
+pub given_ipp : (closes : Bool) (request : ℕ) (answer : Response) (bytes : List ℕ) → IsTyped (client.Ipp request) answer → LooseIpp closes request answer bytes → GivenIpp closes request answer bytes
 given_ipp closes request (answered.Ipp answer) bytes of it = it
 given_ipp closes request (answered.Lpd answer) bytes of it = absurd of
 given_ipp closes request answered.Nothing bytes of it = absurd of
 
-pub given_job : (answer : Answer) (bytes : List ℕ) → IsTyped client.LpdJob answer → LooseLpd answer bytes → GivenJob answer bytes
+pub given_job : (answer : Response) (bytes : List ℕ) → IsTyped client.LpdJob answer → LooseLpd answer bytes → GivenJob answer bytes
 given_job (answered.Ipp answer) bytes of it = absurd of
 given_job (answered.Lpd (shown.Taken taken)) bytes of it = it
 given_job (answered.Lpd (shown.Queue listing)) bytes of it = absurd of
 given_job (answered.Lpd shown.NoQueue) bytes of it = absurd of
 given_job answered.Nothing bytes of it = absurd of
 
-pub given_command : (answer : Answer) (bytes : List ℕ) → IsTyped client.LpdCommand answer → LooseLpd answer bytes → GivenCommand answer bytes
+pub given_command : (answer : Response) (bytes : List ℕ) → IsTyped client.LpdCommand answer → LooseLpd answer bytes → GivenCommand answer bytes
 given_command (answered.Ipp answer) bytes of it = absurd of
 given_command (answered.Lpd (shown.Taken taken)) bytes of it = absurd of
 given_command (answered.Lpd (shown.Queue listing)) bytes of it = it
 given_command (answered.Lpd shown.NoQueue) bytes of it = it
 given_command answered.Nothing bytes of it = it
 
-pub given : (closes : Bool) (who : Client) (reply : Option Reply) (bytes : List ℕ) → IsTypedReply who reply → Loose closes who reply bytes → Given closes who reply bytes
+pub given : (closes : Bool) (who : Client) (reply : Option Effects) (bytes : List ℕ) → IsTypedReply who reply → Loose closes who reply bytes → Given closes who reply bytes
 given closes (client.Ipp request) (Some reply) bytes of it = given_ipp closes request reply.answer bytes of it
 given closes (client.Ipp request) None bytes of it = it
 given closes client.LpdJob (Some reply) bytes of it = given_job reply.answer bytes of it
@@ -261,7 +261,7 @@ abbrev pub No_memory : ℕ → Bool → List ℕ → Type 0
 No_memory request closes given = given ≡ http_status closes TemporaryError request
 
 pub gives_dropped : (key id request : ℕ) → Gives key (No_memory request) (Ans.Drops key id request)
-gives_dropped key id request = gave_after key (No_memory request) (Tells (Refused At.Event (Some id))) (KeepsStatus key TemporaryError request) (still_tells At.Event (Some id) refl) (gives_status key TemporaryError request)
+gives_dropped key id request = gave_after key (No_memory request) (Tells (Refused At.Event (Some id))) (EnqueuesStatus key TemporaryError request) (still_tells At.Event (Some id) refl) (gives_status key TemporaryError request)
 
 pub gives_by : (t : Bool) (key : ℕ) (Q : Bool → List ℕ → Type 0) (R S : Rel) → Gives key Q R → Gives key Q S → Gives key Q (If t R S)
 gives_by true key Q R S r s l hs l' it = r l hs l' it
@@ -269,36 +269,36 @@ gives_by false key Q R S r s l hs l' it = s l hs l' it
 
 pub gives_lost : (key id request : ℕ) (query : Bool) → Gives key (No_memory request) (Ans.LosesReply key id request query)
 gives_lost key id request query =
-    gave_after key (No_memory request) (Tells (Refused At.Reply (Some id))) (If query (KeepsStatus key TemporaryError request) (Breaks key)) (still_tells At.Reply (Some id) refl)
-    (gives_by query key (No_memory request) (KeepsStatus key TemporaryError request) (Breaks key) (gives_status key TemporaryError request) (gives_breaks key (No_memory request)))
+    gave_after key (No_memory request) (Tells (Refused At.Reply (Some id))) (If query (EnqueuesStatus key TemporaryError request) (Breaks key)) (still_tells At.Reply (Some id) refl)
+    (gives_by query key (No_memory request) (EnqueuesStatus key TemporaryError request) (Breaks key) (gives_status key TemporaryError request) (gives_breaks key (No_memory request)))
 
-pub gives_replies_with : (key id request : ℕ) (query : Bool) (answer : Answer) → Gives key (λ closes bytes. LooseIpp closes request answer bytes) (Ans.RepliesWith key id request query answer)
+pub gives_replies_with : (key id request : ℕ) (query : Bool) (answer : Response) → Gives key (λ closes bytes. LooseIpp closes request answer bytes) (Ans.RepliesWith key id request query answer)
 gives_replies_with key id request query (answered.Ipp answer) l hs l' (inl (spelt, is, it)) =
     gave_as key (By_closing (λ closes. http_reply closes spelt)) (λ closes bytes. LooseIpp closes request (answered.Ipp answer) bytes) l hs l' (λ d bytes there these. inl (spelt, is, these))
-    (gave_after key (By_closing (λ closes. http_reply closes spelt)) (Chooses Found) (KeepsReply key spelt) still_found (gives_reply key spelt) l hs l' it)
+    (gave_after key (By_closing (λ closes. http_reply closes spelt)) (Chooses Found) (EnqueuesReply key spelt) still_found (gives_reply key spelt) l hs l' it)
 gives_replies_with key id request query (answered.Ipp answer) l hs l' (inr it) =
     gave_as key (No_memory request) (λ closes bytes. LooseIpp closes request (answered.Ipp answer) bytes) l hs l' (λ d bytes there these. inr these) (gives_lost key id request query l hs l' it)
 gives_replies_with key id request query (answered.Lpd answer) l hs l' it = gives_nothing key (λ closes bytes. LooseIpp closes request (answered.Lpd answer) bytes) (λ closes. refl) l hs l' it
 gives_replies_with key id request query answered.Nothing l hs l' it = gives_nothing key (λ closes bytes. LooseIpp closes request answered.Nothing bytes) (λ closes. refl) l hs l' it
 
-pub gives_declines : (place : Place) (key id : ℕ) → core_notes (Told (Refused place (Some id)) ∷ []) ≡ [] → Gives key (Just_these (1 ∷ [])) (Ans.Declines place key id)
-gives_declines place key id silent = gave_after key (Just_these (1 ∷ [])) (Tells (Refused place (Some id))) (Keeps key (1 ∷ [])) (still_tells place (Some id) silent) (gives_keeps key (1 ∷ []))
+pub gives_declines : (place : AllocationSite) (key id : ℕ) → core_notes (Told (Refused place (Some id)) ∷ []) ≡ [] → Gives key (Just_these (1 ∷ [])) (Ans.Declines place key id)
+gives_declines place key id silent = gave_after key (Just_these (1 ∷ [])) (Tells (Refused place (Some id))) (Enqueues key (1 ∷ [])) (still_tells place (Some id) silent) (gives_enqueues key (1 ∷ []))
 
 pub gives_shows : (key id : ℕ) (text : List ℕ) → Gives key (Just_these text) (Ans.Shows key id text)
-gives_shows key id text l hs l' (inl it) = gave_after key (Just_these text) (Chooses Found) (Keeps key text) still_found (gives_keeps key text) l hs l' it
+gives_shows key id text l hs l' (inl it) = gave_after key (Just_these text) (Chooses Found) (Enqueues key text) still_found (gives_enqueues key text) l hs l' it
 gives_shows key id text l hs l' (inr it) = gave_after key (Just_these text) (Tells (Refused At.Reply (Some id))) (Breaks key) (still_tells At.Reply (Some id) refl) (gives_breaks key (Just_these text)) l hs l' it
 
-pub gives_told : (key id : ℕ) (answer : LpdAnswer) → Gives key (λ closes bytes. LooseText answer bytes) (Ans.IsTold key id answer)
-gives_told key id (shown.Taken taken) = gives_keeps key (ack_of (shown.Taken taken) ∷ [])
+pub gives_told : (key id : ℕ) (answer : LpdResponse) → Gives key (λ closes bytes. LooseText answer bytes) (Ans.IsTold key id answer)
+gives_told key id (shown.Taken taken) = gives_enqueues key (ack_of (shown.Taken taken) ∷ [])
 gives_told key id (shown.Queue listing) = gives_shows key id (text_of (shown.Queue listing))
 gives_told key id shown.NoQueue = gives_shows key id (text_of shown.NoQueue)
 
-pub gives_shown : (key id : ℕ) (answer : Answer) → Gives key (λ closes bytes. LooseLpd answer bytes) (Ans.IsShown key id answer)
+pub gives_shown : (key id : ℕ) (answer : Response) → Gives key (λ closes bytes. LooseLpd answer bytes) (Ans.IsShown key id answer)
 gives_shown key id (answered.Lpd answer) = gives_told key id answer
 gives_shown key id (answered.Ipp answer) = gives_nothing key (λ closes bytes. LooseLpd (answered.Ipp answer) bytes) (λ closes. refl)
 gives_shown key id answered.Nothing = gives_nothing key (λ closes bytes. LooseLpd answered.Nothing bytes) (λ closes. refl)
 
-pub gives_answers : (key id : ℕ) (who : Client) (query : Bool) (reply : Option Reply) → Gives key (λ closes bytes. Loose closes who reply bytes) (Ans.Answers key id who query reply)
+pub gives_answers : (key id : ℕ) (who : Client) (query : Bool) (reply : Option Effects) → Gives key (λ closes bytes. Loose closes who reply bytes) (Ans.Answers key id who query reply)
 gives_answers key id (client.Ipp request) query (Some reply) l hs l' it = gives_replies_with key id request query reply.answer l hs l' it
 gives_answers key id (client.Ipp request) query None l hs l' it = gives_dropped key id request l hs l' it
 gives_answers key id client.LpdJob query (Some reply) l hs l' it = gives_shown key id reply.answer l hs l' it

@@ -18,16 +18,16 @@ use Rattle.print_room.specs.Dispatch.{is_free, first_of, first_of_queue, or_next
 use Rattle.spool.specs.Document.{DocumentRecord}
 use Rattle.events.specs.declared.event.Event.{Event}
 use Rattle.events.specs.declared.event.Event.TheVariants as Is
-use Rattle.events.specs.declared.reply.Cancel.{Cancel}
+use Rattle.events.specs.declared.effects.Cancel.{Cancel}
 use Rattle.dispatcher.specs.declared.outcome.Outcome.{Outcome}
 use Rattle.dispatcher.specs.declared.outcome.Outcome.TheVariants.{Dropped, Queried, Undispatched, Idle, Dispatched}
-use Rattle.dispatcher.specs.declared.listener.Place.TheVariants as At
+use Rattle.dispatcher.specs.declared.listener.AllocationSite.TheVariants as At
 use Rattle.dispatcher.specs.Notes.{Note, Planned, Canceled, Refused}
 use Rattle.dispatcher.specs.Run.{cancels_told, Handles}
 use Rattle.connections.specs.Entry.{Talk, Entry, opening_talk, device_of}
 use Rattle.server.specs.Polls.{Happening, Told}
 use Rattle.server.specs.Ledger.{Ledger, at_key, job_bytes, Fate}
-use Rattle.server.specs.Keeping.{IsDevice}
+use Rattle.server.specs.Enqueuing.{IsDevice}
 use Rattle.server.specs.Happening.{Happens, found_by}
 use Rattle.server.specs.Law.{core_notes}
 use Rattle.promises.specs.Answers.{Act, ClientTalk, AreActs, IsStateOf, is_asked, asked_by, IsAnswered, IsLast, BrokeAfter, IsCutOff}

@@ -6,13 +6,13 @@ use Rattle.base_types.specs.declared.report.Report.TheVariants as report
 use Rattle.print_room.specs.State.{State}
 use Rattle.events.specs.declared.event.Event.{Event}
 use Rattle.events.specs.declared.event.Event.TheVariants as Is
-use Rattle.events.specs.declared.reply.Reply.{Reply}
+use Rattle.events.specs.declared.effects.Effects.{Effects}
 use Rattle.dispatcher.specs.Run.{reply_of}
-use Rattle.requests.specs.declared.asked.Asked.{Asked}
-use Rattle.requests.specs.declared.asked.Asked.TheVariants as asked
+use Rattle.requests.specs.declared.parsed_request.ParsedRequest.{ParsedRequest}
+use Rattle.requests.specs.declared.parsed_request.ParsedRequest.TheVariants as asked
 use Rattle.wires.specs.Poll.{Poll, Accepts, Reads, Writes}
-use Rattle.wires.specs.declared.wire.Answer.{Answer as WireAnswer}
-use Rattle.wires.specs.declared.wire.Answer.TheVariants as wire
+use Rattle.wires.specs.declared.wire.Progress.{Progress as WireAnswer}
+use Rattle.wires.specs.declared.wire.Progress.TheVariants as wire
 use Rattle.wires.specs.declared.wire.Door.{Door}
 use Rattle.wires.specs.declared.wire.Door.TheVariants.{Ipp, Lpd, Devices}
 use Rattle.connections.specs.Entry.{Entry, opening_entry, device_of, broken, owing, waiting}
@@ -20,12 +20,12 @@ use Rattle.connections.specs.Asking.{IsHeard}
 use Rattle.server.specs.Polls.{Happening, Found}
 use Rattle.server.specs.Ledger.{Ledger, Drained, at_key, opening_ledger}
 use Rattle.server.specs.Rel.{Rel, Nothing, Polls, Chooses, Then, If, Each}
-use Rattle.server.specs.Keeping.{Sets, BreaksAt, Breaks}
+use Rattle.server.specs.Enqueuing.{Sets, BreaksAt, Breaks}
 use Rattle.server.specs.Happening.{now_at, Happens, Unanswered}
 use Rattle.server.specs.Closing.{Leaves, IsGone, ClosesAs, Settles}
 use Rattle.server.specs.Polling.{Opens, AcceptsAs, AcceptsOne, AcceptsAt, IsHeardAt, FedWhole, FeedsAt, Fails, ReadsAs, ReadsOpen, ReadsAt, is_read, ReadsOne, WritesAs, WritesOpen, WritesAt, WritesOne, is_done, EndsAt, EndsOne}
 use Rattle.server.specs.Turn as Between
-use Rattle.server.specs.Turn.{Ticks, Notes, is_tick_due, TicksIfDue, Covers, Round, Turn, BodyAsks, BodyComes, Deed, Turned, Served_body, Reported, Ticked, Trace, DoesDeed, Runs}
+use Rattle.server.specs.Turn.{Ticks, Notes, is_tick_due, TicksIfDue, Covers, Round, Turn, BodyAsks, BodyComes, Action, Turned, Served_body, Reported, Ticked, Trace, DoesDeed, Runs}
 use Rattle.promises.proofs.Sending.{same_key, other_key}
 use Rattle.promises.proofs.Sparing.{IsOut, Left, Leaves_it, left_unanswered, left_settles, left_happens, left_reads, left_writes}
 
@@ -38,7 +38,7 @@ or_true true y is = refl
 or_true false y is = is
 
 broken_heard : (e : Entry) → e.broken ≡ true → IsHeard e
-broken_heard e is = inl (or_true e.over e.broken is)
+broken_heard e is = inl (or_true e.draining e.broken is)
 
 -- a part that doesn't concern it leaves it so
 heard_left : (x y : Option Entry) → Left x y → IsHeardAt x → IsHeardAt y
@@ -130,7 +130,7 @@ own_open false moment key e bytes l hs l' heard is it = own_fed moment key e byt
 
 own_feeds : (moment key : ℕ) (bytes : List ℕ) (o : Option Entry) (l : Ledger) (hs : List Happening) (l' : Ledger) → AllHeard l → IsHeardAt o → FeedsAt moment key bytes o l hs l' → IsHeardAt (l'.entries key)
 own_feeds moment key bytes None l hs l' heard is it = hears_nothing l hs l' heard it key
-own_feeds moment key bytes (Some e) l hs l' heard is it = own_open e.over moment key e bytes l hs l' heard is it
+own_feeds moment key bytes (Some e) l hs l' heard is it = own_open e.draining moment key e bytes l hs l' heard is it
 
 polled : (poll : Poll) (l : Ledger) (hs : List Happening) (l' : Ledger) → AllHeard l → Polls poll l hs l' → AllHeard l'
 polled poll l hs l' heard it = hears_same l l' (ap (λ (x : Ledger). x.entries) it.1) heard
@@ -233,12 +233,12 @@ hears_turn moment =
     (hears_then (AcceptsAt Ipp) (Then (AcceptsAt Lpd) (Then (AcceptsAt Devices) (Round moment))) (hears_accepts Ipp)
     (hears_then (AcceptsAt Lpd) (Then (AcceptsAt Devices) (Round moment)) (hears_accepts Lpd) (hears_then (AcceptsAt Devices) (Round moment) (hears_accepts Devices) (hears_round moment)))))
 
-between_answers : (request : ℕ) (reply : Option Reply) (bytes : List ℕ) → Hears (Between.Answers request reply bytes)
+between_answers : (request : ℕ) (reply : Option Effects) (bytes : List ℕ) → Hears (Between.Answers request reply bytes)
 between_answers request (Some reply) bytes l hs l' heard (inl (are, it)) = hears_same l l' (ap (λ (x : Ledger). x.entries) it.1) heard
 between_answers request (Some reply) bytes l hs l' heard (inr it) = hears_same l l' (ap (λ (x : Ledger). x.entries) it.1) heard
 between_answers request None bytes l hs l' heard it = hears_same l l' (ap (λ (x : Ledger). x.entries) it.1) heard
 
-body_asks : (moment : ℕ) (it : Asked) (served : Between.Outcome) → Hears (BodyAsks moment it served)
+body_asks : (moment : ℕ) (it : ParsedRequest) (served : Between.Outcome) → Hears (BodyAsks moment it served)
 body_asks moment asked.TooShort served l hs l' heard it = hears_nothing l hs l' heard it.1
 body_asks moment (asked.Refused status request) served l hs l' heard (is, inl it) = hears_same l l' (ap (λ (x : Ledger). x.entries) it.1) heard
 body_asks moment (asked.Refused status request) served l hs l' heard (is, inr it) = hears_same l l' (ap (λ (x : Ledger). x.entries) it.1) heard
@@ -250,7 +250,7 @@ body_comes moment body served l hs l' heard (inl (it, asks, comes)) =
     hears_then (Chooses Found) (BodyAsks moment it served) (λ a ks b all is. hears_same a b (ap (λ (x : Ledger). x.entries) is.1) all) (body_asks moment it served) l hs l' heard comes
 body_comes moment body served l hs l' heard (inr it) = hears_same l l' (ap (λ (x : Ledger). x.entries) it.1) heard
 
-hears_deed : (deed : Deed) (l l' : Ledger) → AllHeard l → DoesDeed deed l l' → AllHeard l'
+hears_deed : (deed : Action) (l l' : Ledger) → AllHeard l → DoesDeed deed l l' → AllHeard l'
 hears_deed (Turned moment hs) l l' heard it = hears_turn moment l hs l' heard it
 hears_deed (Served_body moment body answer hs) l l' heard (served, same, it) = body_comes moment body served l hs l' heard it
 hears_deed (Reported moment device said hs) l l' heard (what, same, it) = hears_unanswered moment (Is.Report device what) l hs l' heard it

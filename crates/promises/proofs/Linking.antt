@@ -7,15 +7,15 @@ use Rattle.std.proofs.lemmas.List.Elements.{All-nil, All-weaker}
 use Rattle.base_types.specs.declared.limits.TheConstants.Limits.{CONNECTIONS}
 use Rattle.print_room.specs.State.{State}
 use Rattle.events.specs.declared.event.Event.TheVariants as Is
-use Rattle.events.specs.declared.reply.Reply.{Reply}
-use Rattle.dispatcher.specs.declared.listener.Place.TheVariants as At
+use Rattle.events.specs.declared.effects.Effects.{Effects}
+use Rattle.dispatcher.specs.declared.listener.AllocationSite.TheVariants as At
 use Rattle.dispatcher.specs.Notes.{Note}
 use Rattle.dispatcher.specs.Run.{reply_of}
-use Rattle.requests.specs.declared.asked.Asked.{Asked}
-use Rattle.requests.specs.declared.asked.Asked.TheVariants as asked
+use Rattle.requests.specs.declared.parsed_request.ParsedRequest.{ParsedRequest}
+use Rattle.requests.specs.declared.parsed_request.ParsedRequest.TheVariants as asked
 use Rattle.wires.specs.Poll.{Poll, Accepts, Reads, Writes}
-use Rattle.wires.specs.declared.wire.Answer.{Answer as WireAnswer}
-use Rattle.wires.specs.declared.wire.Answer.TheVariants as wire
+use Rattle.wires.specs.declared.wire.Progress.{Progress as WireAnswer}
+use Rattle.wires.specs.declared.wire.Progress.TheVariants as wire
 use Rattle.wires.specs.declared.wire.Door.{Door}
 use Rattle.wires.specs.declared.wire.Door.TheVariants.{Ipp, Lpd, Devices}
 use Rattle.connections.specs.Session.{heard}
@@ -24,12 +24,12 @@ use Rattle.connections.specs.Asking.{IsHeard}
 use Rattle.server.specs.Polls.{Happening, Found, Looked}
 use Rattle.server.specs.Ledger.{Ledger, Fate, Drained, opening_ledger}
 use Rattle.server.specs.Rel.{Rel, Nothing, Polls, Chooses, Then, If, Each}
-use Rattle.server.specs.Keeping.{Sets, Breaks, Drops}
+use Rattle.server.specs.Enqueuing.{Sets, Breaks, Drops}
 use Rattle.server.specs.Happening.{now_at, Happens, Unanswered}
 use Rattle.server.specs.Closing.{ClosesAs, Settles}
 use Rattle.server.specs.Polling.{Opens, AcceptsAs, AcceptsOne, AcceptsAt, FedWhole, FeedsAt, FeedsOne, Fails, ReadsAs, ReadsOpen, ReadsAt, is_read, ReadsOne, WritesAs, WritesOpen, WritesAt, WritesOne, is_done, EndsAt, EndsOne}
 use Rattle.server.specs.Turn as Between
-use Rattle.server.specs.Turn.{Ticks, Notes, is_tick_due, TicksIfDue, Covers, Rounds, Round, Turn, BodyAsks, BodyComes, Deed, Turned, Served_body, Reported, Ticked, Trace, DoesDeed, Runs}
+use Rattle.server.specs.Turn.{Ticks, Notes, is_tick_due, TicksIfDue, Covers, Rounds, Round, Turn, BodyAsks, BodyComes, Action, Turned, Served_body, Reported, Ticked, Trace, DoesDeed, Runs}
 use Rattle.server.specs.Law.{core_notes, moment_of, happenings_of, happenings_in}
 use Rattle.promises.specs.Orders.{Handled, AreHandled, AreOf, due_by, AreSent, WasSent, IsFrontSent, WasHalted}
 use Rattle.promises.specs.Answers.{Act, ClientTalk, IsStateOf, IsAnswered, WasAnswered, AreAnswered, IsCutOff, WasCutOff}
@@ -65,7 +65,7 @@ fed_open false moment key e bytes l hs l' good there it = fed_whole moment key e
 
 pub feeds_at : (moment key : ℕ) (bytes : List ℕ) (o : Option Entry) (l : Ledger) (hs : List Happening) (l' : Ledger) → Good l → l.entries key ≡ o → FeedsAt moment key bytes o l hs l' → Goes moment l hs l'
 feeds_at moment key bytes None l hs l' good there it = goes_calm moment l hs l' good (calms_nothing l hs l' it)
-feeds_at moment key bytes (Some e) l hs l' good there it = fed_open e.over moment key e bytes l hs l' good there it
+feeds_at moment key bytes (Some e) l hs l' good there it = fed_open e.draining moment key e bytes l hs l' good there it
 
 pub moves_feeds : (moment key : ℕ) (bytes : List ℕ) → Moves moment (FeedsOne moment key bytes)
 moves_feeds moment key bytes l hs l' good it = feeds_at moment key bytes (l.entries key) l hs l' good refl it
@@ -212,12 +212,12 @@ moves_turn moment =
     (moves_then moment (AcceptsAt Ipp) (Then (AcceptsAt Lpd) (Then (AcceptsAt Devices) (Round moment))) (moves_accepts moment Ipp)
     (moves_then moment (AcceptsAt Lpd) (Then (AcceptsAt Devices) (Round moment)) (moves_accepts moment Lpd) (moves_then moment (AcceptsAt Devices) (Round moment) (moves_accepts moment Devices) (moves_round moment)))))
 
-pub between_answers : (request : ℕ) (reply : Option Reply) (bytes : List ℕ) → Calms (Between.Answers request reply bytes)
+pub between_answers : (request : ℕ) (reply : Option Effects) (bytes : List ℕ) → Calms (Between.Answers request reply bytes)
 between_answers request (Some reply) bytes l hs l' (inl (are, it)) = calms_chooses Found l hs l' it
 between_answers request (Some reply) bytes l hs l' (inr it) = calms_refusal At.Reply None refl l hs l' it
 between_answers request None bytes l hs l' it = calms_refusal At.Event None refl l hs l' it
 
-pub body_asks : (moment : ℕ) (it : Asked) (served : Between.Outcome) → Moves moment (BodyAsks moment it served)
+pub body_asks : (moment : ℕ) (it : ParsedRequest) (served : Between.Outcome) → Moves moment (BodyAsks moment it served)
 body_asks moment asked.TooShort served l hs l' good it = goes_calm moment l hs l' good (calms_nothing l hs l' it.1)
 body_asks moment (asked.Refused status request) served l hs l' good (is, inl it) = goes_calm moment l hs l' good (calms_chooses Found l hs l' it)
 body_asks moment (asked.Refused status request) served l hs l' good (is, inr it) = goes_calm moment l hs l' good (calms_refusal At.Reply None refl l hs l' it)
@@ -229,7 +229,7 @@ body_comes moment body served l hs l' good (inl (it, asks, comes)) =
     moves_then moment (Chooses Found) (BodyAsks moment it served) (moves_calm moment (Chooses Found) (calms_chooses Found)) (body_asks moment it served) l hs l' good comes
 body_comes moment body served l hs l' good (inr it) = goes_calm moment l hs l' good (calms_refusal At.Event None refl l hs l' it)
 
-pub moves_deed : (deed : Deed) (l l' : Ledger) → Good l → DoesDeed deed l l' → Goes (moment_of deed) l (happenings_of deed) l'
+pub moves_deed : (deed : Action) (l l' : Ledger) → Good l → DoesDeed deed l l' → Goes (moment_of deed) l (happenings_of deed) l'
 moves_deed (Turned moment hs) l l' good it = moves_turn moment l hs l' good it
 moves_deed (Served_body moment body answer hs) l l' good (served, same, it) = body_comes moment body served l hs l' good it
 moves_deed (Reported moment device said hs) l l' good (what, same, it) = moves_unanswered moment (Is.Report device what) l hs l' good it

@@ -9,7 +9,7 @@ use Rattle.connections.specs.Steps.{silent}
 use Rattle.connections.specs.Entry.{Talk, Http, Queue, Link, Entry, device_of, given_up, unnamed}
 use Rattle.server.specs.Polls.{Happening}
 use Rattle.server.specs.Ledger.{Ledger, at_key, with_entry}
-use Rattle.server.specs.Keeping.{IsDevice}
+use Rattle.server.specs.Enqueuing.{IsDevice}
 use Rattle.server.specs.Greeting.{IsDeviceAs, IsAlone, GivesWayAt, Greets}
 use Rattle.server.specs.Law.{core_notes}
 use Rattle.promises.specs.Orders.{Handled}
@@ -188,21 +188,21 @@ greets moment key id device name e new l front mid back l' hs whole just (inl (a
     awaits_named moment device key name outcome l front mid back l' hs whole waits (happened moment (Is.Report device (report.Hello name)) outcome mid back l' waits.good it)
 greets moment key id device name e new l front mid back l' hs whole just (inr (inl (old, has, it))) =
     let begun : it.mid ≡ mid = it.first.1 in
-    let over = it.second in
+    let draining = it.second in
     let is_old : IsDevice device (mid.entries old) = as_device true device (mid.entries old) has.1 in
     let found = device_there device (mid.entries old) is_old in
-    let way = gives_way_at old (it.mid.entries old) found.0 it.mid over.front over.mid (ap (λ (x : Ledger). x.entries old) begun ∙ found.1) over.first in
-    let after : over.mid ≡ with_entry old (given_up found.0) mid = way.1 ∙ ap (λ (x : Ledger). with_entry old (given_up found.0) x) begun in
-    let alone = alone_then device key old new found.0 l mid over.mid just.good just.after has.0 found.1 is_old after in
-    let quiet : core_notes (front ++ (it.front ++ over.front)) ≡ [] =
-    notes_append front (it.front ++ over.front) ∙ (ap (λ (ns : List Note). ns ++ core_notes (it.front ++ over.front)) just.silent ∙ (notes_append it.front over.front ∙ (ap (λ (ns : List Note). ns ++ core_notes over.front) (ap core_notes it.first.0) ∙ ap core_notes way.0))) in
-    let waits = awaits moment device key e new l (front ++ (it.front ++ over.front)) over.mid just.good quiet just.named just.fresh just.due alone in
-    let ends = over.second in
-    let gone = happened moment (Is.Report device report.Gone) ends.first.0 over.mid ends.front ends.mid waits.good ends.first.1 in
-    let none = gone_sends_none moment device over.mid.core ends.first.0 (core_notes ends.front) ends.mid.core gone.handles in
-    let still = awaits_event moment device key (Is.Report device report.Gone) ends.first.0 l (front ++ (it.front ++ over.front)) over.mid ends.front ends.mid ((front ++ (it.front ++ over.front)) ++ ends.front) refl waits gone none in
+    let way = gives_way_at old (it.mid.entries old) found.0 it.mid draining.front draining.mid (ap (λ (x : Ledger). x.entries old) begun ∙ found.1) draining.first in
+    let after : draining.mid ≡ with_entry old (given_up found.0) mid = way.1 ∙ ap (λ (x : Ledger). with_entry old (given_up found.0) x) begun in
+    let alone = alone_then device key old new found.0 l mid draining.mid just.good just.after has.0 found.1 is_old after in
+    let quiet : core_notes (front ++ (it.front ++ draining.front)) ≡ [] =
+    notes_append front (it.front ++ draining.front) ∙ (ap (λ (ns : List Note). ns ++ core_notes (it.front ++ draining.front)) just.silent ∙ (notes_append it.front draining.front ∙ (ap (λ (ns : List Note). ns ++ core_notes draining.front) (ap core_notes it.first.0) ∙ ap core_notes way.0))) in
+    let waits = awaits moment device key e new l (front ++ (it.front ++ draining.front)) draining.mid just.good quiet just.named just.fresh just.due alone in
+    let ends = draining.second in
+    let gone = happened moment (Is.Report device report.Gone) ends.first.0 draining.mid ends.front ends.mid waits.good ends.first.1 in
+    let none = gone_sends_none moment device draining.mid.core ends.first.0 (core_notes ends.front) ends.mid.core gone.handles in
+    let still = awaits_event moment device key (Is.Report device report.Gone) ends.first.0 l (front ++ (it.front ++ draining.front)) draining.mid ends.front ends.mid ((front ++ (it.front ++ draining.front)) ++ ends.front) refl waits gone none in
     let last = happened moment (Is.Report device (report.Hello name)) ends.second.0 ends.mid ends.back l' still.good ends.second.1 in
-    awaits_named moment device key name ends.second.0 l ((front ++ (it.front ++ over.front)) ++ ends.front) ends.mid ends.back l' hs (whole ∙ joined it.front over.front ends.front ends.back back it.back over.back it.whole over.whole ends.whole) still last
+    awaits_named moment device key name ends.second.0 l ((front ++ (it.front ++ draining.front)) ++ ends.front) ends.mid ends.back l' hs (whole ∙ joined it.front draining.front ends.front ends.back back it.back draining.back it.whole draining.whole ends.whole) still last
   where
     joined : (a b c d back rest more : List Happening) → back ≡ a ++ rest → rest ≡ b ++ more → more ≡ c ++ d → front ++ back ≡ ((front ++ (a ++ b)) ++ c) ++ d
     joined a b c d back rest more p q r =

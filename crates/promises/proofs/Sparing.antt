@@ -4,11 +4,11 @@ use Rattle.std.specs.Prelude.{◌==◌, nat_lt, if◌then◌else◌}
 use Rattle.base_types.specs.declared.report.Report.TheVariants as report
 use Rattle.events.specs.declared.event.Event.{Event}
 use Rattle.events.specs.declared.event.Event.TheVariants as Is
-use Rattle.events.specs.declared.reply.Answer.{Answer}
-use Rattle.events.specs.declared.reply.Answer.TheVariants as answered
-use Rattle.events.specs.declared.reply.LpdAnswer.{LpdAnswer}
-use Rattle.events.specs.declared.reply.LpdAnswer.TheVariants as shown
-use Rattle.events.specs.declared.reply.Reply.{Reply}
+use Rattle.events.specs.declared.effects.Response.{Response}
+use Rattle.events.specs.declared.effects.Response.TheVariants as answered
+use Rattle.events.specs.declared.effects.LpdResponse.{LpdResponse}
+use Rattle.events.specs.declared.effects.LpdResponse.TheVariants as shown
+use Rattle.events.specs.declared.effects.Effects.{Effects}
 use Rattle.events.specs.declared.status.Status.{Status}
 use Rattle.events.specs.declared.status.Status.TheVariants.{TemporaryError}
 use Rattle.events.specs.Event.{is_query}
@@ -16,15 +16,15 @@ use Rattle.device_link.specs.Orders.{cancel_line}
 use Rattle.dispatcher.specs.declared.outcome.Outcome.{Outcome}
 use Rattle.dispatcher.specs.declared.outcome.Outcome.TheVariants.{Dropped, Queried, Undispatched, Idle, Dispatched}
 use Rattle.dispatcher.specs.declared.listener.DeviceRefusal.TheVariants as why
-use Rattle.dispatcher.specs.declared.listener.Place.{Place}
-use Rattle.dispatcher.specs.declared.listener.Place.TheVariants as At
+use Rattle.dispatcher.specs.declared.listener.AllocationSite.{AllocationSite}
+use Rattle.dispatcher.specs.declared.listener.AllocationSite.TheVariants as At
 use Rattle.dispatcher.specs.Notes.{Note, DeviceRefused, Refused}
 use Rattle.dispatcher.specs.Run.{reply_of}
-use Rattle.replies.specs.QueueText.{ack_of, text_of}
-use Rattle.outputs.specs.Reply.{http_reply}
+use Rattle.responses.specs.QueueText.{ack_of, text_of}
+use Rattle.send_queues.specs.Reply.{http_reply}
 use Rattle.wires.specs.Poll.{Poll, Reads, Writes}
-use Rattle.wires.specs.declared.wire.Answer.{Answer as WireAnswer}
-use Rattle.wires.specs.declared.wire.Answer.TheVariants as wire
+use Rattle.wires.specs.declared.wire.Progress.{Progress as WireAnswer}
+use Rattle.wires.specs.declared.wire.Progress.TheVariants as wire
 use Rattle.connections.specs.declared.ask.Ask.{Ask}
 use Rattle.connections.specs.declared.ask.Ask.TheVariants as ask
 use Rattle.connections.specs.declared.ask.Client.{Client}
@@ -34,12 +34,12 @@ use Rattle.connections.specs.Entry.{Entry, device_of, closes_of, broken, owing, 
 use Rattle.server.specs.Polls.{Happening, Choice, Found, Rested}
 use Rattle.server.specs.Ledger.{Ledger, Drained, at_key, with_entry, job_bytes}
 use Rattle.server.specs.Rel.{Rel, Nothing, Polls, Tells, Chooses, Then, If, Or, Times, Many, EachOf}
-use Rattle.server.specs.Keeping.{Sets, BreaksAt, Breaks, Drops, KeepsOpen, KeepsAt, Keeps, KeepsReplyAt, KeepsReply, KeepsStatus, IsDevice, KeepsOn}
+use Rattle.server.specs.Enqueuing.{Sets, BreaksAt, Breaks, Drops, EnqueuesOpen, EnqueuesAt, Enqueues, EnqueuesReplyAt, EnqueuesReply, EnqueuesStatus, IsDevice, EnqueuesOn}
 use Rattle.server.specs.Happening.{Decides, Sends, Starts, StartsAll, SendsAll, Orders, Happens, Unanswered}
 use Rattle.server.specs.Closing.{Leaves, IsGone, ClosesAs, IsBroken, ClosesFirst, NoneBroken, Settles}
 use Rattle.server.specs.Answering as Ans
 use Rattle.server.specs.Greeting.{IsDeviceAs, GivesWayAt, GivesWay, SaysName, Greets}
-use Rattle.server.specs.Acting.{place_of, place_of_part, Asks, Does, ActsNext}
+use Rattle.server.specs.Acting.{place_of, place_of_part, Asks, Refines, ActsNext}
 use Rattle.server.specs.Polling.{Acts, Serves, FedWhole, FeedsAt, FeedsOne, Fails, ReadsAs, ReadsOpen, ReadsAt, is_read, ReadsOne, WritesAs, WritesOpen, WritesAt, WritesOne, is_done, EndsAt, EndsOne}
 use Rattle.promises.specs.Others.{SparedAs, IsSpared, SparesAll}
 use Rattle.promises.proofs.Sending.{same_key}
@@ -192,7 +192,7 @@ module _ (other key : ℕ) (apart : other ≢ key) where
   left_sets : (e : Entry) → Leaves_it other (Sets key e)
   left_sets e l hs l' it = left_at other key (Some e) l l' (ap (λ (x : Ledger). x.entries) it.1) (aside other key apart)
 
-  left_drops : (place : Place) (e : Entry) → Leaves_it other (Drops place key e)
+  left_drops : (place : AllocationSite) (e : Entry) → Leaves_it other (Drops place key e)
   left_drops place e l hs l' it = left_at other key (Some (broken e)) l l' (ap (λ (x : Ledger). x.entries) it.1) (aside other key apart)
 
   breaks_at : (o : Option Entry) → Leaves_it other (BreaksAt key o)
@@ -202,65 +202,65 @@ module _ (other key : ℕ) (apart : other ≢ key) where
   left_breaks : Leaves_it other (Breaks key)
   left_breaks l hs l' it = breaks_at (l.entries key) l hs l' it
 
-  keeps_at : (refusable : Entry → Bool) (bytes : List ℕ) (o : Option Entry) → Leaves_it other (KeepsAt refusable key bytes o)
-  keeps_at refusable bytes None = left_nothing other
-  keeps_at refusable bytes (Some e) =
-      left_if other e.broken Nothing (KeepsOpen (refusable e) key bytes e) (left_nothing other)
-      (left_if other (refusable e) (Or (Then (Chooses Found) (Sets key (owing bytes e))) (Drops At.Keep key e)) (Sets key (owing bytes e))
-      (left_or other (Then (Chooses Found) (Sets key (owing bytes e))) (Drops At.Keep key e) (left_joined other (Chooses Found) (Sets key (owing bytes e)) (left_chooses other Found) (left_sets (owing bytes e))) (left_drops At.Keep e)) (left_sets (owing bytes e)))
+  enqueues_at : (refusable : Entry → Bool) (bytes : List ℕ) (o : Option Entry) → Leaves_it other (EnqueuesAt refusable key bytes o)
+  enqueues_at refusable bytes None = left_nothing other
+  enqueues_at refusable bytes (Some e) =
+      left_if other e.broken Nothing (EnqueuesOpen (refusable e) key bytes e) (left_nothing other)
+      (left_if other (refusable e) (Or (Then (Chooses Found) (Sets key (owing bytes e))) (Drops At.Enqueue key e)) (Sets key (owing bytes e))
+      (left_or other (Then (Chooses Found) (Sets key (owing bytes e))) (Drops At.Enqueue key e) (left_joined other (Chooses Found) (Sets key (owing bytes e)) (left_chooses other Found) (left_sets (owing bytes e))) (left_drops At.Enqueue e)) (left_sets (owing bytes e)))
 
-  left_keeps : (bytes : List ℕ) → Leaves_it other (Keeps key bytes)
-  left_keeps bytes l hs l' it = keeps_at (needs_memory bytes) bytes (l.entries key) l hs l' it
+  left_enqueues : (bytes : List ℕ) → Leaves_it other (Enqueues key bytes)
+  left_enqueues bytes l hs l' it = enqueues_at (needs_memory bytes) bytes (l.entries key) l hs l' it
 
-  reply_at : (bytes : Bool → List ℕ) (o : Option Entry) → Leaves_it other (KeepsReplyAt bytes key o)
+  reply_at : (bytes : Bool → List ℕ) (o : Option Entry) → Leaves_it other (EnqueuesReplyAt bytes key o)
   reply_at bytes None = left_nothing other
-  reply_at bytes (Some e) = left_keeps (bytes (closes_of e.talk))
+  reply_at bytes (Some e) = left_enqueues (bytes (closes_of e.talk))
 
-  left_reply : (bytes : List ℕ) → Leaves_it other (KeepsReply key bytes)
+  left_reply : (bytes : List ℕ) → Leaves_it other (EnqueuesReply key bytes)
   left_reply bytes l hs l' it = reply_at (λ closes. http_reply closes bytes) (l.entries key) l hs l' it
 
-  left_status : (status : Status) (request : ℕ) → Leaves_it other (KeepsStatus key status request)
+  left_status : (status : Status) (request : ℕ) → Leaves_it other (EnqueuesStatus key status request)
   left_status status request l hs l' it = reply_at (λ closes. http_status closes status request) (l.entries key) l hs l' it
 
   -- ---- answers
 
   left_dropped : (id request : ℕ) → Leaves_it other (Ans.Drops key id request)
-  left_dropped id request = left_joined other (Tells (Refused At.Event (Some id))) (KeepsStatus key TemporaryError request) (left_tells other (Refused At.Event (Some id))) (left_status TemporaryError request)
+  left_dropped id request = left_joined other (Tells (Refused At.Event (Some id))) (EnqueuesStatus key TemporaryError request) (left_tells other (Refused At.Event (Some id))) (left_status TemporaryError request)
 
   left_lost : (id request : ℕ) (query : Bool) → Leaves_it other (Ans.LosesReply key id request query)
   left_lost id request query =
-      left_joined other (Tells (Refused At.Reply (Some id))) (If query (KeepsStatus key TemporaryError request) (Breaks key)) (left_tells other (Refused At.Reply (Some id)))
-      (left_if other query (KeepsStatus key TemporaryError request) (Breaks key) (left_status TemporaryError request) left_breaks)
+      left_joined other (Tells (Refused At.Reply (Some id))) (If query (EnqueuesStatus key TemporaryError request) (Breaks key)) (left_tells other (Refused At.Reply (Some id)))
+      (left_if other query (EnqueuesStatus key TemporaryError request) (Breaks key) (left_status TemporaryError request) left_breaks)
 
-  left_replies_with : (id request : ℕ) (query : Bool) (answer : Answer) → Leaves_it other (Ans.RepliesWith key id request query answer)
-  left_replies_with id request query (answered.Ipp answer) l hs l' (inl (bytes, is, it)) = left_joined other (Chooses Found) (KeepsReply key bytes) (left_chooses other Found) (left_reply bytes) l hs l' it
+  left_replies_with : (id request : ℕ) (query : Bool) (answer : Response) → Leaves_it other (Ans.RepliesWith key id request query answer)
+  left_replies_with id request query (answered.Ipp answer) l hs l' (inl (bytes, is, it)) = left_joined other (Chooses Found) (EnqueuesReply key bytes) (left_chooses other Found) (left_reply bytes) l hs l' it
   left_replies_with id request query (answered.Ipp answer) l hs l' (inr it) = left_lost id request query l hs l' it
   left_replies_with id request query (answered.Lpd answer) l hs l' it = left_nothing other l hs l' it
   left_replies_with id request query answered.Nothing l hs l' it = left_nothing other l hs l' it
 
-  left_replies : (id request : ℕ) (query : Bool) (reply : Option Reply) → Leaves_it other (Ans.Replies key id request query reply)
+  left_replies : (id request : ℕ) (query : Bool) (reply : Option Effects) → Leaves_it other (Ans.Replies key id request query reply)
   left_replies id request query (Some reply) = left_replies_with id request query reply.answer
   left_replies id request query None = left_dropped id request
 
-  left_declines : (place : Place) (id : ℕ) → Leaves_it other (Ans.Declines place key id)
-  left_declines place id = left_joined other (Tells (Refused place (Some id))) (Keeps key (1 ∷ [])) (left_tells other (Refused place (Some id))) (left_keeps (1 ∷ []))
+  left_declines : (place : AllocationSite) (id : ℕ) → Leaves_it other (Ans.Declines place key id)
+  left_declines place id = left_joined other (Tells (Refused place (Some id))) (Enqueues key (1 ∷ [])) (left_tells other (Refused place (Some id))) (left_enqueues (1 ∷ []))
 
   left_shows : (id : ℕ) (text : List ℕ) → Leaves_it other (Ans.Shows key id text)
   left_shows id text =
-      left_or other (Then (Chooses Found) (Keeps key text)) (Then (Tells (Refused At.Reply (Some id))) (Breaks key)) (left_joined other (Chooses Found) (Keeps key text) (left_chooses other Found) (left_keeps text))
+      left_or other (Then (Chooses Found) (Enqueues key text)) (Then (Tells (Refused At.Reply (Some id))) (Breaks key)) (left_joined other (Chooses Found) (Enqueues key text) (left_chooses other Found) (left_enqueues text))
       (left_joined other (Tells (Refused At.Reply (Some id))) (Breaks key) (left_tells other (Refused At.Reply (Some id))) left_breaks)
 
-  left_told : (id : ℕ) (answer : LpdAnswer) → Leaves_it other (Ans.IsTold key id answer)
-  left_told id (shown.Taken taken) = left_keeps (ack_of (shown.Taken taken) ∷ [])
+  left_told : (id : ℕ) (answer : LpdResponse) → Leaves_it other (Ans.IsTold key id answer)
+  left_told id (shown.Taken taken) = left_enqueues (ack_of (shown.Taken taken) ∷ [])
   left_told id (shown.Queue listing) = left_shows id (text_of (shown.Queue listing))
   left_told id shown.NoQueue = left_shows id (text_of shown.NoQueue)
 
-  left_shown : (id : ℕ) (answer : Answer) → Leaves_it other (Ans.IsShown key id answer)
+  left_shown : (id : ℕ) (answer : Response) → Leaves_it other (Ans.IsShown key id answer)
   left_shown id (answered.Lpd answer) = left_told id answer
   left_shown id (answered.Ipp answer) = left_nothing other
   left_shown id answered.Nothing = left_nothing other
 
-  left_answers : (id : ℕ) (who : Client) (query : Bool) (reply : Option Reply) → Leaves_it other (Ans.Answers key id who query reply)
+  left_answers : (id : ℕ) (who : Client) (query : Bool) (reply : Option Effects) → Leaves_it other (Ans.Answers key id who query reply)
   left_answers id (client.Ipp request) query reply = left_replies id request query reply
   left_answers id client.LpdJob query (Some reply) = left_shown id reply.answer
   left_answers id client.LpdJob query None = left_declines At.Event id
@@ -269,32 +269,32 @@ module _ (other key : ℕ) (apart : other ≢ key) where
 
 -- ---- events, which concern devices' connections
 
-keeps_open : (other key device : ℕ) (bytes : List ℕ) (e : Entry) (l : Ledger) (hs : List Happening) (l' : Ledger) → l.entries key ≡ Some e → device_of e.talk ≡ Some device → e.broken ≡ false → KeepsOpen true key bytes e l hs l' → Left (l.entries other) (l'.entries other)
-keeps_open other key device bytes e l hs l' there named sound (inl it) =
+enqueues_open : (other key device : ℕ) (bytes : List ℕ) (e : Entry) (l : Ledger) (hs : List Happening) (l' : Ledger) → l.entries key ≡ Some e → device_of e.talk ≡ Some device → e.broken ≡ false → EnqueuesOpen true key bytes e l hs l' → Left (l.entries other) (l'.entries other)
+enqueues_open other key device bytes e l hs l' there named sound (inl it) =
     left_at other key (Some (owing bytes e)) l l' (ap (λ (x : Ledger). x.entries) (it.second.1 ∙ ap (λ (x : Ledger). with_entry key (owing bytes e) x) it.first.1))
     (λ same. subst (λ (o : Option Entry). Left o (Some (owing bytes e))) (sym (ap l.entries same ∙ there)) (left_owing e device bytes named sound))
-keeps_open other key device bytes e l hs l' there named sound (inr it) =
+enqueues_open other key device bytes e l hs l' there named sound (inr it) =
     left_at other key (Some (broken e)) l l' (ap (λ (x : Ledger). x.entries) it.1) (λ same. subst (λ (o : Option Entry). Left o (Some (broken e))) (sym (ap l.entries same ∙ there)) (left_out e device (Some (broken e)) named (inr (broken e, refl, refl))))
 
-keeps_if : (t : Bool) (other key device : ℕ) (bytes : List ℕ) (e : Entry) (l : Ledger) (hs : List Happening) (l' : Ledger) → e.broken ≡ t → l.entries key ≡ Some e → device_of e.talk ≡ Some device → If t Nothing (KeepsOpen true key bytes e) l hs l' → Left (l.entries other) (l'.entries other)
-keeps_if true other key device bytes e l hs l' is there named it = left_nothing other l hs l' it
-keeps_if false other key device bytes e l hs l' is there named it = keeps_open other key device bytes e l hs l' there named is it
+enqueues_if : (t : Bool) (other key device : ℕ) (bytes : List ℕ) (e : Entry) (l : Ledger) (hs : List Happening) (l' : Ledger) → e.broken ≡ t → l.entries key ≡ Some e → device_of e.talk ≡ Some device → If t Nothing (EnqueuesOpen true key bytes e) l hs l' → Left (l.entries other) (l'.entries other)
+enqueues_if true other key device bytes e l hs l' is there named it = left_nothing other l hs l' it
+enqueues_if false other key device bytes e l hs l' is there named it = enqueues_open other key device bytes e l hs l' there named is it
 
-keeps_there : (other key device : ℕ) (bytes : List ℕ) (o : Option Entry) (l : Ledger) (hs : List Happening) (l' : Ledger) → l.entries key ≡ o → IsDevice device o → KeepsAt (λ e. true) key bytes o l hs l' → Left (l.entries other) (l'.entries other)
-keeps_there other key device bytes None l hs l' there is it = absurd is
-keeps_there other key device bytes (Some e) l hs l' there is it = keeps_if e.broken other key device bytes e l hs l' refl there is it
+enqueues_there : (other key device : ℕ) (bytes : List ℕ) (o : Option Entry) (l : Ledger) (hs : List Happening) (l' : Ledger) → l.entries key ≡ o → IsDevice device o → EnqueuesAt (λ e. true) key bytes o l hs l' → Left (l.entries other) (l'.entries other)
+enqueues_there other key device bytes None l hs l' there is it = absurd is
+enqueues_there other key device bytes (Some e) l hs l' there is it = enqueues_if e.broken other key device bytes e l hs l' refl there is it
 
-left_keeps_on : (other device : ℕ) (bytes : List ℕ) → Leaves_it other (KeepsOn device bytes)
-left_keeps_on other device bytes l hs l' (inl (key, is, it)) =
-    let kept : KeepsAt (λ e. true) key bytes (l.entries key) l it.back l' = subst (λ (x : Ledger). KeepsAt (λ e. true) key bytes (x.entries key) x it.back l') it.first.1 it.second in
-    keeps_there other key device bytes (l.entries key) l it.back l' refl is kept
-left_keeps_on other device bytes l hs l' (inr (absent, it)) = left_nothing other l hs l' it
+left_enqueues_on : (other device : ℕ) (bytes : List ℕ) → Leaves_it other (EnqueuesOn device bytes)
+left_enqueues_on other device bytes l hs l' (inl (key, is, it)) =
+    let kept : EnqueuesAt (λ e. true) key bytes (l.entries key) l it.back l' = subst (λ (x : Ledger). EnqueuesAt (λ e. true) key bytes (x.entries key) x it.back l') it.first.1 it.second in
+    enqueues_there other key device bytes (l.entries key) l it.back l' refl is kept
+left_enqueues_on other device bytes l hs l' (inr (absent, it)) = left_nothing other l hs l' it
 
-left_sends : (other : ℕ) (reply : Reply) → Leaves_it other (SendsAll reply)
-left_sends other reply = left_each_of other reply.cancels.items Sends (λ cancel. left_keeps_on other cancel.device (cancel_line cancel.job))
+left_sends : (other : ℕ) (reply : Effects) → Leaves_it other (SendsAll reply)
+left_sends other reply = left_each_of other reply.cancels.items Sends (λ cancel. left_enqueues_on other cancel.device (cancel_line cancel.job))
 
 left_starts : (other : ℕ) → Leaves_it other StartsAll
-left_starts other l hs l' it = left_each_of other l.core.begun Starts (λ start a ks b one. left_keeps_on other start.device (job_bytes a.core start.job) a ks b one) l hs l' it
+left_starts other l hs l' it = left_each_of other l.core.begun Starts (λ start a ks b one. left_enqueues_on other start.device (job_bytes a.core start.job) a ks b one) l hs l' it
 
 left_orders : (other : ℕ) (outcome : Outcome) → Leaves_it other (Orders outcome)
 left_orders other Dropped = left_nothing other
@@ -342,15 +342,15 @@ left_greets : (other moment key id device : ℕ) (name : List ℕ) → other ≢
 left_greets other moment key id device name apart l hs l' (inl (alone, it)) = left_unanswered other moment (Is.Report device (report.Hello name)) l hs l' it
 left_greets other moment key id device name apart l hs l' (inr (inl (old, has, it))) =
     let same : it.mid ≡ l = it.first.1 in
-    let over = it.second in
+    let draining = it.second in
     let is : IsDevice device (it.mid.entries old) = subst (λ (x : Ledger). IsDevice device (x.entries old)) (sym same) (as_device true device (l.entries old) has.1) in
-    let way : Left (it.mid.entries other) (over.mid.entries other) = gives_way_at other old device (it.mid.entries old) it.mid over.front over.mid refl (λ here. is) over.first in
-    let rest = left_joined other (IsGone moment (Some device)) (SaysName moment device name) (left_gone other moment (Some device)) (left_unanswered other moment (Is.Report device (report.Hello name))) over.mid over.back l' over.second in
-    left_then (l.entries other) (it.mid.entries other) (l'.entries other) (is_left other l it.mid same) (left_then (it.mid.entries other) (over.mid.entries other) (l'.entries other) way rest)
+    let way : Left (it.mid.entries other) (draining.mid.entries other) = gives_way_at other old device (it.mid.entries old) it.mid draining.front draining.mid refl (λ here. is) draining.first in
+    let rest = left_joined other (IsGone moment (Some device)) (SaysName moment device name) (left_gone other moment (Some device)) (left_unanswered other moment (Is.Report device (report.Hello name))) draining.mid draining.back l' draining.second in
+    left_then (l.entries other) (it.mid.entries other) (l'.entries other) (is_left other l it.mid same) (left_then (it.mid.entries other) (draining.mid.entries other) (l'.entries other) way rest)
 left_greets other moment key id device name apart l hs l' (inr (inr (old, has, it))) =
     left_joined other (GivesWay key) (Tells (DeviceRefused id (why.Connected device))) (λ a ks b more. gives_way_at other key device (a.entries key) a ks b refl (aside other key apart) more) (left_tells other (DeviceRefused id (why.Connected device))) l hs l' it
 
-left_does : (other moment key id : ℕ) (what : Ask) → other ≢ key → Leaves_it other (Does moment key id what)
+left_does : (other moment key id : ℕ) (what : Ask) → other ≢ key → Leaves_it other (Refines moment key id what)
 left_does other moment key id ask.Nothing apart = left_nothing other
 left_does other moment key id (ask.Broke growth) apart = left_tells other (Refused (place_of growth) (Some id))
 left_does other moment key id (ask.Event who event) apart =
@@ -364,7 +364,7 @@ left_does other moment key id (ask.Fault device) apart = left_tells other (Devic
 
 left_acts_next : (other moment key : ℕ) → other ≢ key → Leaves_it other (ActsNext moment key)
 left_acts_next other moment key apart l hs l' (id, what, it) =
-    left_joined other (Asks key id what) (Does moment key id what) (λ a ks b asks. left_at other key (Some asks.new) a b (ap (λ (x : Ledger). x.entries) asks.after) (aside other key apart)) (left_does other moment key id what apart) l hs l' it
+    left_joined other (Asks key id what) (Refines moment key id what) (λ a ks b asks. left_at other key (Some asks.new) a b (ap (λ (x : Ledger). x.entries) asks.after) (aside other key apart)) (left_does other moment key id what apart) l hs l' it
 
 left_acts : (other moment key : ℕ) → other ≢ key → Leaves_it other (Acts moment key)
 left_acts other moment key apart = left_joined other (ActsNext moment key) (Settles moment) (left_acts_next other moment key apart) (left_settles other moment)
@@ -386,7 +386,7 @@ module _ (other moment key : ℕ) (apart : other ≢ key) where
 
   feeds_at : (bytes : List ℕ) (o : Option Entry) → Leaves_it other (FeedsAt moment key bytes o)
   feeds_at bytes None = left_nothing other
-  feeds_at bytes (Some e) = left_if other e.over (Sets key e) (FedWhole moment key e bytes) (left_sets other key apart e) (left_fed e bytes)
+  feeds_at bytes (Some e) = left_if other e.draining (Sets key e) (FedWhole moment key e bytes) (left_sets other key apart e) (left_fed e bytes)
 
   left_feeds : (bytes : List ℕ) → Leaves_it other (FeedsOne moment key bytes)
   left_feeds bytes l hs l' it = feeds_at bytes (l.entries key) l hs l' it
@@ -481,7 +481,7 @@ settled_open false moment key e bytes l hs l' none there it = settled_fed moment
 
 settled_feeds_at : (moment key : ℕ) (bytes : List ℕ) (o : Option Entry) (l : Ledger) (hs : List Happening) (l' : Ledger) → NoneBroken l → l.entries key ≡ o → FeedsAt moment key bytes o l hs l' → NoneBroken l'
 settled_feeds_at moment key bytes None l hs l' none there it = settled_nothing l hs l' none it
-settled_feeds_at moment key bytes (Some e) l hs l' none there it = settled_open e.over moment key e bytes l hs l' none there it
+settled_feeds_at moment key bytes (Some e) l hs l' none there it = settled_open e.draining moment key e bytes l hs l' none there it
 
 settled_feeds : (moment key : ℕ) (bytes : List ℕ) → Settled (FeedsOne moment key bytes)
 settled_feeds moment key bytes l hs l' none it = settled_feeds_at moment key bytes (l.entries key) l hs l' none refl it

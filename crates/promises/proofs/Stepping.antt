@@ -9,9 +9,9 @@ use Rattle.lpd_session.specs.Session.{SessionState}
 use Rattle.events.specs.declared.event.Event.TheVariants as Is
 use Rattle.dispatcher.specs.declared.listener.DeviceRefusal.TheVariants as why
 use Rattle.dispatcher.specs.Notes.{Note, DeviceRefused, Refused}
-use Rattle.requests.specs.declared.asked.Asked.{Asked}
-use Rattle.requests.specs.declared.asked.Asked.TheVariants as asked
-use Rattle.requests.specs.Asked.{Asks as AsksBody}
+use Rattle.requests.specs.declared.parsed_request.ParsedRequest.{ParsedRequest}
+use Rattle.requests.specs.declared.parsed_request.ParsedRequest.TheVariants as asked
+use Rattle.requests.specs.ParsedRequest.{Asks as AsksBody}
 use Rattle.connections.specs.declared.ask.Ask.{Ask}
 use Rattle.connections.specs.declared.ask.Ask.TheVariants as ask
 use Rattle.connections.specs.declared.ask.Client.TheVariants as client
@@ -28,7 +28,7 @@ use Rattle.connections.specs.Asking.{Hears, StepsTo}
 use Rattle.server.specs.Polls.{Happening, Told}
 use Rattle.server.specs.Ledger.{Ledger}
 use Rattle.server.specs.Rel.{Tells}
-use Rattle.server.specs.Acting.{place_of, place_of_part, Does}
+use Rattle.server.specs.Acting.{place_of, place_of_part, Refines}
 use Rattle.server.specs.Law.{core_notes}
 use Rattle.promises.proofs.Typing.{EventOf, asks_ipp, submits_job, commands}
 use Rattle.promises.specs.Answers.{ClientTalk}
@@ -74,7 +74,7 @@ silent_part part.Job id = refl
 pub calms_device_refused : (id : ℕ) (note : Note) → core_notes (Told note ∷ []) ≡ [] → Calms (Tells note)
 calms_device_refused id note silent l hs l' it = calm_still l hs l' (ap core_notes it.0 ∙ silent) it.1
 
-pub device_does : (moment key id : ℕ) (what : Ask) (l : Ledger) (hs : List Happening) (l' : Ledger) → IsDeviceAsk what → Good l → Does moment key id what l hs l' → Goes moment l hs l'
+pub device_does : (moment key id : ℕ) (what : Ask) (l : Ledger) (hs : List Happening) (l' : Ledger) → IsDeviceAsk what → Good l → Refines moment key id what l hs l' → Goes moment l hs l'
 device_does moment key id ask.Nothing l hs l' is good it = absurd is
 device_does moment key id (ask.Broke growth) l hs l' is good it = goes_calm moment l hs l' good (calms_refusal (place_of growth) (Some id) (silent_growth growth id) l hs l' it)
 device_does moment key id (ask.Event who event) l hs l' is good it = absurd is
@@ -95,7 +95,7 @@ IsClientStep (step.Breaks what) = what ≡ ask.Broke growth.Input
 pub client_step : (comes is : Step) → comes ≡ is → IsClientStep is → IsClientStep comes
 client_step comes is same fine = subst IsClientStep (sym same) fine
 
-pub asked_client : (closes : Bool) (body : List ℕ) (it : Asked) → AsksBody body it → IsClientStep (asked_step closes it)
+pub asked_client : (closes : Bool) (body : List ℕ) (it : ParsedRequest) → AsksBody body it → IsClientStep (asked_step closes it)
 asked_client closes body asked.TooShort asks = tt
 asked_client closes body (asked.Refused status request) asks = tt
 asked_client closes body (asked.Event request event) asks = asks_ipp body request event asks

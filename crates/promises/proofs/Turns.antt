@@ -5,24 +5,24 @@ use Rattle.base_types.specs.declared.limits.TheConstants.Limits.{CONNECTIONS}
 use Rattle.wires.specs.Poll.{Poll, Accepts, Reads, Writes, Closes}
 use Rattle.wires.specs.declared.wire.Door.{Door}
 use Rattle.wires.specs.declared.wire.Door.TheVariants.{Ipp, Lpd, Devices}
-use Rattle.wires.specs.declared.wire.Answer.{Answer}
-use Rattle.wires.specs.declared.wire.Answer.TheVariants as wire
-use Rattle.dispatcher.specs.declared.listener.Place.TheVariants as At
+use Rattle.wires.specs.declared.wire.Progress.{Progress}
+use Rattle.wires.specs.declared.wire.Progress.TheVariants as wire
+use Rattle.dispatcher.specs.declared.listener.AllocationSite.TheVariants as At
 use Rattle.dispatcher.specs.Notes.{Refused}
-use Rattle.requests.specs.declared.asked.Asked.{Asked}
-use Rattle.requests.specs.declared.asked.Asked.TheVariants as asked
+use Rattle.requests.specs.declared.parsed_request.ParsedRequest.{ParsedRequest}
+use Rattle.requests.specs.declared.parsed_request.ParsedRequest.TheVariants as asked
 use Rattle.connections.specs.Entry.{Entry, opening_entry, reading, waiting}
 use Rattle.connections.specs.Choice.{AsksOne}
 use Rattle.server.specs.Polls.{Happening, Polled, Told, Choice, Found, Opened, Rested, Looked, Chosen}
 use Rattle.server.specs.Ledger.{Ledger, Drained, with_new}
 use Rattle.server.specs.Rel.{Rel, Nothing, Polls, Tells, Chooses, Then, Or, Times, Many}
-use Rattle.server.specs.Keeping.{Sets, Drops}
+use Rattle.server.specs.Enqueuing.{Sets, Drops}
 use Rattle.events.specs.declared.event.Event.TheVariants as Is
 use Rattle.server.specs.Happening.{now_at, Unanswered}
 use Rattle.server.specs.Closing.{Settles}
 use Rattle.server.specs.Polling.{Opens, AcceptsAs, AcceptsOne, AcceptsAt, Acts, Serves, FedWhole, FeedsAt, FeedsOne, Fails, ReadsAs, is_read, ReadsOpen, ReadsAt, ReadsOne, WritesAs, WritesOpen, WritesAt, WritesOne, is_done, EndsAt, EndsOne}
 use Rattle.server.specs.Turn as Between
-use Rattle.server.specs.Turn.{Notes, Ticks, is_tick_due, TicksIfDue, Covers, Rounds, Round, Turn, BodyAsks, BodyComes, Deed, Turned, Served_body, Reported, Ticked, Trace, DoesDeed, Runs}
+use Rattle.server.specs.Turn.{Notes, Ticks, is_tick_due, TicksIfDue, Covers, Rounds, Round, Turn, BodyAsks, BodyComes, Action, Turned, Served_body, Reported, Ticked, Trace, DoesDeed, Runs}
 use Rattle.promises.specs.OneLedger.{StepsOnce, SameQueries, AsksOnce, LeadsToOne}
 use Rattle.promises.proofs.Alike.{Alike, Fixed, fixed_just, fixed_nothing, fixed_polls, fixed_tells, fixed_chooses, alike_then, first_one, same_choice, apart, BeginsAs, begins_append, begins_just, Begins, begins_then, begins_chooses, begins_tells, is_choice, fixed_or, alike_if, fixed_each, times_cons, fixed_many_then}
 use Rattle.promises.proofs.Due.{fixed_sets, fixed_drops, drops_tells, fixed_breaks}
@@ -43,7 +43,7 @@ opens door id l hs rest a ks more b e (inl (key, free, is, after)) (inr q) = apa
 opens door id l hs rest a ks more b e (inr p) (inl (key, free, its, new)) = apart is_choice ks more hs rest (sym e) (begins_just is_choice true (Chosen (Opened key)) [] ks refl its) (begins_just is_choice false (Told (Refused At.Accept (Some id))) (Polled (Closes id) ∷ []) hs refl p.0)
 opens door id l hs rest a ks more b e (inr p) (inr q) = (p.0 ∙ sym q.0, p.1 ∙ sym q.1)
 
-accepts_as : (door : Door) (answer : Answer ℕ) → Fixed (AcceptsAs door answer)
+accepts_as : (door : Door) (answer : Progress ℕ) → Fixed (AcceptsAs door answer)
 accepts_as door (wire.Done id) = alike_then (fixed_polls (Accepts door (wire.Done id))) (record { one = opens door id })
 accepts_as door wire.Waiting = fixed_polls (Accepts door wire.Waiting)
 accepts_as door wire.End = fixed_polls (Accepts door wire.End)
@@ -59,19 +59,19 @@ poll_then poll R l hs a it = (it.back, it.whole ∙ ap (λ (xs : List Happening)
 one_poll : (poll other : Poll) (hs rest ks more : List Happening) → hs ++ rest ≡ ks ++ more → IsFirst poll hs → IsFirst other ks → poll ≡ other
 one_poll poll other hs rest ks more e p q = let same : Polled poll ≡ Polled other = first_one (Polled poll) (Polled other) hs rest ks more p.0 q.0 e p.1 q.1 in cc
 
-accept_first : (door : Door) (answer : Answer ℕ) (l : Ledger) (hs : List Happening) (a : Ledger) → AcceptsAs door answer l hs a → IsFirst (Accepts door answer) hs
+accept_first : (door : Door) (answer : Progress ℕ) (l : Ledger) (hs : List Happening) (a : Ledger) → AcceptsAs door answer l hs a → IsFirst (Accepts door answer) hs
 accept_first door (wire.Done id) l hs a it = poll_then (Accepts door (wire.Done id)) (Opens door id) l hs a it
 accept_first door wire.Waiting l hs a it = ([], it.0)
 accept_first door wire.End l hs a it = ([], it.0)
 accept_first door wire.Fault l hs a it = ([], it.0)
 
-same_accept : (door : Door) (answer other : Answer ℕ) → Accepts door answer ≡ Accepts door other → answer ≡ other
+same_accept : (door : Door) (answer other : Progress ℕ) → Accepts door answer ≡ Accepts door other → answer ≡ other
 same_accept door answer other same = cc
 
 accepts_one : (door : Door) (l : Ledger) (hs rest : List Happening) (a : Ledger) (ks more : List Happening) (b : Ledger) → hs ++ rest ≡ ks ++ more → AcceptsOne door l hs a → AcceptsOne door l ks b → (hs ≡ ks) × (a ≡ b)
 accepts_one door l hs rest a ks more b e (answer, p) (other, q) =
     let same : answer ≡ other = same_accept door answer other (one_poll (Accepts door answer) (Accepts door other) hs rest ks more e (accept_first door answer l hs a p) (accept_first door other l ks b q)) in
-    (accepts_as door answer).one l hs rest a ks more b e p (subst (λ (x : Answer ℕ). AcceptsAs door x l ks b) (sym same) q)
+    (accepts_as door answer).one l hs rest a ks more b e p (subst (λ (x : Progress ℕ). AcceptsAs door x l ks b) (sym same) q)
 
 fixed_accepts : (door : Door) → Fixed (AcceptsAt door)
 fixed_accepts door = record { one = λ l hs rest a ks more b e p q. (alike_if (nat_lt l.count CONNECTIONS) {R = AcceptsOne door} {R' = AcceptsOne door} {S = Nothing} {S' = Nothing} (record { one = accepts_one door }) fixed_nothing).one l hs rest a ks more b e p q }
@@ -109,7 +109,7 @@ module _ (steps : StepsOnce) (queries : SameQueries) (asks : AsksOne) (bodies : 
 
   feeds_at : (moment key : ℕ) (bytes : List ℕ) (o : Option Entry) → Fixed (FeedsAt moment key bytes o)
   feeds_at moment key bytes None = fixed_nothing
-  feeds_at moment key bytes (Some e) = alike_if e.over (fixed_sets key e) (fed_whole moment key e bytes)
+  feeds_at moment key bytes (Some e) = alike_if e.draining (fixed_sets key e) (fed_whole moment key e bytes)
 
   fixed_feeds : (moment key : ℕ) (bytes : List ℕ) → Fixed (FeedsOne moment key bytes)
   fixed_feeds moment key bytes = record { one = λ l hs rest a ks more b e p q. (feeds_at moment key bytes (l.entries key)).one l hs rest a ks more b e p q }
@@ -117,25 +117,25 @@ module _ (steps : StepsOnce) (queries : SameQueries) (asks : AsksOne) (bodies : 
   fixed_fails : (moment key : ℕ) → Fixed (Fails moment key)
   fixed_fails moment key = alike_then (fixed_breaks key) (fixed_settles steps queries asks moment)
 
-  reads_as : (moment key : ℕ) (e : Entry) (answer : Answer (List ℕ)) → Fixed (ReadsAs moment key e answer)
+  reads_as : (moment key : ℕ) (e : Entry) (answer : Progress (List ℕ)) → Fixed (ReadsAs moment key e answer)
   reads_as moment key e (wire.Done bytes) = alike_then (fixed_polls (Reads e.id (wire.Done bytes))) (fixed_feeds moment key bytes)
   reads_as moment key e wire.Waiting = fixed_polls (Reads e.id wire.Waiting)
   reads_as moment key e wire.End = alike_then (fixed_polls (Reads e.id wire.End)) (fixed_sets key (record e { ended = true }))
   reads_as moment key e wire.Fault = alike_then (fixed_polls (Reads e.id wire.Fault)) (fixed_fails moment key)
 
-  read_first : (moment key : ℕ) (e : Entry) (answer : Answer (List ℕ)) (l : Ledger) (hs : List Happening) (a : Ledger) → ReadsAs moment key e answer l hs a → IsFirst (Reads e.id answer) hs
+  read_first : (moment key : ℕ) (e : Entry) (answer : Progress (List ℕ)) (l : Ledger) (hs : List Happening) (a : Ledger) → ReadsAs moment key e answer l hs a → IsFirst (Reads e.id answer) hs
   read_first moment key e (wire.Done bytes) l hs a it = poll_then (Reads e.id (wire.Done bytes)) (FeedsOne moment key bytes) l hs a it
   read_first moment key e wire.Waiting l hs a it = ([], it.0)
   read_first moment key e wire.End l hs a it = poll_then (Reads e.id wire.End) (Sets key (record e { ended = true })) l hs a it
   read_first moment key e wire.Fault l hs a it = poll_then (Reads e.id wire.Fault) (Fails moment key) l hs a it
 
-  same_read : (id : ℕ) (answer other : Answer (List ℕ)) → Reads id answer ≡ Reads id other → answer ≡ other
+  same_read : (id : ℕ) (answer other : Progress (List ℕ)) → Reads id answer ≡ Reads id other → answer ≡ other
   same_read id answer other same = cc
 
   reads_open : (moment key : ℕ) (x : Entry) (l : Ledger) (hs rest : List Happening) (a : Ledger) (ks more : List Happening) (b : Ledger) → hs ++ rest ≡ ks ++ more → ReadsOpen moment key x l hs a → ReadsOpen moment key x l ks b → (hs ≡ ks) × (a ≡ b)
   reads_open moment key x l hs rest a ks more b e (answer, piece, p) (other, its, q) =
       let same : answer ≡ other = same_read x.id answer other (one_poll (Reads x.id answer) (Reads x.id other) hs rest ks more e (read_first moment key x answer l hs a p) (read_first moment key x other l ks b q)) in
-      (reads_as moment key x answer).one l hs rest a ks more b e p (subst (λ (y : Answer (List ℕ)). ReadsAs moment key x y l ks b) (sym same) q)
+      (reads_as moment key x answer).one l hs rest a ks more b e p (subst (λ (y : Progress (List ℕ)). ReadsAs moment key x y l ks b) (sym same) q)
 
   reads_at : (moment key : ℕ) (o : Option Entry) → Fixed (ReadsAt moment key o)
   reads_at moment key None = fixed_nothing
@@ -146,25 +146,25 @@ module _ (steps : StepsOnce) (queries : SameQueries) (asks : AsksOne) (bodies : 
 
   -- ---- writes
 
-  writes_as : (moment key : ℕ) (e : Entry) (offered : List ℕ) (answer : Answer ℕ) → Fixed (WritesAs moment key e offered answer)
+  writes_as : (moment key : ℕ) (e : Entry) (offered : List ℕ) (answer : Progress ℕ) → Fixed (WritesAs moment key e offered answer)
   writes_as moment key e offered (wire.Done n) = alike_then (fixed_polls (Writes e.id offered (wire.Done n))) (fixed_sets key (record e { taken = e.taken ++ take n offered }))
   writes_as moment key e offered wire.Waiting = fixed_polls (Writes e.id offered wire.Waiting)
   writes_as moment key e offered wire.End = alike_then (fixed_polls (Writes e.id offered wire.End)) (fixed_fails moment key)
   writes_as moment key e offered wire.Fault = alike_then (fixed_polls (Writes e.id offered wire.Fault)) (fixed_fails moment key)
 
-  write_first : (moment key : ℕ) (e : Entry) (offered : List ℕ) (answer : Answer ℕ) (l : Ledger) (hs : List Happening) (a : Ledger) → WritesAs moment key e offered answer l hs a → IsFirst (Writes e.id offered answer) hs
+  write_first : (moment key : ℕ) (e : Entry) (offered : List ℕ) (answer : Progress ℕ) (l : Ledger) (hs : List Happening) (a : Ledger) → WritesAs moment key e offered answer l hs a → IsFirst (Writes e.id offered answer) hs
   write_first moment key e offered (wire.Done n) l hs a it = poll_then (Writes e.id offered (wire.Done n)) (Sets key (record e { taken = e.taken ++ take n offered })) l hs a it
   write_first moment key e offered wire.Waiting l hs a it = ([], it.0)
   write_first moment key e offered wire.End l hs a it = poll_then (Writes e.id offered wire.End) (Fails moment key) l hs a it
   write_first moment key e offered wire.Fault l hs a it = poll_then (Writes e.id offered wire.Fault) (Fails moment key) l hs a it
 
-  same_write : (id : ℕ) (offered bytes : List ℕ) (answer other : Answer ℕ) → Writes id offered answer ≡ Writes id bytes other → (offered ≡ bytes) × (answer ≡ other)
+  same_write : (id : ℕ) (offered bytes : List ℕ) (answer other : Progress ℕ) → Writes id offered answer ≡ Writes id bytes other → (offered ≡ bytes) × (answer ≡ other)
   same_write id offered bytes answer other same = (cc, cc)
 
   writes_open : (moment key : ℕ) (x : Entry) (l : Ledger) (hs rest : List Happening) (a : Ledger) (ks more : List Happening) (b : Ledger) → hs ++ rest ≡ ks ++ more → WritesOpen moment key x l hs a → WritesOpen moment key x l ks b → (hs ≡ ks) × (a ≡ b)
   writes_open moment key x l hs rest a ks more b e (offered, front, answer, p) (bytes, its, other, q) =
       let same = same_write x.id offered bytes answer other (one_poll (Writes x.id offered answer) (Writes x.id bytes other) hs rest ks more e (write_first moment key x offered answer l hs a p) (write_first moment key x bytes other l ks b q)) in
-      (writes_as moment key x offered answer).one l hs rest a ks more b e p (subst (λ (y : Answer ℕ). WritesAs moment key x offered y l ks b) (sym same.1) (subst (λ (y : List ℕ). WritesAs moment key x y other l ks b) (sym same.0) q))
+      (writes_as moment key x offered answer).one l hs rest a ks more b e p (subst (λ (y : Progress ℕ). WritesAs moment key x offered y l ks b) (sym same.1) (subst (λ (y : List ℕ). WritesAs moment key x y other l ks b) (sym same.0) q))
 
   writes_at : (moment key : ℕ) (o : Option Entry) → Fixed (WritesAt moment key o)
   writes_at moment key None = fixed_nothing
@@ -215,7 +215,7 @@ module _ (steps : StepsOnce) (queries : SameQueries) (asks : AsksOne) (bodies : 
   refused_between : Fixed (Or (Chooses Found) (Tells (Refused At.Reply None)))
   refused_between = fixed_or is_choice (begins_chooses is_choice true Found refl) (begins_tells is_choice false (Refused At.Reply None) refl) (fixed_chooses Found) (fixed_tells (Refused At.Reply None))
 
-  body_asks : (moment : ℕ) (it : Asked) (served other : Between.Outcome) → Alike (BodyAsks moment it served) (BodyAsks moment it other)
+  body_asks : (moment : ℕ) (it : ParsedRequest) (served other : Between.Outcome) → Alike (BodyAsks moment it served) (BodyAsks moment it other)
   body_asks moment asked.TooShort served other = record { one = λ l hs rest a ks more b e p q. fixed_nothing.one l hs rest a ks more b e p.1 q.1 }
   body_asks moment (asked.Refused status request) served other = record { one = λ l hs rest a ks more b e p q. refused_between.one l hs rest a ks more b e p.1 q.1 }
   body_asks moment (asked.Event request event) served other = record {
@@ -225,7 +225,7 @@ module _ (steps : StepsOnce) (queries : SameQueries) (asks : AsksOne) (bodies : 
   body_comes : (moment : ℕ) (body : List ℕ) (served other : Between.Outcome) (l : Ledger) (hs rest : List Happening) (a : Ledger) (ks more : List Happening) (b : Ledger) → hs ++ rest ≡ ks ++ more → BodyComes moment body served l hs a → BodyComes moment body other l ks b → (hs ≡ ks) × (a ≡ b)
   body_comes moment body served other l hs rest a ks more b e (inl (one, is, p)) (inl (said, its, q)) =
       let same : said ≡ one = bodies body said one its is in
-      (alike_then (fixed_chooses Found) (body_asks moment one served other)).one l hs rest a ks more b e p (subst (λ (x : Asked). Then (Chooses Found) (BodyAsks moment x other) l ks b) same q)
+      (alike_then (fixed_chooses Found) (body_asks moment one served other)).one l hs rest a ks more b e p (subst (λ (x : ParsedRequest). Then (Chooses Found) (BodyAsks moment x other) l ks b) same q)
   body_comes moment body served other l hs rest a ks more b e (inl (one, is, p)) (inr q) =
       apart is_choice hs rest ks more e ((begins_then is_choice true (Chooses Found) (BodyAsks moment one served) (begins_chooses is_choice true Found refl)).begins l hs a p) ((begins_tells is_choice false (Refused At.Event None) refl).begins l ks b q)
   body_comes moment body served other l hs rest a ks more b e (inr p) (inl (said, its, q)) =
@@ -238,7 +238,7 @@ module _ (steps : StepsOnce) (queries : SameQueries) (asks : AsksOne) (bodies : 
   all_one : (R : Rel) → Fixed R → (l : Ledger) (hs : List Happening) (a b : Ledger) → R l hs a → R l hs b → a ≡ b
   all_one R r l hs a b p q = let it = r.one l hs [] a hs [] b refl p q in it.1
 
-  deed_one : (deed : Deed) (l a b : Ledger) → DoesDeed deed l a → DoesDeed deed l b → a ≡ b
+  deed_one : (deed : Action) (l a b : Ledger) → DoesDeed deed l a → DoesDeed deed l b → a ≡ b
   deed_one (Turned moment hs) l a b p q = all_one (Turn moment) (fixed_turn moment) l hs a b p q
   deed_one (Served_body moment body answer hs) l a b (served, is, p) (other, its, q) = let it = body_comes moment body served other l hs [] a hs [] b refl p q in it.1
   deed_one (Reported moment device said hs) l a b p q = all_one (Between.Reports moment device said) (fixed_reports steps queries asks moment device said) l hs a b p q

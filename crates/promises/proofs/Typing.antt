@@ -10,12 +10,12 @@ use Rattle.lpd_reader.specs.Session.{CommandRecord, PrintsWaiting, ReceivesJob, 
 use Rattle.lpd_session.specs.Session.{SentRecord}
 use Rattle.events.specs.declared.event.Event.{Event}
 use Rattle.events.specs.declared.event.Event.TheVariants as Is
-use Rattle.events.specs.declared.reply.Answer.{Answer}
-use Rattle.events.specs.declared.reply.Answer.TheVariants as Says
-use Rattle.events.specs.declared.reply.LpdAnswer.TheVariants as Shown
-use Rattle.events.specs.declared.reply.Reply.{Reply}
+use Rattle.events.specs.declared.effects.Response.{Response}
+use Rattle.events.specs.declared.effects.Response.TheVariants as Says
+use Rattle.events.specs.declared.effects.LpdResponse.TheVariants as Shown
+use Rattle.events.specs.declared.effects.Effects.{Effects}
 use Rattle.events.specs.declared.status.Status.{Status}
-use Rattle.events.specs.Reply.{IsAnswer}
+use Rattle.events.specs.Effects.{IsResponse}
 use Rattle.events.specs.declared.event.HoldUntil.{HoldUntil}
 use Rattle.events.specs.declared.event.HoldUntil.TheVariants as hold
 use Rattle.events.specs.declared.event.JobRequest.{JobRequest}
@@ -37,8 +37,8 @@ use Rattle.dispatcher.specs.declared.outcome.Outcome.TheVariants.{Dropped, Queri
 use Rattle.dispatcher.specs.Notes.{Note}
 use Rattle.dispatcher.specs.Run.{reply_of, Handles}
 use Rattle.dispatcher.specs.Step.{StepAt}
-use Rattle.requests.specs.declared.asked.Asked.TheVariants as asked
-use Rattle.requests.specs.Asked.{header_of, operation_of, Requests, AsksBy, AsksUnder, Asks}
+use Rattle.requests.specs.declared.parsed_request.ParsedRequest.TheVariants as asked
+use Rattle.requests.specs.ParsedRequest.{header_of, operation_of, Requests, AsksBy, AsksUnder, Asks}
 use Rattle.events.specs.declared.status.Status.TheVariants as status
 use Rattle.requests.specs.Request.{operation_group, job_attributes, is_utf8}
 use Rattle.requests.specs.Event.{is_complete, are_tagged, event_in, asked_in}
@@ -287,7 +287,7 @@ commands (RemovesJobs queue agent operands) Is.Tick is = absurd is
 
 -- ---- how it is answered
 
-abbrev pub IsTyped : Client → Answer → Type 0
+abbrev pub IsTyped : Client → Response → Type 0
 IsTyped (client.Ipp request) (Says.Ipp answer) = Unit {0}
 IsTyped (client.Ipp request) (Says.Lpd answer) = ⊥
 IsTyped (client.Ipp request) Says.Nothing = ⊥
@@ -302,7 +302,7 @@ IsTyped client.LpdCommand (Says.Lpd (Shown.Queue listing)) = Unit {0}
 IsTyped client.LpdCommand (Says.Lpd Shown.NoQueue) = Unit {0}
 IsTyped client.LpdCommand Says.Nothing = Unit {0}
 
-ipp_answer : (id : ℕ) (status : Status) (unsupported : List IppAttribute) (groups : List IppGroup) (answer : Answer) → IsAnswer status unsupported groups answer → IsTyped (client.Ipp id) answer
+ipp_answer : (id : ℕ) (status : Status) (unsupported : List IppAttribute) (groups : List IppGroup) (answer : Response) → IsResponse status unsupported groups answer → IsTyped (client.Ipp id) answer
 ipp_answer id status unsupported groups (Says.Ipp answer) is = tt
 ipp_answer id status unsupported groups (Says.Lpd answer) is = absurd is
 ipp_answer id status unsupported groups Says.Nothing is = absurd is
@@ -316,28 +316,28 @@ option_by : {A : Type 0} {P : Type 0} (o : Option A) (N : Type 0) (Q : A → Typ
 option_by None N Q n q it = n it
 option_by (Some a) N Q n q it = q a it
 
-lpd_taken : (taken : Bool) (answer : Answer) → answer ≡ Says.Lpd (Shown.Taken taken) → IsTyped client.LpdJob answer
-lpd_taken taken answer is = subst (λ (a : Answer). IsTyped client.LpdJob a) (sym is) tt
+lpd_taken : (taken : Bool) (answer : Response) → answer ≡ Says.Lpd (Shown.Taken taken) → IsTyped client.LpdJob answer
+lpd_taken taken answer is = subst (λ (a : Response). IsTyped client.LpdJob a) (sym is) tt
 
-lpd_none : (answer : Answer) → answer ≡ Says.Lpd Shown.NoQueue → IsTyped client.LpdCommand answer
-lpd_none answer is = subst (λ (a : Answer). IsTyped client.LpdCommand a) (sym is) tt
+lpd_none : (answer : Response) → answer ≡ Says.Lpd Shown.NoQueue → IsTyped client.LpdCommand answer
+lpd_none answer is = subst (λ (a : Response). IsTyped client.LpdCommand a) (sym is) tt
 
-lpd_nothing : (answer : Answer) → answer ≡ Says.Nothing → IsTyped client.LpdCommand answer
-lpd_nothing answer is = subst (λ (a : Answer). IsTyped client.LpdCommand a) (sym is) tt
+lpd_nothing : (answer : Response) → answer ≡ Says.Nothing → IsTyped client.LpdCommand answer
+lpd_nothing answer is = subst (λ (a : Response). IsTyped client.LpdCommand a) (sym is) tt
 
-lpd_listed : (now place : ℕ) (request : ListQueue) (state : State) (answer : Answer) → IsListed now place request state answer → IsTyped client.LpdCommand answer
+lpd_listed : (now place : ℕ) (request : ListQueue) (state : State) (answer : Response) → IsListed now place request state answer → IsTyped client.LpdCommand answer
 lpd_listed now place request state (Says.Ipp answer) is = absurd is
 lpd_listed now place request state (Says.Lpd (Shown.Taken taken)) is = absurd is
 lpd_listed now place request state (Says.Lpd (Shown.Queue listing)) is = tt
 lpd_listed now place request state (Says.Lpd Shown.NoQueue) is = absurd is
 lpd_listed now place request state Says.Nothing is = absurd is
 
-held : (id now : ℕ) (until : HoldUntil) (request : JobRequest) (old : State) (reply : Reply) (new : State) → HoldsUntil now request until old reply new → IsTyped (client.Ipp id) reply.answer
+held : (id now : ℕ) (until : HoldUntil) (request : JobRequest) (old : State) (reply : Effects) (new : State) → HoldsUntil now request until old reply new → IsTyped (client.Ipp id) reply.answer
 held id now hold.NoHold request old reply new it = result_by _ _ _ (λ a (done : ChangesIt now old Release [] a reply new). ipp_answer id _ _ _ reply.answer done.replies.answer) (λ b (refused : Refuses now old b reply new). ipp_answer id _ _ _ reply.answer refused.replies.answer) it
 held id now hold.Indefinite request old reply new it = result_by _ _ _ (λ a (done : ChangesIt now old Hold [] a reply new). ipp_answer id _ _ _ reply.answer done.replies.answer) (λ b (refused : Refuses now old b reply new). ipp_answer id _ _ _ reply.answer refused.replies.answer) it
 held id now (hold.Unsupported attribute) request old reply new it = result_by _ _ _ (λ a (done : ChangesIt now old Hold attribute a reply new). ipp_answer id _ _ _ reply.answer done.replies.answer) (λ b (refused : Refuses now old b reply new). ipp_answer id _ _ _ reply.answer refused.replies.answer) it
 
-ipp_step : (id : ℕ) (event : Event) (now : ℕ) (old : State) (reply : Reply) (new : State) → IsIppEvent event → StepAt event now old reply new → IsTyped (client.Ipp id) reply.answer
+ipp_step : (id : ℕ) (event : Event) (now : ℕ) (old : State) (reply : Effects) (new : State) → IsIppEvent event → StepAt event now old reply new → IsTyped (client.Ipp id) reply.answer
 ipp_step id (Is.PrintJob request) now old reply new of it = result_by _ _ _ (λ a (done : TakesJob now old a reply new). ipp_answer id _ _ _ reply.answer done.replies.answer) (λ b (refused : Refuses now old b reply new). ipp_answer id _ _ _ reply.answer refused.replies.answer) it
 ipp_step id (Is.ValidateJob request) now old reply new of it = result_by _ _ _ (λ a (done : Validates now old a reply new). ipp_answer id _ _ _ reply.answer done.replies.answer) (λ b (refused : Refuses now old b reply new). ipp_answer id _ _ _ reply.answer refused.replies.answer) it
 ipp_step id (Is.CreateJob request) now old reply new of it = result_by _ _ _ (λ a (done : CreatesIt now old a reply new). ipp_answer id _ _ _ reply.answer done.replies.answer) (λ b (refused : Refuses now old b reply new). ipp_answer id _ _ _ reply.answer refused.replies.answer) it
@@ -356,7 +356,7 @@ ipp_step id (Is.RemoveJobs request) now old reply new of it = absurd of
 ipp_step id (Is.Report device report) now old reply new of it = absurd of
 ipp_step id Is.Tick now old reply new of it = absurd of
 
-job_step : (event : Event) (now : ℕ) (old : State) (reply : Reply) (new : State) → IsJobEvent event → StepAt event now old reply new → IsTyped client.LpdJob reply.answer
+job_step : (event : Event) (now : ℕ) (old : State) (reply : Effects) (new : State) → IsJobEvent event → StepAt event now old reply new → IsTyped client.LpdJob reply.answer
 job_step (Is.PrintJob request) now old reply new of it = absurd of
 job_step (Is.ValidateJob request) now old reply new of it = absurd of
 job_step (Is.CreateJob request) now old reply new of it = absurd of
@@ -375,7 +375,7 @@ job_step (Is.RemoveJobs request) now old reply new of it = absurd of
 job_step (Is.Report device report) now old reply new of it = absurd of
 job_step Is.Tick now old reply new of it = absurd of
 
-queue_step : (event : Event) (now : ℕ) (old : State) (reply : Reply) (new : State) → IsQueueEvent event → StepAt event now old reply new → IsTyped client.LpdCommand reply.answer
+queue_step : (event : Event) (now : ℕ) (old : State) (reply : Effects) (new : State) → IsQueueEvent event → StepAt event now old reply new → IsTyped client.LpdCommand reply.answer
 queue_step (Is.PrintJob request) now old reply new of it = absurd of
 queue_step (Is.ValidateJob request) now old reply new of it = absurd of
 queue_step (Is.CreateJob request) now old reply new of it = absurd of
@@ -394,12 +394,12 @@ queue_step (Is.RemoveJobs request) now old reply new of it = lpd_nothing reply.a
 queue_step (Is.Report device report) now old reply new of it = absurd of
 queue_step Is.Tick now old reply new of it = absurd of
 
-typed_step : (who : Client) (event : Event) (now : ℕ) (old : State) (reply : Reply) (new : State) → EventOf who event → StepAt event now old reply new → IsTyped who reply.answer
+typed_step : (who : Client) (event : Event) (now : ℕ) (old : State) (reply : Effects) (new : State) → EventOf who event → StepAt event now old reply new → IsTyped who reply.answer
 typed_step (client.Ipp id) event now old reply new of it = ipp_step id event now old reply new of it
 typed_step client.LpdJob event now old reply new of it = job_step event now old reply new of it
 typed_step client.LpdCommand event now old reply new of it = queue_step event now old reply new of it
 
-abbrev pub IsTypedReply : Client → Option Reply → Type 0
+abbrev pub IsTypedReply : Client → Option Effects → Type 0
 IsTypedReply who None = Unit {0}
 IsTypedReply who (Some reply) = IsTyped who reply.answer
 

@@ -8,15 +8,15 @@ use Rattle.lpd_reader.specs.Session.{ItemRecord}
 use Rattle.lpd_session.specs.Session.{SessionState}
 use Rattle.wires.specs.declared.wire.Door.{Door}
 use Rattle.print_room.specs.State.{State}
-use Rattle.events.specs.declared.reply.Answer.{Answer}
-use Rattle.events.specs.declared.reply.Answer.TheVariants as Says
-use Rattle.events.specs.declared.reply.LpdAnswer.TheVariants as Shown
-use Rattle.events.specs.declared.reply.Reply.{Reply}
+use Rattle.events.specs.declared.effects.Response.{Response}
+use Rattle.events.specs.declared.effects.Response.TheVariants as Says
+use Rattle.events.specs.declared.effects.LpdResponse.TheVariants as Shown
+use Rattle.events.specs.declared.effects.Effects.{Effects}
 use Rattle.events.specs.declared.status.Status.TheVariants.{TemporaryError}
 use Rattle.dispatcher.specs.Run.{reply_of}
-use Rattle.replies.specs.Reply.{IsReply}
-use Rattle.replies.specs.QueueText.{ack_of, text_of}
-use Rattle.outputs.specs.Reply.{http_reply}
+use Rattle.responses.specs.Reply.{IsReply}
+use Rattle.responses.specs.QueueText.{ack_of, text_of}
+use Rattle.send_queues.specs.Reply.{http_reply}
 use Rattle.connections.specs.declared.ask.Ask.{Ask}
 use Rattle.connections.specs.declared.ask.Ask.TheVariants as ask
 use Rattle.connections.specs.declared.ask.Client.{Client}
@@ -66,25 +66,25 @@ IsNext settings (Link reports device) what after = ⊥
 -- ---- the bytes of it
 
 -- the reply to an IPP request; where memory for it was refused, the status that says so
-abbrev pub GivenIpp : Bool → ℕ → Answer → List ℕ → Type 0
+abbrev pub GivenIpp : Bool → ℕ → Response → List ℕ → Type 0
 GivenIpp closes request (Says.Ipp answer) bytes = ((spelt : List ℕ) × IsReply answer request spelt × (bytes ≡ http_reply closes spelt)) ⊎ (bytes ≡ http_status closes TemporaryError request)
 GivenIpp closes request (Says.Lpd answer) bytes = ⊥
 GivenIpp closes request Says.Nothing bytes = ⊥
 
 -- an LPD job is acknowledged or refused
-abbrev pub GivenJob : Answer → List ℕ → Type 0
+abbrev pub GivenJob : Response → List ℕ → Type 0
 GivenJob (Says.Lpd (Shown.Taken taken)) bytes = bytes ≡ ack_of (Shown.Taken taken) ∷ []
 GivenJob _ bytes = ⊥
 
 -- a queue is shown by its text, and a removal isn't answered
-abbrev pub GivenCommand : Answer → List ℕ → Type 0
+abbrev pub GivenCommand : Response → List ℕ → Type 0
 GivenCommand (Says.Lpd (Shown.Queue listing)) bytes = bytes ≡ text_of (Shown.Queue listing)
 GivenCommand (Says.Lpd Shown.NoQueue) bytes = bytes ≡ text_of Shown.NoQueue
 GivenCommand Says.Nothing bytes = bytes ≡ []
 GivenCommand _ bytes = ⊥
 
 -- by the core's reply, or where memory for the event was refused; a command is then answered nothing, and its connection breaks
-abbrev pub Given : Bool → Client → Option Reply → List ℕ → Type 0
+abbrev pub Given : Bool → Client → Option Effects → List ℕ → Type 0
 Given closes (client.Ipp request) (Some reply) bytes = GivenIpp closes request reply.answer bytes
 Given closes (client.Ipp request) None bytes = bytes ≡ http_status closes TemporaryError request
 Given closes client.LpdJob (Some reply) bytes = GivenJob reply.answer bytes

@@ -8,9 +8,9 @@ use Rattle.dispatcher.specs.Notes.{Note}
 use Rattle.server.specs.Polls.{Leads, both, alone}
 use Rattle.server.specs.Ledger.{Ledger, opening_ledger}
 use Rattle.server.specs.Law.{happenings_in}
-use Rattle.server.specs.Turn.{Outcome, Deed, Turned, Served_body, Reported, Ticked, Trace, Allows}
+use Rattle.server.specs.Turn.{Outcome, Action, Turned, Served_body, Reported, Ticked, Trace, Allows}
 use Rattle.server.specs.State.{EngineState}
-use Rattle.server.specs.Stands.{Fits, Turns, Calls, ServesBody}
+use Rattle.server.specs.Refinement.{Represents, RefinesTurn, RefinesCall, RefinesBody}
 
 -- what is called
 pub data Call : Type 0 where
@@ -21,10 +21,10 @@ pub data Call : Type 0 where
 
 -- by its contract it leads a wire, a listener and an engine on; between turns the wire stays
 abbrev pub ByContract : {W N : Type 0} → (W → Poll → W → Type 0) → (N → Note → N → Type 0) → Call → W × N → EngineState → W × N → EngineState → Type 0
-ByContract polled told (TakesTurn moment) u old v new = Turns (both polled told) moment u old v new
-ByContract polled told (Serves moment body) u old v new = (answer : Outcome) × (v.0 ≡ u.0) × ServesBody (alone told) moment body u.1 old v.1 new answer
-ByContract polled told (Reports moment device said) u old v new = (result : Result (Unit {0}) AllocError) × (v.0 ≡ u.0) × Calls (alone told) (Reported moment device said) u.1 old v.1 new result
-ByContract polled told (Ticks moment) u old v new = (result : Result (Unit {0}) AllocError) × (v.0 ≡ u.0) × Calls (alone told) (Ticked moment) u.1 old v.1 new result
+ByContract polled told (TakesTurn moment) u old v new = RefinesTurn (both polled told) moment u old v new
+ByContract polled told (Serves moment body) u old v new = (answer : Outcome) × (v.0 ≡ u.0) × RefinesBody (alone told) moment body u.1 old v.1 new answer
+ByContract polled told (Reports moment device said) u old v new = (result : Result (Unit {0}) AllocError) × (v.0 ≡ u.0) × RefinesCall (alone told) (Reported moment device said) u.1 old v.1 new result
+ByContract polled told (Ticks moment) u old v new = (result : Result (Unit {0}) AllocError) × (v.0 ≡ u.0) × RefinesCall (alone told) (Ticked moment) u.1 old v.1 new result
 
 -- one after the other
 abbrev pub AreMade : {W N : Type 0} → (W → Poll → W → Type 0) → (N → Note → N → Type 0) → List Call → W × N → EngineState → W × N → EngineState → Type 0
@@ -32,7 +32,7 @@ AreMade polled told [] u old v new = (v ≡ u) × (new ≡ old)
 AreMade {W} {N} polled told (call ∷ calls) u old v new = (w : W × N) × (mid : EngineState) × ByContract polled told call u old w mid × AreMade polled told calls w mid v new
 
 -- a deed is of this call
-abbrev pub IsOf : Call → Deed → Type 0
+abbrev pub IsOf : Call → Action → Type 0
 IsOf (TakesTurn moment) (Turned at hs) = at ≡ moment
 IsOf (Serves moment body) (Served_body at bytes answer hs) = (at ≡ moment) × (bytes ≡ body)
 IsOf (Reports moment device said) (Reported at place report hs) = (at ≡ moment) × (place ≡ device) × (report ≡ said)
@@ -48,10 +48,10 @@ AreOf (call ∷ calls) [] = ⊥
 -- There is a trace of just these calls. It leads the wire and the listener from where they were to where
 -- they are, and leads to a ledger that the engine fits: of each open connection what the wire took and what
 -- waits are just what is due.
-pub record Keeps {W N : Type 0} (polled : W → Poll → W → Type 0) (told : N → Note → N → Type 0) (opening : State) (calls : List Call) (u v : W × N) (engine : EngineState) : Type 0 where
+pub record IsAccounted {W N : Type 0} (polled : W → Poll → W → Type 0) (told : N → Note → N → Type 0) (opening : State) (calls : List Call) (u v : W × N) (engine : EngineState) : Type 0 where
   pub trace : Trace
   pub of_calls : AreOf calls trace
   pub leads : Leads (both polled told) u (happenings_in trace) v
   pub ledger : Ledger
   pub allows : Allows trace (opening_ledger opening) ledger
-  pub fits : Fits ledger engine
+  pub fits : Represents ledger engine

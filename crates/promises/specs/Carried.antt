@@ -1,7 +1,7 @@
 -- What a wire carried on each connection, by its calls alone: the numbers that are open, what was read and what was taken on each.
 use Rattle.std.specs.Prelude.{ℕ, ◌≡◌, ◌==◌, Bool, true, false, if◌then◌else◌, List, [], ◌∷◌, ◌++◌, take, Some}
 use Rattle.wires.specs.Poll.{Poll, Accepts, Reads, Writes, Closes}
-use Rattle.wires.specs.declared.wire.Answer.TheVariants.{Done, Waiting, End, Fault}
+use Rattle.wires.specs.declared.wire.Progress.TheVariants.{Done, Waiting, End, Fault}
 use Rattle.connections.specs.Entry.{Entry, waiting}
 use Rattle.server.specs.Polls.{Happening, Polled, Told, Chosen}
 use Rattle.server.specs.Ledger.{Ledger}
@@ -68,4 +68,4 @@ NumbersDiffer trace = AreNew nothing_carried (happenings_in trace)
 -- reads counts, it has read just what the wire brought.
 pub record IsCarried (trace : Trace) (l : Ledger) : Type 0 where
   pub due : (key : ℕ) (e : Entry) → l.entries key ≡ Some e → e.due ≡ (carried_in trace).taken e.id ++ waiting e
-  pub read : (key : ℕ) (e : Entry) → l.entries key ≡ Some e → e.over ≡ false → e.broken ≡ false → e.read ≡ (carried_in trace).read e.id
+  pub read : (key : ℕ) (e : Entry) → l.entries key ≡ Some e → e.draining ≡ false → e.broken ≡ false → e.read ≡ (carried_in trace).read e.id

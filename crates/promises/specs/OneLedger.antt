@@ -2,19 +2,19 @@
 use Rattle.std.specs.Prelude.{ℕ, ◌≡◌, List}
 use Rattle.print_room.specs.State.{State}
 use Rattle.events.specs.declared.event.Event.{Event}
-use Rattle.events.specs.declared.reply.Reply.{Reply}
+use Rattle.events.specs.declared.effects.Effects.{Effects}
 use Rattle.events.specs.Event.{is_query}
 use Rattle.dispatcher.specs.OneStep.{SameEnd}
 use Rattle.dispatcher.specs.Step.{Step}
-use Rattle.requests.specs.declared.asked.Asked.{Asked}
-use Rattle.requests.specs.Asked.{Asks}
+use Rattle.requests.specs.declared.parsed_request.ParsedRequest.{ParsedRequest}
+use Rattle.requests.specs.ParsedRequest.{Asks}
 use Rattle.events.specs.SameEvent.{SameEvent}
 use Rattle.server.specs.Ledger.{Ledger}
 use Rattle.server.specs.Turn.{Trace, Runs}
 
 -- an event that says the same leads a state to the same end
 abbrev pub StepsOnce : Type 0
-StepsOnce = (old : State) (one other : Event) (moment : ℕ) (reply : Reply) (new : State) (said : Reply) (after : State) → SameEvent one other → Step old one moment reply new → Step old other moment said after → SameEnd reply new said after
+StepsOnce = (old : State) (one other : Event) (moment : ℕ) (reply : Effects) (new : State) (said : Effects) (after : State) → SameEvent one other → Step old one moment reply new → Step old other moment said after → SameEnd reply new said after
 
 -- events that say the same both only ask, or neither does
 abbrev pub SameQueries : Type 0
@@ -22,7 +22,7 @@ SameQueries = (one other : Event) → SameEvent one other → is_query one ≡ i
 
 -- a body asks one thing
 abbrev pub AsksOnce : Type 0
-AsksOnce = (body : List ℕ) (given said : Asked) → Asks body given → Asks body said → given ≡ said
+AsksOnce = (body : List ℕ) (given said : ParsedRequest) → Asks body given → Asks body said → given ≡ said
 
 -- two ledgers to which a trace leads from one are equal
 abbrev pub LeadsToOne : Type 0

@@ -2,9 +2,9 @@
 ghost use Rattle.std.specs.Prelude.{ℕ, [], List};
 ghost use Rattle.print_room.specs.State.{State};
 ghost use Rattle.server.specs.State.{EngineState};
-ghost use Rattle.server.specs.Stands.{StandsAt};
+ghost use Rattle.server.specs.Refinement.{StandsAt};
 ghost use Rattle.promises.specs.Answers.{AreAnswered};
-ghost use Rattle.promises.specs.Calls.{Call, AreMade, Keeps};
+ghost use Rattle.promises.specs.Calls.{Call, AreMade, IsAccounted};
 ghost use Rattle.promises.specs.Carried.{NumbersDiffer, IsCarried};
 ghost use Rattle.promises.specs.OneLedger.{LeadsToOne};
 ghost use Rattle.promises.specs.Orders.{AreSent};
@@ -64,5 +64,5 @@ pub fn others_are_spared()
 /// a ledger that the engine fits. So of each open connection what the wire took and what waits are just what is
 /// due.
 pub fn due_after_calls<W: Wire, N: Listener>()
-    ensures { (opening : State) (calls : List Call) (u v : W × N) (old new : EngineState) → StandsAt opening [] old → AreMade W.polled N.told calls u old v new → Keeps W.polled N.told opening calls u v new }
+    ensures { (opening : State) (calls : List Call) (u v : W × N) (old new : EngineState) → StandsAt opening [] old → AreMade W.polled N.told calls u old v new → IsAccounted W.polled N.told opening calls u v new }
 {}

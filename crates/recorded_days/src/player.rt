@@ -10,7 +10,7 @@ use settings_file::Settings;
 use std::alloc::{AllocError, Global};
 use traces::{Input, Line, Opening, read_line};
 use transcripts::{Connection, end_at, numbered, put_connection, send_at};
-use wires::{Memory, Peer};
+use wires::{MemoryPeer, MemoryWire};
 
 /// After so many turns for one line no more are taken for it.
 const MOST_TURNS: usize = 16_777_216;
@@ -40,7 +40,7 @@ impl Player {
             alloc,
             engine,
             wire: TraceWire {
-                memory: Memory::new(Vec::new(alloc)),
+                memory: MemoryWire::new(Vec::new(alloc)),
                 stirred: false,
                 failed: false,
             },
@@ -145,7 +145,7 @@ impl Player {
     fn open(&mut self, opening: Opening) -> Result<(), AllocError> {
         let Opening { number, door } = opening;
         let place = self.wire.memory.peers.len();
-        let peer = Peer::new(
+        let peer = MemoryPeer::new(
             self.alloc,
             door,
             Vec::new(self.alloc),

@@ -5,7 +5,7 @@ use assignment::Lazy;
 use base_types::{Activity, DeviceId, JobId, Limits, Stranded};
 use dispatcher::Started;
 use job_objects::Job;
-use server::{Engine, Heard};
+use server::{Engine, LoggedNote};
 use std::alloc::{AllocError, Global};
 
 /// The jobs that were seen, and what devices printed of them.
@@ -31,10 +31,10 @@ pub(crate) struct Recorder {
 }
 
 /// The highest number of a job that was heard to begin; 0 where none was.
-fn last_begun(heard: &[Heard]) -> u32 {
+fn last_begun(heard: &[LoggedNote]) -> u32 {
     let mut last = 0;
     for one in heard {
-        if let Heard::Began(started) = one {
+        if let LoggedNote::Began(started) = one {
             last = started.job.number().max(last);
         }
     }
@@ -79,7 +79,7 @@ impl Recorder {
     pub(crate) fn look(
         &mut self,
         engine: &Engine<Lazy>,
-        heard: &[Heard],
+        heard: &[LoggedNote],
         now: u64,
     ) -> Result<(), AllocError> {
         self.find_jobs(engine, last_begun(heard))?;
@@ -114,12 +114,12 @@ impl Recorder {
     }
 
     /// Notes what was heard.
-    fn hear(&mut self, heard: &[Heard], now: u64) -> Result<(), AllocError> {
+    fn hear(&mut self, heard: &[LoggedNote], now: u64) -> Result<(), AllocError> {
         for one in heard {
             match one {
-                Heard::Planned => self.stranded.clear(),
-                Heard::Stranded(stranded) => self.stranded.push(*stranded)?,
-                Heard::Began(started) => self.begin(*started, now)?,
+                LoggedNote::Planned => self.stranded.clear(),
+                LoggedNote::Stranded(stranded) => self.stranded.push(*stranded)?,
+                LoggedNote::Began(started) => self.begin(*started, now)?,
                 _ => {}
             }
         }

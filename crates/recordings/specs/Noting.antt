@@ -1,12 +1,12 @@
 -- What is noted of calls.
 use Rattle.std.specs.Prelude.{ℕ, ◌≡◌, ◌⊎◌, Bool, true, false, List, [], ◌++◌, Option, None, option_map, codes}
-use Rattle.wires.specs.declared.wire.Answer.{Answer}
-use Rattle.wires.specs.declared.wire.Answer.TheVariants.{Done, Waiting, End, Fault}
+use Rattle.wires.specs.declared.wire.Progress.{Progress}
+use Rattle.wires.specs.declared.wire.Progress.TheVariants.{Done, Waiting, End, Fault}
 use Rattle.wires.specs.Poll.{Poll, Accepts, Reads, Writes, Closes}
 use Rattle.recordings.specs.Lines.{line_about, accept_line, read_line, sent_line, turn_line}
 
 -- the line of a write; nothing of one that only waited
-abbrev pub written_note : ℕ → Answer ℕ → Option ℕ → List ℕ
+abbrev pub written_note : ℕ → Progress ℕ → Option ℕ → List ℕ
 written_note id (Done count) sum = sent_line id count sum
 written_note id Waiting sum = []
 written_note id End sum = line_about (codes "shut") id

@@ -7,21 +7,21 @@ use crate::entry::Sent;
 use crate::write::{put_accepted, put_came, put_line, put_sent, put_turn};
 use base_types::Moment;
 use std::alloc::AllocError;
-use wires::{Answer, Door, WireId};
+use wires::{Door, Progress, WireId};
 
 /// Appends what is noted of an accept.
 pub(crate) fn put_accept(
     output: &mut Vec<u8>,
     door: Door,
-    answer: Answer<WireId>,
+    answer: Progress<WireId>,
 ) -> Result<(), AllocError>
     ensures { OnOk result (output.new.items ≡ output.old.items ++ note_of (Accepts door answer) None) }
 {
     match answer {
-        Answer::Done(id) => put_accepted(output, door, id),
-        Answer::Waiting => Ok(()),
-        Answer::End => Ok(()),
-        Answer::Fault => Ok(()),
+        Progress::Done(id) => put_accepted(output, door, id),
+        Progress::Waiting => Ok(()),
+        Progress::End => Ok(()),
+        Progress::Fault => Ok(()),
     }
 }
 
@@ -29,17 +29,17 @@ pub(crate) fn put_accept(
 pub(crate) fn put_read(
     output: &mut Vec<u8>,
     id: WireId,
-    answer: Answer<usize>,
+    answer: Progress<usize>,
     buffer: &[u8],
 ) -> Result<(), AllocError>
     requires { IsCount answer (length buffer.now) }
     ensures { OnOk result (output.new.items ≡ output.old.items ++ note_of (Reads id (bytes_read answer buffer.now)) None) }
 {
     match answer {
-        Answer::Done(count) => put_came(output, id, &buffer[..count]),
-        Answer::Waiting => Ok(()),
-        Answer::End => put_line(output, b"end", u64::from(id)),
-        Answer::Fault => put_line(output, b"fail", u64::from(id)),
+        Progress::Done(count) => put_came(output, id, &buffer[..count]),
+        Progress::Waiting => Ok(()),
+        Progress::End => put_line(output, b"end", u64::from(id)),
+        Progress::Fault => put_line(output, b"fail", u64::from(id)),
     }
 }
 
@@ -47,16 +47,16 @@ pub(crate) fn put_read(
 pub(crate) fn put_write(
     output: &mut Vec<u8>,
     id: WireId,
-    answer: Answer<usize>,
+    answer: Progress<usize>,
     sum: Option<u32>,
 ) -> Result<(), AllocError>
     ensures { OnOk result (output.new.items ≡ output.old.items ++ written_note id answer sum) }
 {
     match answer {
-        Answer::Done(count) => put_sent(output, Sent { id, count, sum }),
-        Answer::Waiting => Ok(()),
-        Answer::End => put_line(output, b"shut", u64::from(id)),
-        Answer::Fault => put_line(output, b"break", u64::from(id)),
+        Progress::Done(count) => put_sent(output, Sent { id, count, sum }),
+        Progress::Waiting => Ok(()),
+        Progress::End => put_line(output, b"shut", u64::from(id)),
+        Progress::Fault => put_line(output, b"break", u64::from(id)),
     }
 }
 

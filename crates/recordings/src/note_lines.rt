@@ -8,7 +8,7 @@ use crate::write::{put_came, put_line};
 use base_types::Moment;
 use std::alloc::{AllocError, Global};
 use std::marker::Model;
-use wires::{Answer, Door, WireId};
+use wires::{Door, Progress, WireId};
 
 /// The lines of calls, from the last time on that they were forgotten; none, where none are wanted, or since
 /// memory for one was refused.
@@ -99,7 +99,7 @@ impl NoteLines {
     }
 
     /// An accept was answered so.
-    pub(crate) fn accepted(&mut self, door: Door, answer: Answer<WireId>)
+    pub(crate) fn accepted(&mut self, door: Door, answer: Progress<WireId>)
         ensures { NotesLine (Accepts door answer) self.old self.new }
     {
         if self.note_accept(door, answer).is_err() {
@@ -108,7 +108,7 @@ impl NoteLines {
     }
 
     /// A read was answered so.
-    pub(crate) fn read(&mut self, id: WireId, answer: Answer<usize>, buffer: &[u8])
+    pub(crate) fn read(&mut self, id: WireId, answer: Progress<usize>, buffer: &[u8])
         requires { IsCount answer (length buffer.now) }
         ensures { NotesLine (Reads id (bytes_read answer buffer.now)) self.old self.new }
     {
@@ -125,7 +125,7 @@ impl NoteLines {
     }
 
     /// A write was answered so, and this is the sum of the bytes that were taken, if it is noted.
-    pub(crate) fn written(&mut self, id: WireId, answer: Answer<usize>, sum: Option<u32>)
+    pub(crate) fn written(&mut self, id: WireId, answer: Progress<usize>, sum: Option<u32>)
         ensures { NotesLine (Writes id [] answer) self.old self.new }
     {
         if self.note_write(id, answer, sum).is_err() {
@@ -154,7 +154,7 @@ impl NoteLines {
     }
 
     /// Notes an accept.
-    fn note_accept(&mut self, door: Door, answer: Answer<WireId>) -> Result<(), AllocError>
+    fn note_accept(&mut self, door: Door, answer: Progress<WireId>) -> Result<(), AllocError>
         ensures { OnOk result (self.new ≡ with_note (note_of (Accepts door answer) None) self.old) }
     {
         if !self.keeps {
@@ -168,7 +168,7 @@ impl NoteLines {
     fn note_read(
         &mut self,
         id: WireId,
-        answer: Answer<usize>,
+        answer: Progress<usize>,
         buffer: &[u8],
     ) -> Result<(), AllocError>
         requires { IsCount answer (length buffer.now) }
@@ -185,7 +185,7 @@ impl NoteLines {
     fn note_write(
         &mut self,
         id: WireId,
-        answer: Answer<usize>,
+        answer: Progress<usize>,
         sum: Option<u32>,
     ) -> Result<(), AllocError>
         ensures { OnOk result (self.new ≡ with_note (written_note id answer sum) self.old) }

@@ -12,7 +12,7 @@ use document_octets::Blanker;
 use std::alloc::{AllocError, Global};
 use std::io::IoSlice;
 use std::marker::Model;
-use wires::{Answer, Door, Wire, WireId};
+use wires::{Door, Progress, Wire, WireId};
 
 /// What is noted of calls: their lines, from the last time on that they were forgotten; none, where none are
 /// wanted, or since memory for one was refused.
@@ -108,7 +108,7 @@ impl NoteText {
     }
 
     /// An accept was answered so.
-    fn accepted(&mut self, door: Door, answer: Answer<WireId>)
+    fn accepted(&mut self, door: Door, answer: Progress<WireId>)
         ensures { Notes (Accepts door answer) self.old self.new }
     {
         self.lines.accepted(door, answer);
@@ -118,22 +118,22 @@ impl NoteText {
     }
 
     /// A connection comes in whose documents are to be found.
-    fn open(&mut self, door: Door, answer: Answer<WireId>) -> Result<(), AllocError>
+    fn open(&mut self, door: Door, answer: Progress<WireId>) -> Result<(), AllocError>
         ensures { self.new ≡ self.old }
     {
         match answer {
-            Answer::Done(id) => self.blanker.open(id, door),
-            Answer::Waiting | Answer::End | Answer::Fault => Ok(()),
+            Progress::Done(id) => self.blanker.open(id, door),
+            Progress::Waiting | Progress::End | Progress::Fault => Ok(()),
         }
     }
 
     /// A read was answered so.
-    fn read(&mut self, id: WireId, answer: Answer<usize>, buffer: &[u8])
+    fn read(&mut self, id: WireId, answer: Progress<usize>, buffer: &[u8])
         requires { IsCount answer (length buffer.now) }
         ensures { Notes (Reads id (bytes_read answer buffer.now)) self.old self.new }
     {
         match answer {
-            Answer::Done(count) if self.heads => self.read_heads(id, &buffer[..count]),
+            Progress::Done(count) if self.heads => self.read_heads(id, &buffer[..count]),
             _ => self.lines.read(id, answer, buffer),
         }
     }
@@ -159,7 +159,7 @@ impl NoteText {
     }
 
     /// A write was answered so.
-    fn written(&mut self, id: WireId, answer: Answer<usize>, parts: &[IoSlice<'_>])
+    fn written(&mut self, id: WireId, answer: Progress<usize>, parts: &[IoSlice<'_>])
         ensures { Notes (Writes id (io_slices_bytes parts.now) answer) self.old self.new }
     {
         match self.sum_taken(id, parts, answer) {
@@ -173,12 +173,12 @@ impl NoteText {
         &mut self,
         id: WireId,
         parts: &[IoSlice<'_>],
-        answer: Answer<usize>,
+        answer: Progress<usize>,
     ) -> Result<Option<u32>, AllocError>
         ensures { self.new ≡ self.old }
     {
         match answer {
-            Answer::Done(count) if self.notes_sum(id) => self.sum_of(parts, count),
+            Progress::Done(count) if self.notes_sum(id) => self.sum_of(parts, count),
             _ => Ok(None),
         }
     }
@@ -224,19 +224,19 @@ impl<W: Wire> Wire for Noted<W> {
 
     ghost faults = { λ n. W.faults n.wire };
 
-    fn poll_accept(&mut self, door: Door) -> Answer<WireId> {
+    fn poll_accept(&mut self, door: Door) -> Progress<WireId> {
         let answer = self.wire.poll_accept(door);
         self.notes.accepted(door, answer);
         answer
     }
 
-    fn poll_read(&mut self, id: WireId, buffer: &mut [u8]) -> Answer<usize> {
+    fn poll_read(&mut self, id: WireId, buffer: &mut [u8]) -> Progress<usize> {
         let answer = self.wire.poll_read(id, buffer);
         self.notes.read(id, answer, buffer);
         answer
     }
 
-    fn poll_write(&mut self, id: WireId, bytes: &[IoSlice<'_>]) -> Answer<usize> {
+    fn poll_write(&mut self, id: WireId, bytes: &[IoSlice<'_>]) -> Progress<usize> {
         let answer = self.wire.poll_write(id, bytes);
         self.notes.written(id, answer, bytes);
         answer

@@ -9,7 +9,7 @@ use crate::sum::sum_of;
 use std::alloc::{AllocError, Global};
 use std::io::IoSlice;
 use std::mem;
-use wires::{Answer, Door, Wire, WireId};
+use wires::{Door, Progress, Wire, WireId};
 
 /// A line of a turn, with its number in its file.
 #[derive(Drop)]
@@ -162,14 +162,14 @@ impl Script {
     }
 
     /// A connection is offered bytes, of which it gets as many as it got then, if they are the same.
-    fn gets(&mut self, id: WireId, parts: &[IoSlice<'_>], wanted: Sent) -> Answer<usize>
+    fn gets(&mut self, id: WireId, parts: &[IoSlice<'_>], wanted: Sent) -> Progress<usize>
         ensures count { IsCount result (length (io_slices_bytes parts.now)) }
         ensures cause { HasCause self.old.faults self.new.faults result }
     {
         let mut bytes = Vec::new(self.alloc);
         let Ok(count) = put_front(&mut bytes, parts, wanted.count) else {
             self.strays(Deed::Unknown);
-            return Answer::Waiting;
+            return Progress::Waiting;
         };
         let sent = Sent {
             id,
@@ -178,23 +178,23 @@ impl Script {
         };
         if sent != wanted || count == 0 {
             self.strays(Deed::Sends { sent, bytes });
-            return Answer::Waiting;
+            return Progress::Waiting;
         }
         self.pass();
         self.keep(Moved::Got { id, bytes });
-        Answer::Done(count)
+        Progress::Done(count)
     }
 
     /// A call that failed.
-    fn fault(&mut self) -> Answer<usize>
+    fn fault(&mut self) -> Progress<usize>
         ensures count { (room : ℕ) → IsCount result room }
         ensures cause { HasCause self.old.faults self.new.faults result }
     {
         self.pass();
         if self.counts_fault() {
-            Answer::Fault
+            Progress::Fault
         } else {
-            Answer::Waiting
+            Progress::Waiting
         }
     }
 }
@@ -209,40 +209,40 @@ impl Wire for Script {
 
     ghost faults = { λ s. s.faults };
 
-    fn poll_accept(&mut self, door: Door) -> Answer<WireId> {
+    fn poll_accept(&mut self, door: Door) -> Progress<WireId> {
         let next = match self.next() {
             Some(Entry::Accepted(accepted)) => *accepted,
-            _ => return Answer::Waiting,
+            _ => return Progress::Waiting,
         };
         if next.door != door {
-            return Answer::Waiting;
+            return Progress::Waiting;
         }
         self.pass();
-        Answer::Done(next.id)
+        Progress::Done(next.id)
     }
 
-    fn poll_read(&mut self, id: WireId, buffer: &mut [u8]) -> Answer<usize> {
+    fn poll_read(&mut self, id: WireId, buffer: &mut [u8]) -> Progress<usize> {
         match self.next() {
             Some(Entry::Came(came)) if came.id == id => {
                 let count = came.bytes.len();
                 if count == 0 || count > buffer.len() {
                     self.strays(Deed::ReadsLess(id));
-                    return Answer::Waiting;
+                    return Progress::Waiting;
                 }
                 buffer[..count].copy_from_slice(&came.bytes);
                 self.pass();
-                Answer::Done(count)
+                Progress::Done(count)
             }
             Some(Entry::Ended(ended)) if *ended == id => {
                 self.pass();
-                Answer::End
+                Progress::End
             }
             Some(Entry::Failed(failed)) if *failed == id => self.fault(),
-            _ => Answer::Waiting,
+            _ => Progress::Waiting,
         }
     }
 
-    fn poll_write(&mut self, id: WireId, bytes: &[IoSlice<'_>]) -> Answer<usize> {
+    fn poll_write(&mut self, id: WireId, bytes: &[IoSlice<'_>]) -> Progress<usize> {
         match self.next() {
             Some(Entry::Sent(sent)) if sent.id == id => {
                 let wanted = *sent;
@@ -250,10 +250,10 @@ impl Wire for Script {
             }
             Some(Entry::Shut(shut)) if *shut == id => {
                 self.pass();
-                Answer::End
+                Progress::End
             }
             Some(Entry::Broken(broken)) if *broken == id => self.fault(),
-            _ => Answer::Waiting,
+            _ => Progress::Waiting,
         }
     }
 

@@ -5,10 +5,10 @@ use Rattle.std.specs.declared.alloc.AllocError.{AllocError}
 use Rattle.std.proofs.lemmas.List.{length-append, map-append}
 use Rattle.std.proofs.lemmas.List.Elements.{All-append, All-cons, All-nil}
 use Rattle.server.specs.Polls.{Happening, Leads, both, alone}
-use Rattle.wires.specs.Peer.{PeerState}
-use Rattle.server.specs.Stands.{ServesBody}
-use Rattle.server.specs.Stands as Engine
-use Rattle.server.specs.Turn.{Deed, Turned, Served_body, Outcome}
+use Rattle.wires.specs.MemoryPeer.{PeerState}
+use Rattle.server.specs.Refinement.{RefinesBody}
+use Rattle.server.specs.Refinement as Engine
+use Rattle.server.specs.Turn.{Action, Turned, Served_body, Outcome}
 use Rattle.transcripts.specs.declared.peers.Connection.{Connection}
 use Rattle.replay.specs.declared.play.Play.{Play}
 use Rattle.wires.specs.declared.wire.Door.{Door}
@@ -30,7 +30,7 @@ use Rattle.replay.proofs.Telling.{heard_alone, heard_beside, moved_beside, all_h
 abbrev Printed : LogRecord → List ℕ → LogRecord → Type 0
 Printed log heard after = (log.heard ≡ Some heard) × (after ≡ record log { heard = Some [] })
 
-pub serves : (old new : Play) (body line heard text : List ℕ) (answer : Outcome) (log : LogRecord) → IsReady old → ServesBody (alone Hears) old.moment body old.log old.engine log new.engine answer → IsReplyLine answer line → Printed log heard new.log → text ≡ line ++ heard → new.wire.failed ≡ old.wire.failed → standing new ≡ standing old
+pub serves : (old new : Play) (body line heard text : List ℕ) (answer : Outcome) (log : LogRecord) → IsReady old → RefinesBody (alone Hears) old.moment body old.log old.engine log new.engine answer → IsReplyLine answer line → Printed log heard new.log → text ≡ line ++ heard → new.wire.failed ≡ old.wire.failed → standing new ≡ standing old
     → Does old new (λ deeds. Serves old.log.texts old.log.names old.moment body deeds text × (standing new ≡ standing old))
 serves old new body line heard text answer log ready served replies printed is fine still =
     let all = all_heard old.log log new.log served.happenings heard (heard_alone old.log log served.happenings served.leads) ready.silent printed.0 printed.1 in
@@ -42,7 +42,7 @@ serves old new body line heard text answer log ready served replies printed is f
       prompt = fine ∙ ready.prompt;
     }
 
-pub calls : (old new : Play) (deed : List Happening → Deed) (heard : List ℕ) (result : Result (Unit {0}) AllocError) (log : LogRecord) → IsReady old → Engine.Calls (alone Hears) deed old.log old.engine log new.engine result → IsOk result → Printed log heard new.log → new.wire.failed ≡ old.wire.failed → standing new ≡ standing old
+pub calls : (old new : Play) (deed : List Happening → Action) (heard : List ℕ) (result : Result (Unit {0}) AllocError) (log : LogRecord) → IsReady old → Engine.RefinesCall (alone Hears) deed old.log old.engine log new.engine result → IsOk result → Printed log heard new.log → new.wire.failed ≡ old.wire.failed → standing new ≡ standing old
     → Does old new (λ deeds. Calls old.log.texts old.log.names deed deeds heard × (standing new ≡ standing old))
 calls old new deed heard result log ready called good printed fine still =
     let all = all_heard old.log log new.log called.happenings heard (heard_alone old.log log called.happenings called.leads) ready.silent printed.0 printed.1 in
@@ -56,7 +56,7 @@ calls old new deed heard result log ready called good printed fine still =
 
 -- ---- turns
 
-pub took_turn : (old new : Play) (stirred : Bool) (wire : TraceWire) → wire ≡ record old.wire { stirred = false } → Engine.Turns (both WirePolls Hears) old.moment (wire, old.log) old.engine (new.wire, new.log) new.engine → stirred ≡ new.wire.stirred → new.moment ≡ old.moment → new.connections ≡ old.connections → TakesTurn old new stirred
+pub took_turn : (old new : Play) (stirred : Bool) (wire : TraceWire) → wire ≡ record old.wire { stirred = false } → Engine.RefinesTurn (both WirePolls Hears) old.moment (wire, old.log) old.engine (new.wire, new.log) new.engine → stirred ≡ new.wire.stirred → new.moment ≡ old.moment → new.connections ≡ old.connections → TakesTurn old new stirred
 took_turn old new stirred wire begins turned is still same =
     let heard = heard_beside (wire, old.log) (new.wire, new.log) turned.happenings turned.leads in
     let moved = moved_beside (wire, old.log) (new.wire, new.log) turned.happenings turned.leads in

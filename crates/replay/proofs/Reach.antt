@@ -2,7 +2,7 @@
 use Rattle.std.proofs.Common.{◌≡◌, ℕ, suc, Bool, true, false, List, [], ◌∷◌, ◌++◌, refl, sym, ap, ◌∙◌, subst, inl, inr, codes, append_assoc, append-nil, Result, Ok, Err, OnErr}
 use Rattle.std.specs.Fmt.{decimal}
 use Rattle.server.specs.State.{EngineState}
-use Rattle.server.specs.Stands.{StandsAt}
+use Rattle.server.specs.Refinement.{StandsAt}
 use Rattle.server.specs.Turn.{Trace}
 use Rattle.streams.specs.declared.exit_status.ExitStatus.{ExitStatus}
 use Rattle.streams.specs.declared.exit_status.ExitStatus.TheVariants as Ends

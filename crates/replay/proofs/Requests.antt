@@ -6,9 +6,9 @@ use Rattle.printer_objects.specs.declared.operation.Operation.{Operation}
 use Rattle.printer_objects.specs.declared.operation.Operation.TheVariants as operation
 use Rattle.events.specs.declared.event.Event.{Event}
 use Rattle.events.specs.declared.event.Event.TheVariants as Is
-use Rattle.events.specs.declared.reply.Answer.{Answer}
-use Rattle.events.specs.declared.reply.Answer.TheVariants as Says
-use Rattle.events.specs.declared.reply.Reply.{Reply}
+use Rattle.events.specs.declared.effects.Response.{Response}
+use Rattle.events.specs.declared.effects.Response.TheVariants as Says
+use Rattle.events.specs.declared.effects.Effects.{Effects}
 use Rattle.events.specs.declared.status.Status.{Status}
 use Rattle.events.specs.declared.status.Status.TheVariants as Went
 use Rattle.job_objects.specs.declared.job_change.JobChange.{JobChange}
@@ -18,7 +18,7 @@ use Rattle.events.specs.declared.event.JobRequest.{JobRequest}
 use Rattle.events.specs.declared.event.PrinterRequest.{PrinterRequest}
 use Rattle.events.specs.declared.event.HoldUntil.{HoldUntil}
 use Rattle.events.specs.declared.event.HoldUntil.TheVariants.{NoHold, Indefinite, Unsupported}
-use Rattle.events.specs.Reply.{IsAnswer, Replies}
+use Rattle.events.specs.Effects.{IsResponse, Replies}
 use Rattle.dispatcher.specs.Answers.{Refuses, Shows}
 use Rattle.dispatcher.specs.Checks.{named_job, named_printer}
 use Rattle.dispatcher.specs.PrintJob.{TakesJob, asked_of}
@@ -31,8 +31,8 @@ use Rattle.dispatcher.specs.PausePrinter.{PausesIt, SetsPaused, paused_of}
 use Rattle.dispatcher.specs.GetJobs.{wanted_of}
 use Rattle.print_room.specs.State.{State}
 use Rattle.dispatcher.specs.Step.{StepAt}
-use Rattle.requests.specs.declared.asked.Asked.TheVariants as Body
-use Rattle.requests.specs.Asked.{Asks, AsksUnder, Requests, answered, header_of, operation_of}
+use Rattle.requests.specs.declared.parsed_request.ParsedRequest.TheVariants as Body
+use Rattle.requests.specs.ParsedRequest.{Asks, AsksUnder, Requests, answered, header_of, operation_of}
 use Rattle.requests.specs.Event.{event_of, asked_in, event_in, are_tagged, is_complete}
 use Rattle.requests.specs.Request.{operation_group, job_attributes, is_utf8}
 use Rattle.dispatcher.specs.declared.outcome.Outcome.{Outcome}
@@ -44,7 +44,7 @@ use Rattle.server.specs.Turn.{IsBytes}
 use Rattle.replay.specs.OneRun.{IsReplyOf}
 
 -- an answer to a request of IPP
-abbrev IsOfIpp : Answer → Type 0
+abbrev IsOfIpp : Response → Type 0
 IsOfIpp (Says.Ipp answer) = Unit {0}
 IsOfIpp (Says.Lpd answer) = ⊥
 IsOfIpp Says.Nothing = ⊥
@@ -71,41 +71,41 @@ IsRequest Is.Tick = ⊥
 
 -- ---- the answer to a request
 
-says_so : (status : Status) (unsupported : List IppAttribute) (groups : List IppGroup) (answer : Answer) → IsAnswer status unsupported groups answer → IsOfIpp answer
+says_so : (status : Status) (unsupported : List IppAttribute) (groups : List IppGroup) (answer : Response) → IsResponse status unsupported groups answer → IsOfIpp answer
 says_so status unsupported groups (Says.Ipp answer) is = tt
 says_so status unsupported groups (Says.Lpd answer) is = is
 says_so status unsupported groups Says.Nothing is = is
 
-says : (status : Status) (unsupported : List IppAttribute) (groups : List IppGroup) (reply : Reply) → IsAnswer status unsupported groups reply.answer → IsOfIpp reply.answer
+says : (status : Status) (unsupported : List IppAttribute) (groups : List IppGroup) (reply : Effects) → IsResponse status unsupported groups reply.answer → IsOfIpp reply.answer
 says status unsupported groups reply answer = says_so status unsupported groups reply.answer answer
 
-says_something : (status : Status) (unsupported : List IppAttribute) (groups : List IppGroup) (reply : Reply) → Replies status unsupported groups reply → IsOfIpp reply.answer
+says_something : (status : Status) (unsupported : List IppAttribute) (groups : List IppGroup) (reply : Effects) → Replies status unsupported groups reply → IsOfIpp reply.answer
 says_something status unsupported groups reply replies = says status unsupported groups reply replies.answer
 
 -- what comes of checks has an answer, where what is done if none fails has one
-answers : {A : Type 0} (Done : A → Type 0) (now : ℕ) (old : State) (reply : Reply) (new : State) → ((a : A) → Done a → IsOfIpp reply.answer)
+answers : {A : Type 0} (Done : A → Type 0) (now : ℕ) (old : State) (reply : Effects) (new : State) → ((a : A) → Done a → IsOfIpp reply.answer)
     → (asked : Result A _) → MatchResult asked Done (λ refusal. Refuses now old refusal reply new) → IsOfIpp reply.answer
 answers Done now old reply new each (Ok a) is = each a is
 answers Done now old reply new each (Err refusal) refused = says_something _ _ _ reply refused.replies
 
-changed_answer : (request : JobRequest) (change : JobChange) (unsupported : List IppAttribute) (now : ℕ) (old : State) (reply : Reply) (new : State) → ChangesJob now request change unsupported old reply new → IsOfIpp reply.answer
+changed_answer : (request : JobRequest) (change : JobChange) (unsupported : List IppAttribute) (now : ℕ) (old : State) (reply : Effects) (new : State) → ChangesJob now request change unsupported old reply new → IsOfIpp reply.answer
 changed_answer request change unsupported now old reply new step =
     answers (λ id. ChangesIt now old change unsupported id reply new) now old reply new (λ id is. says_something _ _ _ reply is.replies) (changed_of request change now old) step
 
-held_answer : (request : JobRequest) (until : HoldUntil) (now : ℕ) (old : State) (reply : Reply) (new : State) → HoldsUntil now request until old reply new → IsOfIpp reply.answer
+held_answer : (request : JobRequest) (until : HoldUntil) (now : ℕ) (old : State) (reply : Effects) (new : State) → HoldsUntil now request until old reply new → IsOfIpp reply.answer
 held_answer request NoHold now old reply new step = changed_answer request Change.Release [] now old reply new step
 held_answer request Indefinite now old reply new step = changed_answer request Change.Hold [] now old reply new step
 held_answer request (Unsupported attribute) now old reply new step = changed_answer request Change.Hold attribute now old reply new step
 
-paused_answer : (request : PrinterRequest) (paused : Bool) (now : ℕ) (old : State) (reply : Reply) (new : State) → SetsPaused now request paused old reply new → IsOfIpp reply.answer
+paused_answer : (request : PrinterRequest) (paused : Bool) (now : ℕ) (old : State) (reply : Effects) (new : State) → SetsPaused now request paused old reply new → IsOfIpp reply.answer
 paused_answer request paused now old reply new step =
     answers (λ place. PausesIt now old paused place reply new) now old reply new (λ place is. says_something _ _ _ reply is.replies) (paused_of request old) step
 
-shown_answer : {A : Type 0} (groups : A → List IppGroup) (now : ℕ) (old : State) (reply : Reply) (new : State) (asked : Result A _) → MatchResult asked (λ a. Shows now old (groups a) reply new) (λ refusal. Refuses now old refusal reply new) → IsOfIpp reply.answer
+shown_answer : {A : Type 0} (groups : A → List IppGroup) (now : ℕ) (old : State) (reply : Effects) (new : State) (asked : Result A _) → MatchResult asked (λ a. Shows now old (groups a) reply new) (λ refusal. Refuses now old refusal reply new) → IsOfIpp reply.answer
 shown_answer groups now old reply new asked step =
     answers (λ a. Shows now old (groups a) reply new) now old reply new (λ a is. says_something _ _ _ reply is.replies) asked step
 
-stepped_answer : (event : Event) (now : ℕ) (old : State) (reply : Reply) (new : State) → IsRequest event → StepAt event now old reply new → IsOfIpp reply.answer
+stepped_answer : (event : Event) (now : ℕ) (old : State) (reply : Effects) (new : State) → IsRequest event → StepAt event now old reply new → IsOfIpp reply.answer
 stepped_answer (Is.PrintJob request) now old reply new is step = answers (λ accepted. TakesJob now old accepted reply new) now old reply new (λ accepted done. says_something _ _ _ reply done.replies) (asked_of request now old) step
 stepped_answer (Is.ValidateJob request) now old reply new is step = answers (λ unsupported. Validates now old unsupported reply new) now old reply new (λ unsupported done. says_something _ _ _ reply done.replies) (validated_of request old) step
 stepped_answer (Is.CreateJob request) now old reply new is step = answers (λ accepted. CreatesIt now old accepted reply new) now old reply new (λ accepted done. says_something _ _ _ reply done.replies) (created_of request now old) step
@@ -125,11 +125,11 @@ stepped_answer (Is.Report device report) now old reply new is step = absurd is
 stepped_answer Is.Tick now old reply new is step = absurd is
 
 -- the reply that was given
-is_given : (given reply : Reply) → Some given ≡ Some reply → IsOfIpp given.answer → IsOfIpp reply.answer
-is_given given reply same is = let one : given ≡ reply = cc same in subst (λ (r : Reply). IsOfIpp r.answer) one is
+is_given : (given reply : Effects) → Some given ≡ Some reply → IsOfIpp given.answer → IsOfIpp reply.answer
+is_given given reply same is = let one : given ≡ reply = cc same in subst (λ (r : Effects). IsOfIpp r.answer) one is
 
 -- a request that is answered is answered by a message
-request_is_answered : (moment : ℕ) (event : Event) (outcome : Outcome) (reply : Reply) (old : State) (notes : List Note) (new : State) → IsRequest event → reply_of outcome ≡ Some reply → Handles moment event old outcome notes new → IsOfIpp reply.answer
+request_is_answered : (moment : ℕ) (event : Event) (outcome : Outcome) (reply : Effects) (old : State) (notes : List Note) (new : State) → IsRequest event → reply_of outcome ≡ Some reply → Handles moment event old outcome notes new → IsOfIpp reply.answer
 request_is_answered moment event Dropped reply old notes new is answered handled = absurd (none-some reply answered)
 request_is_answered moment event (Queried given) reply old notes new is answered (query, step, told) = is_given given reply answered (stepped_answer event (max moment old.last) old given new is step)
 request_is_answered moment event (Undispatched given) reply old notes new is answered (query, step, ready, told) = is_given given reply answered (stepped_answer event (max moment old.last) old given new is step)
@@ -201,11 +201,11 @@ body_is_request body id event asks = of_body body id event (header_of body) asks
 
 -- ---- the bytes of a body's answer
 
-are_of_reply : (request : ℕ) (answer : Answer) (bytes : List ℕ) → IsOfIpp answer → IsBytes request answer bytes → IsReplyOf answer request bytes
+are_of_reply : (request : ℕ) (answer : Response) (bytes : List ℕ) → IsOfIpp answer → IsBytes request answer bytes → IsReplyOf answer request bytes
 are_of_reply request (Says.Ipp answer) bytes is are = are
 are_of_reply request (Says.Lpd answer) bytes is are = absurd is
 are_of_reply request Says.Nothing bytes is are = absurd is
 
-pub body_replied : (body : List ℕ) (moment request : ℕ) (event : Event) (outcome : Outcome) (reply : Reply) (bytes : List ℕ) (old : State) (notes : List Note) (new : State) → Asks body (Body.Event request event) → reply_of outcome ≡ Some reply → Handles moment event old outcome notes new → IsBytes request reply.answer bytes → IsReplyOf reply.answer request bytes
+pub body_replied : (body : List ℕ) (moment request : ℕ) (event : Event) (outcome : Outcome) (reply : Effects) (bytes : List ℕ) (old : State) (notes : List Note) (new : State) → Asks body (Body.Event request event) → reply_of outcome ≡ Some reply → Handles moment event old outcome notes new → IsBytes request reply.answer bytes → IsReplyOf reply.answer request bytes
 body_replied body moment request event outcome reply bytes old notes new asks answered handled are =
     are_of_reply request reply.answer bytes (request_is_answered moment event outcome reply old notes new (body_is_request body request event asks) answered handled) are

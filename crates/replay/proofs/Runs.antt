@@ -11,19 +11,19 @@ use Rattle.print_room.specs.Opening.{opening}
 use Rattle.print_room.specs.State.{State}
 use Rattle.events.specs.declared.event.Event.{Event}
 use Rattle.events.specs.declared.event.Event.TheVariants as Is
-use Rattle.events.specs.declared.reply.Reply.{Reply}
+use Rattle.events.specs.declared.effects.Effects.{Effects}
 use Rattle.dispatcher.specs.declared.run.Timed.{Timed}
 use Rattle.dispatcher.specs.declared.outcome.Outcome.{Outcome}
 use Rattle.dispatcher.specs.Run.{Comes, Run}
-use Rattle.requests.specs.declared.asked.Asked.{Asked}
-use Rattle.requests.specs.declared.asked.Asked.TheVariants as Body
-use Rattle.requests.specs.Asked.{Asks}
-use Rattle.replies.specs.Reply.{refusal_bytes}
+use Rattle.requests.specs.declared.parsed_request.ParsedRequest.{ParsedRequest}
+use Rattle.requests.specs.declared.parsed_request.ParsedRequest.TheVariants as Body
+use Rattle.requests.specs.ParsedRequest.{Asks}
+use Rattle.responses.specs.Reply.{refusal_bytes}
 use Rattle.server.specs.Ledger.{Ledger, opening_ledger}
 use Rattle.server.specs.Law.{IsOneEvent, IsNoEvent, IsServed, IsAtMostOne}
 use Rattle.dispatcher.specs.Notes.{Note, Tells}
 use Rattle.server.specs.Polls.{Happening, Polled, Told, Chosen, seen}
-use Rattle.server.specs.Turn.{Outcome as Given, Replied, BadRequest, OutOfMemory, Deed, Served_body, Reported, Ticked, Trace, Allows}
+use Rattle.server.specs.Turn.{Outcome as Given, Replied, BadRequest, OutOfMemory, Action, Served_body, Reported, Ticked, Trace, Allows}
 use Rattle.server.proofs.Laws.{deed_seen, none_seen, seen_apart}
 use Rattle.streams.specs.Said.{Said, said_after}
 use Rattle.traces.specs.declared.line.Line.{Line}
@@ -89,13 +89,13 @@ seen_text texts names (Told note ∷ hs) = ap (λ t. note_text texts names note 
 seen_text texts names (Chosen choice ∷ hs) = seen_text texts names hs
 
 -- an event, what it does, and what is printed after its reply
-record Happened (texts : Bool) (names : List (List ℕ)) (event : Event) (moment : ℕ) (reply : Reply) (old : State) (text : List ℕ) (new : State) : Type 0 where
+record Happened (texts : Bool) (names : List (List ℕ)) (event : Event) (moment : ℕ) (reply : Effects) (old : State) (text : List ℕ) (new : State) : Type 0 where
   part : Part
   is_one : IsOne event moment reply part
   does : Does texts names part old new
   printed : text ≡ concat part.heard
 
-one_event : (texts : Bool) (names : List (List ℕ)) (event : Event) (moment : ℕ) (reply : Reply) (old : State) (hs : List Happening) (new : State) → IsOneEvent moment event reply old hs new → Happened texts names event moment reply old (happenings_text texts names hs) new
+one_event : (texts : Bool) (names : List (List ℕ)) (event : Event) (moment : ℕ) (reply : Effects) (old : State) (hs : List Happening) (new : State) → IsOneEvent moment event reply old hs new → Happened texts names event moment reply old (happenings_text texts names hs) new
 one_event texts names event moment reply old hs new it =
     let heard = map (note_text texts names) it.notes in record {
       part = record { events = record { event = event; moment = moment } ∷ []; outcomes = it.outcome ∷ []; heard = heard };
@@ -107,7 +107,7 @@ one_event texts names event moment reply old hs new it =
 -- ---- a body
 
 -- what a body means, and what it does
-record BodyMeant (texts : Bool) (names : List (List ℕ)) (asked : Asked) (moment : ℕ) (old : State) (text : List ℕ) (new : State) : Type 0 where
+record BodyMeant (texts : Bool) (names : List (List ℕ)) (asked : ParsedRequest) (moment : ℕ) (old : State) (text : List ℕ) (new : State) : Type 0 where
   part : Part
   answer : List ℕ
   means : BodyMeans asked moment part answer
@@ -115,13 +115,13 @@ record BodyMeant (texts : Bool) (names : List (List ℕ)) (asked : Asked) (momen
   printed : text ≡ answer ++ concat part.heard
 
 -- a body that is no event changes nothing
-silent : (texts : Bool) (names : List (List ℕ)) (asked : Asked) (moment : ℕ) (line : List ℕ) (old : State) (hs : List Happening) (new : State) → BodyMeans asked moment nothing line → IsNoEvent old hs new → BodyMeant texts names asked moment old (line ++ happenings_text texts names hs) new
+silent : (texts : Bool) (names : List (List ℕ)) (asked : ParsedRequest) (moment : ℕ) (line : List ℕ) (old : State) (hs : List Happening) (new : State) → BodyMeans asked moment nothing line → IsNoEvent old hs new → BodyMeant texts names asked moment old (line ++ happenings_text texts names hs) new
 silent texts names asked moment line old hs new means (none, same) = record { part = nothing; answer = line; means = means; does = (same, refl); printed = ap (λ t. line ++ t) (sym (seen_text texts names hs)) ∙ ap (λ h. line ++ happenings_text texts names h) none }
 
 line_of : (line : List ℕ) (answer given : Given) → answer ≡ given → IsReplyLine answer line → IsReplyLine given line
 line_of line answer given same replies = subst (λ o. IsReplyLine o line) same replies
 
-body_meant : (texts : Bool) (names : List (List ℕ)) (body : List ℕ) (asked : Asked) (moment : ℕ) (answer : Given) (line : List ℕ) (old : State) (hs : List Happening) (new : State) → Asks body asked → IsReplyLine answer line → IsServed moment asked answer old hs new → BodyMeant texts names asked moment old (line ++ happenings_text texts names hs) new
+body_meant : (texts : Bool) (names : List (List ℕ)) (body : List ℕ) (asked : ParsedRequest) (moment : ℕ) (answer : Given) (line : List ℕ) (old : State) (hs : List Happening) (new : State) → Asks body asked → IsReplyLine answer line → IsServed moment asked answer old hs new → BodyMeant texts names asked moment old (line ++ happenings_text texts names hs) new
 body_meant texts names body Body.TooShort moment answer line old hs new asks replies (is, none) = silent texts names Body.TooShort moment line old hs new (refl, line_of line answer BadRequest is replies) none
 body_meant texts names body (Body.Refused status request) moment answer line old hs new asks replies (is, none) = silent texts names (Body.Refused status request) moment line old hs new (refl, line_of line answer (Replied (refusal_bytes status request)) is replies) none
 body_meant texts names body (Body.Event request event) moment answer line old hs new asks replies (reply, bytes, is, are, one) =
@@ -153,7 +153,7 @@ record IsMeant (texts : Bool) (names : List (List ℕ)) (bytes : List ℕ) (old 
   printed : text ≡ answer ++ concat part.heard
 
 -- an event that isn't answered
-unanswered : (texts : Bool) (names : List (List ℕ)) (bytes : List ℕ) (event : Event) (line : Line) (reply : Reply) (old new : Standing) (before : State) (hs : List Happening) (after : State) (text : List ℕ) → IsLine names bytes line → text ≡ happenings_text texts names hs → IsOneEvent old.moment event reply before hs after → ((part : Part) → IsOne event old.moment reply part → Means line old.moment part []) → new.moment ≡ moment_after line old.moment → IsMeant texts names bytes old before text new after
+unanswered : (texts : Bool) (names : List (List ℕ)) (bytes : List ℕ) (event : Event) (line : Line) (reply : Effects) (old new : Standing) (before : State) (hs : List Happening) (after : State) (text : List ℕ) → IsLine names bytes line → text ≡ happenings_text texts names hs → IsOneEvent old.moment event reply before hs after → ((part : Part) → IsOne event old.moment reply part → Means line old.moment part []) → new.moment ≡ moment_after line old.moment → IsMeant texts names bytes old before text new after
 unanswered texts names bytes event line reply old new before hs after text is printed one means moment =
     let done = one_event texts names event old.moment reply before hs after one in
     record { line = line; is = is; part = done.part; answer = []; means = means done.part done.is_one; does = done.does; moment = moment; printed = printed ∙ done.printed }
@@ -163,7 +163,7 @@ says_same : (names : List (List ℕ)) (text : List ℕ) (place : ℕ) (one other
 says_same names text place one other same is = record { name = is.name; line = is.line; cut = is.cut; known = is.known; heard = is.heard ∙ ap (λ (r : ReportRecord). Some r) (sym same) }
 
 -- the one deed of a line
-deed_of : (deeds : Trace) (deed : Deed) (old new : Ledger) → deeds ≡ deed ∷ [] → Allows deeds old new → IsAtMostOne deed old.core new.core
+deed_of : (deeds : Trace) (deed : Action) (old new : Ledger) → deeds ≡ deed ∷ [] → Allows deeds old new → IsAtMostOne deed old.core new.core
 deed_of deeds deed old new is runs = deed_seen deed old new (subst (λ d. Allows d old new) is runs)
 
 line_meant : (texts : Bool) (names : List (List ℕ)) (bytes : List ℕ) (line : Line) (old : Standing) (deeds : Trace) (text : List ℕ) (new : Standing) (a b : Ledger) → IsOfNoConnection line → IsLine names bytes line → Plays texts names line old deeds text new → Allows deeds a b → IsMeant texts names bytes old a.core text new b.core

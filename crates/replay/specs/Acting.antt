@@ -7,7 +7,7 @@ use Rattle.print_room.specs.State.{State}
 use Rattle.server.specs.Polls.{Happening, Leads}
 use Rattle.server.specs.Turn.{Trace, Turned}
 use Rattle.server.specs.State.{EngineState}
-use Rattle.server.specs.Stands.{StandsAt}
+use Rattle.server.specs.Refinement.{StandsAt}
 use Rattle.streams.specs.declared.exit_status.ExitStatus.TheVariants as Ends
 use Rattle.streams.specs.Said.{Said, said_after}
 use Rattle.replay.specs.declared.play.Play.{Play}

@@ -7,17 +7,17 @@ use Rattle.print_room.specs.Opening.{opening}
 use Rattle.print_room.specs.State.{State}
 use Rattle.events.specs.declared.event.Event.{Event}
 use Rattle.events.specs.declared.event.Event.TheVariants as Is
-use Rattle.events.specs.declared.reply.Answer.{Answer}
-use Rattle.events.specs.declared.reply.Answer.TheVariants as Says
-use Rattle.events.specs.declared.reply.Reply.{Reply}
+use Rattle.events.specs.declared.effects.Response.{Response}
+use Rattle.events.specs.declared.effects.Response.TheVariants as Says
+use Rattle.events.specs.declared.effects.Effects.{Effects}
 use Rattle.dispatcher.specs.declared.run.Timed.{Timed}
 use Rattle.dispatcher.specs.declared.outcome.Outcome.{Outcome}
 use Rattle.dispatcher.specs.Notes.{Note}
 use Rattle.dispatcher.specs.Run.{reply_of, Run}
-use Rattle.requests.specs.declared.asked.Asked.{Asked}
-use Rattle.requests.specs.declared.asked.Asked.TheVariants as Body
-use Rattle.requests.specs.Asked.{Asks}
-use Rattle.replies.specs.Reply.{IsReply, refusal_bytes}
+use Rattle.requests.specs.declared.parsed_request.ParsedRequest.{ParsedRequest}
+use Rattle.requests.specs.declared.parsed_request.ParsedRequest.TheVariants as Body
+use Rattle.requests.specs.ParsedRequest.{Asks}
+use Rattle.responses.specs.Reply.{IsReply, refusal_bytes}
 use Rattle.streams.specs.declared.exit_status.ExitStatus.TheVariants as Ends
 use Rattle.streams.specs.Said.{Said, refused_as, said_after}
 use Rattle.traces.specs.declared.line.Line.{Line}
@@ -62,7 +62,7 @@ abbrev pub then_part : Part → Part → Part
 then_part first later = record { events = first.events ++ later.events; outcomes = first.outcomes ++ later.outcomes; heard = first.heard ++ later.heard }
 
 -- one event came, and was answered this; no memory was refused
-pub record IsOne (event : Event) (moment : ℕ) (reply : Reply) (part : Part) : Type 0 where
+pub record IsOne (event : Event) (moment : ℕ) (reply : Effects) (part : Part) : Type 0 where
   pub outcome : Outcome
   pub heard : List (List ℕ)
   pub answered : reply_of outcome ≡ Some reply
@@ -72,24 +72,24 @@ pub record IsOne (event : Event) (moment : ℕ) (reply : Reply) (part : Part) : 
 -- ---- what a line is to the core
 
 -- the bytes that answer the request of this id
-abbrev pub IsReplyOf : Answer → ℕ → List ℕ → Type 0
+abbrev pub IsReplyOf : Response → ℕ → List ℕ → Type 0
 IsReplyOf (Says.Ipp answer) request_id bytes = IsReply answer request_id bytes
 IsReplyOf (Says.Lpd answer) request_id bytes = ⊥
 IsReplyOf Says.Nothing request_id bytes = ⊥
 
 -- what a body is to the core, and what is printed of its reply
-abbrev pub BodyMeans : Asked → ℕ → Part → List ℕ → Type 0
+abbrev pub BodyMeans : ParsedRequest → ℕ → Part → List ℕ → Type 0
 BodyMeans Body.TooShort moment part text = (part ≡ nothing) × (text ≡ codes "http 400\n")
 BodyMeans (Body.Refused status request_id) moment part text = (part ≡ nothing) × (text ≡ reply_line (refusal_bytes status request_id))
 BodyMeans (Body.Event request_id event) moment part text =
-    (reply : Reply) × (bytes : List ℕ) × IsOne event moment reply part × IsReplyOf reply.answer request_id bytes × (text ≡ reply_line bytes)
+    (reply : Effects) × (bytes : List ℕ) × IsOne event moment reply part × IsReplyOf reply.answer request_id bytes × (text ≡ reply_line bytes)
 
 -- what a line is to the core at the moment that the trace told last, and what is printed of its reply
 abbrev pub Means : Line → ℕ → Part → List ℕ → Type 0
 Means (Form.At later) moment part text = (part ≡ nothing) × (text ≡ [])
-Means (Form.Ipp body) moment part text = (asked : Asked) × Asks body.items asked × BodyMeans asked moment part text
-Means (Form.Device device report) moment part text = (reply : Reply) × IsOne (Is.Report device report) moment reply part × (text ≡ [])
-Means Form.Tick moment part text = (reply : Reply) × IsOne Is.Tick moment reply part × (text ≡ [])
+Means (Form.Ipp body) moment part text = (asked : ParsedRequest) × Asks body.items asked × BodyMeans asked moment part text
+Means (Form.Device device report) moment part text = (reply : Effects) × IsOne (Is.Report device report) moment reply part × (text ≡ [])
+Means Form.Tick moment part text = (reply : Effects) × IsOne Is.Tick moment reply part × (text ≡ [])
 Means (Form.Open connection) moment part text = ⊥
 Means (Form.In input) moment part text = ⊥
 Means (Form.End number) moment part text = ⊥

@@ -3,9 +3,9 @@ use Rattle.std.specs.Prelude.{ℕ, suc, ◌≡◌, ◌⊎◌, ◌<◌, not, Bool
 use Rattle.std.specs.Option.{option_map_or}
 use Rattle.std.specs.Fmt.{decimal}
 use Rattle.base_types.specs.Report.{report_of}
-use Rattle.wires.specs.Peer.{PeerState}
+use Rattle.wires.specs.MemoryPeer.{PeerState}
 use Rattle.server.specs.Polls.{Happening, Leads}
-use Rattle.server.specs.Turn.{Deed, Turned, Served_body, Reported, Ticked, Trace, Outcome, Replied, BadRequest, OutOfMemory, has_refusal}
+use Rattle.server.specs.Turn.{Action, Turned, Served_body, Reported, Ticked, Trace, Outcome, Replied, BadRequest, OutOfMemory, has_refusal}
 use Rattle.wires.specs.declared.wire.Door.{Door}
 use Rattle.streams.specs.declared.exit_status.ExitStatus.TheVariants as Ends
 use Rattle.streams.specs.Said.{Said, refused_as, said_after}
@@ -27,7 +27,7 @@ pub record Standing : Type 0 where
 -- ---- lines without a connection
 
 -- a call between turns in which no growth is refused, and what it tells
-pub record Calls (texts : Bool) (names : List (List ℕ)) (deed : List Happening → Deed) (deeds : Trace) (text : List ℕ) : Type 0 where
+pub record Calls (texts : Bool) (names : List (List ℕ)) (deed : List Happening → Action) (deeds : Trace) (text : List ℕ) : Type 0 where
   pub happenings : List Happening
   pub unrefused : has_refusal happenings ≡ false
   pub does : deeds ≡ deed happenings ∷ []

@@ -1,16 +1,16 @@
 -- The wire of a trace: a wire in memory that moves whatever there is to move.
 use Rattle.std.specs.Prelude.{ℕ, ◌≡◌, ◌||◌, not, Bool, true, false, List, [], ◌∷◌, ◌++◌, slice_get}
 use Rattle.std.specs.Option.{option_map_or}
-use Rattle.wires.specs.declared.wire.Answer.{Answer}
-use Rattle.wires.specs.declared.wire.Answer.TheVariants.{Done, Waiting, End, Fault}
-use Rattle.wires.specs.Peer.{PeerState}
+use Rattle.wires.specs.declared.wire.Progress.{Progress}
+use Rattle.wires.specs.declared.wire.Progress.TheVariants.{Done, Waiting, End, Fault}
+use Rattle.wires.specs.MemoryPeer.{PeerState}
 use Rattle.wires.specs.Poll.{Poll, Accepts, Reads, Writes, Closes}
 use Rattle.server.specs.Polls.{Happening, Polled, Told, Chosen}
-use Rattle.wires.specs.Memory.{PeersMove}
+use Rattle.wires.specs.MemoryWire.{PeersMove}
 use Rattle.replay.specs.declared.wire.TraceWire.{TraceWire}
 
 -- whether a poll came to something
-abbrev pub is_something : {T : Type 0} → Answer T → Bool
+abbrev pub is_something : {T : Type 0} → Progress T → Bool
 is_something (Done it) = true
 is_something Waiting = false
 is_something End = true

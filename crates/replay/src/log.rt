@@ -5,7 +5,7 @@ ghost use Rattle.dispatcher.specs.Notes.{Planned, Canceled};
 ghost use Rattle.replay.specs.Log.{note_text};
 
 use base_types::Text;
-use dispatcher::{DeviceRefusal, Dispatched, Listener, Place};
+use dispatcher::{AllocationSite, DeviceRefusal, Dispatched, Listener};
 use events::Cancel;
 use std::alloc::{AllocError, Global};
 use std::marker::Model;
@@ -53,7 +53,7 @@ impl Listener for Log {
 
     fn device_refused(&mut self, _id: WireId, _why: DeviceRefusal) {}
 
-    fn refused(&mut self, _place: Place, _id: Option<WireId>) {}
+    fn refused(&mut self, _place: AllocationSite, _id: Option<WireId>) {}
 }
 
 impl Log {

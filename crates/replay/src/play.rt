@@ -2,7 +2,7 @@
 ghost use Rattle.std.specs.Prelude.{◌≡◌, Ok, Some, IfOk, OnOk, OnErr};
 ghost use Rattle.base_types.specs.Report.{report_of};
 ghost use Rattle.settings_file.specs.Settings.{MeetsLimits};
-ghost use Rattle.server.specs.Stands.{said_of};
+ghost use Rattle.server.specs.Refinement.{said_of};
 ghost use Rattle.server.specs.Turn.{Reported, Ticked};
 ghost use Rattle.replay.specs.Playing.{Calls, Serves, Turns, Plays, IsReplyLine, opened, on_peer, is_open, may_come};
 ghost use Rattle.transcripts.specs.Connections.{sending, ending, may_send};
@@ -22,7 +22,7 @@ use transcripts::{
     Connection, empty_all, end_at, mark_closed, numbered, put_connection, put_connections,
     put_reply, send_at,
 };
-use wires::{Memory, Peer};
+use wires::{MemoryPeer, MemoryWire};
 
 /// After so many turns for one line no more are taken for it.
 const MOST_TURNS: usize = 16_777_216;
@@ -69,7 +69,7 @@ impl Play {
             alloc,
             engine,
             wire: TraceWire {
-                memory: Memory::new(Vec::new(alloc)),
+                memory: MemoryWire::new(Vec::new(alloc)),
                 stirred: false,
                 failed: false,
             },
@@ -206,7 +206,7 @@ impl Play {
     {
         let place = self.wire.memory.peers.len();
         let input = Vec::new(self.alloc);
-        let peer = Peer::new(self.alloc, opening.door, input, usize::MAX, usize::MAX);
+        let peer = MemoryPeer::new(self.alloc, opening.door, input, usize::MAX, usize::MAX);
         self.wire.memory.peers.push(peer)?;
         put_connection(
             &mut self.connections,

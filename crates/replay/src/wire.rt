@@ -3,12 +3,12 @@ ghost use Rattle.std.specs.Prelude.{◌≡◌, false, true};
 ghost use Rattle.replay.specs.Wire.{has_input};
 
 use std::io::IoSlice;
-use wires::{Answer, Door, Memory, Wire, WireId};
+use wires::{Door, MemoryWire, Progress, Wire, WireId};
 
 /// A wire in memory, of which is noted what its polls came to.
 #[derive(Drop)]
 pub struct TraceWire {
-    pub memory: Memory,
+    pub memory: MemoryWire,
     /// A poll came to something since this was set back.
     pub stirred: bool,
     /// A poll failed, or waited though there was something to move.
@@ -58,35 +58,35 @@ impl Wire for TraceWire {
 
     ghost faults = { λ w. w.memory.faults };
 
-    fn poll_accept(&mut self, door: Door) -> Answer<WireId> {
+    fn poll_accept(&mut self, door: Door) -> Progress<WireId> {
         let answer = self.memory.poll_accept(door);
         match answer {
-            Answer::Done(_) | Answer::End => self.stir(),
-            Answer::Waiting => {}
-            Answer::Fault => self.fail(),
+            Progress::Done(_) | Progress::End => self.stir(),
+            Progress::Waiting => {}
+            Progress::Fault => self.fail(),
         }
         answer
     }
 
-    fn poll_read(&mut self, id: WireId, buffer: &mut [u8]) -> Answer<usize> {
+    fn poll_read(&mut self, id: WireId, buffer: &mut [u8]) -> Progress<usize> {
         let answer = self.memory.poll_read(id, buffer);
         match answer {
-            Answer::Done(_) | Answer::End => self.stir(),
-            Answer::Waiting => {
+            Progress::Done(_) | Progress::End => self.stir(),
+            Progress::Waiting => {
                 let wrongly = self.has_input(id);
                 self.wait(wrongly);
             }
-            Answer::Fault => self.fail(),
+            Progress::Fault => self.fail(),
         }
         answer
     }
 
-    fn poll_write(&mut self, id: WireId, bytes: &[IoSlice<'_>]) -> Answer<usize> {
+    fn poll_write(&mut self, id: WireId, bytes: &[IoSlice<'_>]) -> Progress<usize> {
         let answer = self.memory.poll_write(id, bytes);
         match answer {
-            Answer::Done(_) | Answer::End => self.stir(),
-            Answer::Waiting => self.wait(true),
-            Answer::Fault => self.fail(),
+            Progress::Done(_) | Progress::End => self.stir(),
+            Progress::Waiting => self.wait(true),
+            Progress::Fault => self.fail(),
         }
         answer
     }

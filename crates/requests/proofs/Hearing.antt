@@ -15,9 +15,9 @@ use Rattle.printer_objects.specs.declared.operation.Operation.TheVariants as ope
 use Rattle.events.specs.declared.event.Event.{Event}
 use Rattle.events.specs.declared.status.Status.{Status}
 use Rattle.requests.specs.declared.header.Header.{Header}
-use Rattle.requests.specs.declared.asked.Asked.{Asked}
-use Rattle.requests.specs.declared.asked.Asked.TheVariants.{TooShort, Refused}
-use Rattle.requests.specs.Asked.{header_of, operation_of, request_id_of, status_of, Requests, answered, AsksBy, AsksUnder}
+use Rattle.requests.specs.declared.parsed_request.ParsedRequest.{ParsedRequest}
+use Rattle.requests.specs.declared.parsed_request.ParsedRequest.TheVariants.{TooShort, Refused}
+use Rattle.requests.specs.ParsedRequest.{header_of, operation_of, request_id_of, status_of, Requests, answered, AsksBy, AsksUnder}
 use Rattle.requests.specs.Event.{event_of}
 use Rattle.requests.specs.Reader.{ReaderState, has_document, reads_document, sends_document, KeptAt, Heard, Holds, RequestsOf, AsksByOf, AsksUnderOf, AsksOf}
 
@@ -169,7 +169,7 @@ heard_nothing decoder document stands none = record { stands = stands; kept = no
 -- ---- from a decoder to what is asked
 
 -- the header is there
-pub asks_under : (decoder : DecoderState) (document : List ℕ) (header : Header) (said : Asked) → header_of decoder.head ≡ Some header → AsksUnderOf header decoder document said → AsksOf decoder document said
+pub asks_under : (decoder : DecoderState) (document : List ℕ) (header : Header) (said : ParsedRequest) → header_of decoder.head ≡ Some header → AsksUnderOf header decoder document said → AsksOf decoder document said
 asks_under decoder document header said is under bytes stands holds =
     let all : header_of bytes ≡ Some header = sym (header_kept bytes decoder stands) ∙ is in
     let reads : reads_document decoder.head ≡ sends_document (operation_of header) = ap (λ (o : Option Header). option_map_or (λ (h : Header). sends_document (operation_of h)) o false) is in
@@ -181,7 +181,7 @@ asks_short decoder document is bytes stands holds =
     subst (λ (o : Option Header). MatchOption o (TooShort ≡ TooShort) (λ (h : Header). AsksUnder h bytes TooShort)) (sym (sym (header_kept bytes decoder stands) ∙ is)) refl
 
 -- it asks for an operation
-pub asks_by : (decoder : DecoderState) (document : List ℕ) (header : Header) (asked : Operation) (said : Asked) → operation_of header ≡ Ok asked → AsksByOf asked header.request_id decoder document said → AsksUnderOf header decoder document said
+pub asks_by : (decoder : DecoderState) (document : List ℕ) (header : Header) (asked : Operation) (said : ParsedRequest) → operation_of header ≡ Ok asked → AsksByOf asked header.request_id decoder document said → AsksUnderOf header decoder document said
 asks_by decoder document header asked said is by bytes stands holds =
     subst (λ (r : Result Operation Status). MatchResult r (λ (o : Operation). AsksBy o header.request_id bytes said) (λ (s : Status). said ≡ Refused s header.request_id)) (sym is)
     (by bytes stands (λ so. holds (ap sends_document is ∙ so)))

@@ -14,9 +14,9 @@ use Rattle.printer_objects.specs.declared.operation.Operation.{Operation}
 use Rattle.events.specs.declared.event.Event.{Event}
 use Rattle.events.specs.declared.status.Status.{Status}
 use Rattle.requests.specs.declared.header.Header.{Header}
-use Rattle.requests.specs.declared.asked.Asked.{Asked}
-use Rattle.requests.specs.declared.asked.Asked.TheVariants.{TooShort, Refused}
-use Rattle.requests.specs.Asked.{header_of, operation_of, status_of, Requests, answered, AsksBy, AsksUnder, Asks}
+use Rattle.requests.specs.declared.parsed_request.ParsedRequest.{ParsedRequest}
+use Rattle.requests.specs.declared.parsed_request.ParsedRequest.TheVariants.{TooShort, Refused}
+use Rattle.requests.specs.ParsedRequest.{header_of, operation_of, status_of, Requests, answered, AsksBy, AsksUnder, Asks}
 use Rattle.requests.specs.Event.{event_of}
 
 -- the codec's three laws
@@ -88,20 +88,20 @@ same_request laws asked body given said (inr a) (inr b) =
     let same = laws.one_spelling a.1 b.1 (drop a.0 body) (drop b.0 body) a.3.0 b.3.0 (spelt body a.0 a.1 a.3 ∙ sym (spelt body b.0 b.1 b.3)) in
     a.4 ∙ ap (λ m. event_of asked m (drop a.0 body)) same.0 ∙ ap (λ d. event_of asked b.1 d) same.1 ∙ sym b.4
 
-abbrev Under : Result Operation Status → ℕ → List ℕ → Asked → Type 0
+abbrev Under : Result Operation Status → ℕ → List ℕ → ParsedRequest → Type 0
 Under operation id body asked =
     MatchResult operation (λ o. AsksBy o id body asked) (λ status. asked ≡ Refused status id)
 
-same_under : Laws → (operation : Result Operation Status) (id : ℕ) (body : List ℕ) (given said : Asked) → Under operation id body given → Under operation id body said → given ≡ said
+same_under : Laws → (operation : Result Operation Status) (id : ℕ) (body : List ℕ) (given said : ParsedRequest) → Under operation id body given → Under operation id body said → given ≡ said
 same_under laws (Ok o) id body given said a b = a.2 ∙ ap (λ r. answered id r) (same_request laws o body a.0 b.0 a.1 b.1) ∙ sym b.2
 same_under laws (Err status) id body given said a b = a ∙ sym b
 
-abbrev At : Option Header → List ℕ → Asked → Type 0
+abbrev At : Option Header → List ℕ → ParsedRequest → Type 0
 At header body asked = MatchOption header (asked ≡ TooShort) (λ h. AsksUnder h body asked)
 
-same_at : Laws → (header : Option Header) (body : List ℕ) (given said : Asked) → At header body given → At header body said → given ≡ said
+same_at : Laws → (header : Option Header) (body : List ℕ) (given said : ParsedRequest) → At header body given → At header body said → given ≡ said
 same_at laws None body given said a b = a ∙ sym b
 same_at laws (Some h) body given said a b = same_under laws (operation_of h) h.request_id body given said a b
 
-pub same_asked : Laws → (body : List ℕ) (given said : Asked) → Asks body given → Asks body said → given ≡ said
+pub same_asked : Laws → (body : List ℕ) (given said : ParsedRequest) → Asks body given → Asks body said → given ≡ said
 same_asked laws body given said a b = same_at laws (header_of body) body given said a b

@@ -1,7 +1,7 @@
 -- What is read of a request for a new job: Print-Job, Validate-Job and Create-Job (RFC 8011, sections 4.2.1, 4.2.3 and 4.2.4).
 use Rattle.std.specs.Prelude.{ℕ, List, codes}
 use Rattle.ipp_codec.specs.Message.{IppAttribute, IppGroup}
-use Rattle.events.specs.declared.event.AskedJob.{AskedJob}
+use Rattle.events.specs.declared.event.JobCreation.{JobCreation}
 use Rattle.events.specs.declared.event.DocumentForm.{DocumentForm}
 use Rattle.events.specs.declared.event.PrintJob.{PrintJob}
 use Rattle.events.specs.declared.event.ValidateJob.{ValidateJob}
@@ -11,7 +11,7 @@ use Rattle.requests.specs.Request.{user_of}
 use Rattle.requests.specs.Target.{printer_target}
 
 -- the job that is asked for
-abbrev pub asked_job_of : IppGroup → List IppAttribute → AskedJob
+abbrev pub asked_job_of : IppGroup → List IppAttribute → JobCreation
 asked_job_of group template = record {
   target = printer_target group;
   user = user_of group;

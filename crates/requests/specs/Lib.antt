@@ -8,5 +8,5 @@ pub mod JobCreation
 pub mod JobRequests
 pub mod PrinterRequests
 pub mod Event
-pub mod Asked
+pub mod ParsedRequest
 pub mod Reader

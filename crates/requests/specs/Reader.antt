@@ -9,8 +9,8 @@ use Rattle.printer_objects.specs.declared.operation.Operation.TheVariants.{Print
 use Rattle.events.specs.declared.event.Event.{Event}
 use Rattle.events.specs.declared.status.Status.{Status}
 use Rattle.requests.specs.declared.header.Header.{Header}
-use Rattle.requests.specs.declared.asked.Asked.{Asked}
-use Rattle.requests.specs.Asked.{header_of, operation_of, Requests, AsksBy, AsksUnder, Asks}
+use Rattle.requests.specs.declared.parsed_request.ParsedRequest.{ParsedRequest}
+use Rattle.requests.specs.ParsedRequest.{header_of, operation_of, Requests, AsksBy, AsksUnder, Asks}
 
 -- a reader: the decoder of the head, and the octets that are kept of the document
 pub record ReaderState : Type 0 where
@@ -54,11 +54,11 @@ Holds reads bytes decoder document = reads ≡ true → decoder.stage ≡ Whole 
 abbrev pub RequestsOf : Operation → DecoderState → List ℕ → Result Event Status → Type 0
 RequestsOf asked decoder document event = (bytes : List ℕ) → Stands bytes decoder → Holds (has_document asked) bytes decoder document → Requests asked bytes event
 
-abbrev pub AsksByOf : Operation → ℕ → DecoderState → List ℕ → Asked → Type 0
+abbrev pub AsksByOf : Operation → ℕ → DecoderState → List ℕ → ParsedRequest → Type 0
 AsksByOf asked id decoder document said = (bytes : List ℕ) → Stands bytes decoder → Holds (has_document asked) bytes decoder document → AsksBy asked id bytes said
 
-abbrev pub AsksUnderOf : Header → DecoderState → List ℕ → Asked → Type 0
+abbrev pub AsksUnderOf : Header → DecoderState → List ℕ → ParsedRequest → Type 0
 AsksUnderOf header decoder document said = (bytes : List ℕ) → Stands bytes decoder → Holds (sends_document (operation_of header)) bytes decoder document → AsksUnder header bytes said
 
-abbrev pub AsksOf : DecoderState → List ℕ → Asked → Type 0
+abbrev pub AsksOf : DecoderState → List ℕ → ParsedRequest → Type 0
 AsksOf decoder document said = (bytes : List ℕ) → Stands bytes decoder → Holds (reads_document decoder.head) bytes decoder document → Asks bytes said

@@ -1,6 +1,6 @@
 //! The header of a body.
 ghost use Rattle.std.specs.Prelude.{◌≡◌};
-ghost use Rattle.requests.specs.Asked.{header_of, operation_in, operation_of, request_id_of};
+ghost use Rattle.requests.specs.ParsedRequest.{header_of, operation_in, operation_of, request_id_of};
 
 use events::Status;
 use printer_objects::Operation;

@@ -9,7 +9,7 @@ use crate::attributes::{bytes_of, name_or, number_of, truth_of};
 use crate::operation_attribute::OperationAttribute;
 use crate::request::{job_attributes, user_of};
 use crate::target::printer_target;
-use events::{AskedJob, DocumentForm, PrintJob, ValidateJob};
+use events::{DocumentForm, JobCreation, PrintJob, ValidateJob};
 use ipp_codec::{GroupView, MessageView};
 use spool::{Octets, Pages};
 use std::alloc::{AllocError, Global};
@@ -19,11 +19,11 @@ pub(crate) fn asked_job_of(
     alloc: Global,
     message: &MessageView<'_>,
     group: &GroupView<'_>,
-) -> Result<AskedJob, AllocError>
+) -> Result<JobCreation, AllocError>
     requires { IsMessage (message_shown message.now) }
     ensures { IfOk result (λ job. job ≡ asked_job_of (group_shown group.now) (job_attributes (message_shown message.now))) }
 {
-    Ok(AskedJob {
+    Ok(JobCreation {
         target: printer_target(alloc, group)?,
         user: user_of(alloc, group)?,
         name: name_or(alloc, group, OperationAttribute::JobName, b"untitled")?,

@@ -5,22 +5,22 @@ use Rattle.print_room.specs.State.{State}
 use Rattle.wires.specs.Poll.{Poll}
 use Rattle.dispatcher.specs.Notes.{Note}
 use Rattle.connections.specs.declared.ask.Ask.{Ask}
-use Rattle.connections.specs.declared.table.Asked.{Asked}
+use Rattle.connections.specs.declared.table.ConnectionAsk.{ConnectionAsk}
 use Rattle.connections.specs.Entry.{Entry}
 use Rattle.connections.specs.Asking.{AsksNext, Asking}
 use Rattle.connections.specs.Connections.{load}
-use Rattle.connections.specs.Fits.{FitsConnection, Becomes}
+use Rattle.connections.specs.Representation.{RepresentsConnection, Becomes}
 use Rattle.connections.specs.Slots.{Slots, OnSlot, AsksAt, work_at}
 use Rattle.server.specs.Polls.{Happening, Chosen, both, alone}
 use Rattle.server.specs.Polls as As
 use Rattle.server.specs.Rel.{Then}
 use Rattle.server.specs.Ledger.{with_entry}
 use Rattle.connections.specs.Choice.{part_of, lost_of}
-use Rattle.server.specs.Acting.{Asks, Does, ActsNext}
+use Rattle.server.specs.Acting.{Asks, Refines, ActsNext}
 use Rattle.server.specs.Closing.{Settles}
 use Rattle.server.specs.Polling.{Acts, IsHeardAt}
 use Rattle.server.specs.State.{EngineState, with_slots}
-use Rattle.server.specs.Stands.{Fits, Aside, AsksBy}
+use Rattle.server.specs.Refinement.{Represents, RefinesQuietly, AsksBy}
 use Rattle.server.specs.Stands as Stands
 use Rattle.server.proofs.Steps.{does_then, does_with, aloud, seen_as, seen_then}
 use Rattle.server.proofs.Slots.{set_there, quiet_at, work_there}
@@ -34,7 +34,7 @@ nothing_asked a slots key on = record {
   stands = λ l fits.
       let f = found l a key on.before fits on.there in
       let became = on.changes f.entry f.fits in
-      let fits' : FitsConnection f.entry on.after = subst (λ (e : Entry). FitsConnection e on.after) became.1.1 became.2 in (
+      let fits' : RepresentsConnection f.entry on.after = subst (λ (e : Entry). RepresentsConnection e on.after) became.1.1 became.2 in (
         l,
         (subst (λ (o : Option Entry). IsHeardAt o) (sym f.there) became.1.0, refl),
         fits_still l a slots key on.before on.after f.entry fits on.there on.slots f.there fits',
@@ -42,7 +42,7 @@ nothing_asked a slots key on = record {
   less = tt;
 }
 
-something_asked : (a : EngineState) (slots : Slots) (key : ℕ) (asked : Asked) → OnSlot key (λ c d. (asked.id ≡ c.id) × Becomes (Asking a.core.settings (Some asked.ask)) c d × (load d < load c)) a.slots slots → AsksBy key (Some asked) a (with_slots slots a)
+something_asked : (a : EngineState) (slots : Slots) (key : ℕ) (asked : ConnectionAsk) → OnSlot key (λ c d. (asked.id ≡ c.id) × Becomes (Asking a.core.settings (Some asked.ask)) c d × (load d < load c)) a.slots slots → AsksBy key (Some asked) a (with_slots slots a)
 something_asked a slots key asked on =
     let fewer : load on.after < load on.before = on.changes.2 in
     record {
@@ -61,9 +61,9 @@ something_asked a slots key asked on =
       );
     }
 
-pub asks_by : (a : EngineState) (slots : Slots) (key : ℕ) (what : Option Asked) → AsksAt a.core.settings key what a.slots slots → AsksBy key what a (with_slots slots a)
+pub asks_by : (a : EngineState) (slots : Slots) (key : ℕ) (what : Option ConnectionAsk) → AsksAt a.core.settings key what a.slots slots → AsksBy key what a (with_slots slots a)
 asks_by a slots key None (inl none) = record {
-  stands = λ l fits. (l, (subst (λ (o : Option Entry). IsHeardAt o) (sym (absent l a key fits none.there)) tt, refl), subst (λ (xs : Slots). Fits l (with_slots xs a)) (sym none.same) fits);
+  stands = λ l fits. (l, (subst (λ (o : Option Entry). IsHeardAt o) (sym (absent l a key fits none.there)) tt, refl), subst (λ (xs : Slots). Represents l (with_slots xs a)) (sym none.same) fits);
   less = tt;
 }
 asks_by a slots key None (inr on) = nothing_asked a slots key on
@@ -72,19 +72,19 @@ asks_by a slots key (Some asked) on = something_asked a slots key asked on
 -- ---- what comes of it
 
 -- it is asked, comes about, and what broke is closed
-pub acts : {W N : Type 0} (polled : W → Poll → W → Type 0) (told : N → Note → N → Type 0) (w w' : W) (n n' n'' : N) (a b c d : EngineState) (moment key : ℕ) (asked : Asked)
-    → AsksBy key (Some asked) a b → Aside (alone told) (Does moment key asked.id asked.ask) n b n' c → Aside (both polled told) (Settles moment) (w, n') c (w', n'') d → Stands.Does (both polled told) (Acts moment key) (w, n) a (w', n'') d
+pub acts : {W N : Type 0} (polled : W → Poll → W → Type 0) (told : N → Note → N → Type 0) (w w' : W) (n n' n'' : N) (a b c d : EngineState) (moment key : ℕ) (asked : ConnectionAsk)
+    → AsksBy key (Some asked) a b → RefinesQuietly (alone told) (Refines moment key asked.id asked.ask) n b n' c → RefinesQuietly (both polled told) (Settles moment) (w, n') c (w', n'') d → Stands.Refines (both polled told) (Acts moment key) (w, n) a (w', n'') d
 acts polled told w w' n n' n'' a b c d moment key asked asks does settled =
-    let acted : Stands.Does (alone told) (ActsNext moment key) n a n' c = record {
+    let acted : Stands.Refines (alone told) (ActsNext moment key) n a n' c = record {
       happenings = does.happenings;
       leads = does.leads;
       stands = λ l fits.
           let s = asks.stands l fits in
           let r = does.stands s.0 s.2 in
-          (r.0, seen_as (Then (Asks key asked.id asked.ask) (Does moment key asked.id asked.ask)) (ActsNext moment key) l does.happenings r.0 (λ hs it. (asked.id, asked.ask, it)) (seen_then (Asks key asked.id asked.ask) (Does moment key asked.id asked.ask) l [] s.0 does.happenings r.0 s.1 r.1), r.2);
+          (r.0, seen_as (Then (Asks key asked.id asked.ask) (Refines moment key asked.id asked.ask)) (ActsNext moment key) l does.happenings r.0 (λ hs it. (asked.id, asked.ask, it)) (seen_then (Asks key asked.id asked.ask) (Refines moment key asked.id asked.ask) l [] s.0 does.happenings r.0 s.1 r.1), r.2);
     } in
     does_then (both polled told) (ActsNext moment key) (Settles moment) (w, n) (w, n') (w', n'') a c d (does_with polled told (ActsNext moment key) w n n' a c acted) (aloud (both polled told) (Settles moment) (w, n') (w', n'') c d settled)
 
 -- what comes of what was asked, which is this
-pub does_as : {S : Type 0} (moves : S → Happening → S → Type 0) (moment key id : ℕ) (asked what : Ask) (u v : S) (a b : EngineState) → asked ≡ what → Aside moves (Does moment key id what) u a v b → Aside moves (Does moment key id asked) u a v b
-does_as moves moment key id asked what u v a b is does = subst (λ (it : Ask). Aside moves (Does moment key id it) u a v b) (sym is) does
+pub does_as : {S : Type 0} (moves : S → Happening → S → Type 0) (moment key id : ℕ) (asked what : Ask) (u v : S) (a b : EngineState) → asked ≡ what → RefinesQuietly moves (Refines moment key id what) u a v b → RefinesQuietly moves (Refines moment key id asked) u a v b
+does_as moves moment key id asked what u v a b is does = subst (λ (it : Ask). RefinesQuietly moves (Refines moment key id it) u a v b) (sym is) does

@@ -5,15 +5,15 @@ use Rattle.std.proofs.lemmas.Bool.Decides.{nat_tests}
 use Rattle.std.proofs.lemmas.List.{length-append}
 use Rattle.std.proofs.lemmas.Fmt.{length-decimal-le}
 use Rattle.http_front.specs.Reply.{opening, ending, head, continue_head}
-use Rattle.http_front.specs.declared.refusal.Refusal.{Refusal}
-use Rattle.http_front.specs.declared.refusal.Refusal.TheVariants.{BadRequest, MethodNotAllowed, ContentTooLarge, UnsupportedMediaType, ExpectationFailed, HeadTooLarge, NotImplemented}
+use Rattle.http_front.specs.declared.refusal.HttpRejection.{HttpRejection}
+use Rattle.http_front.specs.declared.refusal.HttpRejection.TheVariants.{BadRequest, MethodNotAllowed, ContentTooLarge, UnsupportedMediaType, ExpectationFailed, HeadTooLarge, NotImplemented}
 use Rattle.events.specs.declared.status.Status.{Status}
-use Rattle.replies.specs.Reply.{refusal_bytes}
+use Rattle.responses.specs.Reply.{refusal_bytes}
 use Rattle.server.specs.Rel.{Nothing, If}
-use Rattle.server.specs.Keeping.{KeepsOpen, KeepsAt}
-use Rattle.outputs.specs.Reply.{http_reply, refusal_head}
+use Rattle.server.specs.Enqueuing.{EnqueuesOpen, EnqueuesAt}
+use Rattle.send_queues.specs.Reply.{http_reply, refusal_head}
 use Rattle.server.specs.Law.{AreKept, AreOwed}
-use Rattle.outputs.specs.declared.output.TheConstants.{RESERVED_BYTES}
+use Rattle.send_queues.specs.declared.queue.TheConstants.{RESERVED_BYTES}
 use Rattle.connections.specs.Entry.{Entry, needs_memory}
 use Rattle.connections.specs.Steps.{http_status}
 
@@ -25,9 +25,9 @@ not_above most n short = grind (arith, nat_tests, short)
 kept : (bytes : List ℕ) → length bytes ≤ 256 → AreKept bytes
 kept bytes short key e l hs l' there whole none it =
     let fits : needs_memory bytes e ≡ false = ap (λ (w : List ℕ). nat_lt RESERVED_BYTES (length (w ++ bytes))) none ∙ not_above RESERVED_BYTES (length bytes) short in
-    let found : KeepsAt (needs_memory bytes) key bytes (Some e) l hs l' = subst (λ (o : Option Entry). KeepsAt (needs_memory bytes) key bytes o l hs l') there it in
-    let here : KeepsOpen (needs_memory bytes e) key bytes e l hs l' = subst (λ (t : Bool). If t Nothing (KeepsOpen (needs_memory bytes e) key bytes e) l hs l') whole found in
-    subst (λ (t : Bool). KeepsOpen t key bytes e l hs l') fits here
+    let found : EnqueuesAt (needs_memory bytes) key bytes (Some e) l hs l' = subst (λ (o : Option Entry). EnqueuesAt (needs_memory bytes) key bytes o l hs l') there it in
+    let here : EnqueuesOpen (needs_memory bytes e) key bytes e l hs l' = subst (λ (t : Bool). If t Nothing (EnqueuesOpen (needs_memory bytes e) key bytes e) l hs l') whole found in
+    subst (λ (t : Bool). EnqueuesOpen t key bytes e l hs l') fits here
 
 owed : (bytes : List ℕ) → length bytes ≤ 256 → AreOwed bytes
 owed bytes short e what new none (inl it) = it
@@ -72,7 +72,7 @@ refused_short : (first : List ℕ) → length first ≤ 64 → length (first ++ 
 refused_short first short = parts_short first (decimal 0) (ending true) short no_length (ending_short true)
 
 -- the head of a refusal
-refusal_short : (refusal : Refusal) → length (refusal_head refusal) ≤ 89
+refusal_short : (refusal : HttpRejection) → length (refusal_head refusal) ≤ 89
 unfolding refusal_head
 refusal_short BadRequest = refused_short (opening 400) (within (opening 400) 64 refl)
 refusal_short MethodNotAllowed = refused_short (opening 405) (within (opening 405) 64 refl)
@@ -90,7 +90,7 @@ status_kept closes status request = kept (http_status closes status request) (om
 pub status_owed : (closes : Bool) (status : Status) (request : ℕ) → AreOwed (http_status closes status request)
 status_owed closes status request = owed (http_status closes status request) (omega (arith, status_short closes status request))
 
-pub refusal_owed : (refusal : Refusal) → AreOwed (refusal_head refusal)
+pub refusal_owed : (refusal : HttpRejection) → AreOwed (refusal_head refusal)
 refusal_owed refusal = owed (refusal_head refusal) (omega (arith, refusal_short refusal))
 
 pub continue_owed : AreOwed continue_head

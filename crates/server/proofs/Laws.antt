@@ -6,24 +6,24 @@ use Rattle.std.proofs.lemmas.List.Elements.{All-append, All-cons, All-nil}
 use Rattle.print_room.specs.State.{State}
 use Rattle.events.specs.declared.event.Event.{Event}
 use Rattle.events.specs.declared.event.Event.TheVariants as Is
-use Rattle.events.specs.declared.reply.Reply.{Reply}
+use Rattle.events.specs.declared.effects.Effects.{Effects}
 use Rattle.dispatcher.specs.declared.run.Timed.{Timed}
 use Rattle.dispatcher.specs.declared.outcome.Outcome.{Outcome}
 use Rattle.dispatcher.specs.declared.outcome.Outcome.TheVariants.{Dropped, Queried, Undispatched, Idle, Dispatched}
 use Rattle.dispatcher.specs.Run.{reply_of, Comes, Run}
 use Rattle.dispatcher.specs.Step.{TakesNoMemory}
-use Rattle.requests.specs.declared.asked.Asked.{Asked}
-use Rattle.requests.specs.declared.asked.Asked.TheVariants as asks
-use Rattle.requests.specs.Asked.{Asks}
+use Rattle.requests.specs.declared.parsed_request.ParsedRequest.{ParsedRequest}
+use Rattle.requests.specs.declared.parsed_request.ParsedRequest.TheVariants as asks
+use Rattle.requests.specs.ParsedRequest.{Asks}
 use Rattle.dispatcher.specs.Notes.{Note, Tells}
 use Rattle.server.specs.Polls.{Happening, Polled, Told, Chosen, seen}
 use Rattle.server.specs.Ledger.{Ledger, Fate, opening_ledger}
 use Rattle.server.specs.Rel.{Rel}
 use Rattle.server.specs.Closing.{IsTaken}
 use Rattle.server.specs.Turn as Between
-use Rattle.server.specs.Turn.{has_refusal, Outcome as Given, Replied, OutOfMemory, IsBytes, Answers, BodyAsks, BodyComes, Deed, Turned, Served_body, Reported, Ticked, seen_of, seen_in, DoesDeed, Trace, Runs, Allows}
+use Rattle.server.specs.Turn.{has_refusal, Outcome as Given, Replied, OutOfMemory, IsBytes, Answers, BodyAsks, BodyComes, Action, Turned, Served_body, Reported, Ticked, seen_of, seen_in, DoesDeed, Trace, Runs, Allows}
 use Rattle.server.specs.Law.{core_notes, Collects, moment_of, happenings_of, happenings_in, AreAt, IsWhole, IsOneRun, IsOneEvent, IsServed, IsAtMostOne, AllTaken}
-use Rattle.dispatcher.specs.declared.listener.Place.TheVariants as At
+use Rattle.dispatcher.specs.declared.listener.AllocationSite.TheVariants as At
 use Rattle.server.proofs.Steps.{seen_refusal}
 use Rattle.server.proofs.Speaking.{notes_append, no_refusal_told, none_before, none_after, Happened, happened_whole, happened, happened_then, whole_light, whole_told}
 use Rattle.server.proofs.Parts.{calm_answers, ticked, Holds, deed_in}
@@ -143,12 +143,12 @@ one_run (deed ∷ deeds) old new (mid, does, runs) =
 
 -- ---- one event a deed
 
-one_event : (moment : ℕ) (event : Event) (outcome : Outcome) (reply : Reply) (l : Ledger) (hs : List Happening) (l' : Ledger) → has_refusal hs ≡ false → IsWhole outcome → reply_of outcome ≡ Some reply → Happened moment event outcome l hs l' → IsOneEvent moment event reply l.core hs l'.core
+one_event : (moment : ℕ) (event : Event) (outcome : Outcome) (reply : Effects) (l : Ledger) (hs : List Happening) (l' : Ledger) → has_refusal hs ≡ false → IsWhole outcome → reply_of outcome ≡ Some reply → Happened moment event outcome l hs l' → IsOneEvent moment event reply l.core hs l'.core
 one_event moment event outcome reply l hs l' none whole is it =
     record { outcome = outcome; notes = it.notes; answered = is; whole = whole; handled = it.handled; told = happened_whole moment event outcome l hs l' it none }
 
 -- an event that was answered has a reply
-reply_there : (outcome : Outcome) → IsWhole outcome → (reply : Reply) × (reply_of outcome ≡ Some reply)
+reply_there : (outcome : Outcome) → IsWhole outcome → (reply : Effects) × (reply_of outcome ≡ Some reply)
 reply_there Dropped whole = absurd whole
 reply_there (Queried reply) whole = (reply, refl)
 reply_there (Undispatched reply) whole = absurd whole
@@ -156,14 +156,14 @@ reply_there (Idle reply) whole = (reply, refl)
 reply_there (Dispatched reply) whole = (reply, refl)
 
 -- an event that takes no memory is one event
-light_event : (moment : ℕ) (event : Event) (outcome : Outcome) (l : Ledger) (hs : List Happening) (l' : Ledger) → TakesNoMemory event moment l.core → has_refusal hs ≡ false → Happened moment event outcome l hs l' → (reply : Reply) × IsOneEvent moment event reply l.core hs l'.core
+light_event : (moment : ℕ) (event : Event) (outcome : Outcome) (l : Ledger) (hs : List Happening) (l' : Ledger) → TakesNoMemory event moment l.core → has_refusal hs ≡ false → Happened moment event outcome l hs l' → (reply : Effects) × IsOneEvent moment event reply l.core hs l'.core
 light_event moment event outcome l hs l' light none it =
     let whole = whole_light moment event outcome l hs l' it light none in
     let there = reply_there outcome whole in
     (there.0, one_event moment event outcome there.0 l hs l' none whole there.1 it)
 
 -- the bytes of an answer, where memory for them wasn't refused
-are_bytes : (request : ℕ) (reply : Option Reply) (bytes : List ℕ) (l : Ledger) (hs : List Happening) (l' : Ledger) → has_refusal hs ≡ false → Answers request reply bytes l hs l' → (it : Reply) × (reply ≡ Some it) × IsBytes request it.answer bytes
+are_bytes : (request : ℕ) (reply : Option Effects) (bytes : List ℕ) (l : Ledger) (hs : List Happening) (l' : Ledger) → has_refusal hs ≡ false → Answers request reply bytes l hs l' → (it : Effects) × (reply ≡ Some it) × IsBytes request it.answer bytes
 are_bytes request (Some reply) bytes l hs l' none (inl (are, it)) = (reply, refl, are)
 are_bytes request (Some reply) bytes l hs l' none (inr it) = no_refusal_told hs At.Reply None none it.0
 are_bytes request None bytes l hs l' none it = no_refusal_told hs At.Event None none it.0
@@ -175,7 +175,7 @@ event_served moment request event bytes answer l hs l' none is (outcome, it) =
     let are = are_bytes request (reply_of outcome) bytes it.mid it.back l' (none_after hs it.front it.back it.whole none) it.second in
     (are.0, bytes, is, are.2, one_event moment event outcome are.0 l hs l' none whole are.1 came)
 
-is_served : (moment : ℕ) (asked : Asked) (served answer : Given) (l : Ledger) (hs : List Happening) (l' : Ledger) → has_refusal hs ≡ false → answer ≡ served → BodyAsks moment asked served l hs l' → IsServed moment asked answer l.core hs l'.core
+is_served : (moment : ℕ) (asked : ParsedRequest) (served answer : Given) (l : Ledger) (hs : List Happening) (l' : Ledger) → has_refusal hs ≡ false → answer ≡ served → BodyAsks moment asked served l hs l' → IsServed moment asked answer l.core hs l'.core
 is_served moment asks.TooShort served answer l hs l' none same (is, it) = (same ∙ is, (ap seen it.0, ap (λ (x : Ledger). x.core) it.1))
 is_served moment (asks.Refused status request) served answer l hs l' none same (is, inl it) = (same ∙ is, (ap seen it.0, ap (λ (x : Ledger). x.core) it.1))
 is_served moment (asks.Refused status request) served answer l hs l' none same (is, inr it) = no_refusal_told hs At.Reply None none it.0
@@ -187,13 +187,13 @@ not_refused true served answer is some = absurd (some is)
 not_refused false served answer is some = (refl, is)
 
 -- only what is seen counts
-served_seen : (moment : ℕ) (asked : Asked) (answer : Given) (old : State) (hs ks : List Happening) (new : State) → seen ks ≡ seen hs → IsServed moment asked answer old hs new → IsServed moment asked answer old ks new
+served_seen : (moment : ℕ) (asked : ParsedRequest) (answer : Given) (old : State) (hs ks : List Happening) (new : State) → seen ks ≡ seen hs → IsServed moment asked answer old hs new → IsServed moment asked answer old ks new
 served_seen moment asks.TooShort answer old hs ks new same (is, it) = (is, (same ∙ it.0, it.1))
 served_seen moment (asks.Refused status request) answer old hs ks new same (is, it) = (is, (same ∙ it.0, it.1))
 served_seen moment (asks.Event request event) answer old hs ks new same (reply, bytes, is, are, one) =
     (reply, bytes, is, are, record { outcome = one.outcome; notes = one.notes; answered = one.answered; whole = one.whole; handled = one.handled; told = same ∙ one.told })
 
-body_served : (moment : ℕ) (body : List ℕ) (served answer : Given) (l : Ledger) (hs : List Happening) (l' : Ledger) → has_refusal hs ≡ false → answer ≡ served → BodyComes moment body served l hs l' → (asked : Asked) × Asks body asked × IsServed moment asked answer l.core hs l'.core
+body_served : (moment : ℕ) (body : List ℕ) (served answer : Given) (l : Ledger) (hs : List Happening) (l' : Ledger) → has_refusal hs ≡ false → answer ≡ served → BodyComes moment body served l hs l' → (asked : ParsedRequest) × Asks body asked × IsServed moment asked answer l.core hs l'.core
 body_served moment body served answer l hs l' none same (inl (asked, are, it)) =
     let after = is_served moment asked served answer it.mid it.back l' (none_after hs it.front it.back it.whole none) same it.second in
     let core : it.mid.core ≡ l.core = ap (λ (x : Ledger). x.core) it.first.1 in
@@ -201,7 +201,7 @@ body_served moment body served answer l hs l' none same (inl (asked, are, it)) =
     (asked, are, served_seen moment asked answer l.core it.back hs l'.core sight (subst (λ (s : State). IsServed moment asked answer s it.back l'.core) core after))
 body_served moment body served answer l hs l' none same (inr it) = no_refusal_told hs At.Event None none it.0
 
-pub at_most_one : (deed : Deed) (old new : Ledger) → DoesDeed deed old new → IsAtMostOne deed old.core new.core
+pub at_most_one : (deed : Action) (old new : Ledger) → DoesDeed deed old new → IsAtMostOne deed old.core new.core
 at_most_one (Turned moment hs) old new it = tt
 at_most_one (Served_body moment body answer hs) old new (served, is, it) =
     λ some. let known = not_refused (has_refusal hs) served answer is some in body_served moment body served answer old hs new known.0 known.1 it
@@ -217,22 +217,22 @@ seen_again (Polled poll ∷ hs) = ap (λ (xs : List Happening). Polled poll ∷ 
 seen_again (Told note ∷ hs) = ap (λ (xs : List Happening). Told note ∷ xs) (seen_again hs)
 seen_again (Chosen choice ∷ hs) = seen_again hs
 
-event_seen : (moment : ℕ) (event : Event) (reply : Reply) (old : State) (hs : List Happening) (new : State) → IsOneEvent moment event reply old hs new → IsOneEvent moment event reply old (seen hs) new
+event_seen : (moment : ℕ) (event : Event) (reply : Effects) (old : State) (hs : List Happening) (new : State) → IsOneEvent moment event reply old hs new → IsOneEvent moment event reply old (seen hs) new
 event_seen moment event reply old hs new one = record { outcome = one.outcome; notes = one.notes; answered = one.answered; whole = one.whole; handled = one.handled; told = seen_again hs ∙ one.told }
 
-one_seen : (deed : Deed) (old new : State) → IsAtMostOne deed old new → IsAtMostOne (seen_of deed) old new
+one_seen : (deed : Action) (old new : State) → IsAtMostOne deed old new → IsAtMostOne (seen_of deed) old new
 one_seen (Turned moment hs) old new one = tt
 one_seen (Served_body moment body answer hs) old new one = λ some. let it = one some in (it.0, it.1, served_seen moment it.0 answer old hs (seen hs) new (seen_again hs) it.2)
 one_seen (Reported moment device said hs) old new one = λ none. let it = one (sym (seen_refusal hs) ∙ none) in (it.0, it.1, it.2, event_seen moment (Is.Report device it.0) it.2 old hs new it.3)
 one_seen (Ticked moment hs) old new one = λ none. let it = one (sym (seen_refusal hs) ∙ none) in (it.0, event_seen moment Is.Tick it.0 old hs new it.1)
 
 -- the one deed that is seen
-pub deed_seen : (deed : Deed) (old new : Ledger) → Allows (deed ∷ []) old new → IsAtMostOne deed old.core new.core
+pub deed_seen : (deed : Action) (old new : Ledger) → Allows (deed ∷ []) old new → IsAtMostOne deed old.core new.core
 deed_seen deed old new ([], is, runs) = let never : [] ≡ deed ∷ [] = is in cc
 deed_seen deed old new (whole ∷ [], is, (mid, does, same)) =
     let one = one_seen whole old.core mid.core (at_most_one whole old mid does) in
     let deed_is : seen_of whole ≡ deed = let both : seen_of whole ∷ [] ≡ deed ∷ [] = is in cc in
-    subst (λ (d : Deed). IsAtMostOne d old.core new.core) deed_is (subst (λ (l : Ledger). IsAtMostOne (seen_of whole) old.core l.core) (sym same) one)
+    subst (λ (d : Action). IsAtMostOne d old.core new.core) deed_is (subst (λ (l : Ledger). IsAtMostOne (seen_of whole) old.core l.core) (sym same) one)
 deed_seen deed old new (whole ∷ (next ∷ more), is, runs) = let never : seen_of whole ∷ (seen_of next ∷ seen_in more) ≡ deed ∷ [] = is in cc
 
 -- nothing is seen, and nothing happened
@@ -248,4 +248,4 @@ seen_apart (deed ∷ here) there old new (whole ∷ more, is, (next, does, runs)
     let head : seen_of whole ≡ deed = let both : seen_of whole ∷ seen_in more ≡ deed ∷ (here ++ there) = is in cc in
     let tail : seen_in more ≡ here ++ there = let both : seen_of whole ∷ seen_in more ≡ deed ∷ (here ++ there) = is in cc in
     let parts = seen_apart here there next new (more, tail, runs) in
-    (parts.0, (whole ∷ parts.1.0, ap (λ (d : Deed). d ∷ seen_in parts.1.0) head ∙ ap (λ (t : Trace). deed ∷ t) parts.1.1, (next, does, parts.1.2)), parts.2)
+    (parts.0, (whole ∷ parts.1.0, ap (λ (d : Action). d ∷ seen_in parts.1.0) head ∙ ap (λ (t : Trace). deed ∷ t) parts.1.1, (next, does, parts.1.2)), parts.2)

@@ -8,28 +8,28 @@ use Rattle.base_types.specs.Report.{ReportRecord}
 use Rattle.print_room.specs.State.{State}
 use Rattle.events.specs.declared.event.Event.{Event}
 use Rattle.events.specs.declared.event.Event.TheVariants as Is
-use Rattle.events.specs.declared.reply.Answer.{Answer}
-use Rattle.events.specs.declared.reply.Answer.TheVariants as answered
-use Rattle.events.specs.declared.reply.LpdAnswer.{LpdAnswer}
-use Rattle.events.specs.declared.reply.LpdAnswer.TheVariants as shown
-use Rattle.events.specs.declared.reply.Reply.{Reply}
+use Rattle.events.specs.declared.effects.Response.{Response}
+use Rattle.events.specs.declared.effects.Response.TheVariants as answered
+use Rattle.events.specs.declared.effects.LpdResponse.{LpdResponse}
+use Rattle.events.specs.declared.effects.LpdResponse.TheVariants as shown
+use Rattle.events.specs.declared.effects.Effects.{Effects}
 use Rattle.events.specs.declared.status.Status.{Status}
 use Rattle.events.specs.declared.status.Status.TheVariants.{TemporaryError}
 use Rattle.events.specs.Event.{is_query}
 use Rattle.dispatcher.specs.declared.outcome.Outcome.{Outcome}
 use Rattle.dispatcher.specs.declared.listener.DeviceRefusal.{DeviceRefusal}
 use Rattle.dispatcher.specs.declared.listener.DeviceRefusal.TheVariants as why
-use Rattle.dispatcher.specs.declared.listener.Place.{Place}
-use Rattle.dispatcher.specs.declared.listener.Place.TheVariants as At
+use Rattle.dispatcher.specs.declared.listener.AllocationSite.{AllocationSite}
+use Rattle.dispatcher.specs.declared.listener.AllocationSite.TheVariants as At
 use Rattle.dispatcher.specs.Notes.{Note, DeviceRefused, Refused}
 use Rattle.dispatcher.specs.Run.{reply_of, Handles}
-use Rattle.requests.specs.declared.asked.Asked.{Asked}
-use Rattle.requests.specs.declared.asked.Asked.TheVariants as asks
-use Rattle.replies.specs.QueueText.{ack_of, text_of}
-use Rattle.outputs.specs.Reply.{http_reply}
+use Rattle.requests.specs.declared.parsed_request.ParsedRequest.{ParsedRequest}
+use Rattle.requests.specs.declared.parsed_request.ParsedRequest.TheVariants as asks
+use Rattle.responses.specs.QueueText.{ack_of, text_of}
+use Rattle.send_queues.specs.Reply.{http_reply}
 use Rattle.wires.specs.Poll.{Poll, Accepts, Reads, Writes, Closes}
-use Rattle.wires.specs.declared.wire.Answer.TheVariants as wire
-use Rattle.wires.specs.declared.wire.Answer.{Answer as WireAnswer}
+use Rattle.wires.specs.declared.wire.Progress.TheVariants as wire
+use Rattle.wires.specs.declared.wire.Progress.{Progress as WireAnswer}
 use Rattle.wires.specs.declared.wire.Door.{Door}
 use Rattle.wires.specs.declared.wire.Door.TheVariants.{Ipp, Lpd, Devices}
 use Rattle.connections.specs.declared.ask.Ask.{Ask}
@@ -47,18 +47,18 @@ use Rattle.server.specs.Polls.{Happening, Polled, Told, Choice, Found, On, Opene
 use Rattle.server.specs.Polls as As
 use Rattle.server.specs.Ledger.{Ledger, Fate, Drained, Broken, with_entry, with_new}
 use Rattle.server.specs.Rel.{Rel, Nothing, Polls, Tells, Chooses, Then, If, Or, Times, Many, Each}
-use Rattle.server.specs.Keeping.{Sets, Breaks, Keeps, KeepsReplyAt, KeepsReply, KeepsStatus}
+use Rattle.server.specs.Enqueuing.{Sets, Breaks, Enqueues, EnqueuesReplyAt, EnqueuesReply, EnqueuesStatus}
 use Rattle.server.specs.Happening.{Happens, Unanswered}
 use Rattle.server.specs.Closing as Closing
 use Rattle.server.specs.Closing.{Leaves, ClosesAs, ClosesFirst, Settles}
-use Rattle.server.specs.Answering as Asked
+use Rattle.server.specs.Answering as Answering
 use Rattle.server.specs.Greeting as Greeting
 use Rattle.server.specs.Acting as Acting
 use Rattle.server.specs.Polling.{Opens, AcceptsAs, AcceptsOne, AcceptsAt, Acts, Serves, FedWhole, FedOpen, FeedsAt, FeedsOne, Fails, ReadsAs, ReadsOpen, ReadsAt, is_read, ReadsOne, WritesAs, WritesOpen, WritesAt, WritesOne, is_done, EndsAt, EndsOne}
 use Rattle.server.specs.Turn as Between
-use Rattle.server.specs.Turn.{Ticks, is_tick_due, TicksIfDue, Covers, Round, Turn, has_refusal, Deed, Turned, Served_body, Reported, Ticked, DoesDeed}
+use Rattle.server.specs.Turn.{Ticks, is_tick_due, TicksIfDue, Covers, Round, Turn, has_refusal, Action, Turned, Served_body, Reported, Ticked, DoesDeed}
 use Rattle.server.specs.Law.{core_notes, IsWhole, moment_of, happenings_of}
-use Rattle.server.proofs.Speaking.{only_notes, Calmly, calm_nothing, calm_choice, calm_then, calm_if, calm_or, calm_refusal, calm_sets, calm_drops, calm_breaks, calm_keeps, IsOther, Happened, happened_notes, happened, happened_then, whole_light, whole_told}
+use Rattle.server.proofs.Speaking.{only_notes, Calmly, calm_nothing, calm_choice, calm_then, calm_if, calm_or, calm_refusal, calm_sets, calm_drops, calm_breaks, calm_enqueues, IsOther, Happened, happened_notes, happened, happened_then, whole_light, whole_told}
 
 -- the core stays, and so does what was closed; the core tells nothing
 pub record IsCalm (l : Ledger) (hs : List Happening) (l' : Ledger) : Type 0 where
@@ -121,58 +121,58 @@ ticked moment l hs l' it =
 
 -- ---- answers
 
-pub calm_answers : (request : ℕ) (reply : Option Reply) (bytes : List ℕ) → Calmly (Between.Answers request reply bytes)
+pub calm_answers : (request : ℕ) (reply : Option Effects) (bytes : List ℕ) → Calmly (Between.Answers request reply bytes)
 calm_answers request (Some reply) bytes l hs l' (inl (are, it)) = calm_choice Found l hs l' it
 calm_answers request (Some reply) bytes l hs l' (inr it) = calm_refusal At.Reply None refl l hs l' it
 calm_answers request None bytes l hs l' it = calm_refusal At.Event None refl l hs l' it
 
-calm_reply_at : (bytes : Bool → List ℕ) (key : ℕ) (o : Option Entry) → Calmly (KeepsReplyAt bytes key o)
+calm_reply_at : (bytes : Bool → List ℕ) (key : ℕ) (o : Option Entry) → Calmly (EnqueuesReplyAt bytes key o)
 calm_reply_at bytes key None = calm_nothing
-calm_reply_at bytes key (Some e) = calm_keeps key (bytes (closes_of e.talk))
+calm_reply_at bytes key (Some e) = calm_enqueues key (bytes (closes_of e.talk))
 
-calm_reply : (key : ℕ) (bytes : List ℕ) → Calmly (KeepsReply key bytes)
+calm_reply : (key : ℕ) (bytes : List ℕ) → Calmly (EnqueuesReply key bytes)
 calm_reply key bytes l hs l' it = calm_reply_at (λ closes. http_reply closes bytes) key (l.entries key) l hs l' it
 
-calm_status : (key : ℕ) (status : Status) (request : ℕ) → Calmly (KeepsStatus key status request)
+calm_status : (key : ℕ) (status : Status) (request : ℕ) → Calmly (EnqueuesStatus key status request)
 calm_status key status request l hs l' it = calm_reply_at (λ closes. http_status closes status request) key (l.entries key) l hs l' it
 
-calm_dropped : (key id request : ℕ) → Calmly (Asked.Drops key id request)
+calm_dropped : (key id request : ℕ) → Calmly (Answering.Drops key id request)
 calm_dropped key id request = calm_then (calm_refusal At.Event (Some id) refl) (calm_status key TemporaryError request)
 
-calm_lost : (key id request : ℕ) (query : Bool) → Calmly (Asked.LosesReply key id request query)
-calm_lost key id request query = calm_then (calm_refusal At.Reply (Some id) refl) (calm_if query (KeepsStatus key TemporaryError request) (Breaks key) (calm_status key TemporaryError request) (calm_breaks key))
+calm_lost : (key id request : ℕ) (query : Bool) → Calmly (Answering.LosesReply key id request query)
+calm_lost key id request query = calm_then (calm_refusal At.Reply (Some id) refl) (calm_if query (EnqueuesStatus key TemporaryError request) (Breaks key) (calm_status key TemporaryError request) (calm_breaks key))
 
-calm_replies : (key id request : ℕ) (query : Bool) (answer : Answer) → Calmly (Asked.RepliesWith key id request query answer)
+calm_replies : (key id request : ℕ) (query : Bool) (answer : Response) → Calmly (Answering.RepliesWith key id request query answer)
 calm_replies key id request query (answered.Ipp answer) l hs l' (inl (bytes, are, it)) = calm_then (calm_choice Found) (calm_reply key bytes) l hs l' it
 calm_replies key id request query (answered.Ipp answer) l hs l' (inr it) = calm_lost key id request query l hs l' it
 calm_replies key id request query (answered.Lpd answer) l hs l' it = calm_nothing l hs l' it
 calm_replies key id request query answered.Nothing l hs l' it = calm_nothing l hs l' it
 
-calm_answer : (key id request : ℕ) (query : Bool) (reply : Option Reply) → Calmly (Asked.Replies key id request query reply)
+calm_answer : (key id request : ℕ) (query : Bool) (reply : Option Effects) → Calmly (Answering.Replies key id request query reply)
 calm_answer key id request query (Some reply) = calm_replies key id request query reply.answer
 calm_answer key id request query None = calm_dropped key id request
 
-calm_shows : (key id : ℕ) (text : List ℕ) → Calmly (Asked.Shows key id text)
-calm_shows key id text = calm_or (calm_then (calm_choice Found) (calm_keeps key text)) (calm_then (calm_refusal At.Reply (Some id) refl) (calm_breaks key))
+calm_shows : (key id : ℕ) (text : List ℕ) → Calmly (Answering.Shows key id text)
+calm_shows key id text = calm_or (calm_then (calm_choice Found) (calm_enqueues key text)) (calm_then (calm_refusal At.Reply (Some id) refl) (calm_breaks key))
 
-calm_told : (key id : ℕ) (answer : LpdAnswer) → Calmly (Asked.IsTold key id answer)
-calm_told key id (shown.Taken taken) = calm_keeps key (ack_of (shown.Taken taken) ∷ [])
+calm_told : (key id : ℕ) (answer : LpdResponse) → Calmly (Answering.IsTold key id answer)
+calm_told key id (shown.Taken taken) = calm_enqueues key (ack_of (shown.Taken taken) ∷ [])
 calm_told key id (shown.Queue listing) = calm_shows key id (text_of (shown.Queue listing))
 calm_told key id shown.NoQueue = calm_shows key id (text_of shown.NoQueue)
 
-calm_answered : (key id : ℕ) (answer : Answer) → Calmly (Asked.IsShown key id answer)
+calm_answered : (key id : ℕ) (answer : Response) → Calmly (Answering.IsShown key id answer)
 calm_answered key id (answered.Lpd answer) = calm_told key id answer
 calm_answered key id (answered.Ipp answer) = calm_nothing
 calm_answered key id answered.Nothing = calm_nothing
 
-calm_declines : (place : Place) (key id : ℕ) → IsOther place (Some id) → Calmly (Asked.Declines place key id)
-calm_declines place key id other = calm_then (calm_refusal place (Some id) other) (calm_keeps key (1 ∷ []))
+calm_declines : (place : AllocationSite) (key id : ℕ) → IsOther place (Some id) → Calmly (Answering.Declines place key id)
+calm_declines place key id other = calm_then (calm_refusal place (Some id) other) (calm_enqueues key (1 ∷ []))
 
-calm_acknowledges : (key id : ℕ) (reply : Option Reply) → Calmly (Asked.Acknowledges key id reply)
+calm_acknowledges : (key id : ℕ) (reply : Option Effects) → Calmly (Answering.Acknowledges key id reply)
 calm_acknowledges key id (Some reply) = calm_answered key id reply.answer
 calm_acknowledges key id None = calm_declines At.Event key id refl
 
-calm_responds : (key id : ℕ) (reply : Option Reply) → Calmly (Asked.Responds key id reply)
+calm_responds : (key id : ℕ) (reply : Option Effects) → Calmly (Answering.Responds key id reply)
 calm_responds key id (Some reply) = calm_answered key id reply.answer
 calm_responds key id None = calm_then (calm_refusal At.Event (Some id) refl) (calm_breaks key)
 
@@ -187,17 +187,17 @@ other_part part.Job id = refl
 -- ---- where an event was dropped, its caller tells
 
 -- a refusal is told, and then something else
-refused_first : (place : Place) (id : Option ℕ) (Q : Rel) (l : Ledger) (hs : List Happening) (l' : Ledger) → Then (Tells (Refused place id)) Q l hs l' → has_refusal hs ≡ true
+refused_first : (place : AllocationSite) (id : Option ℕ) (Q : Rel) (l : Ledger) (hs : List Happening) (l' : Ledger) → Then (Tells (Refused place id)) Q l hs l' → has_refusal hs ≡ true
 refused_first place id Q l hs l' it = ap has_refusal (it.whole ∙ ap (λ (ks : List Happening). ks ++ it.back) it.first.0)
 
-calm_client : (key id : ℕ) (who : Client) (query : Bool) (reply : Option Reply) → Calmly (Asked.Answers key id who query reply)
+calm_client : (key id : ℕ) (who : Client) (query : Bool) (reply : Option Effects) → Calmly (Answering.Answers key id who query reply)
 calm_client key id (client.Ipp request) query reply = calm_answer key id request query reply
 calm_client key id client.LpdJob query reply = calm_acknowledges key id reply
 calm_client key id client.LpdCommand query reply = calm_responds key id reply
 
-dropped_told : (key id : ℕ) (who : Client) (query : Bool) (l : Ledger) (hs : List Happening) (l' : Ledger) → Asked.Answers key id who query None l hs l' → has_refusal hs ≡ true
-dropped_told key id (client.Ipp request) query = refused_first At.Event (Some id) (KeepsStatus key TemporaryError request)
-dropped_told key id client.LpdJob query = refused_first At.Event (Some id) (Keeps key (1 ∷ []))
+dropped_told : (key id : ℕ) (who : Client) (query : Bool) (l : Ledger) (hs : List Happening) (l' : Ledger) → Answering.Answers key id who query None l hs l' → has_refusal hs ≡ true
+dropped_told key id (client.Ipp request) query = refused_first At.Event (Some id) (EnqueuesStatus key TemporaryError request)
+dropped_told key id client.LpdJob query = refused_first At.Event (Some id) (Enqueues key (1 ∷ []))
 dropped_told key id client.LpdCommand query = refused_first At.Event (Some id) (Breaks key)
 
 -- ---- deeds
@@ -244,13 +244,13 @@ module _ (moment : ℕ) (P : Rel) (k : Holds moment P) where
   sets_in : (key : ℕ) (e : Entry) → Within P (Sets key e)
   sets_in key e = calmly_in (calm_sets key e)
 
-  keeps_in : (key : ℕ) (bytes : List ℕ) → Within P (Keeps key bytes)
-  keeps_in key bytes = calmly_in (calm_keeps key bytes)
+  enqueues_in : (key : ℕ) (bytes : List ℕ) → Within P (Enqueues key bytes)
+  enqueues_in key bytes = calmly_in (calm_enqueues key bytes)
 
   -- ---- events
 
   -- an event, and its answer, which tells where the event was dropped
-  answered_in : (event : Event) (Q : Option Reply → Rel) → ((reply : Option Reply) → Calmly (Q reply)) → ((l : Ledger) (hs : List Happening) (l' : Ledger) → Q None l hs l' → has_refusal hs ≡ true)
+  answered_in : (event : Event) (Q : Option Effects → Rel) → ((reply : Option Effects) → Calmly (Q reply)) → ((l : Ledger) (hs : List Happening) (l' : Ledger) → Q None l hs l' → has_refusal hs ≡ true)
       → (outcome : Outcome) → Within P (Then (Happens moment event outcome) (Q (reply_of outcome)))
   answered_in event Q calm told outcome l hs l' it =
       let came = happened_then moment event outcome (Q (reply_of outcome)) (calm (reply_of outcome)) l hs l' it in
@@ -286,8 +286,8 @@ module _ (moment : ℕ) (P : Rel) (k : Holds moment P) where
 
   -- ---- what connections ask
 
-  answers_in : (key id : ℕ) (who : Client) (event : Event) → Within P (Asked.IsAnswered moment key id who event)
-  answers_in key id who event l hs l' (outcome, it) = answered_in event (Asked.Answers key id who (is_query event)) (calm_client key id who (is_query event)) (dropped_told key id who (is_query event)) outcome l hs l' it
+  answers_in : (key id : ℕ) (who : Client) (event : Event) → Within P (Answering.IsAnswered moment key id who event)
+  answers_in key id who event l hs l' (outcome, it) = answered_in event (Answering.Answers key id who (is_query event)) (calm_client key id who (is_query event)) (dropped_told key id who (is_query event)) outcome l hs l' it
 
   tells_in : (device : ℕ) (said : ReportRecord) → Within P (Greeting.Tells moment device said)
   tells_in device said l hs l' (report, is, it) = reported_in device report l hs l' it
@@ -307,7 +307,7 @@ module _ (moment : ℕ) (P : Rel) (k : Holds moment P) where
   greets_in key id device name l hs l' (inr (inl (other, ended, it))) = then_in (chooses_in (On other)) (then_in (gives_way_in other) (then_in (gone_in (Some device)) (reported_in device (reported.Hello name)))) l hs l' it
   greets_in key id device name l hs l' (inr (inr (other, is, it))) = then_in (gives_way_in key) (turned_away_in id (why.Connected device)) l hs l' it
 
-  does_in : (key id : ℕ) (what : Ask) → Within P (Acting.Does moment key id what)
+  does_in : (key id : ℕ) (what : Ask) → Within P (Acting.Refines moment key id what)
   does_in key id ask.Nothing = nothing_in
   does_in key id (ask.Broke growth) = calmly_in (calm_refusal (Acting.place_of growth) (Some id) (other_growth growth id))
   does_in key id (ask.Event who event) = answers_in key id who event
@@ -333,7 +333,7 @@ module _ (moment : ℕ) (P : Rel) (k : Holds moment P) where
   fed_whole_in key e bytes = or_in (then_in (sets_in key (reading bytes e)) (serves_in key)) (then_in (calmly_in (calm_drops At.Feed key e refl)) settles_in)
 
   fed_in : (key : ℕ) (e : Entry) (bytes : List ℕ) → Within P (FedOpen moment key e bytes)
-  fed_in key e bytes = if_in e.over (Sets key e) (FedWhole moment key e bytes) (sets_in key e) (fed_whole_in key e bytes)
+  fed_in key e bytes = if_in e.draining (Sets key e) (FedWhole moment key e bytes) (sets_in key e) (fed_whole_in key e bytes)
 
   feeds_at_in : (key : ℕ) (bytes : List ℕ) (o : Option Entry) → Within P (FeedsAt moment key bytes o)
   feeds_at_in key bytes None = nothing_in
@@ -410,7 +410,7 @@ module _ (moment : ℕ) (P : Rel) (k : Holds moment P) where
   body_event_in request event bytes l hs l' (outcome, it) =
       answered_in event (λ reply. Between.Answers request reply bytes) (λ reply. calm_answers request reply bytes) (λ a ks b told. ap has_refusal told.0) outcome l hs l' it
 
-  asked_in : (asked : Asked) (served : Between.Outcome) → Within P (Between.BodyAsks moment asked served)
+  asked_in : (asked : ParsedRequest) (served : Between.Outcome) → Within P (Between.BodyAsks moment asked served)
   asked_in asks.TooShort served l hs l' (is, it) = nothing_in l hs l' it
   asked_in (asks.Refused status request) served l hs l' (is, it) = or_in (chooses_in Found) (calmly_in (calm_refusal At.Reply None refl)) l hs l' it
   asked_in (asks.Event request event) served l hs l' (bytes, is, it) = body_event_in request event bytes l hs l' it
@@ -426,7 +426,7 @@ module _ (moment : ℕ) (P : Rel) (k : Holds moment P) where
   reports_in device said = tells_in device said
 
 -- of whatever holds of all its parts: it holds of a deed
-pub deed_in : (P : Rel) (deed : Deed) → Holds (moment_of deed) P → (l l' : Ledger) → DoesDeed deed l l' → P l (happenings_of deed) l'
+pub deed_in : (P : Rel) (deed : Action) → Holds (moment_of deed) P → (l l' : Ledger) → DoesDeed deed l l' → P l (happenings_of deed) l'
 deed_in P (Turned moment hs) k l l' it = turn_in moment P k l hs l' it
 deed_in P (Served_body moment body answer hs) k l l' it = serves_body_in moment P k body answer l hs l' it
 deed_in P (Reported moment device said hs) k l l' it = reports_in moment P k device said l hs l' it

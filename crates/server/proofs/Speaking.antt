@@ -7,19 +7,19 @@ use Rattle.device_link.specs.Orders.{cancel_line}
 use Rattle.print_room.specs.declared.started.Started.{Started}
 use Rattle.print_room.specs.State.{State}
 use Rattle.events.specs.declared.event.Event.{Event}
-use Rattle.events.specs.declared.reply.Reply.{Reply}
-use Rattle.events.specs.declared.reply.Cancel.{Cancel}
+use Rattle.events.specs.declared.effects.Effects.{Effects}
+use Rattle.events.specs.declared.effects.Cancel.{Cancel}
 use Rattle.dispatcher.specs.declared.outcome.Outcome.{Outcome}
 use Rattle.dispatcher.specs.declared.outcome.Outcome.TheVariants.{Dropped, Queried, Undispatched, Idle, Dispatched}
-use Rattle.dispatcher.specs.declared.listener.Place.{Place}
-use Rattle.dispatcher.specs.declared.listener.Place.TheVariants as At
+use Rattle.dispatcher.specs.declared.listener.AllocationSite.{AllocationSite}
+use Rattle.dispatcher.specs.declared.listener.AllocationSite.TheVariants as At
 use Rattle.dispatcher.specs.Notes.{Note, Planned, Canceled, DeviceRefused, Refused}
 use Rattle.dispatcher.specs.Run.{reply_of, cancels_told, Handles}
 use Rattle.dispatcher.specs.Step.{TakesNoMemory}
 use Rattle.server.specs.Polls.{Happening, Polled, Told, Choice, Found, On, Chosen, seen}
 use Rattle.server.specs.Ledger.{Ledger, with_entry, job_bytes}
 use Rattle.server.specs.Rel.{Rel, Nothing, Tells, Chooses, Then, If, Or, EachOf}
-use Rattle.server.specs.Keeping.{Sets, BreaksAt, Breaks, Drops, KeepsOpen, KeepsAt, KeepsWhere, Keeps, KeepsOn}
+use Rattle.server.specs.Enqueuing.{Sets, BreaksAt, Breaks, Drops, EnqueuesOpen, EnqueuesAt, EnqueuesWhere, Enqueues, EnqueuesOn}
 use Rattle.server.specs.Happening.{found_by, Sends, SendsAll, Starts, StartsAll, Orders, Happens}
 use Rattle.server.specs.Turn.{has_refusal}
 use Rattle.server.specs.Law.{refusal_note, core_note, core_notes, IsWhole}
@@ -35,7 +35,7 @@ notes_append hs ks = flat_map-append core_note hs ks
 pub never : {A : Type 0} → (refused : Bool) → refused ≡ true → refused ≡ false → A
 never refused is none = let same : true ≡ false = sym is ∙ none in absurd (cc)
 
-pub no_refusal_told : {A : Type 0} → (hs : List Happening) (place : Place) (id : Option ℕ) → has_refusal hs ≡ false → hs ≡ Told (Refused place id) ∷ [] → A
+pub no_refusal_told : {A : Type 0} → (hs : List Happening) (place : AllocationSite) (id : Option ℕ) → has_refusal hs ≡ false → hs ≡ Told (Refused place id) ∷ [] → A
 no_refusal_told hs place id none is = never (has_refusal hs) (ap has_refusal is) none
 
 left_false : (x y : Bool) → x || y ≡ false → x ≡ false
@@ -50,7 +50,7 @@ pub none_after : (hs front back : List Happening) → hs ≡ front ++ back → h
 none_after hs front back whole none = right_false (has_refusal front) (has_refusal back) (sym (ap has_refusal whole ∙ refusals_append front back) ∙ none)
 
 -- a growth was refused to another than the core
-abbrev pub IsOther : Place → Option ℕ → Type 0
+abbrev pub IsOther : AllocationSite → Option ℕ → Type 0
 IsOther place id = refusal_note place id ≡ []
 
 -- nothing but such growths
@@ -127,7 +127,7 @@ pub calm_if : (test : Bool) (R S : Rel) → Calmly R → Calmly S → Calmly (If
 calm_if true R S f g l hs l' it = f l hs l' it
 calm_if false R S f g l hs l' it = g l hs l' it
 
-pub calm_refusal : (place : Place) (id : Option ℕ) → IsOther place id → Calmly (Tells (Refused place id))
+pub calm_refusal : (place : AllocationSite) (id : Option ℕ) → IsOther place id → Calmly (Tells (Refused place id))
 calm_refusal place id other l hs l' it = calm_by (Told (Refused place id) ∷ []) l l hs l' (other, tt) refl refl it
 
 pub calm_choice : (choice : Choice) → Calmly (Chooses choice)
@@ -136,7 +136,7 @@ calm_choice choice l hs l' it = calm_by (Chosen choice ∷ []) l l hs l' tt refl
 pub calm_sets : (key : ℕ) (e : Entry) → Calmly (Sets key e)
 calm_sets key e l hs l' it = calm_by [] (with_entry key e l) l hs l' tt refl refl it
 
-pub calm_drops : (place : Place) (key : ℕ) (e : Entry) → IsOther place (Some e.id) → Calmly (Drops place key e)
+pub calm_drops : (place : AllocationSite) (key : ℕ) (e : Entry) → IsOther place (Some e.id) → Calmly (Drops place key e)
 calm_drops place key e other l hs l' it = calm_by (Told (Refused place (Some e.id)) ∷ []) (with_entry key (broken e) l) l hs l' (other, tt) refl refl it
 
 breaks_at : (key : ℕ) (o : Option Entry) → Calmly (BreaksAt key o)
@@ -146,33 +146,33 @@ breaks_at key (Some e) = calm_sets key (broken e)
 pub calm_breaks : (key : ℕ) → Calmly (Breaks key)
 calm_breaks key l hs l' it = breaks_at key (l.entries key) l hs l' it
 
-keeps_open : (grows : Bool) (key : ℕ) (bytes : List ℕ) (e : Entry) → Calmly (KeepsOpen grows key bytes e)
-keeps_open grows key bytes e =
-    calm_if grows (Or (Then (Chooses Found) (Sets key (owing bytes e))) (Drops At.Keep key e)) (Sets key (owing bytes e))
-    (calm_or (calm_then (calm_choice Found) (calm_sets key (owing bytes e))) (calm_drops At.Keep key e refl)) (calm_sets key (owing bytes e))
+enqueues_open : (grows : Bool) (key : ℕ) (bytes : List ℕ) (e : Entry) → Calmly (EnqueuesOpen grows key bytes e)
+enqueues_open grows key bytes e =
+    calm_if grows (Or (Then (Chooses Found) (Sets key (owing bytes e))) (Drops At.Enqueue key e)) (Sets key (owing bytes e))
+    (calm_or (calm_then (calm_choice Found) (calm_sets key (owing bytes e))) (calm_drops At.Enqueue key e refl)) (calm_sets key (owing bytes e))
 
-keeps_at : (grows : Entry → Bool) (key : ℕ) (bytes : List ℕ) (o : Option Entry) → Calmly (KeepsAt grows key bytes o)
-keeps_at grows key bytes None = calm_nothing
-keeps_at grows key bytes (Some e) = calm_if e.broken Nothing (KeepsOpen (grows e) key bytes e) calm_nothing (keeps_open (grows e) key bytes e)
+enqueues_at : (grows : Entry → Bool) (key : ℕ) (bytes : List ℕ) (o : Option Entry) → Calmly (EnqueuesAt grows key bytes o)
+enqueues_at grows key bytes None = calm_nothing
+enqueues_at grows key bytes (Some e) = calm_if e.broken Nothing (EnqueuesOpen (grows e) key bytes e) calm_nothing (enqueues_open (grows e) key bytes e)
 
-calm_where : (grows : Entry → Bool) (key : ℕ) (bytes : List ℕ) → Calmly (KeepsWhere grows key bytes)
-calm_where grows key bytes l hs l' it = keeps_at grows key bytes (l.entries key) l hs l' it
+calm_where : (grows : Entry → Bool) (key : ℕ) (bytes : List ℕ) → Calmly (EnqueuesWhere grows key bytes)
+calm_where grows key bytes l hs l' it = enqueues_at grows key bytes (l.entries key) l hs l' it
 
-pub calm_keeps : (key : ℕ) (bytes : List ℕ) → Calmly (Keeps key bytes)
-calm_keeps key bytes = calm_where (needs_memory bytes) key bytes
+pub calm_enqueues : (key : ℕ) (bytes : List ℕ) → Calmly (Enqueues key bytes)
+calm_enqueues key bytes = calm_where (needs_memory bytes) key bytes
 
-pub calm_keeps_on : (device : ℕ) (bytes : List ℕ) → Calmly (KeepsOn device bytes)
-calm_keeps_on device bytes l hs l' (inl (key, is, it)) = calm_then (calm_choice (On key)) (calm_where (λ e. true) key bytes) l hs l' it
-calm_keeps_on device bytes l hs l' (inr (none, it)) = calm_nothing l hs l' it
+pub calm_enqueues_on : (device : ℕ) (bytes : List ℕ) → Calmly (EnqueuesOn device bytes)
+calm_enqueues_on device bytes l hs l' (inl (key, is, it)) = calm_then (calm_choice (On key)) (calm_where (λ e. true) key bytes) l hs l' it
+calm_enqueues_on device bytes l hs l' (inr (none, it)) = calm_nothing l hs l' it
 
 -- ---- an event
 
 each_sent : (cancels : List Cancel) → Calmly (EachOf cancels Sends)
 each_sent [] = calm_nothing
-each_sent (cancel ∷ cancels) = calm_then (calm_keeps_on cancel.device (cancel_line cancel.job)) (each_sent cancels)
+each_sent (cancel ∷ cancels) = calm_then (calm_enqueues_on cancel.device (cancel_line cancel.job)) (each_sent cancels)
 
 starts : (start : Started) → Calmly (Starts start)
-starts start l hs l' it = calm_keeps_on start.device (job_bytes l.core start.job) l hs l' it
+starts start l hs l' it = calm_enqueues_on start.device (job_bytes l.core start.job) l hs l' it
 
 each_started : (started : List Started) → Calmly (EachOf started Starts)
 each_started [] = calm_nothing
@@ -193,7 +193,7 @@ told_last : (cancels : List Cancel) (last : List Note) → core_notes (map Told 
 told_last [] last is = is
 told_last (cancel ∷ cancels) last is = ap (λ (ns : List Note). Canceled cancel ∷ ns) (told_last cancels last is)
 
-told_by : (notes : List Note) (reply : Reply) (last : List Note) → notes ≡ cancels_told reply ++ last → core_notes (map Told last) ≡ last → core_notes (map Told notes) ≡ notes
+told_by : (notes : List Note) (reply : Effects) (last : List Note) → notes ≡ cancels_told reply ++ last → core_notes (map Told last) ≡ last → core_notes (map Told notes) ≡ notes
 told_by notes reply last is told = subst (λ (ns : List Note). core_notes (map Told ns) ≡ ns) (sym is) (told_last reply.cancels.items last told)
 
 told_back : (moment : ℕ) (event : Event) (old : State) (outcome : Outcome) (notes : List Note) (new : State) → Handles moment event old outcome notes new → core_notes (map Told notes) ≡ notes
@@ -266,7 +266,7 @@ happened_then moment event outcome Q calm l hs l' it =
 
 -- ---- where no growth was refused
 
-undispatched_never : {A : Type 0} → (moment : ℕ) (event : Event) (reply : Reply) (l : Ledger) (hs : List Happening) (l' : Ledger) → Happened moment event (Undispatched reply) l hs l' → has_refusal hs ≡ false → A
+undispatched_never : {A : Type 0} → (moment : ℕ) (event : Event) (reply : Effects) (l : Ledger) (hs : List Happening) (l' : Ledger) → Happened moment event (Undispatched reply) l hs l' → has_refusal hs ≡ false → A
 undispatched_never moment event reply l hs l' it none =
     never (has_refusal (map Told it.notes)) (refused_of moment event l.core (Undispatched reply) it.notes l'.core it.handled) (none_before (map Told it.notes ++ it.later) (map Told it.notes) it.later refl (none_after hs (found_by (Undispatched reply)) (map Told it.notes ++ it.later) it.whole none))
 
@@ -279,7 +279,7 @@ whole_light moment event (Idle reply) l hs l' it light none = tt
 whole_light moment event (Dispatched reply) l hs l' it light none = tt
 
 -- so is one whose caller tells where it is dropped
-pub whole_told : (moment : ℕ) (event : Event) (outcome : Outcome) (Q : Option Reply → Rel) → ((l : Ledger) (hs : List Happening) (l' : Ledger) → Q None l hs l' → has_refusal hs ≡ true)
+pub whole_told : (moment : ℕ) (event : Event) (outcome : Outcome) (Q : Option Effects → Rel) → ((l : Ledger) (hs : List Happening) (l' : Ledger) → Q None l hs l' → has_refusal hs ≡ true)
     → (l : Ledger) (hs : List Happening) (l' : Ledger) → Then (Happens moment event outcome) (Q (reply_of outcome)) l hs l' → Happened moment event outcome l hs l' → has_refusal hs ≡ false → IsWhole outcome
 whole_told moment event Dropped Q told l hs l' it done none = never (has_refusal it.back) (told it.mid it.back l' it.second) (none_after hs it.front it.back it.whole none)
 whole_told moment event (Queried reply) Q told l hs l' it done none = tt

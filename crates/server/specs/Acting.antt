@@ -2,8 +2,8 @@
 use Rattle.std.specs.Prelude.{ℕ, ◌≡◌, List, [], ◌∷◌, Some}
 use Rattle.events.specs.declared.event.Event.TheVariants as Is
 use Rattle.dispatcher.specs.declared.listener.DeviceRefusal.TheVariants as why
-use Rattle.dispatcher.specs.declared.listener.Place.{Place}
-use Rattle.dispatcher.specs.declared.listener.Place.TheVariants as At
+use Rattle.dispatcher.specs.declared.listener.AllocationSite.{AllocationSite}
+use Rattle.dispatcher.specs.declared.listener.AllocationSite.TheVariants as At
 use Rattle.dispatcher.specs.Notes.{Refused, DeviceRefused}
 use Rattle.connections.specs.declared.ask.Ask.{Ask}
 use Rattle.connections.specs.declared.ask.Ask.TheVariants as ask
@@ -22,11 +22,11 @@ use Rattle.server.specs.Answering.{IsAnswered, Drops, Declines}
 use Rattle.server.specs.Greeting.{Greets}
 
 -- where a growth was refused
-abbrev pub place_of : Growth → Place
+abbrev pub place_of : Growth → AllocationSite
 place_of Input = At.Feed
-place_of Output = At.Keep
+place_of Output = At.Enqueue
 
-abbrev pub place_of_part : Part → Place
+abbrev pub place_of_part : Part → AllocationSite
 place_of_part File = At.File
 place_of_part Job = At.Event
 
@@ -41,17 +41,17 @@ pub record Asks (key id : ℕ) (what : Ask) (l : Ledger) (hs : List Happening) (
   pub after : l' ≡ with_entry key new l
 
 -- what comes of it
-abbrev pub Does : ℕ → ℕ → ℕ → Ask → Rel
-Does moment key id ask.Nothing = Nothing
-Does moment key id (ask.Broke growth) = Tells (Refused (place_of growth) (Some id))
-Does moment key id (ask.Event client event) = IsAnswered moment key id client event
-Does moment key id (ask.Unread request) = Drops key id request
-Does moment key id (ask.Lost part) = Declines (place_of_part part) key id
-Does moment key id (ask.Hello device name) = Greets moment key id device name
-Does moment key id (ask.Report device report) = Unanswered moment (Is.Report device report)
-Does moment key id (ask.Stranger name) = Tells (DeviceRefused id (why.UnknownName name))
-Does moment key id (ask.Fault device) = Tells (DeviceRefused id (why.Fault device))
+abbrev pub Refines : ℕ → ℕ → ℕ → Ask → Rel
+Refines moment key id ask.Nothing = Nothing
+Refines moment key id (ask.Broke growth) = Tells (Refused (place_of growth) (Some id))
+Refines moment key id (ask.Event client event) = IsAnswered moment key id client event
+Refines moment key id (ask.Unread request) = Drops key id request
+Refines moment key id (ask.Lost part) = Declines (place_of_part part) key id
+Refines moment key id (ask.Hello device name) = Greets moment key id device name
+Refines moment key id (ask.Report device report) = Unanswered moment (Is.Report device report)
+Refines moment key id (ask.Stranger name) = Tells (DeviceRefused id (why.UnknownName name))
+Refines moment key id (ask.Fault device) = Tells (DeviceRefused id (why.Fault device))
 
 -- it asks something, which comes about
 abbrev pub ActsNext : ℕ → ℕ → Rel
-ActsNext moment key l hs l' = (id : ℕ) × (what : Ask) × Then (Asks key id what) (Does moment key id what) l hs l'
+ActsNext moment key l hs l' = (id : ℕ) × (what : Ask) × Then (Asks key id what) (Refines moment key id what) l hs l'

@@ -10,7 +10,7 @@ use Rattle.connections.specs.Entry.{Entry, device_of, given_up}
 use Rattle.server.specs.Polls.{On}
 use Rattle.server.specs.Ledger.{Ledger}
 use Rattle.server.specs.Rel.{Rel, Nothing, Tells as Says, Chooses, Then}
-use Rattle.server.specs.Keeping.{Sets, IsDevice}
+use Rattle.server.specs.Enqueuing.{Sets, IsDevice}
 use Rattle.server.specs.Happening.{Unanswered}
 use Rattle.server.specs.Closing.{IsGone}
 

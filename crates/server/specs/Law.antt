@@ -6,17 +6,17 @@ use Rattle.base_types.specs.Report.{report_of}
 use Rattle.print_room.specs.State.{State}
 use Rattle.events.specs.declared.event.Event.{Event}
 use Rattle.events.specs.declared.event.Event.TheVariants as Is
-use Rattle.events.specs.declared.reply.Reply.{Reply}
-use Rattle.dispatcher.specs.declared.listener.Place.{Place}
-use Rattle.dispatcher.specs.declared.listener.Place.TheVariants as At
+use Rattle.events.specs.declared.effects.Effects.{Effects}
+use Rattle.dispatcher.specs.declared.listener.AllocationSite.{AllocationSite}
+use Rattle.dispatcher.specs.declared.listener.AllocationSite.TheVariants as At
 use Rattle.dispatcher.specs.declared.run.Timed.{Timed}
 use Rattle.dispatcher.specs.declared.outcome.Outcome.{Outcome}
 use Rattle.dispatcher.specs.declared.outcome.Outcome.TheVariants.{Dropped, Queried, Undispatched, Idle, Dispatched}
 use Rattle.dispatcher.specs.Run.{reply_of, Handles, Run}
-use Rattle.requests.specs.declared.asked.Asked.{Asked}
-use Rattle.requests.specs.declared.asked.Asked.TheVariants as asks
-use Rattle.requests.specs.Asked.{Asks}
-use Rattle.replies.specs.Reply.{refusal_bytes}
+use Rattle.requests.specs.declared.parsed_request.ParsedRequest.{ParsedRequest}
+use Rattle.requests.specs.declared.parsed_request.ParsedRequest.TheVariants as asks
+use Rattle.requests.specs.ParsedRequest.{Asks}
+use Rattle.responses.specs.Reply.{refusal_bytes}
 use Rattle.dispatcher.specs.Notes.{Note, Planned, Canceled, DeviceRefused, Refused}
 use Rattle.server.specs.Polls.{Happening, Polled, Told, Chosen, seen}
 use Rattle.connections.specs.declared.ask.Ask.{Ask}
@@ -24,14 +24,14 @@ use Rattle.connections.specs.declared.ask.Ask.TheVariants as ask
 use Rattle.connections.specs.Entry.{Entry, waiting, owing}
 use Rattle.connections.specs.Asking.{Owes}
 use Rattle.server.specs.Ledger.{Ledger, Fate}
-use Rattle.server.specs.Keeping.{Sets, Keeps}
+use Rattle.server.specs.Enqueuing.{Sets, Enqueues}
 use Rattle.server.specs.Closing.{IsTaken}
-use Rattle.server.specs.Turn.{Outcome as Answer, Replied, BadRequest, OutOfMemory, IsBytes, has_refusal, Deed, Turned, Served_body, Reported, Ticked, Trace}
+use Rattle.server.specs.Turn.{Outcome as Answer, Replied, BadRequest, OutOfMemory, IsBytes, has_refusal, Action, Turned, Served_body, Reported, Ticked, Trace}
 
 -- ---- a run of the core
 
 -- what the core tells of a growth that was refused: it is its own where it is a dispatch's
-abbrev pub refusal_note : Place → Option ℕ → List Note
+abbrev pub refusal_note : AllocationSite → Option ℕ → List Note
 refusal_note At.Dispatch id = Refused At.Dispatch id ∷ []
 refusal_note place id = []
 
@@ -52,13 +52,13 @@ core_notes hs = flat_map core_note hs
 abbrev pub Collects : List Note → Note → List Note → Type 0
 Collects before note after = after ≡ before ++ note ∷ []
 
-abbrev pub moment_of : Deed → ℕ
+abbrev pub moment_of : Action → ℕ
 moment_of (Turned moment hs) = moment
 moment_of (Served_body moment body answer hs) = moment
 moment_of (Reported moment device said hs) = moment
 moment_of (Ticked moment hs) = moment
 
-abbrev pub happenings_of : Deed → List Happening
+abbrev pub happenings_of : Action → List Happening
 happenings_of (Turned moment hs) = hs
 happenings_of (Served_body moment body answer hs) = hs
 happenings_of (Reported moment device said hs) = hs
@@ -98,7 +98,7 @@ pub record IsOneRun (trace : Trace) (old new : State) : Type 0 where
 
 -- One event came, was answered this, and nothing else happened: the listener is told its cancels, and then
 -- the dispatch, unless it is a query. No memory was refused.
-pub record IsOneEvent (moment : ℕ) (event : Event) (reply : Reply) (old : State) (hs : List Happening) (new : State) : Type 0 where
+pub record IsOneEvent (moment : ℕ) (event : Event) (reply : Effects) (old : State) (hs : List Happening) (new : State) : Type 0 where
   pub outcome : Outcome
   pub notes : List Note
   pub answered : reply_of outcome ≡ Some reply
@@ -111,20 +111,20 @@ abbrev pub IsNoEvent : State → List Happening → State → Type 0
 IsNoEvent old hs new = (seen hs ≡ []) × (new ≡ old)
 
 -- what a body that was read is to the core, and what it is answered
-abbrev pub IsServed : ℕ → Asked → Answer → State → List Happening → State → Type 0
+abbrev pub IsServed : ℕ → ParsedRequest → Answer → State → List Happening → State → Type 0
 IsServed moment asks.TooShort answer old hs new = (answer ≡ BadRequest) × IsNoEvent old hs new
 IsServed moment (asks.Refused status request) answer old hs new = (answer ≡ Replied (refusal_bytes status request)) × IsNoEvent old hs new
 IsServed moment (asks.Event request event) answer old hs new =
-    (reply : Reply) × (bytes : List ℕ) × (answer ≡ Replied bytes) × IsBytes request reply.answer bytes × IsOneEvent moment event reply old hs new
+    (reply : Effects) × (bytes : List ℕ) × (answer ≡ Replied bytes) × IsBytes request reply.answer bytes × IsOneEvent moment event reply old hs new
 
 -- What a deed between turns is to the core where no growth is refused: one event at its moment, or none
 -- where a body is no request. A turn brings as many as it does (`IsOneRun`).
-abbrev pub IsAtMostOne : Deed → State → State → Type 0
+abbrev pub IsAtMostOne : Action → State → State → Type 0
 IsAtMostOne (Turned moment hs) old new = Unit {0}
-IsAtMostOne (Served_body moment body answer hs) old new = answer ≢ OutOfMemory → (asked : Asked) × Asks body asked × IsServed moment asked answer old hs new
+IsAtMostOne (Served_body moment body answer hs) old new = answer ≢ OutOfMemory → (asked : ParsedRequest) × Asks body asked × IsServed moment asked answer old hs new
 IsAtMostOne (Reported moment device said hs) old new =
-    has_refusal hs ≡ false → (report : Report) × (report_of report ≡ said) × (reply : Reply) × IsOneEvent moment (Is.Report device report) reply old hs new
-IsAtMostOne (Ticked moment hs) old new = has_refusal hs ≡ false → (reply : Reply) × IsOneEvent moment Is.Tick reply old hs new
+    has_refusal hs ≡ false → (report : Report) × (report_of report ≡ said) × (reply : Effects) × IsOneEvent moment (Is.Report device report) reply old hs new
+IsAtMostOne (Ticked moment hs) old new = has_refusal hs ≡ false → (reply : Effects) × IsOneEvent moment Is.Tick reply old hs new
 
 -- ---- connections that were closed
 
@@ -138,7 +138,7 @@ AllTaken closed = All (λ (it : Entry × Fate). IsTaken it.1 it.0) closed
 abbrev pub AreKept : List ℕ → Type 0
 AreKept bytes =
     (key : ℕ) (e : Entry) (l : Ledger) (hs : List Happening) (l' : Ledger)
-    → l.entries key ≡ Some e → e.broken ≡ false → waiting e ≡ [] → Keeps key bytes l hs l' → Sets key (owing bytes e) l hs l'
+    → l.entries key ≡ Some e → e.broken ≡ false → waiting e ≡ [] → Enqueues key bytes l hs l' → Sets key (owing bytes e) l hs l'
 
 -- neither are those that a connection owes by itself
 abbrev pub AreOwed : List ℕ → Type 0

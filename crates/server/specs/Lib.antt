@@ -1,7 +1,7 @@
 pub mod Polls
 pub mod Ledger
 pub mod Rel
-pub mod Keeping
+pub mod Enqueuing
 pub mod Happening
 pub mod Closing
 pub mod Answering
@@ -11,5 +11,5 @@ pub mod Polling
 pub mod Turn
 pub mod Law
 pub mod State
-pub mod Stands
+pub mod Refinement
 pub mod NoteLog

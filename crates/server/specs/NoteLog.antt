@@ -4,27 +4,27 @@ use Rattle.prices.specs.Plan.{PlanRecord}
 use Rattle.prices.specs.declared.plan.PlannedClass.{PlannedClass}
 use Rattle.print_room.specs.declared.started.Started.{Started}
 use Rattle.dispatcher.specs.Notes.{Note, Planned, Canceled, DeviceRefused, Refused}
-use Rattle.server.specs.declared.note_log.Heard.{Heard}
-use Rattle.server.specs.declared.note_log.Heard.TheVariants as hear
+use Rattle.server.specs.declared.note_log.LoggedNote.{LoggedNote}
+use Rattle.server.specs.declared.note_log.LoggedNote.TheVariants as hear
 
-abbrev pub class_word : PlannedClass → Heard
+abbrev pub class_word : PlannedClass → LoggedNote
 class_word class = hear.Class class.priority class.priced.total
 
 -- a plan with its classes and its stranded jobs, if one was made
-abbrev pub plan_words : Option PlanRecord → List Heard
+abbrev pub plan_words : Option PlanRecord → List LoggedNote
 plan_words None = []
 plan_words (Some plan) = hear.Planned ∷ (map class_word plan.classes ++ map hear.Stranded plan.stranded)
 
-abbrev pub dispatch_words : Option PlanRecord → List Started → List Heard
+abbrev pub dispatch_words : Option PlanRecord → List Started → List LoggedNote
 dispatch_words plan started = plan_words plan ++ map hear.Began started
 
 -- what is heard of a note
-abbrev pub words_of : Note → List Heard
+abbrev pub words_of : Note → List LoggedNote
 words_of (Planned plan started) = dispatch_words plan started
 words_of (Canceled cancel) = hear.Canceled cancel ∷ []
 words_of (DeviceRefused id why) = hear.DeviceRefused id why ∷ []
 words_of (Refused place id) = hear.Refused place id ∷ []
 
 -- all of it is kept after what was heard before, or memory for it was refused; after that nothing is kept
-abbrev pub Hears : Option (List Heard) → Note → Option (List Heard) → Type 0
+abbrev pub Hears : Option (List LoggedNote) → Note → Option (List LoggedNote) → Type 0
 Hears old note new = (new ≡ option_map (λ kept. kept ++ words_of note) old) ⊎ (new ≡ None)

@@ -1,15 +1,15 @@
 //! While a connection asks, it is handled.
 ghost use Rattle.std.specs.Prelude.{◌≡◌};
 ghost use Rattle.server.specs.Polls.{both, alone};
-ghost use Rattle.server.specs.Acting.{Does, place_of, place_of_part};
+ghost use Rattle.server.specs.Acting.{Refines, place_of, place_of_part};
 ghost use Rattle.server.specs.Polling.{Serves};
-ghost use Rattle.server.specs.Stands.{Does as Leads, Aside, AsksBy};
+ghost use Rattle.server.specs.Refinement.{Refines as Leads, RefinesQuietly, AsksBy};
 
 use crate::engine::Engine;
 use base_types::Moment;
-use connections::table::{Asked, next};
+use connections::table::{ConnectionAsk, next};
 use connections::{Ask, Growth, Part};
-use dispatcher::{DeviceRefusal, Listener, Place};
+use dispatcher::{AllocationSite, DeviceRefusal, Listener};
 use planners::Planner;
 use wires::{Wire, WireId};
 
@@ -33,14 +33,14 @@ impl<P: Planner + Drop> Engine<P> {
         ensures { Leads (both W.polled N.told) (Serves moment key) (wire.old, notes.old) self.old (wire.new, notes.new) self.new }
     {
         while let Some(asked) = self.ask(key) {
-            let Asked { id, ask } = asked;
+            let ConnectionAsk { id, ask } = asked;
             self.act(moment, Asker { key, id }, ask, notes);
             self.settle(moment, wire, notes);
         }
     }
 
     /// What the connection under a key asks next.
-    fn ask(&mut self, key: usize) -> Option<Asked>
+    fn ask(&mut self, key: usize) -> Option<ConnectionAsk>
         ensures { AsksBy key result self.old self.new }
     {
         next(&mut self.connections, key, self.core.settings())
@@ -48,7 +48,7 @@ impl<P: Planner + Drop> Engine<P> {
 
     /// Handles what is asked, for who asks.
     fn act<N: Listener>(&mut self, moment: Moment, asker: Asker, ask: Ask, notes: &mut N)
-        ensures { Aside (alone N.told) (Does moment asker.key asker.id ask) notes.old self.old notes.new self.new }
+        ensures { RefinesQuietly (alone N.told) (Refines moment asker.key asker.id ask) notes.old self.old notes.new self.new }
     {
         match ask {
             Ask::Nothing => {}
@@ -69,21 +69,21 @@ impl<P: Planner + Drop> Engine<P> {
 }
 
 /// Where a growth of a connection was refused.
-fn place_of(growth: Growth) -> Place
+fn place_of(growth: Growth) -> AllocationSite
     ensures { result ≡ place_of growth }
 {
     match growth {
-        Growth::Input => Place::Feed,
-        Growth::Output => Place::Keep,
+        Growth::Input => AllocationSite::Feed,
+        Growth::Output => AllocationSite::Enqueue,
     }
 }
 
 /// Where a part of an LPD client's job was lost.
-fn place_of_part(part: Part) -> Place
+fn place_of_part(part: Part) -> AllocationSite
     ensures { result ≡ place_of_part part }
 {
     match part {
-        Part::File => Place::File,
-        Part::Job => Place::Event,
+        Part::File => AllocationSite::File,
+        Part::Job => AllocationSite::Event,
     }
 }

@@ -1,19 +1,19 @@
 //! What clients' events are answered.
 ghost use Rattle.std.specs.Prelude.{◌≡◌};
-ghost use Rattle.replies.specs.QueueText.{text_of};
+ghost use Rattle.responses.specs.QueueText.{text_of};
 ghost use Rattle.server.specs.Polls.{alone};
 ghost use Rattle.server.specs.Answering.{IsAnswered, Answers, Replies, RepliesWith, LosesReply, Drops, ipp_answer, Declines, Acknowledges, Responds, IsShown, IsTold, Shows};
-ghost use Rattle.server.specs.Stands.{Aside};
+ghost use Rattle.server.specs.Refinement.{RefinesQuietly};
 
 use crate::acting::Asker;
 use crate::engine::Engine;
 use base_types::Moment;
 use connections::table::break_off;
 use connections::{Client, REFUSED};
-use dispatcher::{Listener, Place};
-use events::{Answer as Says, Event, IppAnswer, LpdAnswer, Reply, Status};
+use dispatcher::{AllocationSite, Listener};
+use events::{Effects, Event, IppResponse, LpdResponse, Response as Says, Status};
 use planners::Planner;
-use replies::{ipp_reply, lpd_ack, lpd_queue_text};
+use responses::{ipp_response, lpd_ack, lpd_queue_text};
 
 impl<P: Planner + Drop> Engine<P> {
     /// An event of a client, and its answer.
@@ -25,7 +25,7 @@ impl<P: Planner + Drop> Engine<P> {
         event: Event,
         notes: &mut N,
     )
-        ensures { Aside (alone N.told) (IsAnswered moment asker.key asker.id client event) notes.old self.old notes.new self.new }
+        ensures { RefinesQuietly (alone N.told) (IsAnswered moment asker.key asker.id client event) notes.old self.old notes.new self.new }
     {
         let query = event.is_query();
         let handled = self.handle(moment, event, notes);
@@ -38,10 +38,10 @@ impl<P: Planner + Drop> Engine<P> {
         asker: Asker,
         client: Client,
         query: bool,
-        reply: Option<Reply>,
+        reply: Option<Effects>,
         notes: &mut N,
     )
-        ensures { Aside (alone N.told) (Answers asker.key asker.id client query reply) notes.old self.old notes.new self.new }
+        ensures { RefinesQuietly (alone N.told) (Answers asker.key asker.id client query reply) notes.old self.old notes.new self.new }
     {
         match client {
             Client::Ipp(request) => self.reply(asker, request, query, reply, notes),
@@ -59,10 +59,10 @@ impl<P: Planner + Drop> Engine<P> {
         asker: Asker,
         request: u32,
         query: bool,
-        reply: Option<Reply>,
+        reply: Option<Effects>,
         notes: &mut N,
     )
-        ensures { Aside (alone N.told) (Replies asker.key asker.id request query reply) notes.old self.old notes.new self.new }
+        ensures { RefinesQuietly (alone N.told) (Replies asker.key asker.id request query reply) notes.old self.old notes.new self.new }
     {
         match reply {
             Some(reply) => self.reply_with(asker, request, query, reply.answer, notes),
@@ -72,10 +72,10 @@ impl<P: Planner + Drop> Engine<P> {
 
     /// A request was dropped, out of memory, which it is answered.
     pub(crate) fn drop_request<N: Listener>(&mut self, asker: Asker, request: u32, notes: &mut N)
-        ensures { Aside (alone N.told) (Drops asker.key asker.id request) notes.old self.old notes.new self.new }
+        ensures { RefinesQuietly (alone N.told) (Drops asker.key asker.id request) notes.old self.old notes.new self.new }
     {
-        notes.refused(Place::Event, Some(asker.id));
-        self.keep_status(asker.key, Status::TemporaryError, request, notes);
+        notes.refused(AllocationSite::Event, Some(asker.id));
+        self.enqueue_status(asker.key, Status::TemporaryError, request, notes);
     }
 
     /// The bytes of an answer become due on the client's connection.
@@ -87,13 +87,13 @@ impl<P: Planner + Drop> Engine<P> {
         answer: Says,
         notes: &mut N,
     )
-        ensures { Aside (alone N.told) (RepliesWith asker.key asker.id request query answer) notes.old self.old notes.new self.new }
+        ensures { RefinesQuietly (alone N.told) (RepliesWith asker.key asker.id request query answer) notes.old self.old notes.new self.new }
     {
         let Some(answer) = ipp_answer(answer) else {
             return;
         };
-        match ipp_reply(self.alloc, answer, request) {
-            Ok(bytes) => self.keep_reply(asker.key, &bytes, notes),
+        match ipp_response(self.alloc, answer, request) {
+            Ok(bytes) => self.enqueue_response(asker.key, &bytes, notes),
             Err(_) => self.lose_reply(asker, request, query, notes),
         }
     }
@@ -101,11 +101,11 @@ impl<P: Planner + Drop> Engine<P> {
     /// Memory for the bytes of an answer was refused: a query is answered so, after any other event the
     /// connection breaks.
     fn lose_reply<N: Listener>(&mut self, asker: Asker, request: u32, query: bool, notes: &mut N)
-        ensures { Aside (alone N.told) (LosesReply asker.key asker.id request query) notes.old self.old notes.new self.new }
+        ensures { RefinesQuietly (alone N.told) (LosesReply asker.key asker.id request query) notes.old self.old notes.new self.new }
     {
-        notes.refused(Place::Reply, Some(asker.id));
+        notes.refused(AllocationSite::Reply, Some(asker.id));
         if query {
-            self.keep_status(asker.key, Status::TemporaryError, request, notes);
+            self.enqueue_status(asker.key, Status::TemporaryError, request, notes);
         } else {
             break_off(&mut self.connections, asker.key);
         }
@@ -115,31 +115,36 @@ impl<P: Planner + Drop> Engine<P> {
 /// LPD clients.
 impl<P: Planner + Drop> Engine<P> {
     /// The answer to a job becomes due, or that memory for it was refused.
-    fn answer_job<N: Listener>(&mut self, asker: Asker, reply: Option<Reply>, notes: &mut N)
-        ensures { Aside (alone N.told) (Acknowledges asker.key asker.id reply) notes.old self.old notes.new self.new }
+    fn answer_job<N: Listener>(&mut self, asker: Asker, reply: Option<Effects>, notes: &mut N)
+        ensures { RefinesQuietly (alone N.told) (Acknowledges asker.key asker.id reply) notes.old self.old notes.new self.new }
     {
         match reply {
             Some(reply) => self.tell_answer(asker, &reply.answer, notes),
-            None => self.decline(Place::Event, asker, notes),
+            None => self.decline(AllocationSite::Event, asker, notes),
         }
     }
 
     /// Memory for a file or for its job was refused, and so is it.
-    pub(crate) fn decline<N: Listener>(&mut self, place: Place, asker: Asker, notes: &mut N)
-        ensures { Aside (alone N.told) (Declines place asker.key asker.id) notes.old self.old notes.new self.new }
+    pub(crate) fn decline<N: Listener>(
+        &mut self,
+        place: AllocationSite,
+        asker: Asker,
+        notes: &mut N,
+    )
+        ensures { RefinesQuietly (alone N.told) (Declines place asker.key asker.id) notes.old self.old notes.new self.new }
     {
         notes.refused(place, Some(asker.id));
-        self.keep(asker.key, &[REFUSED], notes);
+        self.enqueue(asker.key, &[REFUSED], notes);
     }
 
     /// The answer to a command becomes due; where memory for it was refused the connection breaks.
-    fn answer_command<N: Listener>(&mut self, asker: Asker, reply: Option<Reply>, notes: &mut N)
-        ensures { Aside (alone N.told) (Responds asker.key asker.id reply) notes.old self.old notes.new self.new }
+    fn answer_command<N: Listener>(&mut self, asker: Asker, reply: Option<Effects>, notes: &mut N)
+        ensures { RefinesQuietly (alone N.told) (Responds asker.key asker.id reply) notes.old self.old notes.new self.new }
     {
         match reply {
             Some(reply) => self.tell_answer(asker, &reply.answer, notes),
             None => {
-                notes.refused(Place::Event, Some(asker.id));
+                notes.refused(AllocationSite::Event, Some(asker.id));
                 break_off(&mut self.connections, asker.key);
             }
         }
@@ -147,7 +152,7 @@ impl<P: Planner + Drop> Engine<P> {
 
     /// The bytes of an answer to an LPD client become due, if it is one.
     fn tell_answer<N: Listener>(&mut self, asker: Asker, answer: &Says, notes: &mut N)
-        ensures { Aside (alone N.told) (IsShown asker.key asker.id answer.now) notes.old self.old notes.new self.new }
+        ensures { RefinesQuietly (alone N.told) (IsShown asker.key asker.id answer.now) notes.old self.old notes.new self.new }
     {
         match answer {
             Says::Lpd(answer) => self.tell_client(asker, answer, notes),
@@ -157,24 +162,24 @@ impl<P: Planner + Drop> Engine<P> {
     }
 
     /// The bytes of an answer to an LPD client become due.
-    fn tell_client<N: Listener>(&mut self, asker: Asker, answer: &LpdAnswer, notes: &mut N)
-        ensures { Aside (alone N.told) (IsTold asker.key asker.id answer.now) notes.old self.old notes.new self.new }
+    fn tell_client<N: Listener>(&mut self, asker: Asker, answer: &LpdResponse, notes: &mut N)
+        ensures { RefinesQuietly (alone N.told) (IsTold asker.key asker.id answer.now) notes.old self.old notes.new self.new }
     {
         match answer {
-            LpdAnswer::Taken(_) => self.keep(asker.key, &[lpd_ack(answer)], notes),
-            LpdAnswer::Queue(_) => self.show(asker, answer, notes),
-            LpdAnswer::NoQueue => self.show(asker, answer, notes),
+            LpdResponse::Taken(_) => self.enqueue(asker.key, &[lpd_ack(answer)], notes),
+            LpdResponse::Queue(_) => self.show(asker, answer, notes),
+            LpdResponse::NoQueue => self.show(asker, answer, notes),
         }
     }
 
     /// The text of a queue becomes due; where memory for it is refused, the connection breaks.
-    fn show<N: Listener>(&mut self, asker: Asker, answer: &LpdAnswer, notes: &mut N)
-        ensures { Aside (alone N.told) (Shows asker.key asker.id (text_of answer.now)) notes.old self.old notes.new self.new }
+    fn show<N: Listener>(&mut self, asker: Asker, answer: &LpdResponse, notes: &mut N)
+        ensures { RefinesQuietly (alone N.told) (Shows asker.key asker.id (text_of answer.now)) notes.old self.old notes.new self.new }
     {
         match lpd_queue_text(self.alloc, answer) {
-            Ok(text) => self.keep(asker.key, &text, notes),
+            Ok(text) => self.enqueue(asker.key, &text, notes),
             Err(_) => {
-                notes.refused(Place::Reply, Some(asker.id));
+                notes.refused(AllocationSite::Reply, Some(asker.id));
                 break_off(&mut self.connections, asker.key);
             }
         }
@@ -182,7 +187,7 @@ impl<P: Planner + Drop> Engine<P> {
 }
 
 /// The answer to an IPP request, where it is one.
-fn ipp_answer(answer: Says) -> Option<IppAnswer>
+fn ipp_answer(answer: Says) -> Option<IppResponse>
     ensures { result ≡ ipp_answer answer }
 {
     match answer {

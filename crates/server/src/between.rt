@@ -3,16 +3,16 @@ ghost use Rattle.base_types.specs.Report.{report_of};
 ghost use Rattle.server.specs.Polls.{alone};
 ghost use Rattle.server.specs.Happening.{Unanswered};
 ghost use Rattle.server.specs.Turn.{Ticked, Reported, BodyAsks, BodyComes};
-ghost use Rattle.server.specs.Stands.{Openly, Calls, Answered, ServesBody, AnswerAs, BytesAs, RefusalAs, said_of};
+ghost use Rattle.server.specs.Refinement.{RefinesReporting, RefinesCall, RefinesAnswering, RefinesBody, AnswerAs, BytesAs, RefusalAs, said_of};
 
 use crate::engine::Engine;
 use crate::served::{Served, answered};
 use base_types::{DeviceId, Moment, Report};
-use dispatcher::{Listener, Place};
-use events::{Answer as Says, Event, Reply, Status};
+use dispatcher::{AllocationSite, Listener};
+use events::{Effects, Event, Response as Says, Status};
 use planners::Planner;
-use replies::{ipp_refusal, ipp_reply};
-use requests::{Asked, ipp_event};
+use requests::{ParsedRequest, ipp_event};
+use responses::{ipp_refusal, ipp_response};
 use std::alloc::AllocError;
 
 /// What a caller without connections gives the server.
@@ -25,7 +25,7 @@ impl<P: Planner + Drop> Engine<P> {
         notes: &mut N,
         moment: Moment,
     ) -> Result<Served, AllocError>
-        ensures { ServesBody (alone N.told) moment body.now notes.old self.old notes.new self.new (said_of result) }
+        ensures { RefinesBody (alone N.told) moment body.now notes.old self.old notes.new self.new (said_of result) }
     {
         self.serve_now(moment, body, notes)
     }
@@ -37,12 +37,12 @@ impl<P: Planner + Drop> Engine<P> {
         body: &[u8],
         notes: &mut N,
     ) -> Result<Served, AllocError>
-        ensures { Answered (alone N.told) (BodyComes moment body.now) notes.old self.old notes.new self.new (said_of result) }
+        ensures { RefinesAnswering (alone N.told) (BodyComes moment body.now) notes.old self.old notes.new self.new (said_of result) }
     {
         match ipp_event(self.alloc, body) {
             Ok(asked) => self.serve_asked(moment, asked, notes),
             Err(_) => {
-                notes.refused(Place::Event, None);
+                notes.refused(AllocationSite::Event, None);
                 Err(AllocError)
             }
         }
@@ -52,15 +52,15 @@ impl<P: Planner + Drop> Engine<P> {
     fn serve_asked<N: Listener>(
         &mut self,
         moment: Moment,
-        asked: Asked,
+        asked: ParsedRequest,
         notes: &mut N,
     ) -> Result<Served, AllocError>
-        ensures { Answered (alone N.told) (BodyAsks moment asked) notes.old self.old notes.new self.new (said_of result) }
+        ensures { RefinesAnswering (alone N.told) (BodyAsks moment asked) notes.old self.old notes.new self.new (said_of result) }
     {
         match asked {
-            Asked::TooShort => Ok(Served::BadRequest),
-            Asked::Refused(status, request) => self.serve_refusal(status, request, notes),
-            Asked::Event(request, event) => self.serve_event(moment, request, event, notes),
+            ParsedRequest::TooShort => Ok(Served::BadRequest),
+            ParsedRequest::Refused(status, request) => self.serve_refusal(status, request, notes),
+            ParsedRequest::Event(request, event) => self.serve_event(moment, request, event, notes),
         }
     }
 
@@ -76,7 +76,7 @@ impl<P: Planner + Drop> Engine<P> {
         match Vec::from_slice(self.alloc, &ipp_refusal(status, request)) {
             Ok(bytes) => Ok(Served::Reply(bytes)),
             Err(_) => {
-                notes.refused(Place::Reply, None);
+                notes.refused(AllocationSite::Reply, None);
                 Err(AllocError)
             }
         }
@@ -90,7 +90,7 @@ impl<P: Planner + Drop> Engine<P> {
         event: Event,
         notes: &mut N,
     ) -> Result<Served, AllocError>
-        ensures { Answered (alone N.told) (BodyAsks moment (Asked.Event request event)) notes.old self.old notes.new self.new (said_of result) }
+        ensures { RefinesAnswering (alone N.told) (BodyAsks moment (ParsedRequest.Event request event)) notes.old self.old notes.new self.new (said_of result) }
     {
         let handled = self.handle(moment, event, notes);
         let bytes = self.bytes_of(handled.outcome.into_reply(), request, notes);
@@ -101,7 +101,7 @@ impl<P: Planner + Drop> Engine<P> {
     /// told of.
     fn bytes_of<N: Listener>(
         &self,
-        reply: Option<Reply>,
+        reply: Option<Effects>,
         request: u32,
         notes: &mut N,
     ) -> Result<Vec<u8>, AllocError>
@@ -110,7 +110,7 @@ impl<P: Planner + Drop> Engine<P> {
         match reply {
             Some(reply) => self.answer_bytes(reply.answer, request, notes),
             None => {
-                notes.refused(Place::Event, None);
+                notes.refused(AllocationSite::Event, None);
                 Err(AllocError)
             }
         }
@@ -128,10 +128,10 @@ impl<P: Planner + Drop> Engine<P> {
         match answer {
             Says::Lpd(_) => Ok(Vec::new(self.alloc)),
             Says::Nothing => Ok(Vec::new(self.alloc)),
-            Says::Ipp(answer) => match ipp_reply(self.alloc, answer, request) {
+            Says::Ipp(answer) => match ipp_response(self.alloc, answer, request) {
                 Ok(bytes) => Ok(bytes),
                 Err(error) => {
-                    notes.refused(Place::Reply, None);
+                    notes.refused(AllocationSite::Reply, None);
                     Err(error)
                 }
             },
@@ -147,7 +147,7 @@ impl<P: Planner + Drop> Engine<P> {
         notes: &mut N,
         moment: Moment,
     ) -> Result<(), AllocError>
-        ensures { Calls (alone N.told) (Reported moment device (report_of report)) notes.old self.old notes.new self.new result }
+        ensures { RefinesCall (alone N.told) (Reported moment device (report_of report)) notes.old self.old notes.new self.new result }
     {
         if self.report_now(moment, device, report, notes) {
             Err(AllocError)
@@ -164,7 +164,7 @@ impl<P: Planner + Drop> Engine<P> {
         report: Report,
         notes: &mut N,
     ) -> bool
-        ensures { Openly (alone N.told) (Unanswered moment (Event.Report device report)) notes.old self.old notes.new self.new result }
+        ensures { RefinesReporting (alone N.told) (Unanswered moment (Event.Report device report)) notes.old self.old notes.new self.new result }
     {
         self.handle(moment, Event::Report(device, report), notes)
             .refused
@@ -172,7 +172,7 @@ impl<P: Planner + Drop> Engine<P> {
 
     /// One tick, between turns. The error is that a growth was refused, which the listener is told of.
     pub fn tick<N: Listener>(&mut self, notes: &mut N, moment: Moment) -> Result<(), AllocError>
-        ensures { Calls (alone N.told) (Ticked moment) notes.old self.old notes.new self.new result }
+        ensures { RefinesCall (alone N.told) (Ticked moment) notes.old self.old notes.new self.new result }
     {
         if self.tick_now(moment, notes) {
             Err(AllocError)

@@ -3,12 +3,12 @@ ghost use Rattle.std.specs.Prelude.{◌≡◌, false, ℕ, [], Some, IfSome, IfN
 ghost use Rattle.server.specs.Polls.{both};
 ghost use Rattle.server.specs.Ledger.{Fate, Drained};
 ghost use Rattle.server.specs.Rel.{Then};
-ghost use Rattle.server.specs.Keeping.{Breaks};
+ghost use Rattle.server.specs.Enqueuing.{Breaks};
 ghost use Rattle.server.specs.Closing.{Settles};
 ghost use Rattle.server.specs.Polling.{EndsOne};
 ghost use Rattle.connections.specs.Slots.{IsFirstBroken, broken_at};
 ghost use Rattle.server.specs.State.{slot_at};
-ghost use Rattle.server.specs.Stands.{Does, Aside, Closed};
+ghost use Rattle.server.specs.Refinement.{Refines, RefinesQuietly, RefinesClosing};
 ghost use Rattle.connections.specs.Connections.{ConnectionState};
 
 use crate::engine::Engine;
@@ -41,7 +41,7 @@ impl<P: Planner + Drop> Engine<P> {
         wire: &mut W,
         notes: &mut N,
     )
-        ensures { (fate : Fate) (c : ConnectionState) → slot_at self.old key ≡ Some c → (fate ≡ Drained → c.output ≡ []) → Closed (both W.polled N.told) moment fate key (wire.old, notes.old) self.old (wire.new, notes.new) self.new }
+        ensures { (fate : Fate) (c : ConnectionState) → slot_at self.old key ≡ Some c → (fate ≡ Drained → c.output ≡ []) → RefinesClosing (both W.polled N.told) moment fate key (wire.old, notes.old) self.old (wire.new, notes.new) self.new }
     {
         if let Some(device) = close(&mut self.connections, key, wire) {
             self.report_now(moment, device, Report::Gone, notes);
@@ -55,7 +55,7 @@ impl<P: Planner + Drop> Engine<P> {
         wire: &mut W,
         notes: &mut N,
     )
-        ensures { Aside (both W.polled N.told) (Settles moment) (wire.old, notes.old) self.old (wire.new, notes.new) self.new }
+        ensures { RefinesQuietly (both W.polled N.told) (Settles moment) (wire.old, notes.old) self.old (wire.new, notes.new) self.new }
     {
         while let Some(key) = self.first_broken() {
             self.close(moment, key, wire, notes);
@@ -70,7 +70,7 @@ impl<P: Planner + Drop> Engine<P> {
         wire: &mut W,
         notes: &mut N,
     )
-        ensures { Aside (both W.polled N.told) (Then (Breaks key) (Settles moment)) (wire.old, notes.old) self.old (wire.new, notes.new) self.new }
+        ensures { RefinesQuietly (both W.polled N.told) (Then (Breaks key) (Settles moment)) (wire.old, notes.old) self.old (wire.new, notes.new) self.new }
     {
         break_off(&mut self.connections, key);
         self.settle(moment, wire, notes);
@@ -84,7 +84,7 @@ impl<P: Planner + Drop> Engine<P> {
         wire: &mut W,
         notes: &mut N,
     )
-        ensures { Does (both W.polled N.told) (EndsOne moment key) (wire.old, notes.old) self.old (wire.new, notes.new) self.new }
+        ensures { Refines (both W.polled N.told) (EndsOne moment key) (wire.old, notes.old) self.old (wire.new, notes.new) self.new }
     {
         if is_done(&self.connections, key) {
             self.close(moment, key, wire, notes);

@@ -2,12 +2,12 @@
 ghost use Rattle.std.specs.Prelude.{◌≡◌};
 ghost use Rattle.std.specs.Option.{is_some};
 ghost use Rattle.server.specs.Polls.{alone};
-ghost use Rattle.server.specs.Keeping.{Keeps, KeepsReply, KeepsStatus};
-ghost use Rattle.server.specs.Stands.{Aside, ToldOf};
+ghost use Rattle.server.specs.Enqueuing.{Enqueues, EnqueuesReply, EnqueuesStatus};
+ghost use Rattle.server.specs.Refinement.{RefinesQuietly, ToldOf};
 
 use crate::engine::Engine;
-use connections::table::{keep, keep_reply, keep_status};
-use dispatcher::{Listener, Place};
+use connections::table::{enqueue, enqueue_response, enqueue_status};
+use dispatcher::{AllocationSite, Listener};
 use events::Status;
 use planners::Planner;
 use wires::WireId;
@@ -16,32 +16,32 @@ use wires::WireId;
 /// breaks.
 impl<P: Planner + Drop> Engine<P> {
     /// Bytes become due on the connection under a key.
-    pub(crate) fn keep<N: Listener>(&mut self, key: usize, bytes: &[u8], notes: &mut N)
-        ensures { Aside (alone N.told) (Keeps key bytes.now) notes.old self.old notes.new self.new }
+    pub(crate) fn enqueue<N: Listener>(&mut self, key: usize, bytes: &[u8], notes: &mut N)
+        ensures { RefinesQuietly (alone N.told) (Enqueues key bytes.now) notes.old self.old notes.new self.new }
     {
-        let broke = keep(&mut self.connections, key, bytes);
+        let broke = enqueue(&mut self.connections, key, bytes);
         tell(broke, notes);
     }
 
     /// A reply of IPP becomes due on the connection under a key.
-    pub(crate) fn keep_reply<N: Listener>(&mut self, key: usize, bytes: &[u8], notes: &mut N)
-        ensures { Aside (alone N.told) (KeepsReply key bytes.now) notes.old self.old notes.new self.new }
+    pub(crate) fn enqueue_response<N: Listener>(&mut self, key: usize, bytes: &[u8], notes: &mut N)
+        ensures { RefinesQuietly (alone N.told) (EnqueuesReply key bytes.now) notes.old self.old notes.new self.new }
     {
-        let broke = keep_reply(&mut self.connections, key, bytes);
+        let broke = enqueue_response(&mut self.connections, key, bytes);
         tell(broke, notes);
     }
 
     /// The reply of a status alone becomes due on the connection under a key.
-    pub(crate) fn keep_status<N: Listener>(
+    pub(crate) fn enqueue_status<N: Listener>(
         &mut self,
         key: usize,
         status: Status,
         request: u32,
         notes: &mut N,
     )
-        ensures { Aside (alone N.told) (KeepsStatus key status request) notes.old self.old notes.new self.new }
+        ensures { RefinesQuietly (alone N.told) (EnqueuesStatus key status request) notes.old self.old notes.new self.new }
     {
-        let broke = keep_status(&mut self.connections, key, status, request);
+        let broke = enqueue_status(&mut self.connections, key, status, request);
         tell(broke, notes);
     }
 }
@@ -53,7 +53,7 @@ pub(crate) fn tell<N: Listener>(broke: Option<WireId>, notes: &mut N) -> bool
 {
     match broke {
         Some(id) => {
-            notes.refused(Place::Keep, Some(id));
+            notes.refused(AllocationSite::Enqueue, Some(id));
             true
         }
         None => false,

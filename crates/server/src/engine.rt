@@ -6,7 +6,7 @@ ghost use Rattle.print_room.specs.Opening.{opening};
 ghost use Rattle.spool.specs.Jobs.{job_at};
 ghost use Rattle.server.specs.Polls.{both};
 ghost use Rattle.server.specs.State.{EngineState};
-ghost use Rattle.server.specs.Stands.{StandsAt, Turns};
+ghost use Rattle.server.specs.Refinement.{StandsAt, RefinesTurn};
 
 use base_types::{DeviceId, DeviceNow, JobId, Limits, Moment};
 use connections::Connection;
@@ -62,7 +62,7 @@ impl<P: Planner + Drop> Engine<P> {
     /// Whatever the wire answers: at whatever trace the engine stood, it stands at that trace followed
     /// by this turn.
     pub fn turn<W: Wire, N: Listener>(&mut self, wire: &mut W, notes: &mut N, moment: Moment)
-        ensures { Turns (both W.polled N.told) moment (wire.old, notes.old) self.old (wire.new, notes.new) self.new }
+        ensures { RefinesTurn (both W.polled N.told) moment (wire.old, notes.old) self.old (wire.new, notes.new) self.new }
     {
         self.turn_once(wire, notes, moment);
     }

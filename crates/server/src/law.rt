@@ -1,14 +1,14 @@
 //! Laws of traces. Their functions do nothing: their contracts are what they are for.
 ghost use Rattle.std.specs.Prelude.{ℕ, Bool, ◌∷◌, []};
 ghost use Rattle.http_front.specs.Reply.{continue_head};
-ghost use Rattle.http_front.specs.declared.refusal.Refusal.{Refusal};
+ghost use Rattle.http_front.specs.declared.refusal.HttpRejection.{HttpRejection};
 ghost use Rattle.events.specs.declared.status.Status.{Status};
 ghost use Rattle.print_room.specs.State.{State};
 ghost use Rattle.server.specs.Ledger.{Ledger, opening_ledger};
-ghost use Rattle.outputs.specs.Reply.{refusal_head};
+ghost use Rattle.send_queues.specs.Reply.{refusal_head};
 ghost use Rattle.connections.specs.Steps.{http_status};
 ghost use Rattle.server.specs.Law.{IsOneRun, IsAtMostOne, AllTaken, AreKept, AreOwed};
-ghost use Rattle.server.specs.Turn.{Deed, DoesDeed, Trace, Runs};
+ghost use Rattle.server.specs.Turn.{Action, DoesDeed, Trace, Runs};
 
 /// What happens in a trace is one run of the core: the events of its deeds, in order and each at its
 /// deed's moment, lead the core from where the trace found it to where it leaves it. What that run tells
@@ -23,8 +23,8 @@ pub fn trace_is_one_run()
 /// asks, answered with the bytes of its reply. A body that is too short, or is refused, is none, and
 /// changes nothing. The listener is told the cancels of the reply and then, unless it is a query, the
 /// dispatch that follows; and nothing else.
-pub fn deed_is_one_event()
-    ensures { (deed : Deed) (old new : Ledger) → DoesDeed deed old new → IsAtMostOne deed old.core new.core }
+pub fn action_is_one_event()
+    ensures { (deed : Action) (old new : Ledger) → DoesDeed deed old new → IsAtMostOne deed old.core new.core }
 {}
 
 /// Of each connection that was closed after its output went out, all that was due on it was taken; of
@@ -39,7 +39,7 @@ pub fn closed_were_given()
 pub fn last_words_are_kept()
     ensures status { (closes : Bool) (status : Status) (request : ℕ) → AreKept (http_status closes status request) }
     ensures own_status { (closes : Bool) (status : Status) (request : ℕ) → AreOwed (http_status closes status request) }
-    ensures refusal { (refusal : Refusal) → AreOwed (refusal_head refusal) }
+    ensures refusal { (refusal : HttpRejection) → AreOwed (refusal_head refusal) }
     ensures going_on { AreOwed continue_head }
     ensures byte { (byte : ℕ) → AreKept (byte ∷ []) }
     ensures own_byte { (byte : ℕ) → AreOwed (byte ∷ []) }

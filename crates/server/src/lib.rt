@@ -24,6 +24,6 @@ mod ticks;
 mod turns;
 
 pub use engine::Engine;
-pub use law::{closed_were_given, deed_is_one_event, last_words_are_kept, trace_is_one_run};
-pub use note_log::{Heard, NoteLog};
+pub use law::{action_is_one_event, closed_were_given, last_words_are_kept, trace_is_one_run};
+pub use note_log::{LoggedNote, NoteLog};
 pub use served::Served;

@@ -5,7 +5,7 @@ ghost use Rattle.dispatcher.specs.Dispatched.{plan_of, started_of};
 ghost use Rattle.server.specs.NoteLog.{plan_words, class_word, dispatch_words};
 
 use base_types::{Priority, Stranded};
-use dispatcher::{DeviceRefusal, Dispatched, Listener, Place, Started};
+use dispatcher::{AllocationSite, DeviceRefusal, Dispatched, Listener, Started};
 use events::Cancel;
 use prices::{Plan, PlannedClass};
 use std::alloc::{AllocError, Global};
@@ -16,7 +16,7 @@ use wires::WireId;
 /// What a listener hears, in order. A dispatch is several: its plan, if a job was ready, and then each
 /// job that begins.
 #[derive(Debug, Drop)]
-pub enum Heard {
+pub enum LoggedNote {
     /// A plan was made. Its classes follow, from the highest priority down, and then by rising id the
     /// jobs that no device can print.
     Planned,
@@ -30,7 +30,7 @@ pub enum Heard {
     /// The connection of this number, a device's, is refused.
     DeviceRefused(WireId, DeviceRefusal),
     /// A growth was refused, for the connection of this number if for one.
-    Refused(Place, Option<WireId>),
+    Refused(AllocationSite, Option<WireId>),
 }
 
 /// A listener that keeps all that it is told, unless memory for it is refused: then it keeps nothing
@@ -38,15 +38,15 @@ pub enum Heard {
 #[derive(Drop)]
 pub struct NoteLog {
     alloc: Global,
-    heard: Vec<Heard>,
+    heard: Vec<LoggedNote>,
     lost: bool,
 }
 
 impl Model for NoteLog {
     ghost use Rattle.std.specs.Prelude.{List, Option, Some, None, if◌then◌else◌};
-    ghost use Rattle.server.specs.declared.note_log.Heard.{Heard};
+    ghost use Rattle.server.specs.declared.note_log.LoggedNote.{LoggedNote};
 
-    ghost Value = { Option (List Heard) };
+    ghost Value = { Option (List LoggedNote) };
 
     ghost view = { λ l. if l.lost then None else Some l.heard.items };
 }
@@ -63,19 +63,19 @@ impl Listener for NoteLog {
     }
 
     fn canceled(&mut self, cancel: Cancel) {
-        if self.keep(Heard::Canceled(cancel)).is_err() {
+        if self.enqueue(LoggedNote::Canceled(cancel)).is_err() {
             self.lose();
         }
     }
 
     fn device_refused(&mut self, id: WireId, why: DeviceRefusal) {
-        if self.keep(Heard::DeviceRefused(id, why)).is_err() {
+        if self.enqueue(LoggedNote::DeviceRefused(id, why)).is_err() {
             self.lose();
         }
     }
 
-    fn refused(&mut self, place: Place, id: Option<WireId>) {
-        if self.keep(Heard::Refused(place, id)).is_err() {
+    fn refused(&mut self, place: AllocationSite, id: Option<WireId>) {
+        if self.enqueue(LoggedNote::Refused(place, id)).is_err() {
             self.lose();
         }
     }
@@ -95,7 +95,7 @@ impl NoteLog {
 
     /// What was heard, which is then kept no more. The error is that memory was refused for some of
     /// it.
-    pub fn take(&mut self) -> Result<Vec<Heard>, AllocError>
+    pub fn take(&mut self) -> Result<Vec<LoggedNote>, AllocError>
         ensures ok { IfOk result (λ heard. (self.old ≡ Some heard.items) × (self.new ≡ Some [])) }
         ensures err { OnErr result ((self.old ≡ None) × (self.new ≡ None)) }
     {
@@ -107,7 +107,7 @@ impl NoteLog {
     }
 
     /// Keeps one thing that was heard.
-    fn keep(&mut self, heard: Heard) -> Result<(), AllocError>
+    fn enqueue(&mut self, heard: LoggedNote) -> Result<(), AllocError>
         ensures ok { OnOk result (self.new ≡ option_map (λ kept. kept ++ heard ∷ []) self.old) }
         ensures err { OnErr result (self.new ≡ self.old) }
     {
@@ -132,22 +132,22 @@ impl NoteLog {
 }
 
 /// Appends what is heard of a plan.
-fn put_plan(heard: &mut Vec<Heard>, plan: Option<&Plan>) -> Result<(), AllocError>
+fn put_plan(heard: &mut Vec<LoggedNote>, plan: Option<&Plan>) -> Result<(), AllocError>
     ensures { OnOk result (heard.new.items ≡ heard.old.items ++ plan_words (option_copied plan.entry)) }
 {
     let Some(plan) = plan else {
         return Ok(());
     };
-    heard.push(Heard::Planned)?;
+    heard.push(LoggedNote::Planned)?;
     put_classes(heard, plan.classes())?;
     put_stranded(heard, plan.stranded())
 }
 
-fn put_classes(heard: &mut Vec<Heard>, classes: &[PlannedClass]) -> Result<(), AllocError>
+fn put_classes(heard: &mut Vec<LoggedNote>, classes: &[PlannedClass]) -> Result<(), AllocError>
     ensures { OnOk result (heard.new.items ≡ heard.old.items ++ map class_word classes.now) }
 {
     for class in classes {
-        heard.push(Heard::Class {
+        heard.push(LoggedNote::Class {
             priority: class.priority,
             total: class.priced.total,
         })?;
@@ -155,20 +155,20 @@ fn put_classes(heard: &mut Vec<Heard>, classes: &[PlannedClass]) -> Result<(), A
     Ok(())
 }
 
-fn put_stranded(heard: &mut Vec<Heard>, stranded: &[Stranded]) -> Result<(), AllocError>
-    ensures { OnOk result (heard.new.items ≡ heard.old.items ++ map Heard.Stranded stranded.now) }
+fn put_stranded(heard: &mut Vec<LoggedNote>, stranded: &[Stranded]) -> Result<(), AllocError>
+    ensures { OnOk result (heard.new.items ≡ heard.old.items ++ map LoggedNote.Stranded stranded.now) }
 {
     for job in stranded {
-        heard.push(Heard::Stranded(*job))?;
+        heard.push(LoggedNote::Stranded(*job))?;
     }
     Ok(())
 }
 
-fn put_started(heard: &mut Vec<Heard>, started: &[Started]) -> Result<(), AllocError>
-    ensures { OnOk result (heard.new.items ≡ heard.old.items ++ map Heard.Began started.now) }
+fn put_started(heard: &mut Vec<LoggedNote>, started: &[Started]) -> Result<(), AllocError>
+    ensures { OnOk result (heard.new.items ≡ heard.old.items ++ map LoggedNote.Began started.now) }
 {
     for start in started {
-        heard.push(Heard::Began(*start))?;
+        heard.push(LoggedNote::Began(*start))?;
     }
     Ok(())
 }

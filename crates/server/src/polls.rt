@@ -1,16 +1,16 @@
 //! The polls of one connection, and of a door.
 ghost use Rattle.server.specs.Polls.{both};
 ghost use Rattle.server.specs.Polling.{AcceptsAt, AcceptsOne, Opens, FeedsOne, ReadsOne, WritesOne};
-ghost use Rattle.server.specs.Stands.{Does};
+ghost use Rattle.server.specs.Refinement.{Refines};
 
 use crate::engine::Engine;
 use base_types::{Limits, Moment};
 use connections::Fed;
 use connections::table::{end, feed, insert, offer, to_read};
-use dispatcher::{Listener, Place};
-use outputs::Offered;
+use dispatcher::{AllocationSite, Listener};
 use planners::Planner;
-use wires::{Answer, Door, Wire, WireId};
+use send_queues::Offered;
+use wires::{Door, Progress, Wire, WireId};
 
 /// The bytes of a read, at most.
 const PIECE: usize = 4096;
@@ -24,7 +24,7 @@ impl<P: Planner + Drop> Engine<P> {
         wire: &mut W,
         notes: &mut N,
     )
-        ensures { Does (both W.polled N.told) (AcceptsAt door) (wire.old, notes.old) self.old (wire.new, notes.new) self.new }
+        ensures { Refines (both W.polled N.told) (AcceptsAt door) (wire.old, notes.old) self.old (wire.new, notes.new) self.new }
     {
         if self.connections.len() < Limits::CONNECTIONS {
             self.accept(door, wire, notes);
@@ -33,21 +33,21 @@ impl<P: Planner + Drop> Engine<P> {
 
     /// One accept at a door.
     fn accept<W: Wire, N: Listener>(&mut self, door: Door, wire: &mut W, notes: &mut N)
-        ensures { Does (both W.polled N.told) (AcceptsOne door) (wire.old, notes.old) self.old (wire.new, notes.new) self.new }
+        ensures { Refines (both W.polled N.told) (AcceptsOne door) (wire.old, notes.old) self.old (wire.new, notes.new) self.new }
     {
-        if let Answer::Done(id) = wire.poll_accept(door) {
+        if let Progress::Done(id) = wire.poll_accept(door) {
             self.open(door, id, wire, notes);
         }
     }
 
     /// A connection has come.
     fn open<W: Wire, N: Listener>(&mut self, door: Door, id: WireId, wire: &mut W, notes: &mut N)
-        ensures { Does (both W.polled N.told) (Opens door id) (wire.old, notes.old) self.old (wire.new, notes.new) self.new }
+        ensures { Refines (both W.polled N.told) (Opens door id) (wire.old, notes.old) self.old (wire.new, notes.new) self.new }
     {
         if insert(&mut self.connections, self.alloc, id, door) {
             return;
         }
-        notes.refused(Place::Accept, Some(id));
+        notes.refused(AllocationSite::Accept, Some(id));
         wire.close(id);
     }
 
@@ -59,17 +59,17 @@ impl<P: Planner + Drop> Engine<P> {
         wire: &mut W,
         notes: &mut N,
     )
-        ensures { Does (both W.polled N.told) (ReadsOne moment key) (wire.old, notes.old) self.old (wire.new, notes.new) self.new }
+        ensures { Refines (both W.polled N.told) (ReadsOne moment key) (wire.old, notes.old) self.old (wire.new, notes.new) self.new }
     {
         let Some(id) = to_read(&self.connections, key) else {
             return;
         };
         let mut piece = [0; PIECE];
         match wire.poll_read(id, &mut piece) {
-            Answer::Done(count) => self.take(moment, key, &piece[..count], wire, notes),
-            Answer::Waiting => {}
-            Answer::End => end(&mut self.connections, key),
-            Answer::Fault => self.fail(moment, key, wire, notes),
+            Progress::Done(count) => self.take(moment, key, &piece[..count], wire, notes),
+            Progress::Waiting => {}
+            Progress::End => end(&mut self.connections, key),
+            Progress::Fault => self.fail(moment, key, wire, notes),
         }
     }
 
@@ -82,16 +82,16 @@ impl<P: Planner + Drop> Engine<P> {
         wire: &mut W,
         notes: &mut N,
     )
-        ensures { Does (both W.polled N.told) (FeedsOne moment key piece.now) (wire.old, notes.old) self.old (wire.new, notes.new) self.new }
+        ensures { Refines (both W.polled N.told) (FeedsOne moment key piece.now) (wire.old, notes.old) self.old (wire.new, notes.new) self.new }
     {
         let Some(fed) = feed(&mut self.connections, key, piece) else {
             return;
         };
         match fed {
-            Fed::Useless => {}
+            Fed::Discarded => {}
             Fed::Fed => self.serve(moment, key, wire, notes),
             Fed::Refused(id) => {
-                notes.refused(Place::Feed, Some(id));
+                notes.refused(AllocationSite::Feed, Some(id));
                 self.settle(moment, wire, notes);
             }
         }
@@ -105,7 +105,7 @@ impl<P: Planner + Drop> Engine<P> {
         wire: &mut W,
         notes: &mut N,
     )
-        ensures { Does (both W.polled N.told) (WritesOne moment key) (wire.old, notes.old) self.old (wire.new, notes.new) self.new }
+        ensures { Refines (both W.polled N.told) (WritesOne moment key) (wire.old, notes.old) self.old (wire.new, notes.new) self.new }
     {
         match offer(&mut self.connections, key, wire) {
             Offered::Nothing => {}

@@ -4,14 +4,14 @@ ghost use Rattle.server.specs.Polls.{alone};
 ghost use Rattle.server.specs.Ledger.{job_bytes};
 ghost use Rattle.server.specs.Rel.{EachOf};
 ghost use Rattle.server.specs.Happening.{Starts};
-ghost use Rattle.connections.specs.Slots.{KeepsAt};
+ghost use Rattle.connections.specs.Slots.{EnqueuesAt};
 ghost use Rattle.server.specs.State.{EngineState, with_slots};
-ghost use Rattle.server.specs.Stands.{Openly};
+ghost use Rattle.server.specs.Refinement.{RefinesReporting};
 
 use crate::due::tell;
 use base_types::JobId;
 use connections::Connection;
-use connections::table::{keep, keep_job, key_of};
+use connections::table::{enqueue, enqueue_job, key_of};
 use dispatcher::{Core, Listener, Started};
 use planners::Planner;
 use slab::Slab;
@@ -23,7 +23,7 @@ pub(crate) fn start_all<P: Planner + Drop, N: Listener>(
     connections: &mut Slab<Connection>,
     notes: &mut N,
 ) -> bool
-    ensures { (a : EngineState) → a.core ≡ core.now → a.slots ≡ connections.old.slots → Openly (alone N.told) (EachOf core.now.begun Starts) notes.old a notes.new (with_slots connections.new.slots a) result }
+    ensures { (a : EngineState) → a.core ≡ core.now → a.slots ≡ connections.old.slots → RefinesReporting (alone N.told) (EachOf core.now.begun Starts) notes.old a notes.new (with_slots connections.new.slots a) result }
 {
     let mut refused = false;
     for started in core.begun() {
@@ -40,29 +40,29 @@ fn start<P: Planner + Drop, N: Listener>(
     started: Started,
     notes: &mut N,
 ) -> bool
-    ensures { (a : EngineState) → a.core ≡ core.now → a.slots ≡ connections.old.slots → Openly (alone N.told) (Starts started) notes.old a notes.new (with_slots connections.new.slots a) result }
+    ensures { (a : EngineState) → a.core ≡ core.now → a.slots ≡ connections.old.slots → RefinesReporting (alone N.told) (Starts started) notes.old a notes.new (with_slots connections.new.slots a) result }
 {
     let Some(key) = key_of(connections, started.device) else {
         return false;
     };
-    let broke = keep_started(core, connections, key, started.job);
+    let broke = enqueue_started(core, connections, key, started.job);
     tell(broke, notes)
 }
 
 /// The bytes of the job of an id become due on the connection under a key.
-fn keep_started<P: Planner + Drop>(
+fn enqueue_started<P: Planner + Drop>(
     core: &Core<P>,
     connections: &mut Slab<Connection>,
     key: usize,
     id: JobId,
 ) -> Option<WireId>
-    ensures { KeepsAt key (job_bytes core.now id) result connections.old.slots connections.new.slots }
+    ensures { EnqueuesAt key (job_bytes core.now id) result connections.old.slots connections.new.slots }
 {
     let Some(job) = core.job(id) else {
-        return keep(connections, key, &[]);
+        return enqueue(connections, key, &[]);
     };
     let Some(documents) = core.documents(id) else {
-        return keep(connections, key, &[]);
+        return enqueue(connections, key, &[]);
     };
-    keep_job(connections, key, id, job, documents)
+    enqueue_job(connections, key, id, job, documents)
 }

@@ -2,7 +2,7 @@
 ghost use Rattle.std.specs.Prelude.{◌≡◌, max};
 ghost use Rattle.server.specs.Polls.{both, alone};
 ghost use Rattle.server.specs.Turn.{Ticks, TicksIfDue, is_due};
-ghost use Rattle.server.specs.Stands.{Does, Openly};
+ghost use Rattle.server.specs.Refinement.{Refines, RefinesReporting};
 
 use crate::engine::Engine;
 use base_types::Moment;
@@ -23,7 +23,7 @@ impl<P: Planner + Drop> Engine<P> {
         wire: &mut W,
         notes: &mut N,
     )
-        ensures { Does (both W.polled N.told) (TicksIfDue moment) (wire.old, notes.old) self.old (wire.new, notes.new) self.new }
+        ensures { Refines (both W.polled N.told) (TicksIfDue moment) (wire.old, notes.old) self.old (wire.new, notes.new) self.new }
     {
         if self.is_tick_due(moment) {
             self.tick_now(moment, notes);
@@ -41,7 +41,7 @@ impl<P: Planner + Drop> Engine<P> {
 
     /// A tick. Whether a growth was refused.
     pub(crate) fn tick_now<N: Listener>(&mut self, moment: Moment, notes: &mut N) -> bool
-        ensures { Openly (alone N.told) (Ticks moment) notes.old self.old notes.new self.new result }
+        ensures { RefinesReporting (alone N.told) (Ticks moment) notes.old self.old notes.new self.new result }
     {
         self.ticked = Some(moment.later(self.core.last()));
         self.handle(moment, Event::Tick, notes).refused

@@ -5,7 +5,7 @@ ghost use Rattle.server.specs.Rel.{Each};
 ghost use Rattle.server.specs.Polling.{ReadsOne, WritesOne, EndsOne};
 ghost use Rattle.server.specs.Turn.{Round, Turn};
 ghost use Rattle.server.specs.State.{slot_at};
-ghost use Rattle.server.specs.Stands.{Does};
+ghost use Rattle.server.specs.Refinement.{Refines};
 
 use crate::engine::Engine;
 use base_types::Moment;
@@ -22,7 +22,7 @@ impl<P: Planner + Drop> Engine<P> {
         notes: &mut N,
         moment: Moment,
     )
-        ensures { Does (both W.polled N.told) (Turn moment) (wire.old, notes.old) self.old (wire.new, notes.new) self.new }
+        ensures { Refines (both W.polled N.told) (Turn moment) (wire.old, notes.old) self.old (wire.new, notes.new) self.new }
     {
         self.settle(moment, wire, notes);
         self.tick_if_due(moment, wire, notes);
@@ -34,7 +34,7 @@ impl<P: Planner + Drop> Engine<P> {
 
     /// The connections that are open now are read and written, and closed where they are done.
     fn round<W: Wire, N: Listener>(&mut self, moment: Moment, wire: &mut W, notes: &mut N)
-        ensures { Does (both W.polled N.told) (Round moment) (wire.old, notes.old) self.old (wire.new, notes.new) self.new }
+        ensures { Refines (both W.polled N.told) (Round moment) (wire.old, notes.old) self.old (wire.new, notes.new) self.new }
     {
         let keys = self.keys();
         self.read_all(moment, keys, wire, notes);
@@ -57,7 +57,7 @@ impl<P: Planner + Drop> Engine<P> {
         wire: &mut W,
         notes: &mut N,
     )
-        ensures { Does (both W.polled N.told) (Each keys (ReadsOne moment)) (wire.old, notes.old) self.old (wire.new, notes.new) self.new }
+        ensures { Refines (both W.polled N.told) (Each keys (ReadsOne moment)) (wire.old, notes.old) self.old (wire.new, notes.new) self.new }
     {
         for key in 0..keys {
             self.read_one(moment, key, wire, notes);
@@ -72,7 +72,7 @@ impl<P: Planner + Drop> Engine<P> {
         wire: &mut W,
         notes: &mut N,
     )
-        ensures { Does (both W.polled N.told) (Each keys (WritesOne moment)) (wire.old, notes.old) self.old (wire.new, notes.new) self.new }
+        ensures { Refines (both W.polled N.told) (Each keys (WritesOne moment)) (wire.old, notes.old) self.old (wire.new, notes.new) self.new }
     {
         for key in 0..keys {
             self.write_one(moment, key, wire, notes);
@@ -87,7 +87,7 @@ impl<P: Planner + Drop> Engine<P> {
         wire: &mut W,
         notes: &mut N,
     )
-        ensures { Does (both W.polled N.told) (Each keys (EndsOne moment)) (wire.old, notes.old) self.old (wire.new, notes.new) self.new }
+        ensures { Refines (both W.polled N.told) (Each keys (EndsOne moment)) (wire.old, notes.old) self.old (wire.new, notes.new) self.new }
     {
         for key in 0..keys {
             self.end_one(moment, key, wire, notes);

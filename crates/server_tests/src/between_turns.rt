@@ -2,7 +2,7 @@
 use crate::exchanges::{BODY, REPLY, SETTINGS};
 use assignment::Lazy;
 use base_types::{DeviceId, Moment, Report};
-use server::{Engine, Heard, NoteLog, Served};
+use server::{Engine, LoggedNote, NoteLog, Served};
 use settings_file::read_settings;
 use std::alloc::Global;
 use std::test::Fail;
@@ -47,9 +47,9 @@ fn body_then_report(rt: HostRuntime) -> Result<(), Fail> {
     assert!(rt; replied);
     let heard = notes.take()?;
     assert_eq!(rt; heard.len(), 5);
-    assert!(rt; matches!(heard.get(1), Some(Heard::Stranded(_))));
-    assert!(rt; matches!(heard.get(3), Some(Heard::Class { total: 10, .. })));
-    assert!(rt; matches!(heard.get(4), Some(Heard::Began(_))));
+    assert!(rt; matches!(heard.get(1), Some(LoggedNote::Stranded(_))));
+    assert!(rt; matches!(heard.get(3), Some(LoggedNote::Class { total: 10, .. })));
+    assert!(rt; matches!(heard.get(4), Some(LoggedNote::Began(_))));
     Ok(())
 }
 

@@ -1,9 +1,9 @@
 //! Lists of events, and who hears of their plans.
 use assignment::Lazy;
 use base_types::{DeviceId, Moment, Report};
-use dispatcher::{Core, DeviceRefusal, Dispatched, Listener, Outcome, Place, Timed};
+use dispatcher::{AllocationSite, Core, DeviceRefusal, Dispatched, Listener, Outcome, Timed};
 use events::{Cancel, Event};
-use requests::{Asked, ipp_event};
+use requests::{ParsedRequest, ipp_event};
 use settings_file::read_settings;
 use std::alloc::Global;
 use std::test::Fail;
@@ -47,12 +47,12 @@ impl Listener for Counts {
 
     fn device_refused(&mut self, _id: WireId, _why: DeviceRefusal) {}
 
-    fn refused(&mut self, _place: Place, _id: Option<WireId>) {}
+    fn refused(&mut self, _place: AllocationSite, _id: Option<WireId>) {}
 }
 
 /// The device runs, a job comes, and time goes on.
 fn day(alloc: Global) -> Result<Vec<Timed>, Fail> {
-    let Asked::Event(_, print) = ipp_event(alloc, PRINT_JOB)? else {
+    let ParsedRequest::Event(_, print) = ipp_event(alloc, PRINT_JOB)? else {
         return Err(Fail::from("no event"));
     };
     let ready = Event::Report(DeviceId::new(0), Report::Ready);

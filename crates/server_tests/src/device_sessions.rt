@@ -5,7 +5,7 @@ use base_types::Moment;
 use server::NoteLog;
 use std::alloc::{AllocError, Global};
 use std::test::Fail;
-use wires::{Door, Memory};
+use wires::{Door, MemoryWire};
 
 /// What a device writes to a server that has just started and to which a client prints, and what it
 /// gets.
@@ -74,13 +74,13 @@ fn print_room(
     printed: &[u8],
     written: &[&[u8]],
     cut: (usize, usize),
-) -> Result<Memory, AllocError> {
+) -> Result<MemoryWire, AllocError> {
     let mut peers = Vec::new(alloc);
     peers.push(client(alloc, Door::Ipp, printed, cut)?)?;
     for lines in written {
         peers.push(client(alloc, Door::Devices, lines, cut)?)?;
     }
-    Ok(Memory::new(peers))
+    Ok(MemoryWire::new(peers))
 }
 
 /// Whether a device gets just what it is to get, and is closed where it is to be.
@@ -108,7 +108,7 @@ fn sessions_in_pieces(rt: HostRuntime) -> Result<(), Fail> {
 }
 
 /// A device takes three bytes of what is written to it at a time.
-fn slow_device(alloc: Global) -> Result<Memory, AllocError> {
+fn slow_device(alloc: Global) -> Result<MemoryWire, AllocError> {
     let lines = b"HELLO A\nREADY\n".as_slice();
     let mut wire = print_room(alloc, PLAIN.sent, &[lines], (4096, 4096))?;
     if let Some(device) = wire.peers.get_mut(1) {
@@ -175,7 +175,7 @@ fn name_taken_over(rt: HostRuntime) -> Result<(), Fail> {
 }
 
 /// Whether a device got a front of the job where a poll faults, and all of it unless it is closed.
-fn is_front(wire: &Memory) -> bool {
+fn is_front(wire: &MemoryWire) -> bool {
     match wire.peers.get(1) {
         Some(peer) => JOB.starts_with(peer.taken.as_slice())
             && (peer.closed || peer.taken.as_slice() == JOB || is_closed(wire, 0)),

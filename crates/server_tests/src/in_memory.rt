@@ -8,7 +8,7 @@ use server::{Engine, NoteLog};
 use settings_file::read_settings;
 use std::alloc::{AllocError, Global};
 use std::test::Fail;
-use wires::{Door, Memory, Peer};
+use wires::{Door, MemoryPeer, MemoryWire};
 
 const EXCHANGES: [Exchange; 7] = [
     PLAIN,
@@ -35,7 +35,12 @@ pub(crate) fn engine(alloc: Global) -> Result<Engine<Lazy>, AllocError> {
 }
 
 /// Turns of a server that has just started, over this wire; what is heard is left in the notes.
-pub(crate) fn serve(alloc: Global, wire: &mut Memory, notes: &mut NoteLog, turns: usize) -> bool {
+pub(crate) fn serve(
+    alloc: Global,
+    wire: &mut MemoryWire,
+    notes: &mut NoteLog,
+    turns: usize,
+) -> bool {
     let Ok(mut engine) = engine(alloc) else {
         return false;
     };
@@ -51,22 +56,26 @@ pub(crate) fn client(
     door: Door,
     sent: &[u8],
     cut: (usize, usize),
-) -> Result<Peer, AllocError> {
+) -> Result<MemoryPeer, AllocError> {
     let input = Vec::from_slice(alloc, sent)?;
-    Ok(Peer::new(alloc, door, input, cut.0, cut.1))
+    Ok(MemoryPeer::new(alloc, door, input, cut.0, cut.1))
 }
 
 /// Clients of the IPP door that send these.
-fn clients(alloc: Global, streams: &[&[u8]], cut: (usize, usize)) -> Result<Memory, AllocError> {
+fn clients(
+    alloc: Global,
+    streams: &[&[u8]],
+    cut: (usize, usize),
+) -> Result<MemoryWire, AllocError> {
     let mut peers = Vec::new(alloc);
     for sent in streams {
         peers.push(client(alloc, Door::Ipp, sent, cut)?)?;
     }
-    Ok(Memory::new(peers))
+    Ok(MemoryWire::new(peers))
 }
 
 /// Whether just these bytes were taken for a peer.
-pub(crate) fn got(wire: &Memory, place: usize, bytes: &[u8]) -> bool {
+pub(crate) fn got(wire: &MemoryWire, place: usize, bytes: &[u8]) -> bool {
     match wire.peers.get(place) {
         Some(peer) => peer.taken.as_slice() == bytes,
         None => false,
@@ -74,7 +83,7 @@ pub(crate) fn got(wire: &Memory, place: usize, bytes: &[u8]) -> bool {
 }
 
 /// Whether a peer was given up.
-pub(crate) fn is_closed(wire: &Memory, place: usize) -> bool {
+pub(crate) fn is_closed(wire: &MemoryWire, place: usize) -> bool {
     match wire.peers.get(place) {
         Some(peer) => peer.closed,
         None => false,
@@ -106,7 +115,7 @@ fn exchanges_in_pieces(rt: HostRuntime) -> Result<(), Fail> {
 }
 
 /// Whether a front of an answer was taken, and all of it unless the connection is closed.
-fn is_front(wire: &Memory, answered: &[u8]) -> bool {
+fn is_front(wire: &MemoryWire, answered: &[u8]) -> bool {
     match wire.peers.first() {
         Some(peer) => answered.starts_with(peer.taken.as_slice())
             && (peer.closed || peer.taken.as_slice() == answered),
@@ -162,7 +171,7 @@ fn others_at_a_fault(rt: HostRuntime) -> Result<(), Fail> {
 
 /// A client that sends more requests than there may be replies that wait, of which it takes none, and
 /// one that asks for no printing.
-fn slow_and_quick(alloc: Global) -> Result<Memory, AllocError> {
+fn slow_and_quick(alloc: Global) -> Result<MemoryWire, AllocError> {
     let mut sent = Vec::new(alloc);
     for _request in 0..400 {
         sent.extend_from_slice(PLAIN.sent)?;

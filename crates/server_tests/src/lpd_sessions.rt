@@ -4,7 +4,7 @@ use crate::in_memory::{CUTS, TURNS, client, got, is_closed, serve};
 use server::NoteLog;
 use std::alloc::{AllocError, Global};
 use std::test::Fail;
-use wires::{Door, Memory};
+use wires::{Door, MemoryWire};
 
 /// What a client sends to a server that has just started.
 #[derive(Clone, Copy)]
@@ -89,7 +89,7 @@ const SESSIONS: [Session; 12] = [
 fn is_answered(alloc: Global, session: Session, cut: (usize, usize)) -> Result<bool, AllocError> {
     let mut peers = Vec::new(alloc);
     peers.push(client(alloc, Door::Lpd, session.sent, cut)?)?;
-    let mut wire = Memory::new(peers);
+    let mut wire = MemoryWire::new(peers);
     let mut notes = NoteLog::new(alloc);
     Ok(
         serve(alloc, &mut wire, &mut notes, TURNS)
@@ -114,7 +114,7 @@ fn lpd_sessions_in_pieces(rt: HostRuntime) -> Result<(), Fail> {
 fn is_cut_off(alloc: Global, fault_at: u64) -> Result<bool, AllocError> {
     let mut peers = Vec::new(alloc);
     peers.push(client(alloc, Door::Lpd, ONE_JOB.sent, (16, 1))?)?;
-    let mut wire = Memory::new(peers);
+    let mut wire = MemoryWire::new(peers);
     wire.fault_at = fault_at;
     let mut notes = NoteLog::new(alloc);
     let turned = serve(alloc, &mut wire, &mut notes, 60);

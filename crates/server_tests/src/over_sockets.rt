@@ -3,7 +3,7 @@
 use crate::exchanges::{BOTH_FRAMINGS, CHUNKED, Exchange, LAST, NOT_POST, PLAIN, SETTINGS, TWO};
 use crate::lpd_sessions::ONE_JOB;
 use base_types::Moment;
-use serve::Server;
+use daemon::Server;
 use sockets::{Listening, Sockets};
 use startup::read_or_refuse;
 use std::io;

@@ -5,11 +5,11 @@ use crate::room::Room;
 use assignment::Lazy;
 use base_types::{DeviceId, JobId, Limits, Moment, Report};
 use dispatcher::Core;
-use events::{Answer, Event, Reply, Status};
+use events::{Effects, Event, Response, Status};
 use job_lists::ListedJob;
 use policies::Start;
 use print_room::Started;
-use requests::{Asked, ipp_event};
+use requests::{ParsedRequest, ipp_event};
 use std::alloc::{AllocError, Global};
 use std::collections::VecDeque;
 
@@ -42,9 +42,9 @@ fn moment_at(millis: u64) -> Moment {
 }
 
 /// What an answer says became of a job.
-fn sent_by(reply: &Reply) -> Sent {
+fn sent_by(reply: &Effects) -> Sent {
     match &reply.answer {
-        Answer::Ipp(answer) => match answer.status {
+        Response::Ipp(answer) => match answer.status {
             Status::Ok | Status::OkIgnoredOrSubstituted => Sent::Taken,
             Status::Busy => Sent::Busy,
             _ => Sent::Refused,
@@ -97,7 +97,7 @@ impl<'a> Planned<'a> {
     /// Sends the body of a request.
     fn send_body(&mut self, body: &[u8], now: u64) -> Result<Sent, AllocError> {
         match ipp_event(self.alloc, body)? {
-            Asked::Event(_, event) => apply_to(&mut self.core, event, moment_at(now)),
+            ParsedRequest::Event(_, event) => apply_to(&mut self.core, event, moment_at(now)),
             _ => Ok(Sent::Refused),
         }
     }

@@ -1,3 +1,3 @@
 pub mod Allowance
 pub mod Patience
-pub mod Visits
+pub mod ConnectionLog

@@ -10,14 +10,14 @@
 
 mod ahead;
 mod allowance;
+mod connection_log;
 mod entrance;
 mod keepalive;
 mod lingering;
 mod link;
 mod patience;
 mod sockets;
-mod visits;
 
+pub use connection_log::{CloseReason, ConnectionEvent, ConnectionLog};
 pub use entrance::Listening;
 pub use sockets::Sockets;
-pub use visits::{Leave, Visit, Visits};

@@ -3,8 +3,8 @@ ghost use Rattle.std.specs.Io.{ReadsAtMost, WritesAtMost};
 ghost use Rattle.std.specs.Io.Slices.{io_slices_bytes};
 
 use crate::ahead::{AHEAD, Ahead};
+use crate::connection_log::CloseReason;
 use crate::patience::Patience;
-use crate::visits::Leave;
 use base_types::Moment;
 use mio::event::Event;
 use mio::net::TcpStream;
@@ -26,7 +26,7 @@ pub(crate) struct Link {
     much: bool,
     ahead: Ahead,
     patience: Patience,
-    leave: Leave,
+    leave: CloseReason,
 }
 
 /// A call that has to wait.
@@ -48,17 +48,17 @@ impl Link {
             much: false,
             ahead: Ahead::new(alloc),
             patience: Patience::new(moment, device),
-            leave: Leave::Served,
+            leave: CloseReason::Served,
         }
     }
 
     /// Why it is closed, if it is closed now.
-    pub(crate) fn leave(&self) -> Leave {
+    pub(crate) fn leave(&self) -> CloseReason {
         self.leave
     }
 
     /// Has it this cause from now on.
-    pub(crate) fn leaves(&mut self, leave: Leave) {
+    pub(crate) fn leaves(&mut self, leave: CloseReason) {
         self.leave = leave;
     }
 

@@ -1,11 +1,11 @@
 //! The system's sockets.
 ghost use Rattle.std.specs.Prelude.{◌≡◌, ◌+◌, false, if◌then◌else◌};
 
+use crate::connection_log::{CloseReason, ConnectionEvent, ConnectionLog};
 use crate::entrance::{Entrance, Entrances, Listening};
 use crate::keepalive::probe;
 use crate::lingering::Lingerings;
 use crate::link::Link;
-use crate::visits::{Leave, Visit, Visits};
 use base_types::{Limits, Moment};
 use mio::net::TcpStream;
 use mio::{Events, Interest, Poll, Token};
@@ -15,7 +15,7 @@ use std::io::{ErrorKind, IoSlice};
 use std::net::{Net, SocketAddr};
 use std::time::Duration;
 use std::{io, mem};
-use wires::{Answer, Door, Wire, WireId};
+use wires::{Door, Progress, Wire, WireId};
 
 /// How many sockets a wait tells of at most: all that there are.
 const EVENTS: usize = 128;
@@ -46,7 +46,7 @@ pub struct Sockets {
     /// That of the last wait.
     waited: Moment,
     /// Who comes and goes, where that is kept.
-    visits: Option<Visits>,
+    visits: Option<ConnectionLog>,
 }
 
 /// Hands each socket what a wait told of it.
@@ -113,16 +113,16 @@ impl Sockets {
 
     /// Has it keep who comes and goes, from now until that is taken.
     pub fn keep_visits(&mut self, alloc: Global) {
-        self.visits = Some(Visits::new(alloc));
+        self.visits = Some(ConnectionLog::new(alloc));
     }
 
     /// Who came and went, if that is kept; it is kept no more.
-    pub fn take_visits(&mut self) -> Option<Visits> {
+    pub fn take_visits(&mut self) -> Option<ConnectionLog> {
         mem::replace(&mut self.visits, None)
     }
 
     /// Keeps who came or went, where that is kept.
-    fn note(&mut self, visit: Visit)
+    fn note(&mut self, visit: ConnectionEvent)
         ensures { self.new.failures ≡ self.old.failures }
     {
         if let Some(visits) = &mut self.visits {
@@ -199,7 +199,7 @@ impl Sockets {
         ensures { self.new.failures ≡ self.old.failures }
     {
         if self.entrances.failed(door) {
-            self.note(Visit::Missed(door));
+            self.note(ConnectionEvent::Missed(door));
         }
     }
 
@@ -208,7 +208,7 @@ impl Sockets {
         ensures { self.new.failures ≡ self.old.failures }
     {
         if let Some(link) = self.links.get_mut(id as usize) {
-            link.leaves(Leave::Silent);
+            link.leaves(CloseReason::Silent);
         }
         self.worked = true;
     }
@@ -218,7 +218,7 @@ impl Sockets {
         ensures { self.new.failures ≡ self.old.failures }
     {
         if let Some(link) = self.links.get_mut(id as usize) {
-            link.leaves(Leave::Broken);
+            link.leaves(CloseReason::Broken);
         }
         self.worked = true;
     }
@@ -227,7 +227,7 @@ impl Sockets {
     fn lets_go(&mut self, link: Link)
         ensures { self.new.failures ≡ self.old.failures }
     {
-        if link.leave() == Leave::Served {
+        if link.leave() == CloseReason::Served {
             let stream = link.into_stream();
             let _kept = self.lingerings.add(&self.poll, stream, self.moment);
         }
@@ -256,87 +256,87 @@ impl Wire for Sockets {
 
     /// A failed accept is no work: where the system has no descriptor left, the next one is tried after
     /// a wait.
-    fn poll_accept(&mut self, door: Door) -> Answer<WireId> {
+    fn poll_accept(&mut self, door: Door) -> Progress<WireId> {
         let (link, peer) = match self.accept(door) {
             Ok(accepted) => accepted,
             Err(error) => {
                 return if self.counts_fault(error) {
                     self.miss(door);
-                    Answer::Fault
+                    Progress::Fault
                 } else {
-                    Answer::Waiting
+                    Progress::Waiting
                 };
             }
         };
         self.worked = true;
         let Ok(place) = self.links.insert(link) else {
-            return Answer::End;
+            return Progress::End;
         };
         let Ok(id) = u32::try_from(place) else {
-            return Answer::End;
+            return Progress::End;
         };
-        self.note(Visit::Came { id, door, peer });
-        Answer::Done(id)
+        self.note(ConnectionEvent::Came { id, door, peer });
+        Progress::Done(id)
     }
 
-    fn poll_read(&mut self, id: WireId, buffer: &mut [u8]) -> Answer<usize> {
+    fn poll_read(&mut self, id: WireId, buffer: &mut [u8]) -> Progress<usize> {
         if buffer.is_empty() {
-            return Answer::Waiting;
+            return Progress::Waiting;
         }
         let moment = self.moment;
         let Some(link) = self.links.get_mut(id as usize) else {
-            return Answer::End;
+            return Progress::End;
         };
         let over = link.is_over(moment);
         match link.read(buffer, moment) {
             Ok(0) => {
-                link.leaves(Leave::Left);
+                link.leaves(CloseReason::Left);
                 self.worked = true;
-                Answer::End
+                Progress::End
             }
             Ok(count) => {
                 self.worked = true;
-                Answer::Done(count)
+                Progress::Done(count)
             }
             Err(error) if self.counts_fault(error) => {
                 self.breaks(id);
-                Answer::Fault
+                Progress::Fault
             }
             Err(_) if over => {
                 self.falls_silent(id);
-                Answer::End
+                Progress::End
             }
-            Err(_) => Answer::Waiting,
+            Err(_) => Progress::Waiting,
         }
     }
 
-    fn poll_write(&mut self, id: WireId, bytes: &[IoSlice<'_>]) -> Answer<usize> {
+    fn poll_write(&mut self, id: WireId, bytes: &[IoSlice<'_>]) -> Progress<usize> {
         let moment = self.moment;
         let Some(link) = self.links.get_mut(id as usize) else {
-            return Answer::End;
+            return Progress::End;
         };
         let over = link.is_over(moment);
         match link.write(bytes, moment) {
-            Ok(0) => Answer::Waiting,
+            Ok(0) => Progress::Waiting,
             Ok(count) => {
                 self.worked = true;
-                Answer::Done(count)
+                Progress::Done(count)
             }
             Err(error) if self.counts_fault(error) => {
                 self.breaks(id);
-                Answer::Fault
+                Progress::Fault
             }
             Err(_) if over => {
                 self.falls_silent(id);
-                Answer::End
+                Progress::End
             }
-            Err(_) => Answer::Waiting,
+            Err(_) => Progress::Waiting,
         }
     }
 
     fn close(&mut self, id: WireId) {
         if let Some(link) = self.links.try_remove(id as usize) {
-            self.note(Visit::Went {
+            self.note(ConnectionEvent::Went {
                 id,
                 leave: link.leave(),
             });

@@ -4,7 +4,7 @@ use Rattle.std.specs.Option.{option_map_or}
 use Rattle.std.specs.List.{insert, position_or_len}
 use Rattle.std.specs.Fmt.{decimal}
 use Rattle.hex.specs.Hex.{encode_lower}
-use Rattle.wires.specs.Peer.{PeerState}
+use Rattle.wires.specs.MemoryPeer.{PeerState}
 use Rattle.wires.specs.declared.wire.Door.{Door}
 use Rattle.transcripts.specs.declared.peers.Connection.{Connection}
 

@@ -7,7 +7,7 @@ use Rattle.prices.specs.declared.plan.PlannedClass.{PlannedClass}
 use Rattle.prices.specs.Plan.{PlanRecord}
 use Rattle.plan_text.specs.NamedPlan.{name_at}
 use Rattle.plan_text.specs.Writing.{cause_word, plan_text}
-use Rattle.events.specs.declared.reply.Cancel.{Cancel}
+use Rattle.events.specs.declared.effects.Cancel.{Cancel}
 use Rattle.print_room.specs.declared.started.Started.{Started}
 
 -- the bytes of a reply, in hexadecimal

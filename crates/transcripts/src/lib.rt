@@ -2,7 +2,7 @@
 //! the peer of each connection got.
 //!
 //! The connections of a trace have numbers of its own ([`Connection`]), and their peers stand in memory
-//! ([`wires::Memory`]): they send what the trace says, and what they got is printed once.
+//! ([`wires::MemoryWire`]): they send what the trace says, and what they got is printed once.
 //! `docs/TRACES.md` has each line. Which events come when, and so which lines, stands above.
 //!
 //! Its rows are traces of `play_examples`.

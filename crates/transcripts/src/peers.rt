@@ -5,7 +5,7 @@ ghost use Rattle.std.specs.List.{position_or_len};
 ghost use Rattle.transcripts.specs.Connections.{numbered, with_connection, is_closed, seen, emptied, sending, ending, changed_at};
 
 use std::alloc::AllocError;
-use wires::Peer;
+use wires::MemoryPeer;
 
 /// A connection of a trace.
 #[derive(Clone, Copy, Debug)]
@@ -57,7 +57,7 @@ fn first_above(connections: &[Connection], number: u64) -> Option<usize>
 }
 
 /// Notes which of them were closed.
-pub fn mark_closed(connections: &mut [Connection], peers: &[Peer])
+pub fn mark_closed(connections: &mut [Connection], peers: &[MemoryPeer])
     ensures { connections.new ≡ map (seen peers.now) connections.old }
 {
     for connection in connections.iter_mut() {
@@ -66,14 +66,14 @@ pub fn mark_closed(connections: &mut [Connection], peers: &[Peer])
 }
 
 /// Notes whether it was closed.
-fn mark(connection: &mut Connection, peers: &[Peer])
+fn mark(connection: &mut Connection, peers: &[MemoryPeer])
     ensures { connection.new ≡ seen peers.now connection.old }
 {
     connection.gone = connection.gone || is_closed(peers, connection.place);
 }
 
 /// Whether the peer of a place was given up.
-fn is_closed(peers: &[Peer], place: usize) -> bool
+fn is_closed(peers: &[MemoryPeer], place: usize) -> bool
     ensures { result ≡ is_closed peers.now place }
 {
     match peers.get(place) {
@@ -83,7 +83,7 @@ fn is_closed(peers: &[Peer], place: usize) -> bool
 }
 
 /// Forgets what the peers got.
-pub fn empty_all(peers: &mut [Peer])
+pub fn empty_all(peers: &mut [MemoryPeer])
     ensures { peers.new ≡ map emptied peers.old }
 {
     for peer in peers.iter_mut() {
@@ -92,14 +92,14 @@ pub fn empty_all(peers: &mut [Peer])
 }
 
 /// Forgets what a peer got.
-fn empty(peer: &mut Peer)
+fn empty(peer: &mut MemoryPeer)
     ensures { peer.new ≡ emptied peer.old }
 {
     peer.taken.clear();
 }
 
 /// The peer of a place sends these bytes too. The error is out of memory.
-pub fn send_at(peers: &mut [Peer], place: usize, bytes: &[u8]) -> Result<(), AllocError>
+pub fn send_at(peers: &mut [MemoryPeer], place: usize, bytes: &[u8]) -> Result<(), AllocError>
     ensures { OnOk result (peers.new ≡ changed_at place (sending bytes.now) peers.old) }
 {
     if place < peers.len() {
@@ -108,14 +108,14 @@ pub fn send_at(peers: &mut [Peer], place: usize, bytes: &[u8]) -> Result<(), All
     Ok(())
 }
 
-fn send(peer: &mut Peer, bytes: &[u8]) -> Result<(), AllocError>
+fn send(peer: &mut MemoryPeer, bytes: &[u8]) -> Result<(), AllocError>
     ensures { OnOk result (peer.new ≡ sending bytes.now peer.old) }
 {
     peer.input.extend_from_slice(bytes)
 }
 
 /// The peer of a place sends nothing more.
-pub fn end_at(peers: &mut [Peer], place: usize)
+pub fn end_at(peers: &mut [MemoryPeer], place: usize)
     ensures { peers.new ≡ changed_at place ending peers.old }
 {
     if place < peers.len() {
@@ -123,7 +123,7 @@ pub fn end_at(peers: &mut [Peer], place: usize)
     }
 }
 
-fn end(peer: &mut Peer)
+fn end(peer: &mut MemoryPeer)
     ensures { peer.new ≡ ending peer.old }
 {
     peer.ended = true;

@@ -14,7 +14,7 @@ use plan_text::{cause_word, name_of, write_named_plan};
 use prices::{Plan, PlannedClass};
 use print_room::Started;
 use std::alloc::{AllocError, Global};
-use wires::Peer;
+use wires::MemoryPeer;
 
 /// Appends the line of a reply of these bytes.
 pub fn put_reply(alloc: Global, output: &mut Vec<u8>, bytes: &[u8]) -> Result<(), AllocError>
@@ -173,7 +173,7 @@ pub fn put_connections(
     alloc: Global,
     output: &mut Vec<u8>,
     connections: &[Connection],
-    peers: &[Peer],
+    peers: &[MemoryPeer],
 ) -> Result<(), AllocError>
     ensures { OnOk result (output.new.items ≡ output.old.items ++ connections_text peers.now connections.now) }
 {
@@ -187,7 +187,7 @@ fn put_connection(
     alloc: Global,
     output: &mut Vec<u8>,
     connection: Connection,
-    peers: &[Peer],
+    peers: &[MemoryPeer],
 ) -> Result<(), AllocError>
     ensures { OnOk result (output.new.items ≡ output.old.items ++ connection_text peers.now connection) }
 {
@@ -201,7 +201,7 @@ fn put_peer(
     alloc: Global,
     output: &mut Vec<u8>,
     connection: Connection,
-    peer: &Peer,
+    peer: &MemoryPeer,
 ) -> Result<(), AllocError>
     ensures { OnOk result (output.new.items ≡ output.old.items ++ peer_text connection peer.now) }
 {

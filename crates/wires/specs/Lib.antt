@@ -1,3 +1,3 @@
 pub mod Poll
-pub mod Peer
-pub mod Memory
+pub mod MemoryPeer
+pub mod MemoryWire

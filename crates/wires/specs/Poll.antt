@@ -1,32 +1,32 @@
 -- What a call of a wire was and answered.
 use Rattle.std.specs.Prelude.{ℕ, ◌<◌, ◌≤◌, List, take}
 use Rattle.wires.specs.declared.wire.Door.{Door}
-use Rattle.wires.specs.declared.wire.Answer.{Answer}
-use Rattle.wires.specs.declared.wire.Answer.TheVariants.{Done, Waiting, End, Fault}
+use Rattle.wires.specs.declared.wire.Progress.{Progress}
+use Rattle.wires.specs.declared.wire.Progress.TheVariants.{Done, Waiting, End, Fault}
 
 -- a call of a wire, with its answer
 pub data Poll : Type 0 where
-  Accepts : (door : Door) (answer : Answer ℕ) → Poll
-  Reads : (id : ℕ) (answer : Answer (List ℕ)) → Poll
-  Writes : (id : ℕ) (offered : List ℕ) (answer : Answer ℕ) → Poll
+  Accepts : (door : Door) (answer : Progress ℕ) → Poll
+  Reads : (id : ℕ) (answer : Progress (List ℕ)) → Poll
+  Writes : (id : ℕ) (offered : List ℕ) (answer : Progress ℕ) → Poll
   Closes : (id : ℕ) → Poll
 
 -- the bytes that a read brought, which are the buffer's front
-abbrev pub bytes_read : Answer ℕ → List ℕ → Answer (List ℕ)
+abbrev pub bytes_read : Progress ℕ → List ℕ → Progress (List ℕ)
 bytes_read (Done n) buffer = Done (take n buffer)
 bytes_read Waiting buffer = Waiting
 bytes_read End buffer = End
 bytes_read Fault buffer = Fault
 
 -- a read or a write moves at least one byte, and at most as many as there is room for
-abbrev pub IsCount : Answer ℕ → ℕ → Type 0
+abbrev pub IsCount : Progress ℕ → ℕ → Type 0
 IsCount (Done n) room = (0 < n) × (n ≤ room)
 IsCount Waiting room = Unit {0}
 IsCount End room = Unit {0}
 IsCount Fault room = Unit {0}
 
 -- a fault is answered only where the wire has failed during the call
-abbrev pub HasCause : {T : Type 0} → ℕ → ℕ → Answer T → Type 0
+abbrev pub HasCause : {T : Type 0} → ℕ → ℕ → Progress T → Type 0
 HasCause before now Fault = before < now
 HasCause before now (Done x) = before ≤ now
 HasCause before now Waiting = before ≤ now

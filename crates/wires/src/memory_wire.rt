@@ -2,9 +2,9 @@
 //! stands in for sockets where a run is to be the same each time.
 ghost use Rattle.std.specs.Prelude.{◌≡◌, ◌<◌, ◌≤◌, ℕ, List, ◌++◌, length, take, IsTrue, IsFalse, IfSome, IfNone, IfOk, OnErr, Some, true, false, []};
 ghost use Rattle.std.specs.Io.Slices.{io_slices_bytes};
-ghost use Rattle.wires.specs.Memory.{Sends, Gets, comes, next_at, is_open, ends_reading, ends_writing};
+ghost use Rattle.wires.specs.MemoryWire.{Sends, Gets, comes, next_at, is_open, ends_reading, ends_writing};
 
-use crate::wire::{Answer, Door, Wire, WireId};
+use crate::wire::{Door, Progress, Wire, WireId};
 use std::alloc::{AllocError, Global};
 use std::cmp::min;
 use std::io::IoSlice;
@@ -13,7 +13,7 @@ use text::drop_front;
 
 /// What a peer sends, and has got.
 #[derive(Drop)]
-pub struct Peer {
+pub struct MemoryPeer {
     /// Where it comes in.
     pub door: Door,
     /// It was accepted.
@@ -32,8 +32,8 @@ pub struct Peer {
     pub most: usize,
 }
 
-impl Model for Peer {
-    ghost use Rattle.wires.specs.Peer.{PeerState};
+impl Model for MemoryPeer {
+    ghost use Rattle.wires.specs.MemoryPeer.{PeerState};
 
     ghost Value = { PeerState };
 
@@ -51,8 +51,8 @@ impl Model for Peer {
 
 /// A wire of peers, whose place is their number. One poll faults, by its number.
 #[derive(Drop)]
-pub struct Memory {
-    pub peers: Vec<Peer>,
+pub struct MemoryWire {
+    pub peers: Vec<MemoryPeer>,
     /// How many polls there were.
     pub polls: u64,
     /// The number of the poll that faults.
@@ -61,12 +61,12 @@ pub struct Memory {
     pub faults: u64,
 }
 
-impl Memory {
+impl MemoryWire {
     /// A wire of these peers, none of whose polls faults but for lack of memory.
-    pub fn new(peers: Vec<Peer>) -> Memory
+    pub fn new(peers: Vec<MemoryPeer>) -> MemoryWire
         ensures { result.peers.items ≡ peers.items }
     {
-        Memory {
+        MemoryWire {
             peers,
             polls: 0,
             fault_at: u64::MAX,
@@ -126,10 +126,10 @@ impl Memory {
     }
 }
 
-impl Peer {
+impl MemoryPeer {
     /// A peer that isn't accepted yet, sends this in pieces of so many bytes, and takes so many at a
     /// time.
-    pub fn new(alloc: Global, door: Door, input: Vec<u8>, piece: usize, most: usize) -> Peer
+    pub fn new(alloc: Global, door: Door, input: Vec<u8>, piece: usize, most: usize) -> MemoryPeer
         ensures { result ≡ record {
           door = door;
           accepted = false;
@@ -141,7 +141,7 @@ impl Peer {
           most = most;
         } }
     {
-        Peer {
+        MemoryPeer {
             door,
             accepted: false,
             closed: false,
@@ -222,61 +222,61 @@ fn first_of<'a>(bytes: &[IoSlice<'a>]) -> &'a [u8]
     }
 }
 
-impl Wire for Memory {
-    ghost use Rattle.wires.specs.Memory.{MemoryPolls};
+impl Wire for MemoryWire {
+    ghost use Rattle.wires.specs.MemoryWire.{MemoryPolls};
 
     ghost polled = { MemoryPolls };
 
     ghost faults = { λ w. w.faults };
 
-    fn poll_accept(&mut self, door: Door) -> Answer<WireId> {
+    fn poll_accept(&mut self, door: Door) -> Progress<WireId> {
         if self.fails() {
-            return Answer::Fault;
+            return Progress::Fault;
         }
         match self.next_peer(door) {
             Some(place) => match u32::try_from(place) {
                 Ok(id) => {
                     self.peers[place].accepted = true;
-                    Answer::Done(id)
+                    Progress::Done(id)
                 }
-                Err(_) => Answer::Waiting,
+                Err(_) => Progress::Waiting,
             },
-            None => Answer::Waiting,
+            None => Progress::Waiting,
         }
     }
 
-    fn poll_read(&mut self, id: WireId, buffer: &mut [u8]) -> Answer<usize> {
+    fn poll_read(&mut self, id: WireId, buffer: &mut [u8]) -> Progress<usize> {
         if self.fails() {
-            return Answer::Fault;
+            return Progress::Fault;
         }
         let place = id as usize;
         if place >= self.peers.len() {
-            return Answer::End;
+            return Progress::End;
         }
         let ends = self.ends_reading(id);
         match self.peers[place].send(buffer) {
-            Some(n) => Answer::Done(n),
-            None if ends => Answer::End,
-            None => Answer::Waiting,
+            Some(n) => Progress::Done(n),
+            None if ends => Progress::End,
+            None => Progress::Waiting,
         }
     }
 
-    fn poll_write(&mut self, id: WireId, bytes: &[IoSlice<'_>]) -> Answer<usize> {
+    fn poll_write(&mut self, id: WireId, bytes: &[IoSlice<'_>]) -> Progress<usize> {
         if self.fails() {
-            return Answer::Fault;
+            return Progress::Fault;
         }
         if self.ends_writing(id) {
-            return Answer::End;
+            return Progress::End;
         }
         let place = id as usize;
         match self.peers[place].get(first_of(bytes)) {
-            Ok(Some(n)) => Answer::Done(n),
-            Ok(None) => Answer::Waiting,
+            Ok(Some(n)) => Progress::Done(n),
+            Ok(None) => Progress::Waiting,
             Err(_) => {
                 if self.counts_fault() {
-                    Answer::Fault
+                    Progress::Fault
                 } else {
-                    Answer::Waiting
+                    Progress::Waiting
                 }
             }
         }

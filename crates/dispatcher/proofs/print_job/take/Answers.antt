@@ -1,7 +1,7 @@
 use Rattle.std.proofs.Common.{List, [], ◌∷◌, false, subst}
 use Rattle.ipp_codec.specs.Message.{IppGroup}
 use Rattle.events.specs.declared.status.Status.{Status}
-use Rattle.events.specs.Reply.{Replies}
+use Rattle.events.specs.Effects.{Replies}
 use Rattle.dispatcher.specs.Submission.{group_of}
 use Rattle.dispatcher.proofs.print_job.take.Goals as goal
 

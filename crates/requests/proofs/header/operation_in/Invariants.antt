@@ -1,6 +1,6 @@
 use Rattle.std.proofs.Common.{◌≡◌, ◌==◌, drop, find}
 use Rattle.printer_objects.specs.Operation.{operation_code}
-use Rattle.requests.specs.Asked.{operation_in}
+use Rattle.requests.specs.ParsedRequest.{operation_in}
 use Rattle.requests.proofs.header.operation_in.Given as goal
 
 abbrev pub invariant-loop-operation : goal.invariant-loop-operation

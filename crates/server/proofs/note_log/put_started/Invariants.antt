@@ -1,5 +1,5 @@
 use Rattle.std.proofs.Common.{◌≡◌, ◌++◌, map, take}
-use Rattle.server.specs.declared.note_log.Heard.TheVariants as hear
+use Rattle.server.specs.declared.note_log.LoggedNote.TheVariants as hear
 use Rattle.server.proofs.note_log.put_started.Given as goal
 
 abbrev pub invariant-loop-start : goal.invariant-loop-start

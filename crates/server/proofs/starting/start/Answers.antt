@@ -7,4 +7,4 @@ returns-in_default g c = λ a core same. starts_nowhere (alone g.N.Listener.told
 
 pub returns : goal.returns
 returns g c = λ a core same.
-    starts_there g.N.Listener.told _ _ a c.args.core.now c.args.connections.now.slots c.keep_started-broke.new.connections.slots c.args.started c.in-Some.key c.keep_started-broke.result c.tell.result core same c.in-Some.ensures.some c.keep_started-broke.ensures c.tell.ensures.told c.tell.ensures.refused
+    starts_there g.N.Listener.told _ _ a c.args.core.now c.args.connections.now.slots c.enqueue_started-broke.new.connections.slots c.args.started c.in-Some.key c.enqueue_started-broke.result c.tell.result core same c.in-Some.ensures.some c.enqueue_started-broke.ensures c.tell.ensures.told c.tell.ensures.refused

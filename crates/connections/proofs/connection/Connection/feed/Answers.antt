@@ -1,7 +1,7 @@
 use Rattle.std.proofs.Common.{rules, subst}
 use Rattle.connections.specs.Asking.{Feeds}
 use Rattle.connections.specs.Connections.{ConnectionState}
-use Rattle.connections.specs.Fits.{Becomes}
+use Rattle.connections.specs.Representation.{Becomes}
 use Rattle.connections.specs.declared.connection.Fed.TheVariants as how
 use Rattle.connections.proofs.Entries.{fed}
 use Rattle.connections.proofs.connection.Connection.feed.Goals as goal
@@ -12,7 +12,7 @@ returns-in-Ok c =
       id = c.self.inside.id;
       peer = c.feed.new.self;
       ended = c.self.inside.ended;
-      over = c.self.inside.over;
+      draining = c.self.inside.draining;
       broken = c.self.inside.broken;
       output = c.self.inside.output;
     } in

@@ -1,7 +1,7 @@
 use Rattle.std.proofs.Common.{rules, subst, Some, None}
 use Rattle.connections.specs.Asking.{Asking}
 use Rattle.connections.specs.Connections.{ConnectionState}
-use Rattle.connections.specs.Fits.{Becomes}
+use Rattle.connections.specs.Representation.{Becomes}
 use Rattle.connections.proofs.Entries.{asks, rests}
 use Rattle.connections.proofs.connection.Connection.next.Goals as goal
 
@@ -16,7 +16,7 @@ returns-in-None-clause-asks c =
       id = c.self.inside.id;
       peer = c.next.new.self;
       ended = c.self.inside.ended;
-      over = c.self.inside.over;
+      draining = c.self.inside.draining;
       broken = c.self.inside.broken;
       output = c.self.inside.output;
     } in

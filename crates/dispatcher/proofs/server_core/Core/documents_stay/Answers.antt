@@ -6,7 +6,7 @@ use Rattle.print_room.specs.State.{State}
 use Rattle.print_room.specs.Dispatch.{Dispatches}
 use Rattle.print_room.specs.DeviceJobs.{AllKeep}
 use Rattle.events.specs.declared.event.Event.{Event}
-use Rattle.events.specs.declared.reply.Reply.{Reply}
+use Rattle.events.specs.declared.effects.Effects.{Effects}
 use Rattle.dispatcher.specs.Step.{Step}
 use Rattle.dispatcher.specs.Keeping.{StepKeeps}
 use Rattle.dispatcher.proofs.Keeping.{RoomKeeps, step_keeps}
@@ -25,7 +25,7 @@ returns-clause-steps g c =
       expires = c.documents_stay.ensures.expires;
       reports = c.documents_stay.ensures.reports;
     } in
-    subst (λ (t : State). (event : Event) (moment : ℕ) (reply : Reply) (new : State) → Step t event moment reply new → StepKeeps event t reply.documents.items new) c.self.view_is
+    subst (λ (t : State). (event : Event) (moment : ℕ) (reply : Effects) (new : State) → Step t event moment reply new → StepKeeps event t reply.documents.items new) c.self.view_is
     (λ event moment reply new step. step_keeps s law event (max moment s.last) reply new step)
 
 pub returns-clause-dispatches : goal.returns-clause-dispatches

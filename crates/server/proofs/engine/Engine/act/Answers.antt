@@ -1,12 +1,12 @@
 use Rattle.std.proofs.Common.{Some, subst}
 use Rattle.connections.specs.declared.ask.Ask.TheVariants as ask
 use Rattle.dispatcher.specs.declared.listener.DeviceRefusal.TheVariants as why
-use Rattle.dispatcher.specs.declared.listener.Place.{Place}
+use Rattle.dispatcher.specs.declared.listener.AllocationSite.{AllocationSite}
 use Rattle.dispatcher.specs.Notes.{DeviceRefused, Refused}
 use Rattle.server.specs.Answering.{Declines}
 use Rattle.server.specs.Polls.{alone}
 use Rattle.server.specs.Rel.{Tells}
-use Rattle.server.specs.Stands.{Aside}
+use Rattle.server.specs.Refinement.{RefinesQuietly}
 use Rattle.server.proofs.Steps.{aside_nothing}
 use Rattle.server.proofs.Happening.{tells}
 use Rattle.server.proofs.Asks.{does_as}
@@ -18,7 +18,7 @@ returns-in-Nothing g c = does_as (alone g.N.Listener.told) c.args.moment c.args.
 pub returns-in-Broke : goal.returns-in-Broke
 returns-in-Broke g c =
     does_as (alone g.N.Listener.told) c.args.moment c.args.asker.key c.args.asker.id c.args.ask (ask.Broke c.in-Broke.growth) _ _ _ _ c.in-Broke.is
-    (subst (λ (place : Place). Aside (alone g.N.Listener.told) (Tells (Refused place (Some c.args.asker.id))) c.args.notes.now c.args.self.now c.refused.new.self c.args.self.now) c.place_of.ensures (tells g.N.Listener.told _ _ _ _ c.refused.ensures))
+    (subst (λ (place : AllocationSite). RefinesQuietly (alone g.N.Listener.told) (Tells (Refused place (Some c.args.asker.id))) c.args.notes.now c.args.self.now c.refused.new.self c.args.self.now) c.place_of.ensures (tells g.N.Listener.told _ _ _ _ c.refused.ensures))
 
 pub returns-in-Event : goal.returns-in-Event
 returns-in-Event g c = does_as (alone g.N.Listener.told) c.args.moment c.args.asker.key c.args.asker.id c.args.ask (ask.Event c.in-Event.client c.in-Event.event) _ _ _ _ c.in-Event.is c.happen.ensures
@@ -29,7 +29,7 @@ returns-in-Unread g c = does_as (alone g.N.Listener.told) c.args.moment c.args.a
 pub returns-in-Lost : goal.returns-in-Lost
 returns-in-Lost g c =
     does_as (alone g.N.Listener.told) c.args.moment c.args.asker.key c.args.asker.id c.args.ask (ask.Lost c.in-Lost.part) _ _ _ _ c.in-Lost.is
-    (subst (λ (place : Place). Aside (alone g.N.Listener.told) (Declines place c.args.asker.key c.args.asker.id) c.args.notes.now c.args.self.now c.decline.new.notes c.decline.new.self) c.place_of_part.ensures c.decline.ensures)
+    (subst (λ (place : AllocationSite). RefinesQuietly (alone g.N.Listener.told) (Declines place c.args.asker.key c.args.asker.id) c.args.notes.now c.args.self.now c.decline.new.notes c.decline.new.self) c.place_of_part.ensures c.decline.ensures)
 
 pub returns-in-Hello : goal.returns-in-Hello
 returns-in-Hello g c = does_as (alone g.N.Listener.told) c.args.moment c.args.asker.key c.args.asker.id c.args.ask (ask.Hello c.in-Hello.device c.in-Hello.name) _ _ _ _ c.in-Hello.is c.greet.ensures

@@ -2,7 +2,7 @@ use Rattle.std.proofs.Common.{subst}
 use Rattle.settings_file.specs.Settings.{ServerSettings}
 use Rattle.connections.specs.Slots.{AsksAt}
 use Rattle.server.specs.State.{EngineState, with_slots}
-use Rattle.server.specs.Stands.{AsksBy}
+use Rattle.server.specs.Refinement.{AsksBy}
 use Rattle.server.proofs.Asks.{asks_by}
 use Rattle.server.proofs.engine.Engine.ask.Goals as goal
 

@@ -1,0 +1,57 @@
+-- Which entry a connection has: what it was fed is what was read, and what waits is what is due and wasn't taken.
+use Rattle.std.specs.Prelude.{ℕ, ◌≡◌, Bool, false, List, [], ◌++◌, None}
+use Rattle.base_types.specs.Report.{ReportRecord}
+use Rattle.device_link.specs.Stream as Link
+use Rattle.http_front.specs.Stream.{Said}
+use Rattle.http_front.specs.Stream as Http
+use Rattle.lpd_reader.specs.Session.{ItemRecord}
+use Rattle.lpd_reader.specs.Stream as Lpd
+use Rattle.requests.specs.Reader as Body
+use Rattle.connections.specs.States.{IppClientState, LpdClientState, DeviceState}
+use Rattle.connections.specs.Entry.{Talk, Entry}
+use Rattle.connections.specs.Entry as entry
+use Rattle.connections.specs.Connections.{ConnectionState}
+use Rattle.connections.specs.declared.peer.Peer.{Peer}
+use Rattle.connections.specs.declared.peer.Peer.TheVariants as of
+
+-- the reader of an IPP client has been fed what was read, and the reader of its body what that said of it
+pub record FitsIpp (read : List ℕ) (talk : Talk) (t : IppClientState) : Type 0 where
+  pub said : List Said
+  pub body : List ℕ
+  pub is : talk ≡ entry.Http said t.closes body
+  pub stands : Http.Stands read said t.reader
+  pub heard : Body.Heard body t.body
+
+-- so has that of an LPD client
+pub record FitsLpd (read : List ℕ) (talk : Talk) (t : LpdClientState) : Type 0 where
+  pub items : List ItemRecord
+  pub is : talk ≡ entry.Queue items t.session
+  pub stands : Lpd.Stands read items t.reader
+
+-- a device's reader has been fed what was read; before a device said its name it gave nothing
+pub record IsLinked (read : List ℕ) (reports : List ReportRecord) (t : DeviceState) : Type 0 where
+  pub stands : Link.Stands read reports t.reader
+  pub unnamed : t.device ≡ None → reports ≡ []
+
+-- the same of a device, unless its connection is broken
+pub record FitsDevice (read : List ℕ) (talk : Talk) (broken : Bool) (t : DeviceState) : Type 0 where
+  pub reports : List ReportRecord
+  pub is : talk ≡ entry.Link reports t.device
+  pub linked : broken ≡ false → IsLinked read reports t
+
+abbrev pub FitsPeer : List ℕ → Talk → Bool → Peer → Type 0
+FitsPeer read talk broken (of.Ipp t) = FitsIpp read talk t
+FitsPeer read talk broken (of.Lpd t) = FitsLpd read talk t
+FitsPeer read talk broken (of.Device t) = FitsDevice read talk broken t
+
+pub record RepresentsConnection (e : Entry) (c : ConnectionState) : Type 0 where
+  pub id : c.id ≡ e.id
+  pub peer : FitsPeer e.read e.talk e.broken c.peer
+  pub ended : c.ended ≡ e.ended
+  pub draining : c.draining ≡ e.draining
+  pub broken : c.broken ≡ e.broken
+  pub due : e.taken ++ c.output ≡ e.due
+
+-- whatever entry a connection had, it has another by this relation now
+abbrev pub Becomes : (Entry → Entry → Type 0) → ConnectionState → ConnectionState → Type 0
+Becomes R c d = (e : Entry) → RepresentsConnection e c → (new : Entry) × R e new × RepresentsConnection new d

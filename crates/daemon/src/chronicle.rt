@@ -1,0 +1,54 @@
+//! What a log says of the turns of a server.
+use crate::ends::Begun;
+use crate::log::Lines;
+use assignment::Lazy;
+use base_types::{Moment, Text};
+use server::{Engine, LoggedNote};
+use sockets::ConnectionEvent;
+use std::alloc::{AllocError, Global};
+
+/// The names of a server's devices, and the jobs that they began: what the lines of a log are made of,
+/// beside what happened.
+#[derive(Drop)]
+pub struct Chronicle {
+    alloc: Global,
+    names: Vec<Text>,
+    begun: Begun,
+}
+
+impl Chronicle {
+    /// No job was begun yet. The names are those of the devices.
+    pub fn new(alloc: Global, names: Vec<Text>) -> Chronicle {
+        Chronicle {
+            alloc,
+            names,
+            begun: Begun::new(alloc),
+        }
+    }
+
+    /// The lines of a turn: who came, what was heard, which jobs ended, and who went.
+    pub fn lines(
+        &mut self,
+        moment: Moment,
+        visits: &[ConnectionEvent],
+        heard: &[LoggedNote],
+        engine: &Engine<Lazy>,
+    ) -> Result<Vec<u8>, AllocError> {
+        self.begun.add(heard)?;
+        let ended = self.begun.take_ended(self.alloc, engine)?;
+        let mut lines = Lines::new(self.alloc, &self.names, moment);
+        lines.add_comings(visits)?;
+        lines.add_heard(heard)?;
+        lines.add_ended(&ended)?;
+        lines.add_goings(visits)?;
+        lines.text()
+    }
+
+    /// Who came and went in a turn, as comments of a recording.
+    pub(crate) fn comments(&self, visits: &[ConnectionEvent]) -> Result<Vec<u8>, AllocError> {
+        let mut lines = Lines::comments(self.alloc, &self.names);
+        lines.add_comings(visits)?;
+        lines.add_goings(visits)?;
+        lines.text()
+    }
+}

@@ -1,0 +1,142 @@
+//! The jobs that devices began, and how they end.
+ghost use Rattle.std.specs.Prelude.{◌≡◌, ◌++◌, [], IfOk, OnOk, OnErr, filter, flat_map, map, not, option_map};
+ghost use Rattle.std.specs.Option.{option_copied};
+ghost use Rattle.daemon.specs.Ends.{begun_by, ended_in, has_job, is_at, is_on};
+
+use base_types::{Activity, DeviceNow, JobId};
+use dispatcher::Started;
+use job_objects::{Job, JobState};
+use planners::Planner;
+use server::{Engine, LoggedNote};
+use std::alloc::{AllocError, Global};
+use std::marker::Model;
+
+/// A job that has left the device that began it, and what it is then, if it is kept.
+#[derive(Clone, Copy, Debug)]
+pub(crate) struct Ended {
+    pub(crate) started: Started,
+    pub(crate) state: Option<JobState>,
+}
+
+/// The jobs that devices began and hadn't ended when that was last asked. In clauses it is their list.
+#[derive(Drop)]
+pub(crate) struct Begun {
+    started: Vec<Started>,
+}
+
+impl Model for Begun {
+    ghost use Rattle.std.specs.Prelude.{List};
+    ghost use Rattle.print_room.specs.declared.started.Started.{Started};
+
+    ghost Value = { List Started };
+
+    ghost view = { λ b. b.started.items };
+}
+
+/// Whether a device that does this has a job.
+fn is_at(activity: Activity, id: JobId) -> bool
+    ensures { result ≡ is_at activity id }
+{
+    match activity {
+        Activity::Running(Some(printing)) => printing.job == id,
+        Activity::Stopped(Some(interrupted)) => interrupted.job == id,
+        Activity::Running(None) | Activity::Stopped(None) => false,
+    }
+}
+
+/// Whether a device, if it is there, has a job.
+fn has(device: Option<&DeviceNow>, id: JobId) -> bool
+    ensures { result ≡ has_job (option_copied device.entry) id }
+{
+    match device {
+        Some(device) => is_at(device.activity, id),
+        None => false,
+    }
+}
+
+/// Where a job stands.
+fn state_of(job: Option<&Job>) -> Option<JobState>
+    ensures { result ≡ option_map (λ job. job.state) (option_copied job.entry) }
+{
+    job.map(|job| job.state)
+}
+
+/// Whether a job is still on the device that began it.
+fn is_on<P: Planner + Drop>(engine: &Engine<P>, started: Started) -> bool
+    ensures { result ≡ is_on engine.now started }
+{
+    has(engine.device(started.device), started.job)
+}
+
+/// How a job ended.
+fn end_of<P: Planner + Drop>(engine: &Engine<P>, started: Started) -> Ended
+    ensures { result ≡ ended_in engine.now started }
+{
+    Ended {
+        started,
+        state: state_of(engine.job(started.job)),
+    }
+}
+
+impl Begun {
+    /// No job was begun yet.
+    pub(crate) fn new(alloc: Global) -> Begun
+        ensures { result ≡ [] }
+    {
+        Begun {
+            started: Vec::new(alloc),
+        }
+    }
+
+    /// Adds the jobs that were heard to begin. The error is out of memory, and some are added then.
+    pub(crate) fn add(&mut self, heard: &[LoggedNote]) -> Result<(), AllocError>
+        ensures { OnOk result (self.new ≡ self.old ++ flat_map begun_by heard.now) }
+    {
+        put_begun(&mut self.started, heard)
+    }
+
+    /// The jobs that have left their devices, which are let go of. The error is out of memory, and
+    /// none is let go of then.
+    pub(crate) fn take_ended<P: Planner + Drop>(
+        &mut self,
+        alloc: Global,
+        engine: &Engine<P>,
+    ) -> Result<Vec<Ended>, AllocError>
+        ensures ended { IfOk result (λ ended. ended.items ≡ map (ended_in engine.now) (filter (λ started. not (is_on engine.now started)) self.old)) }
+        ensures left { OnOk result (self.new ≡ filter (is_on engine.now) self.old) }
+        ensures err { OnErr result (self.new ≡ self.old) }
+    {
+        let ended = ended_of(alloc, engine, &self.started)?;
+        self.started.retain(|started| is_on(engine, *started));
+        Ok(ended)
+    }
+}
+
+/// Appends the jobs that were heard to begin.
+fn put_begun(begun: &mut Vec<Started>, heard: &[LoggedNote]) -> Result<(), AllocError>
+    ensures { OnOk result (begun.new.items ≡ begun.old.items ++ flat_map begun_by heard.now) }
+{
+    for one in heard {
+        if let LoggedNote::Began(started) = one {
+            begun.push(*started)?;
+        }
+    }
+    Ok(())
+}
+
+/// How those of the jobs ended that have left their devices.
+fn ended_of<P: Planner + Drop>(
+    alloc: Global,
+    engine: &Engine<P>,
+    jobs: &[Started],
+) -> Result<Vec<Ended>, AllocError>
+    ensures { IfOk result (λ ended. ended.items ≡ map (ended_in engine.now) (filter (λ started. not (is_on engine.now started)) jobs.now)) }
+{
+    let mut ended = Vec::new(alloc);
+    for started in jobs {
+        if !is_on(engine, *started) {
+            ended.push(end_of(engine, *started))?;
+        }
+    }
+    Ok(ended)
+}

@@ -1,0 +1,69 @@
+//! The groups of an answer.
+ghost use Rattle.std.specs.Prelude.{◌≡◌, ◌∷◌, [], IfOk};
+ghost use Rattle.std.specs.List.{AllByRecursion};
+ghost use Rattle.ipp_codec.specs.Grammar.{IsGroup};
+
+use ipp_codec::Group;
+use std::alloc::{AllocError, Global};
+use std::marker::Model;
+
+/// The groups of an answer, in their order: each has a spelling. In clauses they are the list of what
+/// they say.
+#[derive(Drop)]
+pub struct ResponseGroups {
+    groups: Vec<Group>,
+}
+
+impl Model for ResponseGroups {
+    ghost use Rattle.std.specs.Prelude.{List};
+    ghost use Rattle.std.specs.Coded.{coded_list};
+    ghost use Rattle.std.specs.List.{AllByRecursion};
+    ghost use Rattle.ipp_codec.specs.Code.{group_code};
+    ghost use Rattle.ipp_codec.specs.Grammar.{IsGroup};
+    ghost use Rattle.ipp_codec.specs.Message.{IppGroup};
+
+    ghost Value = { List IppGroup };
+
+    ghost coded = { coded_list group_code };
+
+    ghost view = { λ g. g.groups.items };
+
+    ghost invariant = { λ g. AllByRecursion IsGroup g.groups.items };
+}
+
+impl ResponseGroups {
+    /// None; it takes no memory.
+    pub fn new(alloc: Global) -> ResponseGroups
+        ensures { result ≡ [] }
+    {
+        ResponseGroups {
+            groups: Vec::new(alloc),
+        }
+    }
+
+    /// One group.
+    pub fn one(alloc: Global, group: Group) -> Result<ResponseGroups, AllocError>
+        requires { IsGroup group }
+        ensures { IfOk result (λ groups. groups ≡ group ∷ []) }
+    {
+        let mut groups = Vec::with_capacity(alloc, 1)?;
+        groups.push(group)?;
+        Ok(ResponseGroups { groups })
+    }
+
+    /// These groups.
+    pub fn from_vec(groups: Vec<Group>) -> ResponseGroups
+        requires { AllByRecursion IsGroup groups.items }
+        ensures { result ≡ groups.items }
+    {
+        ResponseGroups { groups }
+    }
+
+    /// The groups themselves.
+    pub fn into_vec(self) -> Vec<Group>
+        ensures value { result.items ≡ self }
+        ensures spelt { AllByRecursion IsGroup result.items }
+    {
+        self.groups
+    }
+}

@@ -1,0 +1,2 @@
+pub mod SendQueue
+pub mod Reply

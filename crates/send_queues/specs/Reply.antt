@@ -1,0 +1,12 @@
+-- The bytes of replies over HTTP (RFC 9112).
+use Rattle.std.specs.Prelude.{ℕ, Bool, true, List, ◌++◌, length}
+use Rattle.http_front.specs.Reply.{head, status_of}
+use Rattle.http_front.specs.declared.refusal.HttpRejection.{HttpRejection}
+
+-- a reply of IPP, in HTTP
+unfoldable pub http_reply : Bool → List ℕ → List ℕ
+http_reply closes bytes = head 200 (length bytes) closes ++ bytes
+
+-- the reply to a request that is refused
+unfoldable pub refusal_head : HttpRejection → List ℕ
+refusal_head refusal = head (status_of refusal) 0 true

@@ -1,0 +1,33 @@
+-- What waits on a connection, and what the wire takes of it.
+use Rattle.std.specs.Prelude.{ℕ, ◌≡◌, ◌<◌, ◌≤◌, ◌⊎◌, List, [], ◌++◌, length, drop}
+use Rattle.std.specs.List.{flat_map}
+use Rattle.wires.specs.Poll.{Poll, Writes}
+use Rattle.send_queues.specs.declared.queue.Offered.{Offered}
+use Rattle.send_queues.specs.declared.queue.Offered.TheVariants as offer
+use Rattle.wires.specs.declared.wire.Progress.TheVariants.{Done, Waiting, End, Fault}
+
+-- lists one after the other
+abbrev pub joined : List (List ℕ) → List ℕ
+joined lists = flat_map (λ list. list) lists
+
+abbrev pub IsSome : List ℕ → Type 0
+IsSome list = 0 < length list
+
+-- a front that isn't empty of what waits
+pub record IsFront (offered waits : List ℕ) : Type 0 where
+  pub some : 0 < length offered
+  pub rest : List ℕ
+  pub whole : waits ≡ offered ++ rest
+
+-- what the wire answers, and what waits then
+abbrev pub OffersAs : {W : Type 0} → (W → Poll → W → Type 0) → ℕ → List ℕ → List ℕ → W → Offered → List ℕ → W → Type 0
+OffersAs polled id offered waits wire offer.Nothing left wire' = ⊥
+OffersAs polled id offered waits wire (offer.Done count) left wire' = (count ≤ length offered) × polled wire (Writes id offered (Done count)) wire' × (left ≡ drop count waits)
+OffersAs polled id offered waits wire offer.Waiting left wire' = polled wire (Writes id offered Waiting) wire' × (left ≡ waits)
+OffersAs polled id offered waits wire offer.Ended left wire' = (polled wire (Writes id offered End) wire' ⊎ polled wire (Writes id offered Fault) wire') × (left ≡ waits)
+
+-- a front of what waits is offered, if something does
+abbrev pub OffersFront : {W : Type 0} → (W → Poll → W → Type 0) → ℕ → List ℕ → W → Offered → List ℕ → W → Type 0
+OffersFront polled id waits wire answer left wire' =
+    ((waits ≡ []) × (answer ≡ offer.Nothing) × (left ≡ []) × (wire' ≡ wire))
+    ⊎ ((offered : List ℕ) × IsFront offered waits × OffersAs polled id offered waits wire answer left wire')

@@ -1,0 +1,69 @@
+-- Bytes become due on a connection, or memory for them is refused.
+use Rattle.std.specs.Prelude.{ℕ, ◌≡◌, ◌⊎◌, Bool, true, List, [], ◌∷◌, Option, Some, None}
+use Rattle.events.specs.declared.status.Status.{Status}
+use Rattle.send_queues.specs.Reply.{http_reply}
+use Rattle.dispatcher.specs.declared.listener.AllocationSite.{AllocationSite}
+use Rattle.dispatcher.specs.declared.listener.AllocationSite.TheVariants.{Enqueue}
+use Rattle.dispatcher.specs.Notes.{Refused}
+use Rattle.connections.specs.Entry.{Entry, device_of, closes_of, broken, owing, needs_memory}
+use Rattle.connections.specs.Steps.{http_status}
+use Rattle.server.specs.Polls.{Told, Found, On}
+use Rattle.server.specs.Ledger.{Ledger, with_entry}
+use Rattle.server.specs.Rel.{Rel, Nothing, Chooses, Then, If, Or}
+
+-- the connection under a key is this one from now on
+abbrev pub Sets : ℕ → Entry → Rel
+Sets key e l hs l' = (hs ≡ []) × (l' ≡ with_entry key e l)
+
+abbrev pub BreaksAt : ℕ → Option Entry → Rel
+BreaksAt key None = Nothing
+BreaksAt key (Some e) = Sets key (broken e)
+
+abbrev pub Breaks : ℕ → Rel
+Breaks key l hs l' = BreaksAt key (l.entries key) l hs l'
+
+-- a growth for it was refused, and it breaks
+abbrev pub Drops : AllocationSite → ℕ → Entry → Rel
+Drops place key e l hs l' = (hs ≡ Told (Refused place (Some e.id)) ∷ []) × (l' ≡ with_entry key (broken e) l)
+
+abbrev pub EnqueuesOpen : Bool → ℕ → List ℕ → Entry → Rel
+EnqueuesOpen refusable key bytes e = If refusable (Or (Then (Chooses Found) (Sets key (owing bytes e))) (Drops Enqueue key e)) (Sets key (owing bytes e))
+
+abbrev pub EnqueuesAt : (Entry → Bool) → ℕ → List ℕ → Option Entry → Rel
+EnqueuesAt refusable key bytes None = Nothing
+EnqueuesAt refusable key bytes (Some e) = If e.broken Nothing (EnqueuesOpen (refusable e) key bytes e)
+
+-- bytes become due on the connection under a key, if one is open there that isn't broken; or memory for them is refused, where it may be
+abbrev pub EnqueuesWhere : (Entry → Bool) → ℕ → List ℕ → Rel
+EnqueuesWhere refusable key bytes l hs l' = EnqueuesAt refusable key bytes (l.entries key) l hs l'
+
+-- bytes become due; memory may be refused only where they need some
+abbrev pub Enqueues : ℕ → List ℕ → Rel
+Enqueues key bytes = EnqueuesWhere (needs_memory bytes) key bytes
+
+-- a reply of IPP becomes due, by what its request said of closing
+abbrev pub EnqueuesReplyAt : (Bool → List ℕ) → ℕ → Option Entry → Rel
+EnqueuesReplyAt bytes key None = Nothing
+EnqueuesReplyAt bytes key (Some e) = Enqueues key (bytes (closes_of e.talk))
+
+abbrev pub EnqueuesReply : ℕ → List ℕ → Rel
+EnqueuesReply key bytes l hs l' = EnqueuesReplyAt (λ closes. http_reply closes bytes) key (l.entries key) l hs l'
+
+-- the reply of a status alone does
+abbrev pub EnqueuesStatus : ℕ → Status → ℕ → Rel
+EnqueuesStatus key status request l hs l' = EnqueuesReplyAt (λ closes. http_status closes status request) key (l.entries key) l hs l'
+
+-- ---- by the device
+
+-- a connection is open there, and this device said its name on it
+abbrev pub IsDevice : ℕ → Option Entry → Type 0
+IsDevice device None = ⊥
+IsDevice device (Some e) = device_of e.talk ≡ Some device
+
+abbrev pub IsAbsent : ℕ → Ledger → Type 0
+IsAbsent device l = (key : ℕ) → IsDevice device (l.entries key) → ⊥
+
+-- bytes become due on a device's connection, if it has one; memory may be refused at any time, since the line is made first
+abbrev pub EnqueuesOn : ℕ → List ℕ → Rel
+EnqueuesOn device bytes l hs l' =
+    ((key : ℕ) × IsDevice device (l.entries key) × Then (Chooses (On key)) (EnqueuesWhere (λ e. true) key bytes) l hs l') ⊎ (IsAbsent device l × Nothing l hs l')

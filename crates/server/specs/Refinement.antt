@@ -1,0 +1,158 @@
+-- At which traces an engine stands.
+use Rattle.std.specs.Prelude.{ℕ, ◌≡◌, ◌≢◌, ◌<◌, ◌≤◌, Bool, true, false, List, [], ◌∷◌, ◌++◌, count_by, is_some, Option, Some, None, Vec, Result, Ok, Err, IsOk, IsErr}
+use Rattle.std.specs.declared.alloc.AllocError.{AllocError}
+use Rattle.std.specs.declared.alloc.Global.{Global}
+use Rattle.print_room.specs.State.{State}
+use Rattle.events.specs.declared.effects.Response.{Response}
+use Rattle.events.specs.declared.effects.Effects.{Effects}
+use Rattle.events.specs.declared.status.Status.{Status}
+use Rattle.responses.specs.Reply.{refusal_bytes}
+use Rattle.dispatcher.specs.declared.listener.AllocationSite.TheVariants as At
+use Rattle.dispatcher.specs.Notes.{Note, Refused}
+use Rattle.connections.specs.declared.table.ConnectionAsk.{ConnectionAsk}
+use Rattle.connections.specs.Entry.{Entry}
+use Rattle.connections.specs.Connections.{ConnectionState}
+use Rattle.connections.specs.Representation.{RepresentsConnection}
+use Rattle.connections.specs.Slots.{work_at, is_of}
+use Rattle.server.specs.declared.served.Served.{Served}
+use Rattle.server.specs.declared.served.Served.TheVariants as as_served
+use Rattle.server.specs.Polls.{Happening, Leads}
+use Rattle.server.specs.Ledger.{Ledger, Fate, opening_ledger}
+use Rattle.server.specs.Rel.{Rel, Seen}
+use Rattle.server.specs.Acting.{Asks}
+use Rattle.server.specs.Closing.{ClosesAt}
+use Rattle.server.specs.Polling.{IsHeardAt}
+use Rattle.server.specs.State.{EngineState, slot_at}
+use Rattle.server.specs.Turn.{Turned, Served_body, Action, Trace, Allows, has_refusal, Outcome, Replied, BadRequest, OutOfMemory, served_as, IsBytes}
+
+abbrev pub RepresentsOpen : Option Entry → Option ConnectionState → Type 0
+RepresentsOpen None None = Unit {0}
+RepresentsOpen (Some e) (Some c) = RepresentsConnection e c
+RepresentsOpen None (Some c) = ⊥
+RepresentsOpen (Some e) None = ⊥
+
+-- the engine stands at the ledger
+pub record Represents (l : Ledger) (engine : EngineState) : Type 0 where
+  pub core : l.core ≡ engine.core
+  pub each : (key : ℕ) → RepresentsOpen (l.entries key) (slot_at engine key)
+  pub count : l.count ≡ count_by is_some engine.slots
+  pub ticked : l.ticked ≡ engine.ticked
+  pub undispatched : l.undispatched ≡ engine.undispatched
+
+-- some happenings lead the world on, and wherever the old engine stands, they lead by the relation to where the new one stands
+pub record Refines {S : Type 0} (moves : S → Happening → S → Type 0) (R : Rel) (world : S) (old : EngineState) (world' : S) (new : EngineState) : Type 0 where
+  pub happenings : List Happening
+  pub leads : Leads moves world happenings world'
+  pub stands : (l : Ledger) → Represents l old → (l' : Ledger) × Seen R l happenings l' × Represents l' new
+
+-- no connection has more to bring than before, and none has come
+pub record IsQuiet (old new : EngineState) : Type 0 where
+  pub work : (key : ℕ) → work_at new.slots key ≤ work_at old.slots key
+  pub open_now : count_by is_some new.slots ≤ count_by is_some old.slots
+
+-- the same as `Refines`, of what feeds no reader
+pub record RefinesQuietly {S : Type 0} (moves : S → Happening → S → Type 0) (R : Rel) (world : S) (old : EngineState) (world' : S) (new : EngineState) : Type 0 where
+  pub happenings : List Happening
+  pub leads : Leads moves world happenings world'
+  pub stands : (l : Ledger) → Represents l old → (l' : Ledger) × Seen R l happenings l' × Represents l' new
+  pub quiet : IsQuiet old new
+
+-- the same, with whether a growth was refused
+pub record RefinesReporting {S : Type 0} (moves : S → Happening → S → Type 0) (R : Rel) (world : S) (old : EngineState) (world' : S) (new : EngineState) (refused : Bool) : Type 0 where
+  pub does : RefinesQuietly moves R world old world' new
+  pub is : has_refusal does.happenings ≡ refused
+
+-- what came of a body, which is answered so
+pub record RefinesAnswering {S : Type 0} (moves : S → Happening → S → Type 0) (R : Outcome → Rel) (world : S) (old : EngineState) (world' : S) (new : EngineState) (answer : Outcome) : Type 0 where
+  pub served : Outcome
+  pub does : RefinesQuietly moves (R served) world old world' new
+  pub is : answer ≡ served_as does.happenings served
+
+-- what the connection under a key asks, or that it has nothing to ask, as the ledger has it
+abbrev pub AsksAs : ℕ → Option ConnectionAsk → Ledger → Ledger → Type 0
+AsksAs key None l l' = IsHeardAt (l.entries key) × (l' ≡ l)
+AsksAs key (Some asked) l l' = Seen (Asks key asked.id asked.ask) l [] l'
+
+-- where something is asked, the connection has less to bring now, and no other has more
+abbrev pub HasLess : ℕ → Option ConnectionAsk → EngineState → EngineState → Type 0
+HasLess key None old new = Unit {0}
+HasLess key (Some what) old new = IsQuiet old new × (work_at new.slots key < work_at old.slots key)
+
+pub record AsksBy (key : ℕ) (what : Option ConnectionAsk) (old new : EngineState) : Type 0 where
+  pub stands : (l : Ledger) → Represents l old → (l' : Ledger) × AsksAs key what l l' × Represents l' new
+  pub less : HasLess key what old new
+
+-- a device said its name on the connection under a key, and on another
+pub record IsOther (device key other : ℕ) (e : EngineState) : Type 0 where
+  pub apart : other ≢ key
+  pub is : is_of e.slots device other ≡ true
+
+-- the connection under a key was closed
+pub record RefinesClosing {S : Type 0} (moves : S → Happening → S → Type 0) (moment : ℕ) (fate : Fate) (key : ℕ) (world : S) (old : EngineState) (world' : S) (new : EngineState) : Type 0 where
+  pub does : RefinesQuietly moves (ClosesAt moment fate key) world old world' new
+  pub fewer : count_by is_some new.slots < count_by is_some old.slots
+
+-- the engine stands at a trace, which began with this core
+abbrev pub StandsAt : State → Trace → EngineState → Type 0
+StandsAt opening trace engine = (l : Ledger) × Allows trace (opening_ledger opening) l × Represents l engine
+
+-- a turn leads the world on, and wherever the old engine stands, the new one stands after that turn
+pub record RefinesTurn {S : Type 0} (moves : S → Happening → S → Type 0) (moment : ℕ) (world : S) (old : EngineState) (world' : S) (new : EngineState) : Type 0 where
+  pub happenings : List Happening
+  pub leads : Leads moves world happenings world'
+  pub stands : (opening : State) (trace : Trace) → StandsAt opening trace old → StandsAt opening (trace ++ Turned moment happenings ∷ []) new
+
+-- a call between turns: the engine stands after it, and the call fails exactly where a growth was refused
+pub record RefinesCall {S : Type 0} (moves : S → Happening → S → Type 0) (deed : List Happening → Action) (world : S) (old : EngineState) (world' : S) (new : EngineState) (result : Result (Unit {0}) AllocError) : Type 0 where
+  pub happenings : List Happening
+  pub leads : Leads moves world happenings world'
+  pub stands : (opening : State) (trace : Trace) → StandsAt opening trace old → StandsAt opening (trace ++ deed happenings ∷ []) new
+  pub ok : IsOk result → has_refusal happenings ≡ false
+  pub err : IsErr result → has_refusal happenings ≡ true
+
+-- a body was served between turns, and answered so
+pub record RefinesBody {S : Type 0} (moves : S → Happening → S → Type 0) (moment : ℕ) (body : List ℕ) (world : S) (old : EngineState) (world' : S) (new : EngineState) (answer : Outcome) : Type 0 where
+  pub happenings : List Happening
+  pub leads : Leads moves world happenings world'
+  pub stands : (opening : State) (trace : Trace) → StandsAt opening trace old → StandsAt opening (trace ++ Served_body moment body answer happenings ∷ []) new
+
+-- what a served body's answer says
+abbrev pub said_of : Result Served AllocError → Outcome
+said_of (Ok (as_served.Reply bytes)) = Replied bytes.items
+said_of (Ok as_served.BadRequest) = BadRequest
+said_of (Err error) = OutOfMemory
+
+-- the bytes of an answer; where memory for them is refused the listener is told
+abbrev pub AnswerAs : {N : Type 0} → (N → Note → N → Type 0) → ℕ → Response → N → Result (Vec ℕ Global) AllocError → N → Type 0
+AnswerAs told request answer listener (Ok bytes) listener' = IsBytes request answer bytes.items × (listener' ≡ listener)
+AnswerAs told request answer listener (Err error) listener' = told listener (Refused At.Reply None) listener'
+
+-- the bytes of a reply; where the event was dropped there are none, and the listener is told
+abbrev pub BytesAs : {N : Type 0} → (N → Note → N → Type 0) → ℕ → Option Effects → N → Result (Vec ℕ Global) AllocError → N → Type 0
+BytesAs told request (Some reply) listener bytes listener' = AnswerAs told request reply.answer listener bytes listener'
+BytesAs told request None listener (Ok bytes) listener' = ⊥
+BytesAs told request None listener (Err error) listener' = told listener (Refused At.Event None) listener'
+
+-- a status alone; where memory for it is refused the listener is told
+abbrev pub RefusalAs : {N : Type 0} → (N → Note → N → Type 0) → Status → ℕ → N → Result Served AllocError → N → Type 0
+RefusalAs told status request listener (Ok served) listener' = (said_of (Ok served) ≡ Replied (refusal_bytes status request)) × (listener' ≡ listener)
+RefusalAs told status request listener (Err error) listener' = told listener (Refused At.Reply None) listener'
+
+abbrev pub bytes_in : Result (Vec ℕ Global) AllocError → List ℕ
+bytes_in (Ok bytes) = bytes.items
+bytes_in (Err error) = []
+
+abbrev pub refusal_in : Result (Vec ℕ Global) AllocError → Bool
+refusal_in (Ok bytes) = false
+refusal_in (Err error) = true
+
+-- what is answered, with these bytes and where something else was refused
+abbrev pub answer_in : Result (Vec ℕ Global) AllocError → Bool → Outcome
+answer_in (Ok bytes) false = Replied bytes.items
+answer_in (Ok bytes) true = OutOfMemory
+answer_in (Err error) refused = OutOfMemory
+
+-- a listener is told of a connection that broke, since memory for what was due was refused
+abbrev pub ToldOf : {N : Type 0} → (N → Note → N → Type 0) → Option ℕ → N → N → Type 0
+ToldOf told (Some id) old new = told old (Refused At.Enqueue (Some id)) new
+ToldOf told None old new = new ≡ old
