@@ -251,7 +251,8 @@ impl Connection {
     /// The line that cancels a job is due from now on, unless it is broken. Whether memory was refused, and
     /// it broke.
     pub fn enqueue_cancel(&mut self, job: JobId) -> bool
-        ensures { EnqueuesAs (cancel_line job) result self.old self.new }
+        ensures enqueues { EnqueuesAs (cancel_line job) result self.old self.new }
+        ensures full { IsTrue result → RESERVED_BYTES < length (self.old.output ++ cancel_line job) }
     {
         if self.broken {
             return false;

@@ -95,7 +95,8 @@ pub fn enqueue_status(
 /// The line that cancels a job becomes due on the connection under a key. The number of one that broke,
 /// since memory was refused.
 pub fn enqueue_cancel(connections: &mut Slab<Connection>, key: usize, job: JobId) -> Option<WireId>
-    ensures { EnqueuesAt key (cancel_line job) result connections.old.slots connections.new.slots }
+    ensures enqueues { EnqueuesAt key (cancel_line job) result connections.old.slots connections.new.slots }
+    ensures full { IsGrowth key (cancel_line job) result connections.old.slots }
 {
     let connection = connections.get_mut(key)?;
     if connection.enqueue_cancel(job) {

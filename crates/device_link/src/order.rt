@@ -1,8 +1,10 @@
 //! The lines that the server sends to a device.
-ghost use Rattle.std.specs.Prelude.{◌≡◌, ◌++◌, IfOk, OnOk, OnErr};
+ghost use Rattle.std.specs.Prelude.{◌≡◌, ◌+◌, ◌<◌, ◌≤◌, ◌++◌, IfOk, OnOk, OnErr, vec_len, length};
+ghost use Rattle.std.specs.Vec.{vec_capacity};
 ghost use Rattle.device_link.specs.Orders.{sides_word, letter_if, finishings_letters, finishings_word, job_line, cancel_line};
 
 use base_types::{Finishings, JobId, Needs, Sides};
+use itoa::Buffer;
 use std::alloc::{AllocError, Global};
 
 /// Appends the line that brings a job, of so many octets, to a device; its documents follow. Where
@@ -69,13 +71,21 @@ fn letter_if(wanted: bool, letter: &str) -> &str
     if wanted { letter } else { "" }
 }
 
-/// Appends the line that tells a device that its job is canceled. Where there is no memory, nothing
-/// is appended.
-pub fn write_cancel(alloc: Global, job: JobId, output: &mut Vec<u8>) -> Result<(), AllocError>
+/// Appends the line that tells a device that its job is canceled. Memory is taken only where there is no
+/// room for the line; where there is none, nothing is appended. The room never shrinks.
+pub fn write_cancel(job: JobId, output: &mut Vec<u8>) -> Result<(), AllocError>
     ensures ok { OnOk result (output.new.items ≡ output.old.items ++ cancel_line job) }
     ensures err { OnErr result (output.new.items ≡ output.old.items) }
+    ensures full { OnErr result (vec_capacity output.old < vec_len output.old + length (cancel_line job)) }
+    ensures capacity { vec_capacity output.old ≤ vec_capacity output.new }
 {
-    let number = job.number();
-    let line = format!(in alloc; "CANCEL {number}\n")?;
-    output.extend_from_slice(line.as_bytes())
+    let mut digits = Buffer::new();
+    let number = digits.format(job.number()).as_bytes();
+    let word = b"CANCEL ";
+    let end = b"\n";
+    output.reserve(word.len() + number.len() + end.len())?;
+    output.extend_from_slice(word)?;
+    output.extend_from_slice(number)?;
+    output.extend_from_slice(end)?;
+    Ok(())
 }

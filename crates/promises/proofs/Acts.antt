@@ -23,7 +23,7 @@ use Rattle.server.specs.Enqueuing.{IsDevice}
 use Rattle.server.specs.Happening.{Unanswered}
 use Rattle.server.specs.Closing.{Leaves, IsGone, ClosesAs, IsBroken, ClosesFirst, NoneBroken, Settles}
 use Rattle.server.specs.Greeting.{Tells, IsDeviceAs, IsAlone, HasOther, GivesWayAt, GivesWay, TakesOver, Greets}
-use Rattle.server.specs.Acting.{place_of, place_of_part, Asks, Refines, ActsNext}
+use Rattle.server.specs.Acting.{place_of, place_of_part, Asks, ActsOn, ActsNext}
 use Rattle.promises.specs.OneLedger.{StepsOnce, SameQueries}
 use Rattle.promises.proofs.Alike.{Alike, Fixed, fixed_nothing, fixed_tells, fixed_chooses, alike_then, first_one, same_choice, choice_one, then_one, apart, BeginsAs, begins_just, Begins, begins_chooses, begins_then, is_choice, fixed_until}
 use Rattle.promises.proofs.Due.{fixed_sets}
@@ -133,11 +133,11 @@ module _ (steps : StepsOnce) (queries : SameQueries) (asks : AsksOne) where
 
   -- ---- what a connection asks
 
-  same_events : (moment key id : ℕ) (who other : Client) (event said : Event) → who ≡ other → SameEvent event said → Alike (Refines moment key id (ask.Event who event)) (Refines moment key id (ask.Event other said))
+  same_events : (moment key id : ℕ) (who other : Client) (event said : Event) → who ≡ other → SameEvent event said → Alike (ActsOn moment key id (ask.Event who event)) (ActsOn moment key id (ask.Event other said))
   same_events moment key id who other event said same says =
-      subst (λ (c : Client). Alike (Refines moment key id (ask.Event who event)) (Refines moment key id (ask.Event c said))) same (same_answered steps moment key id who event said says (queries event said says))
+      subst (λ (c : Client). Alike (ActsOn moment key id (ask.Event who event)) (ActsOn moment key id (ask.Event c said))) same (same_answered steps moment key id who event said says (queries event said says))
 
-  fixed_does : (moment key id : ℕ) (what : Ask) → Fixed (Refines moment key id what)
+  fixed_does : (moment key id : ℕ) (what : Ask) → Fixed (ActsOn moment key id what)
   fixed_does moment key id ask.Nothing = fixed_nothing
   fixed_does moment key id (ask.Broke growth) = fixed_tells (Refused (place_of growth) (Some id))
   fixed_does moment key id (ask.Event who event) = same_events moment key id who who event event refl (same_self event)
@@ -148,10 +148,10 @@ module _ (steps : StepsOnce) (queries : SameQueries) (asks : AsksOne) where
   fixed_does moment key id (ask.Stranger name) = fixed_tells (DeviceRefused id (why.UnknownName name))
   fixed_does moment key id (ask.Fault device) = fixed_tells (DeviceRefused id (why.Fault device))
 
-  as_one : (moment key id : ℕ) (what said : Ask) → what ≡ said → Alike (Refines moment key id what) (Refines moment key id said)
-  as_one moment key id what said same = subst (λ (x : Ask). Alike (Refines moment key id what) (Refines moment key id x)) same (fixed_does moment key id what)
+  as_one : (moment key id : ℕ) (what said : Ask) → what ≡ said → Alike (ActsOn moment key id what) (ActsOn moment key id said)
+  as_one moment key id what said same = subst (λ (x : Ask). Alike (ActsOn moment key id what) (ActsOn moment key id x)) same (fixed_does moment key id what)
 
-  same_does : (moment key id : ℕ) (what said : Ask) → SameAsk what said → Alike (Refines moment key id what) (Refines moment key id said)
+  same_does : (moment key id : ℕ) (what said : Ask) → SameAsk what said → Alike (ActsOn moment key id what) (ActsOn moment key id said)
   same_does moment key id (ask.Event who event) (ask.Event other heard) same = same_events moment key id who other event heard same.0 same.1
   same_does moment key id (ask.Report device one) (ask.Report other heard) same = same_report moment device other one heard same.0 same.1
   same_does moment key id ask.Nothing said same = as_one moment key id ask.Nothing said same
@@ -208,9 +208,9 @@ module _ (steps : StepsOnce) (queries : SameQueries) (asks : AsksOne) where
 
   acts_one : (moment key : ℕ) (l : Ledger) (hs rest : List Happening) (a : Ledger) (ks more : List Happening) (b : Ledger) → hs ++ rest ≡ ks ++ more → ActsNext moment key l hs a → ActsNext moment key l ks b → (hs ≡ ks) × (a ≡ b)
   acts_one moment key l hs rest a ks more b e (id, what, p) (other, said, q) =
-      let it = then_one (Asks key id what) (Asks key other said) (Refines moment key id what) (Refines moment key other said) l hs rest a ks more b e p q
+      let it = then_one (Asks key id what) (Asks key other said) (ActsOn moment key id what) (ActsOn moment key other said) l hs rest a ks more b e p q
       (λ left right both. asks_one key id other what said l p.front left p.mid q.front right q.mid both p.first q.first)
-      (λ one. subst (λ (x : ℕ). Alike (Refines moment key id what) (Refines moment key x said)) one.ids (same_does moment key id what said one.says)) in
+      (λ one. subst (λ (x : ℕ). Alike (ActsOn moment key id what) (ActsOn moment key x said)) one.ids (same_does moment key id what said one.says)) in
       (it.1, it.2)
 
   pub fixed_acts_next : (moment key : ℕ) → Fixed (ActsNext moment key)

@@ -50,7 +50,7 @@ use Rattle.server.specs.Happening.{now_at, found_by, Decides, Sends, Starts, Sta
 use Rattle.server.specs.Closing.{Leaves, IsGone, ClosesAs, ClosesFirst, Settles}
 use Rattle.server.specs.Answering as Ans
 use Rattle.server.specs.Greeting.{GivesWayAt, GivesWay, SaysName, TakesOver, Greets}
-use Rattle.server.specs.Acting.{place_of, place_of_part, Asks, Refines, ActsNext}
+use Rattle.server.specs.Acting.{place_of, place_of_part, Asks, ActsOn, ActsNext}
 use Rattle.server.specs.Polling.{Opens, AcceptsAs, AcceptsOne, AcceptsAt, Acts, Serves, FedWhole, FeedsAt, FeedsOne, Fails, ReadsAs, ReadsOpen, ReadsAt, is_read, ReadsOne, WritesAs, WritesOpen, WritesAt, WritesOne, is_done, EndsAt, EndsOne}
 use Rattle.server.specs.Turn as Between
 use Rattle.server.specs.Turn.{Ticks, Notes, is_tick_due, TicksIfDue, Covers, Round, Turn, BodyAsks, BodyComes, Action, Turned, Served_body, Reported, Ticked, Trace, DoesDeed, Runs}
@@ -317,17 +317,17 @@ carries_reply key bytes c l hs l' a new it = reply_at (λ closes. http_reply clo
 carries_status : (key : ℕ) (status : Status) (request : ℕ) → Carries (EnqueuesStatus key status request)
 carries_status key status request c l hs l' a new it = reply_at (λ closes. http_status closes status request) key (l.entries key) c l hs l' a new it
 
-carries_on : (device : ℕ) (bytes : List ℕ) → Carries (EnqueuesOn device bytes)
-carries_on device bytes c l hs l' a new (inl (key, is, it)) = carries_then (Chooses (On key)) (EnqueuesWhere (λ e. true) key bytes) (carries_chooses (On key)) (carries_where (λ e. true) key bytes) c l hs l' a new it
-carries_on device bytes c l hs l' a new (inr (absent, it)) = carries_nothing c l hs l' a new it
+carries_on : (refusable : Entry → Bool) (device : ℕ) (bytes : List ℕ) → Carries (EnqueuesOn refusable device bytes)
+carries_on refusable device bytes c l hs l' a new (inl (key, is, it)) = carries_then (Chooses (On key)) (EnqueuesWhere refusable key bytes) (carries_chooses (On key)) (carries_where refusable key bytes) c l hs l' a new it
+carries_on refusable device bytes c l hs l' a new (inr (absent, it)) = carries_nothing c l hs l' a new it
 
 -- ---- events
 
 carries_sends : (reply : Effects) → Carries (SendsAll reply)
-carries_sends reply = carries_each_of reply.cancels.items Sends (λ cancel. carries_on cancel.device (cancel_line cancel.job))
+carries_sends reply = carries_each_of reply.cancels.items Sends (λ cancel. carries_on (needs_memory (cancel_line cancel.job)) cancel.device (cancel_line cancel.job))
 
 carries_starts : Carries StartsAll
-carries_starts c l hs l' a new it = carries_each_of l.core.begun Starts (λ start d m ks n b fresh one. carries_on start.device (job_bytes m.core start.job) d m ks n b fresh one) c l hs l' a new it
+carries_starts c l hs l' a new it = carries_each_of l.core.begun Starts (λ start d m ks n b fresh one. carries_on (λ e. true) start.device (job_bytes m.core start.job) d m ks n b fresh one) c l hs l' a new it
 
 carries_orders : (outcome : Outcome) → Carries (Orders outcome)
 carries_orders Dropped = carries_nothing
@@ -464,7 +464,7 @@ carries_greets moment key id device name c l hs l' a new (inr (inl (old, has, it
 carries_greets moment key id device name c l hs l' a new (inr (inr (old, has, it))) =
     carries_then (GivesWay key) (Tells (DeviceRefused id (why.Connected device))) (carries_way key) (carries_tells (DeviceRefused id (why.Connected device))) c l hs l' a new it
 
-carries_does : (moment key id : ℕ) (what : Ask) → Carries (Refines moment key id what)
+carries_does : (moment key id : ℕ) (what : Ask) → Carries (ActsOn moment key id what)
 carries_does moment key id ask.Nothing = carries_nothing
 carries_does moment key id (ask.Broke growth) = carries_tells (Refused (place_of growth) (Some id))
 carries_does moment key id (ask.Event who event) =
@@ -482,7 +482,7 @@ carries_asks key id what c l hs l' a new it =
 
 carries_acts : (moment key : ℕ) → Carries (Acts moment key)
 carries_acts moment key =
-    carries_then (ActsNext moment key) (Settles moment) (λ c l hs l' a new it. carries_then (Asks key it.0 it.1) (Refines moment key it.0 it.1) (carries_asks key it.0 it.1) (carries_does moment key it.0 it.1) c l hs l' a new it.2) (carries_settles moment)
+    carries_then (ActsNext moment key) (Settles moment) (λ c l hs l' a new it. carries_then (Asks key it.0 it.1) (ActsOn moment key it.0 it.1) (carries_asks key it.0 it.1) (carries_does moment key it.0 it.1) c l hs l' a new it.2) (carries_settles moment)
 
 carries_serves : (moment key : ℕ) → Carries (Serves moment key)
 carries_serves moment key c l hs l' a new it = carries_then (Many (Acts moment key)) (Chooses Rested) (carries_many (Acts moment key) (carries_acts moment key)) (carries_chooses Rested) c l hs l' a new it.0

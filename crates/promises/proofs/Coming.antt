@@ -24,7 +24,7 @@ use Rattle.server.specs.Rel.{Nothing, Tells, Chooses, Many}
 use Rattle.server.specs.Enqueuing.{IsDevice}
 use Rattle.server.specs.Closing.{Settles}
 use Rattle.server.specs.Answering as Ans
-use Rattle.server.specs.Acting.{place_of, place_of_part, Asks, Refines, ActsNext}
+use Rattle.server.specs.Acting.{place_of, place_of_part, Asks, ActsOn, ActsNext}
 use Rattle.server.specs.Polling.{Acts, Serves}
 use Rattle.server.specs.Law.{core_notes}
 use Rattle.promises.specs.Orders.{Handled, AreHandled, AreAt, due_by}
@@ -141,7 +141,7 @@ acted_event moment key id who event last new l hs l' own good there client (outc
       stays = o.stays;
     }
 
-pub acted_asks : (moment key id : ℕ) (what : Ask) (last : Bool) (new : Entry) (l : Ledger) (hs : List Happening) (l' : Ledger) → IsClientAsk what → Good l → l.entries key ≡ Some new → ClientTalk new.talk → Refines moment key id what l hs l' → Acted moment key (step.Asks what last) new new.due l hs l'
+pub acted_asks : (moment key id : ℕ) (what : Ask) (last : Bool) (new : Entry) (l : Ledger) (hs : List Happening) (l' : Ledger) → IsClientAsk what → Good l → l.entries key ≡ Some new → ClientTalk new.talk → ActsOn moment key id what l hs l' → Acted moment key (step.Asks what last) new new.due l hs l'
 acted_asks moment key id ask.Nothing last new l hs l' is good there client it = absurd is
 acted_asks moment key id (ask.Broke growth) last new l hs l' is good there client it = absurd is
 acted_asks moment key id (ask.Event who event) last new l hs l' is good there client it = acted_event moment key id who event last new l hs l' is good there client it
@@ -155,20 +155,20 @@ acted_asks moment key id (ask.Stranger name) last new l hs l' is good there clie
 acted_asks moment key id (ask.Fault device) last new l hs l' is good there client it = absurd is
 
 -- of any step of a client
-pub acted_by : (moment key id : ℕ) (comes : Step) (m new : Entry) (what : Ask) (l : Ledger) (hs : List Happening) (l' : Ledger) → IsClientStep comes → StepsTo comes m what new → ClientTalk m.talk → Good l → l.entries key ≡ Some new → Refines moment key id what l hs l' → Acted moment key comes new m.due l hs l'
+pub acted_by : (moment key id : ℕ) (comes : Step) (m new : Entry) (what : Ask) (l : Ledger) (hs : List Happening) (l' : Ledger) → IsClientStep comes → StepsTo comes m what new → ClientTalk m.talk → Good l → l.entries key ≡ Some new → ActsOn moment key id what l hs l' → Acted moment key comes new m.due l hs l'
 acted_by moment key id (step.Due due last) m new what l hs l' fine (inl (is, after)) client good there it =
-    let nothing : Nothing l hs l' = subst (λ (a : Ask). Refines moment key id a l hs l') is it in
+    let nothing : Nothing l hs l' = subst (λ (a : Ask). ActsOn moment key id a l hs l') is it in
     acted_calm moment key (step.Due due last) new m.due (Just_these []) l hs l' there (subst (λ (x : Entry). ClientTalk x.talk) (sym after) client)
     (λ bytes sound none. (due_bytes due, (refl, refl), ap (λ (more : List ℕ). new.due ++ more) none ∙ (append-nil new.due ∙ ap (λ (x : Entry). x.due) after))) (inr (due_bytes due, (refl, refl), ap (λ (x : Entry). x.due) after)) (gives_nothing key (Just_these []) (λ closes. refl) l hs l' nothing)
 acted_by moment key id (step.Due due last) m new what l hs l' fine (inr (is, needs, after)) client good there it =
-    let told : Tells (Refused (place_of growth.Output) (Some id)) l hs l' = subst (λ (a : Ask). Refines moment key id a l hs l') is it in
+    let told : Tells (Refused (place_of growth.Output) (Some id)) l hs l' = subst (λ (a : Ask). ActsOn moment key id a l hs l') is it in
     acted_calm moment key (step.Due due last) new m.due (Just_these []) l hs l' there (subst (λ (x : Entry). ClientTalk x.talk) (sym after) client)
     (λ bytes sound none. absurd (no_true new.broken (ap (λ (x : Entry). x.broken) after) sound)) (inl (ap (λ (x : Entry). x.due) after)) (gave_still key (Just_these []) l hs l' (ap core_notes told.0 ∙ silent_growth growth.Output id) told.1 (λ closes. refl))
 acted_by moment key id (step.Asks asked last) m new what l hs l' fine (is, after) client good there it =
-    let a = acted_asks moment key id asked last new l hs l' fine good there (subst (λ (x : Entry). ClientTalk x.talk) (sym after) client) (subst (λ (a : Ask). Refines moment key id a l hs l') is it) in
+    let a = acted_asks moment key id asked last new l hs l' fine good there (subst (λ (x : Entry). ClientTalk x.talk) (sym after) client) (subst (λ (a : Ask). ActsOn moment key id a l hs l') is it) in
     subst (λ (due : List ℕ). Acted moment key (step.Asks asked last) new due l hs l') (ap (λ (x : Entry). x.due) after) a
 acted_by moment key id (step.Breaks asked) m new what l hs l' fine (is, after) client good there it =
-    let told : Tells (Refused (place_of growth.Input) (Some id)) l hs l' = subst (λ (a : Ask). Refines moment key id a l hs l') (is ∙ fine) it in
+    let told : Tells (Refused (place_of growth.Input) (Some id)) l hs l' = subst (λ (a : Ask). ActsOn moment key id a l hs l') (is ∙ fine) it in
     acted_calm moment key (step.Breaks asked) new m.due (Just_these []) l hs l' there (subst (λ (x : Entry). ClientTalk x.talk) (sym after) client)
     (λ bytes sound none. absurd (no_true new.broken (ap (λ (x : Entry). x.broken) after) sound)) (inl (ap (λ (x : Entry). x.due) after)) (gave_still key (Just_these []) l hs l' (ap core_notes told.0 ∙ silent_growth growth.Input id) told.1 (λ closes. refl))
 
@@ -195,7 +195,7 @@ same_state core [] = refl
 same_state core (it ∷ later) = inl refl
 
 pub client_acts : (moment key id : ℕ) (what : Ask) (l : Ledger) (front : List Happening) (mid : Ledger) (back : List Happening) (l' : Ledger) (hs : List Happening) → hs ≡ front ++ back → Good l
-    → (a : Asks key id what l front mid) → ClientTalk a.entry.talk → Refines moment key id what mid back l' → Goes moment l hs l'
+    → (a : Asks key id what l front mid) → ClientTalk a.entry.talk → ActsOn moment key id what mid back l' → Goes moment l hs l'
 client_acts moment key id what l front mid back l' hs whole good a client does = record {
   handled = acted.handled;
   good = record { one = λ device k other p q. one device k other (k == key) refl (other == key) refl p q; fresh = λ k. fresh k (k == key) refl };
@@ -355,7 +355,7 @@ client_acts moment key id what l front mid back l' hs whole good a client does =
     talks k e false same is of sound = talked_still l.core k acted.handled (l.entries k) (l'.entries k) (ordered k (other_key k key same)).stays (acted.aside k (other_key k key same)) e is of sound
 
 pub device_acts : (moment key id : ℕ) (what : Ask) (l : Ledger) (front : List Happening) (mid : Ledger) (back : List Happening) (l' : Ledger) (hs : List Happening) → hs ≡ front ++ back → Good l
-    → (a : Asks key id what l front mid) → DeviceAsks what a.entry a.new → Refines moment key id what mid back l' → Goes moment l hs l'
+    → (a : Asks key id what l front mid) → DeviceAsks what a.entry a.new → ActsOn moment key id what mid back l' → Goes moment l hs l'
 device_acts moment key id what l front mid back l' hs whole good a (inl (is, sent)) does =
     let first = goes_calm moment l front mid good (calm_sets key a.entry a.new l front mid a.there sent (ap core_notes a.chosen) a.after) in
     goes_then moment l front mid back l' hs whole first (device_does moment key id what mid back l' is first.good does)
@@ -364,10 +364,10 @@ device_acts moment key id what l front mid back l' hs whole good a (inr names) d
     let none : a.entry.due ≡ [] = names.fresh (subst IsFresh a.there (good.fresh key)) sound in
     let just : Just key names.device names.name a.entry a.new l front mid =
     record { good = good; silent = ap core_notes a.chosen; there = a.there; after = a.after; named = names.after; fresh = names.open_talk; due = names.due ∙ none; link = names.link } in
-    greets moment key id names.device names.name a.entry a.new l front mid back l' hs whole just (subst (λ (it : Ask). Refines moment key id it mid back l') names.asks does)
+    greets moment key id names.device names.name a.entry a.new l front mid back l' hs whole just (subst (λ (it : Ask). ActsOn moment key id it mid back l') names.asks does)
 
 pub acts_by : (moment key id : ℕ) (what : Ask) (l : Ledger) (front : List Happening) (mid : Ledger) (back : List Happening) (l' : Ledger) (hs : List Happening) → hs ≡ front ++ back → Good l
-    → (a : Asks key id what l front mid) → (talk : Talk) → a.entry.talk ≡ talk → Refines moment key id what mid back l' → Goes moment l hs l'
+    → (a : Asks key id what l front mid) → (talk : Talk) → a.entry.talk ≡ talk → ActsOn moment key id what mid back l' → Goes moment l hs l'
 acts_by moment key id what l front mid back l' hs whole good a (Http said closes body) is does = client_acts moment key id what l front mid back l' hs whole good a (subst ClientTalk (sym is) tt) does
 acts_by moment key id what l front mid back l' hs whole good a (Queue items session) is does = client_acts moment key id what l front mid back l' hs whole good a (subst ClientTalk (sym is) tt) does
 acts_by moment key id what l front mid back l' hs whole good a (Link reports device) is does =

@@ -65,22 +65,22 @@ fixed_status key status request = record { one = λ l hs rest a ks more b e p q.
 same_key : (key other : ℕ) → On key ≡ On other → key ≡ other
 same_key key other same = cc
 
-enqueues_on : (device : ℕ) (bytes : List ℕ) (l : Ledger) (hs rest : List Happening) (a : Ledger) (ks more : List Happening) (b : Ledger) → hs ++ rest ≡ ks ++ more → EnqueuesOn device bytes l hs a → EnqueuesOn device bytes l ks b → (hs ≡ ks) × (a ≡ b)
-enqueues_on device bytes l hs rest a ks more b e (inl (key, is, p)) (inl (other, its, q)) =
-    let same : key ≡ other = same_key key other (choice_one (On key) (On other) (EnqueuesWhere (λ x. true) key bytes) (EnqueuesWhere (λ x. true) other bytes) l hs rest a ks more b e p q) in
-    (alike_then (fixed_chooses (On key)) (fixed_enqueues_where (λ x. true) key bytes)).one l hs rest a ks more b e p (subst (λ (k : ℕ). Then (Chooses (On k)) (EnqueuesWhere (λ x. true) k bytes) l ks b) (sym same) q)
-enqueues_on device bytes l hs rest a ks more b e (inl (key, is, p)) (inr (none, q)) = absurd (none key is)
-enqueues_on device bytes l hs rest a ks more b e (inr (none, p)) (inl (key, is, q)) = absurd (none key is)
-enqueues_on device bytes l hs rest a ks more b e (inr (none, p)) (inr (nor, q)) = fixed_nothing.one l hs rest a ks more b e p q
+enqueues_on : (refusable : Entry → Bool) (device : ℕ) (bytes : List ℕ) (l : Ledger) (hs rest : List Happening) (a : Ledger) (ks more : List Happening) (b : Ledger) → hs ++ rest ≡ ks ++ more → EnqueuesOn refusable device bytes l hs a → EnqueuesOn refusable device bytes l ks b → (hs ≡ ks) × (a ≡ b)
+enqueues_on refusable device bytes l hs rest a ks more b e (inl (key, is, p)) (inl (other, its, q)) =
+    let same : key ≡ other = same_key key other (choice_one (On key) (On other) (EnqueuesWhere refusable key bytes) (EnqueuesWhere refusable other bytes) l hs rest a ks more b e p q) in
+    (alike_then (fixed_chooses (On key)) (fixed_enqueues_where refusable key bytes)).one l hs rest a ks more b e p (subst (λ (k : ℕ). Then (Chooses (On k)) (EnqueuesWhere refusable k bytes) l ks b) (sym same) q)
+enqueues_on refusable device bytes l hs rest a ks more b e (inl (key, is, p)) (inr (none, q)) = absurd (none key is)
+enqueues_on refusable device bytes l hs rest a ks more b e (inr (none, p)) (inl (key, is, q)) = absurd (none key is)
+enqueues_on refusable device bytes l hs rest a ks more b e (inr (none, p)) (inr (nor, q)) = fixed_nothing.one l hs rest a ks more b e p q
 
-pub fixed_enqueues_on : (device : ℕ) (bytes : List ℕ) → Fixed (EnqueuesOn device bytes)
-fixed_enqueues_on device bytes = record { one = enqueues_on device bytes }
+pub fixed_enqueues_on : (refusable : Entry → Bool) (device : ℕ) (bytes : List ℕ) → Fixed (EnqueuesOn refusable device bytes)
+fixed_enqueues_on refusable device bytes = record { one = enqueues_on refusable device bytes }
 
 pub fixed_sends : (cancel : Cancel) → Fixed (Sends cancel)
-fixed_sends cancel = fixed_enqueues_on cancel.device (cancel_line cancel.job)
+fixed_sends cancel = fixed_enqueues_on (needs_memory (cancel_line cancel.job)) cancel.device (cancel_line cancel.job)
 
 pub fixed_starts : (start : Started) → Fixed (Starts start)
-fixed_starts start = record { one = λ l hs rest a ks more b e p q. (fixed_enqueues_on start.device (job_bytes l.core start.job)).one l hs rest a ks more b e p q }
+fixed_starts start = record { one = λ l hs rest a ks more b e p q. (fixed_enqueues_on (λ x. true) start.device (job_bytes l.core start.job)).one l hs rest a ks more b e p q }
 
 pub fixed_starts_all : Fixed StartsAll
 fixed_starts_all = record { one = λ l hs rest a ks more b e p q. (fixed_each_of l.core.begun Starts fixed_starts).one l hs rest a ks more b e p q }

@@ -11,7 +11,7 @@ use Rattle.events.specs.declared.effects.Cancel.{Cancel}
 use Rattle.dispatcher.specs.declared.outcome.Outcome.{Outcome}
 use Rattle.dispatcher.specs.declared.outcome.Outcome.TheVariants.{Dropped, Queried, Undispatched, Idle, Dispatched}
 use Rattle.dispatcher.specs.Notes.{Note}
-use Rattle.connections.specs.Entry.{Talk, Http, Queue, Link, Entry, device_of, broken, owing, given_up, unnamed}
+use Rattle.connections.specs.Entry.{Talk, Http, Queue, Link, Entry, device_of, broken, owing, given_up, needs_memory, unnamed}
 use Rattle.server.specs.Polls.{Happening}
 use Rattle.server.specs.Ledger.{Ledger, at_key, with_entry, job_bytes}
 use Rattle.server.specs.Rel.{Rel, Nothing, If, EachOf}
@@ -355,18 +355,21 @@ owing_to device bytes e is unbroken = record {
 broken_unsent : (sent : ℕ → List ℕ) (e : Entry) → e.broken ≡ true → Unsent sent (Some e)
 broken_unsent sent e is device counts = absurd (no_true e.broken is counts.1)
 
-enqueues_open : (device key : ℕ) (bytes : List ℕ) (e : Entry) (l : Ledger) (hs : List Happening) (l' : Ledger) → e.broken ≡ false → l.entries key ≡ Some e → device_of e.talk ≡ Some device → ((other : ℕ) → other ≢ key → IsDevice device (l.entries other) → ⊥) → EnqueuesOpen true key bytes e l hs l' → Sent (to_device device bytes) l hs l'
-enqueues_open device key bytes e l hs l' unbroken there is others (inl it) =
+enqueues_open : (grows : Bool) (device key : ℕ) (bytes : List ℕ) (e : Entry) (l : Ledger) (hs : List Happening) (l' : Ledger) → e.broken ≡ false → l.entries key ≡ Some e → device_of e.talk ≡ Some device → ((other : ℕ) → other ≢ key → IsDevice device (l.entries other) → ⊥) → EnqueuesOpen grows key bytes e l hs l' → Sent (to_device device bytes) l hs l'
+enqueues_open false device key bytes e l hs l' unbroken there is others it =
+    sent_sets (to_device device bytes) key e (owing bytes e) l hs l' there (owing_to device bytes e is unbroken) (λ other apart. unsent_to device bytes (l.entries other) (others other apart))
+    (ap core_notes it.0) it.1
+enqueues_open true device key bytes e l hs l' unbroken there is others (inl it) =
     let started : it.mid ≡ l = it.first.1 in
     sent_sets (to_device device bytes) key e (owing bytes e) l hs l' there (owing_to device bytes e is unbroken) (λ other apart. unsent_to device bytes (l.entries other) (others other apart))
     (no_notes hs it.front it.back it.whole (ap core_notes it.first.0) (ap core_notes it.second.0)) (it.second.1 ∙ ap (λ (x : Ledger). with_entry key (owing bytes e) x) started)
-enqueues_open device key bytes e l hs l' unbroken there is others (inr it) =
+enqueues_open true device key bytes e l hs l' unbroken there is others (inr it) =
     sent_sets (to_device device bytes) key e (broken e) l hs l' there (ordered_broken (to_device device bytes) e (broken e) refl (λ other named. (named, refl)) (λ client. client) (λ client. (refl, refl))) (λ other apart. unsent_to device bytes (l.entries other) (others other apart))
     (ap core_notes it.0) it.1
 
-enqueues_if : (t : Bool) (device key : ℕ) (bytes : List ℕ) (e : Entry) (l : Ledger) (hs : List Happening) (l' : Ledger) → e.broken ≡ t → l.entries key ≡ Some e → device_of e.talk ≡ Some device → ((other : ℕ) → other ≢ key → IsDevice device (l.entries other) → ⊥) → If t Nothing (EnqueuesOpen true key bytes e) l hs l' → Sent (to_device device bytes) l hs l'
-enqueues_if false device key bytes e l hs l' broken there is others it = enqueues_open device key bytes e l hs l' broken there is others it
-enqueues_if true device key bytes e l hs l' broken there is others it = sent_still (to_device device bytes) l hs l' (ap core_notes it.0) it.1 unsent
+enqueues_if : (t grows : Bool) (device key : ℕ) (bytes : List ℕ) (e : Entry) (l : Ledger) (hs : List Happening) (l' : Ledger) → e.broken ≡ t → l.entries key ≡ Some e → device_of e.talk ≡ Some device → ((other : ℕ) → other ≢ key → IsDevice device (l.entries other) → ⊥) → If t Nothing (EnqueuesOpen grows key bytes e) l hs l' → Sent (to_device device bytes) l hs l'
+enqueues_if false grows device key bytes e l hs l' broken there is others it = enqueues_open grows device key bytes e l hs l' broken there is others it
+enqueues_if true grows device key bytes e l hs l' broken there is others it = sent_still (to_device device bytes) l hs l' (ap core_notes it.0) it.1 unsent
   where
     here : (k : ℕ) → k ≡ key → Unsent (to_device device bytes) (l.entries k)
     here k same = subst (λ (o : Option Entry). Unsent (to_device device bytes) o) (sym (ap l.entries same ∙ there)) (broken_unsent (to_device device bytes) e broken)
@@ -378,33 +381,33 @@ enqueues_if true device key bytes e l hs l' broken there is others it = sent_sti
     unsent : (k : ℕ) → Unsent (to_device device bytes) (l.entries k)
     unsent k = by k (k == key) refl
 
-enqueues_at : (device key : ℕ) (bytes : List ℕ) (o : Option Entry) (l : Ledger) (hs : List Happening) (l' : Ledger) → l.entries key ≡ o → IsDevice device o → ((other : ℕ) → other ≢ key → IsDevice device (l.entries other) → ⊥) → EnqueuesAt (λ e. true) key bytes o l hs l' → Sent (to_device device bytes) l hs l'
-enqueues_at device key bytes None l hs l' there is others it = absurd is
-enqueues_at device key bytes (Some e) l hs l' there is others it = enqueues_if e.broken device key bytes e l hs l' refl there is others it
+enqueues_at : (refusable : Entry → Bool) (device key : ℕ) (bytes : List ℕ) (o : Option Entry) (l : Ledger) (hs : List Happening) (l' : Ledger) → l.entries key ≡ o → IsDevice device o → ((other : ℕ) → other ≢ key → IsDevice device (l.entries other) → ⊥) → EnqueuesAt refusable key bytes o l hs l' → Sent (to_device device bytes) l hs l'
+enqueues_at refusable device key bytes None l hs l' there is others it = absurd is
+enqueues_at refusable device key bytes (Some e) l hs l' there is others it = enqueues_if e.broken (refusable e) device key bytes e l hs l' refl there is others it
 
 -- what is kept by the device is sent to it, and to no other
-pub enqueues_on : (device : ℕ) (bytes : List ℕ) (l : Ledger) (hs : List Happening) (l' : Ledger) → Good l → EnqueuesOn device bytes l hs l' → Sent (to_device device bytes) l hs l'
-enqueues_on device bytes l hs l' good (inl (key, is, it)) =
+pub enqueues_on : (refusable : Entry → Bool) (device : ℕ) (bytes : List ℕ) (l : Ledger) (hs : List Happening) (l' : Ledger) → Good l → EnqueuesOn refusable device bytes l hs l' → Sent (to_device device bytes) l hs l'
+enqueues_on refusable device bytes l hs l' good (inl (key, is, it)) =
     let begun : it.mid ≡ l = it.first.1 in
-    let kept : EnqueuesAt (λ e. true) key bytes (l.entries key) l it.back l' = subst (λ (x : Ledger). EnqueuesAt (λ e. true) key bytes (x.entries key) x it.back l') begun it.second in
-    let s = enqueues_at device key bytes (l.entries key) l it.back l' refl is (λ other apart there. apart (good.one device other key there is)) kept in
+    let kept : EnqueuesAt refusable key bytes (l.entries key) l it.back l' = subst (λ (x : Ledger). EnqueuesAt refusable key bytes (x.entries key) x it.back l') begun it.second in
+    let s = enqueues_at refusable device key bytes (l.entries key) l it.back l' refl is (λ other apart there. apart (good.one device other key there is)) kept in
     record { core = s.core; closed = s.closed; notes = no_notes hs it.front it.back it.whole (ap core_notes it.first.0) s.notes; each = s.each }
-enqueues_on device bytes l hs l' good (inr (absent, it)) = sent_still (to_device device bytes) l hs l' (ap core_notes it.0) it.1 (λ key. unsent_to device bytes (l.entries key) (absent key))
+enqueues_on refusable device bytes l hs l' good (inr (absent, it)) = sent_still (to_device device bytes) l hs l' (ap core_notes it.0) it.1 (λ key. unsent_to device bytes (l.entries key) (absent key))
 
 -- ---- all of an event
 
 sends_each : (cancels : List Cancel) (l : Ledger) (hs : List Happening) (l' : Ledger) → Good l → EachOf cancels Sends l hs l' → Sent (λ device. flat_map (cancel_for device) cancels) l hs l'
 sends_each [] l hs l' good it = calm_still l hs l' (ap core_notes it.0) it.1
 sends_each (cancel ∷ cancels) l hs l' good it =
-    let first = enqueues_on cancel.device (cancel_line cancel.job) l it.front it.mid good it.first in
+    let first = enqueues_on (needs_memory (cancel_line cancel.job)) cancel.device (cancel_line cancel.job) l it.front it.mid good it.first in
     let later = sends_each cancels it.mid it.back l' (good_sent (to_device cancel.device (cancel_line cancel.job)) l it.front it.mid first good) it.second in
     sent_then (to_device cancel.device (cancel_line cancel.job)) (λ device. flat_map (cancel_for device) cancels) l it.front it.mid it.back l' hs it.whole first later
 
 starts_each : (core : State) (starts : List Started) (l : Ledger) (hs : List Happening) (l' : Ledger) → l.core ≡ core → Good l → EachOf starts Starts l hs l' → Sent (λ device. flat_map (start_for device core) starts) l hs l'
 starts_each core [] l hs l' is good it = calm_still l hs l' (ap core_notes it.0) it.1
 starts_each core (start ∷ starts) l hs l' is good it =
-    let kept : EnqueuesOn start.device (job_bytes core start.job) l it.front it.mid = subst (λ (c : State). EnqueuesOn start.device (job_bytes c start.job) l it.front it.mid) is it.first in
-    let first = enqueues_on start.device (job_bytes core start.job) l it.front it.mid good kept in
+    let kept : EnqueuesOn (λ e. true) start.device (job_bytes core start.job) l it.front it.mid = subst (λ (c : State). EnqueuesOn (λ e. true) start.device (job_bytes c start.job) l it.front it.mid) is it.first in
+    let first = enqueues_on (λ e. true) start.device (job_bytes core start.job) l it.front it.mid good kept in
     let later = starts_each core starts it.mid it.back l' (first.core ∙ is) (good_sent (to_device start.device (job_bytes core start.job)) l it.front it.mid first good) it.second in
     sent_then (to_device start.device (job_bytes core start.job)) (λ device. flat_map (start_for device core) starts) l it.front it.mid it.back l' hs it.whole first later
 

@@ -39,7 +39,7 @@ use Rattle.server.specs.Happening.{Decides, Sends, Starts, StartsAll, SendsAll, 
 use Rattle.server.specs.Closing.{Leaves, IsGone, ClosesAs, IsBroken, ClosesFirst, NoneBroken, Settles}
 use Rattle.server.specs.Answering as Ans
 use Rattle.server.specs.Greeting.{IsDeviceAs, GivesWayAt, GivesWay, SaysName, Greets}
-use Rattle.server.specs.Acting.{place_of, place_of_part, Asks, Refines, ActsNext}
+use Rattle.server.specs.Acting.{place_of, place_of_part, Asks, ActsOn, ActsNext}
 use Rattle.server.specs.Polling.{Acts, Serves, FedWhole, FeedsAt, FeedsOne, Fails, ReadsAs, ReadsOpen, ReadsAt, is_read, ReadsOne, WritesAs, WritesOpen, WritesAt, WritesOne, is_done, EndsAt, EndsOne}
 use Rattle.promises.specs.Others.{SparedAs, IsSpared, SparesAll}
 use Rattle.promises.proofs.Sending.{same_key}
@@ -269,32 +269,35 @@ module _ (other key : ℕ) (apart : other ≢ key) where
 
 -- ---- events, which concern devices' connections
 
-enqueues_open : (other key device : ℕ) (bytes : List ℕ) (e : Entry) (l : Ledger) (hs : List Happening) (l' : Ledger) → l.entries key ≡ Some e → device_of e.talk ≡ Some device → e.broken ≡ false → EnqueuesOpen true key bytes e l hs l' → Left (l.entries other) (l'.entries other)
-enqueues_open other key device bytes e l hs l' there named sound (inl it) =
+enqueues_open : (grows : Bool) (other key device : ℕ) (bytes : List ℕ) (e : Entry) (l : Ledger) (hs : List Happening) (l' : Ledger) → l.entries key ≡ Some e → device_of e.talk ≡ Some device → e.broken ≡ false → EnqueuesOpen grows key bytes e l hs l' → Left (l.entries other) (l'.entries other)
+enqueues_open false other key device bytes e l hs l' there named sound it =
+    left_at other key (Some (owing bytes e)) l l' (ap (λ (x : Ledger). x.entries) it.1)
+    (λ same. subst (λ (o : Option Entry). Left o (Some (owing bytes e))) (sym (ap l.entries same ∙ there)) (left_owing e device bytes named sound))
+enqueues_open true other key device bytes e l hs l' there named sound (inl it) =
     left_at other key (Some (owing bytes e)) l l' (ap (λ (x : Ledger). x.entries) (it.second.1 ∙ ap (λ (x : Ledger). with_entry key (owing bytes e) x) it.first.1))
     (λ same. subst (λ (o : Option Entry). Left o (Some (owing bytes e))) (sym (ap l.entries same ∙ there)) (left_owing e device bytes named sound))
-enqueues_open other key device bytes e l hs l' there named sound (inr it) =
+enqueues_open true other key device bytes e l hs l' there named sound (inr it) =
     left_at other key (Some (broken e)) l l' (ap (λ (x : Ledger). x.entries) it.1) (λ same. subst (λ (o : Option Entry). Left o (Some (broken e))) (sym (ap l.entries same ∙ there)) (left_out e device (Some (broken e)) named (inr (broken e, refl, refl))))
 
-enqueues_if : (t : Bool) (other key device : ℕ) (bytes : List ℕ) (e : Entry) (l : Ledger) (hs : List Happening) (l' : Ledger) → e.broken ≡ t → l.entries key ≡ Some e → device_of e.talk ≡ Some device → If t Nothing (EnqueuesOpen true key bytes e) l hs l' → Left (l.entries other) (l'.entries other)
-enqueues_if true other key device bytes e l hs l' is there named it = left_nothing other l hs l' it
-enqueues_if false other key device bytes e l hs l' is there named it = enqueues_open other key device bytes e l hs l' there named is it
+enqueues_if : (t grows : Bool) (other key device : ℕ) (bytes : List ℕ) (e : Entry) (l : Ledger) (hs : List Happening) (l' : Ledger) → e.broken ≡ t → l.entries key ≡ Some e → device_of e.talk ≡ Some device → If t Nothing (EnqueuesOpen grows key bytes e) l hs l' → Left (l.entries other) (l'.entries other)
+enqueues_if true grows other key device bytes e l hs l' is there named it = left_nothing other l hs l' it
+enqueues_if false grows other key device bytes e l hs l' is there named it = enqueues_open grows other key device bytes e l hs l' there named is it
 
-enqueues_there : (other key device : ℕ) (bytes : List ℕ) (o : Option Entry) (l : Ledger) (hs : List Happening) (l' : Ledger) → l.entries key ≡ o → IsDevice device o → EnqueuesAt (λ e. true) key bytes o l hs l' → Left (l.entries other) (l'.entries other)
-enqueues_there other key device bytes None l hs l' there is it = absurd is
-enqueues_there other key device bytes (Some e) l hs l' there is it = enqueues_if e.broken other key device bytes e l hs l' refl there is it
+enqueues_there : (refusable : Entry → Bool) (other key device : ℕ) (bytes : List ℕ) (o : Option Entry) (l : Ledger) (hs : List Happening) (l' : Ledger) → l.entries key ≡ o → IsDevice device o → EnqueuesAt refusable key bytes o l hs l' → Left (l.entries other) (l'.entries other)
+enqueues_there refusable other key device bytes None l hs l' there is it = absurd is
+enqueues_there refusable other key device bytes (Some e) l hs l' there is it = enqueues_if e.broken (refusable e) other key device bytes e l hs l' refl there is it
 
-left_enqueues_on : (other device : ℕ) (bytes : List ℕ) → Leaves_it other (EnqueuesOn device bytes)
-left_enqueues_on other device bytes l hs l' (inl (key, is, it)) =
-    let kept : EnqueuesAt (λ e. true) key bytes (l.entries key) l it.back l' = subst (λ (x : Ledger). EnqueuesAt (λ e. true) key bytes (x.entries key) x it.back l') it.first.1 it.second in
-    enqueues_there other key device bytes (l.entries key) l it.back l' refl is kept
-left_enqueues_on other device bytes l hs l' (inr (absent, it)) = left_nothing other l hs l' it
+left_enqueues_on : (refusable : Entry → Bool) (other device : ℕ) (bytes : List ℕ) → Leaves_it other (EnqueuesOn refusable device bytes)
+left_enqueues_on refusable other device bytes l hs l' (inl (key, is, it)) =
+    let kept : EnqueuesAt refusable key bytes (l.entries key) l it.back l' = subst (λ (x : Ledger). EnqueuesAt refusable key bytes (x.entries key) x it.back l') it.first.1 it.second in
+    enqueues_there refusable other key device bytes (l.entries key) l it.back l' refl is kept
+left_enqueues_on refusable other device bytes l hs l' (inr (absent, it)) = left_nothing other l hs l' it
 
 left_sends : (other : ℕ) (reply : Effects) → Leaves_it other (SendsAll reply)
-left_sends other reply = left_each_of other reply.cancels.items Sends (λ cancel. left_enqueues_on other cancel.device (cancel_line cancel.job))
+left_sends other reply = left_each_of other reply.cancels.items Sends (λ cancel. left_enqueues_on (needs_memory (cancel_line cancel.job)) other cancel.device (cancel_line cancel.job))
 
 left_starts : (other : ℕ) → Leaves_it other StartsAll
-left_starts other l hs l' it = left_each_of other l.core.begun Starts (λ start a ks b one. left_enqueues_on other start.device (job_bytes a.core start.job) a ks b one) l hs l' it
+left_starts other l hs l' it = left_each_of other l.core.begun Starts (λ start a ks b one. left_enqueues_on (λ e. true) other start.device (job_bytes a.core start.job) a ks b one) l hs l' it
 
 left_orders : (other : ℕ) (outcome : Outcome) → Leaves_it other (Orders outcome)
 left_orders other Dropped = left_nothing other
@@ -350,7 +353,7 @@ left_greets other moment key id device name apart l hs l' (inr (inl (old, has, i
 left_greets other moment key id device name apart l hs l' (inr (inr (old, has, it))) =
     left_joined other (GivesWay key) (Tells (DeviceRefused id (why.Connected device))) (λ a ks b more. gives_way_at other key device (a.entries key) a ks b refl (aside other key apart) more) (left_tells other (DeviceRefused id (why.Connected device))) l hs l' it
 
-left_does : (other moment key id : ℕ) (what : Ask) → other ≢ key → Leaves_it other (Refines moment key id what)
+left_does : (other moment key id : ℕ) (what : Ask) → other ≢ key → Leaves_it other (ActsOn moment key id what)
 left_does other moment key id ask.Nothing apart = left_nothing other
 left_does other moment key id (ask.Broke growth) apart = left_tells other (Refused (place_of growth) (Some id))
 left_does other moment key id (ask.Event who event) apart =
@@ -364,7 +367,7 @@ left_does other moment key id (ask.Fault device) apart = left_tells other (Devic
 
 left_acts_next : (other moment key : ℕ) → other ≢ key → Leaves_it other (ActsNext moment key)
 left_acts_next other moment key apart l hs l' (id, what, it) =
-    left_joined other (Asks key id what) (Refines moment key id what) (λ a ks b asks. left_at other key (Some asks.new) a b (ap (λ (x : Ledger). x.entries) asks.after) (aside other key apart)) (left_does other moment key id what apart) l hs l' it
+    left_joined other (Asks key id what) (ActsOn moment key id what) (λ a ks b asks. left_at other key (Some asks.new) a b (ap (λ (x : Ledger). x.entries) asks.after) (aside other key apart)) (left_does other moment key id what apart) l hs l' it
 
 left_acts : (other moment key : ℕ) → other ≢ key → Leaves_it other (Acts moment key)
 left_acts other moment key apart = left_joined other (ActsNext moment key) (Settles moment) (left_acts_next other moment key apart) (left_settles other moment)

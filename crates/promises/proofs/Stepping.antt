@@ -28,7 +28,7 @@ use Rattle.connections.specs.Asking.{Hears, StepsTo}
 use Rattle.server.specs.Polls.{Happening, Told}
 use Rattle.server.specs.Ledger.{Ledger}
 use Rattle.server.specs.Rel.{Tells}
-use Rattle.server.specs.Acting.{place_of, place_of_part, Refines}
+use Rattle.server.specs.Acting.{place_of, place_of_part, ActsOn}
 use Rattle.server.specs.Law.{core_notes}
 use Rattle.promises.proofs.Typing.{EventOf, asks_ipp, submits_job, commands}
 use Rattle.promises.specs.Answers.{ClientTalk}
@@ -74,7 +74,7 @@ silent_part part.Job id = refl
 pub calms_device_refused : (id : ℕ) (note : Note) → core_notes (Told note ∷ []) ≡ [] → Calms (Tells note)
 calms_device_refused id note silent l hs l' it = calm_still l hs l' (ap core_notes it.0 ∙ silent) it.1
 
-pub device_does : (moment key id : ℕ) (what : Ask) (l : Ledger) (hs : List Happening) (l' : Ledger) → IsDeviceAsk what → Good l → Refines moment key id what l hs l' → Goes moment l hs l'
+pub device_does : (moment key id : ℕ) (what : Ask) (l : Ledger) (hs : List Happening) (l' : Ledger) → IsDeviceAsk what → Good l → ActsOn moment key id what l hs l' → Goes moment l hs l'
 device_does moment key id ask.Nothing l hs l' is good it = absurd is
 device_does moment key id (ask.Broke growth) l hs l' is good it = goes_calm moment l hs l' good (calms_refusal (place_of growth) (Some id) (silent_growth growth id) l hs l' it)
 device_does moment key id (ask.Event who event) l hs l' is good it = absurd is

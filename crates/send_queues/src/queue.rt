@@ -203,10 +203,9 @@ impl SendQueue {
     pub fn push_cancel(&mut self, job: JobId) -> Result<(), AllocError>
         ensures ok { OnOk result (self.new ≡ self.old ++ cancel_line job) }
         ensures err { OnErr result (self.new ≡ self.old) }
+        ensures full { OnErr result (RESERVED_BYTES < length (self.old ++ cancel_line job)) }
     {
-        let mut line = Vec::new(self.alloc);
-        write_cancel(self.alloc, job, &mut line)?;
-        self.text.extend_from_slice(&line)
+        write_cancel(job, &mut self.text)
     }
 
     /// The line of a job of so many octets follows, and then its documents. The error is out of memory:

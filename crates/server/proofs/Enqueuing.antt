@@ -12,7 +12,7 @@ use Rattle.connections.specs.Entry.{Talk, Entry, waiting, broken, owing, needs_m
 use Rattle.connections.specs.Peers.{work, closes_of as closes_in, unnamed as has_no_name}
 use Rattle.connections.specs.Connections.{ConnectionState, EnqueuesAs, is_kept, is_broken, gives_way, load}
 use Rattle.connections.specs.Representation.{FitsPeer, RepresentsConnection}
-use Rattle.connections.specs.Slots.{EnqueuesAt as KeepsSlot, IsGrowth, output_at, closes_at}
+use Rattle.connections.specs.Slots.{EnqueuesAt as EnqueuesSlot, IsGrowth, output_at, closes_at}
 use Rattle.server.specs.Polls.{Happening, Told, Chosen, Found, seen, alone}
 use Rattle.server.specs.Ledger.{Ledger, with_entry}
 use Rattle.server.specs.Rel.{Nothing}
@@ -132,7 +132,7 @@ kept_where told n n' a slots key bytes grows c d was is (inr (whole, now)) same 
 
 -- what the table says of due bytes, and what the listener was told
 unfoldable pub enqueues_where : {N : Type 0} (told : N → Note → N → Type 0) (n n' : N) (a : EngineState) (slots : List (Option ConnectionState)) (key : ℕ) (bytes : List ℕ) (grows : Entry → Bool) (broke : Option ℕ)
-    → KeepsSlot key bytes broke a.slots slots → IsGrowthWhere grows a.slots key broke → ToldOf told broke n n' → RefinesQuietly (alone told) (EnqueuesWhere grows key bytes) n a n' (with_slots slots a)
+    → EnqueuesSlot key bytes broke a.slots slots → IsGrowthWhere grows a.slots key broke → ToldOf told broke n n' → RefinesQuietly (alone told) (EnqueuesWhere grows key bytes) n a n' (with_slots slots a)
 enqueues_where told n n' a slots key bytes grows None (inl none) growth same =
     aside_same (alone told) (EnqueuesWhere grows key bytes) [] n n' a (with_slots slots a) same (ap (λ (xs : List (Option ConnectionState)). with_slots xs a) none.same)
     (λ l fits. ([], refl, enqueues_from grows key bytes l [] l None (absent l a key fits none.there) (refl, refl)))
@@ -157,12 +157,12 @@ growth_at bytes slots key id c e more there f =
     let held : output_at key slots ≡ waiting e = ap (λ (o : Option ConnectionState). option_map_or (λ (d : ConnectionState). d.output) o []) there ∙ sym (waits e c f) in
     above RESERVED_BYTES (length (waiting e ++ bytes)) (subst (λ (w : List ℕ). RESERVED_BYTES < length (w ++ bytes)) held more)
 
-growth_as : (bytes : List ℕ) (slots : List (Option ConnectionState)) (key : ℕ) (broke : Option ℕ) → IsGrowth key bytes broke slots → IsGrowthWhere (needs_memory bytes) slots key broke
+pub growth_as : (bytes : List ℕ) (slots : List (Option ConnectionState)) (key : ℕ) (broke : Option ℕ) → IsGrowth key bytes broke slots → IsGrowthWhere (needs_memory bytes) slots key broke
 growth_as bytes slots key None more is c e there f = cc
 growth_as bytes slots key (Some id) more is c e there f = growth_at bytes slots key id c e more there f
 
 pub enqueues : {N : Type 0} (told : N → Note → N → Type 0) (n n' : N) (a : EngineState) (slots : List (Option ConnectionState)) (key : ℕ) (bytes : List ℕ) (broke : Option ℕ)
-    → KeepsSlot key bytes broke a.slots slots → IsGrowth key bytes broke a.slots → ToldOf told broke n n' → RefinesQuietly (alone told) (Enqueues key bytes) n a n' (with_slots slots a)
+    → EnqueuesSlot key bytes broke a.slots slots → IsGrowth key bytes broke a.slots → ToldOf told broke n n' → RefinesQuietly (alone told) (Enqueues key bytes) n a n' (with_slots slots a)
 enqueues told n n' a slots key bytes broke enqueue full tells = enqueues_where told n n' a slots key bytes (needs_memory bytes) broke enqueue (growth_as bytes a.slots key broke full) tells
 
 -- ---- a reply, by what its request said of closing
@@ -181,23 +181,23 @@ enqueues_reply_from bytes key l a hs l' (Some e) None there fits it = absurd fit
 enqueues_reply_from bytes key l a hs l' (Some e) (Some c) there fits it = subst (λ (closes : Bool). Enqueues key (bytes closes) l hs l') (closes_as e c fits) it
 
 pub enqueues_reply : {N : Type 0} (told : N → Note → N → Type 0) (n n' : N) (a : EngineState) (slots : List (Option ConnectionState)) (key : ℕ) (bytes : Bool → List ℕ) (broke : Option ℕ)
-    → KeepsSlot key (bytes (closes_at key a.slots)) broke a.slots slots → IsGrowth key (bytes (closes_at key a.slots)) broke a.slots → ToldOf told broke n n' → RefinesQuietly (alone told) (λ l hs l'. EnqueuesReplyAt bytes key (l.entries key) l hs l') n a n' (with_slots slots a)
+    → EnqueuesSlot key (bytes (closes_at key a.slots)) broke a.slots slots → IsGrowth key (bytes (closes_at key a.slots)) broke a.slots → ToldOf told broke n n' → RefinesQuietly (alone told) (λ l hs l'. EnqueuesReplyAt bytes key (l.entries key) l hs l') n a n' (with_slots slots a)
 enqueues_reply told n n' a slots key bytes broke enqueue full tells =
     aside_as (alone told) (Enqueues key (bytes (closes_at key a.slots))) (λ l hs l'. EnqueuesReplyAt bytes key (l.entries key) l hs l') n n' a (with_slots slots a)
     (λ l hs l' fits fits' it. enqueues_reply_from bytes key l a hs l' (l.entries key) (slot_at a key) refl (fits.each key) it)
     (enqueues told n n' a slots key (bytes (closes_at key a.slots)) broke enqueue full tells)
 
-kept_openly : {N : Type 0} (told : N → Note → N → Type 0) (n n' : N) (a : EngineState) (slots : List (Option ConnectionState)) (key : ℕ) (bytes : List ℕ) (c d : ConnectionState)
-    → slice_index_or a.slots key None ≡ Some c → slots ≡ slice_set a.slots key (Some d) → EnqueuesAs bytes false c d → n' ≡ n → RefinesReporting (alone told) (EnqueuesWhere (λ e. true) key bytes) n a n' (with_slots slots a) false
+kept_openly : {N : Type 0} (told : N → Note → N → Type 0) (n n' : N) (a : EngineState) (slots : List (Option ConnectionState)) (key : ℕ) (bytes : List ℕ) (grows : Entry → Bool) (c d : ConnectionState)
+    → slice_index_or a.slots key None ≡ Some c → slots ≡ slice_set a.slots key (Some d) → EnqueuesAs bytes false c d → n' ≡ n → RefinesReporting (alone told) (EnqueuesWhere grows key bytes) n a n' (with_slots slots a) false
 unfolding aside_same aside_at does_at kept_where
-kept_openly told n n' a slots key bytes c d was is (inl still) same = record { does = kept_where told n n' a slots key bytes (λ e. true) c d was is (inl still) same; is = refl }
-kept_openly told n n' a slots key bytes c d was is (inr now) same = record { does = kept_where told n n' a slots key bytes (λ e. true) c d was is (inr now) same; is = refl }
+kept_openly told n n' a slots key bytes grows c d was is (inl still) same = record { does = kept_where told n n' a slots key bytes grows c d was is (inl still) same; is = refl }
+kept_openly told n n' a slots key bytes grows c d was is (inr now) same = record { does = kept_where told n n' a slots key bytes grows c d was is (inr now) same; is = refl }
 
--- what may be refused at any time, with whether it was
-pub enqueues_openly : {N : Type 0} (told : N → Note → N → Type 0) (n n' : N) (a : EngineState) (slots : List (Option ConnectionState)) (key : ℕ) (bytes : List ℕ) (broke : Option ℕ)
-    → KeepsSlot key bytes broke a.slots slots → ToldOf told broke n n' → RefinesReporting (alone told) (EnqueuesWhere (λ e. true) key bytes) n a n' (with_slots slots a) (is_some broke)
+-- with whether memory was refused
+pub enqueues_openly : {N : Type 0} (told : N → Note → N → Type 0) (n n' : N) (a : EngineState) (slots : List (Option ConnectionState)) (key : ℕ) (bytes : List ℕ) (grows : Entry → Bool) (broke : Option ℕ)
+    → EnqueuesSlot key bytes broke a.slots slots → IsGrowthWhere grows a.slots key broke → ToldOf told broke n n' → RefinesReporting (alone told) (EnqueuesWhere grows key bytes) n a n' (with_slots slots a) (is_some broke)
 unfolding aside_same aside_at does_at enqueues_where kept_where
-enqueues_openly told n n' a slots key bytes None (inl none) same = record { does = enqueues_where told n n' a slots key bytes (λ e. true) None (inl none) (λ is c e there f. refl) same; is = refl }
-enqueues_openly told n n' a slots key bytes None (inr on) same =
-    openly_flag (alone told) (EnqueuesWhere (λ e. true) key bytes) n n' a (with_slots slots a) false (is_some {T = ℕ} None) refl (kept_openly told n n' a slots key bytes on.before on.after on.there on.slots on.changes same)
-enqueues_openly told n n' a slots key bytes (Some id) on tells = record { does = enqueues_where told n n' a slots key bytes (λ e. true) (Some id) on (λ is c e there f. refl) tells; is = refl }
+enqueues_openly told n n' a slots key bytes grows None (inl none) growth same = record { does = enqueues_where told n n' a slots key bytes grows None (inl none) growth same; is = refl }
+enqueues_openly told n n' a slots key bytes grows None (inr on) growth same =
+    openly_flag (alone told) (EnqueuesWhere grows key bytes) n n' a (with_slots slots a) false (is_some {T = ℕ} None) refl (kept_openly told n n' a slots key bytes grows on.before on.after on.there on.slots on.changes same)
+enqueues_openly told n n' a slots key bytes grows (Some id) on growth tells = record { does = enqueues_where told n n' a slots key bytes grows (Some id) on growth tells; is = refl }

@@ -307,7 +307,7 @@ module _ (moment : ℕ) (P : Rel) (k : Holds moment P) where
   greets_in key id device name l hs l' (inr (inl (other, ended, it))) = then_in (chooses_in (On other)) (then_in (gives_way_in other) (then_in (gone_in (Some device)) (reported_in device (reported.Hello name)))) l hs l' it
   greets_in key id device name l hs l' (inr (inr (other, is, it))) = then_in (gives_way_in key) (turned_away_in id (why.Connected device)) l hs l' it
 
-  does_in : (key id : ℕ) (what : Ask) → Within P (Acting.Refines moment key id what)
+  does_in : (key id : ℕ) (what : Ask) → Within P (Acting.ActsOn moment key id what)
   does_in key id ask.Nothing = nothing_in
   does_in key id (ask.Broke growth) = calmly_in (calm_refusal (Acting.place_of growth) (Some id) (other_growth growth id))
   does_in key id (ask.Event who event) = answers_in key id who event

@@ -161,18 +161,18 @@ calm_where grows key bytes l hs l' it = enqueues_at grows key bytes (l.entries k
 pub calm_enqueues : (key : ℕ) (bytes : List ℕ) → Calmly (Enqueues key bytes)
 calm_enqueues key bytes = calm_where (needs_memory bytes) key bytes
 
-pub calm_enqueues_on : (device : ℕ) (bytes : List ℕ) → Calmly (EnqueuesOn device bytes)
-calm_enqueues_on device bytes l hs l' (inl (key, is, it)) = calm_then (calm_choice (On key)) (calm_where (λ e. true) key bytes) l hs l' it
-calm_enqueues_on device bytes l hs l' (inr (none, it)) = calm_nothing l hs l' it
+pub calm_enqueues_on : (grows : Entry → Bool) (device : ℕ) (bytes : List ℕ) → Calmly (EnqueuesOn grows device bytes)
+calm_enqueues_on grows device bytes l hs l' (inl (key, is, it)) = calm_then (calm_choice (On key)) (calm_where grows key bytes) l hs l' it
+calm_enqueues_on grows device bytes l hs l' (inr (none, it)) = calm_nothing l hs l' it
 
 -- ---- an event
 
 each_sent : (cancels : List Cancel) → Calmly (EachOf cancels Sends)
 each_sent [] = calm_nothing
-each_sent (cancel ∷ cancels) = calm_then (calm_enqueues_on cancel.device (cancel_line cancel.job)) (each_sent cancels)
+each_sent (cancel ∷ cancels) = calm_then (calm_enqueues_on (needs_memory (cancel_line cancel.job)) cancel.device (cancel_line cancel.job)) (each_sent cancels)
 
 starts : (start : Started) → Calmly (Starts start)
-starts start l hs l' it = calm_enqueues_on start.device (job_bytes l.core start.job) l hs l' it
+starts start l hs l' it = calm_enqueues_on (λ e. true) start.device (job_bytes l.core start.job) l hs l' it
 
 each_started : (started : List Started) → Calmly (EachOf started Starts)
 each_started [] = calm_nothing

@@ -41,17 +41,17 @@ pub record Asks (key id : ℕ) (what : Ask) (l : Ledger) (hs : List Happening) (
   pub after : l' ≡ with_entry key new l
 
 -- what comes of it
-abbrev pub Refines : ℕ → ℕ → ℕ → Ask → Rel
-Refines moment key id ask.Nothing = Nothing
-Refines moment key id (ask.Broke growth) = Tells (Refused (place_of growth) (Some id))
-Refines moment key id (ask.Event client event) = IsAnswered moment key id client event
-Refines moment key id (ask.Unread request) = Drops key id request
-Refines moment key id (ask.Lost part) = Declines (place_of_part part) key id
-Refines moment key id (ask.Hello device name) = Greets moment key id device name
-Refines moment key id (ask.Report device report) = Unanswered moment (Is.Report device report)
-Refines moment key id (ask.Stranger name) = Tells (DeviceRefused id (why.UnknownName name))
-Refines moment key id (ask.Fault device) = Tells (DeviceRefused id (why.Fault device))
+abbrev pub ActsOn : ℕ → ℕ → ℕ → Ask → Rel
+ActsOn moment key id ask.Nothing = Nothing
+ActsOn moment key id (ask.Broke growth) = Tells (Refused (place_of growth) (Some id))
+ActsOn moment key id (ask.Event client event) = IsAnswered moment key id client event
+ActsOn moment key id (ask.Unread request) = Drops key id request
+ActsOn moment key id (ask.Lost part) = Declines (place_of_part part) key id
+ActsOn moment key id (ask.Hello device name) = Greets moment key id device name
+ActsOn moment key id (ask.Report device report) = Unanswered moment (Is.Report device report)
+ActsOn moment key id (ask.Stranger name) = Tells (DeviceRefused id (why.UnknownName name))
+ActsOn moment key id (ask.Fault device) = Tells (DeviceRefused id (why.Fault device))
 
 -- it asks something, which comes about
 abbrev pub ActsNext : ℕ → ℕ → Rel
-ActsNext moment key l hs l' = (id : ℕ) × (what : Ask) × Then (Asks key id what) (Refines moment key id what) l hs l'
+ActsNext moment key l hs l' = (id : ℕ) × (what : Ask) × Then (Asks key id what) (ActsOn moment key id what) l hs l'

@@ -63,7 +63,7 @@ IsDevice device (Some e) = device_of e.talk ≡ Some device
 abbrev pub IsAbsent : ℕ → Ledger → Type 0
 IsAbsent device l = (key : ℕ) → IsDevice device (l.entries key) → ⊥
 
--- bytes become due on a device's connection, if it has one; memory may be refused at any time, since the line is made first
-abbrev pub EnqueuesOn : ℕ → List ℕ → Rel
-EnqueuesOn device bytes l hs l' =
-    ((key : ℕ) × IsDevice device (l.entries key) × Then (Chooses (On key)) (EnqueuesWhere (λ e. true) key bytes) l hs l') ⊎ (IsAbsent device l × Nothing l hs l')
+-- bytes become due on a device's connection, if it has one; memory for them may be refused where this says so of the connection
+abbrev pub EnqueuesOn : (Entry → Bool) → ℕ → List ℕ → Rel
+EnqueuesOn refusable device bytes l hs l' =
+    ((key : ℕ) × IsDevice device (l.entries key) × Then (Chooses (On key)) (EnqueuesWhere refusable key bytes) l hs l') ⊎ (IsAbsent device l × Nothing l hs l')
