@@ -3,7 +3,7 @@ ghost use Rattle.std.specs.Prelude.{◌≡◌};
 ghost use Rattle.server.specs.Polls.{both, alone};
 ghost use Rattle.server.specs.Acting.{ActsOn, place_of, place_of_part};
 ghost use Rattle.server.specs.Polling.{Serves};
-ghost use Rattle.server.specs.Refinement.{Refines as Leads, RefinesQuietly, AsksBy};
+ghost use Rattle.server.specs.Refinement.{Refines, RefinesQuietly, AsksBy};
 
 use crate::engine::Engine;
 use base_types::Moment;
@@ -30,7 +30,7 @@ impl<P: Planner + Drop> Engine<P> {
         wire: &mut W,
         notes: &mut N,
     )
-        ensures { Leads (both W.polled N.told) (Serves moment key) (wire.old, notes.old) self.old (wire.new, notes.new) self.new }
+        ensures { Refines (both W.polled N.told) (Serves moment key) (wire.old, notes.old) self.old (wire.new, notes.new) self.new }
     {
         while let Some(asked) = self.ask(key) {
             let ConnectionAsk { id, ask } = asked;

@@ -11,7 +11,7 @@ use base_types::Moment;
 use connections::table::break_off;
 use connections::{Client, REFUSED};
 use dispatcher::{AllocationSite, Listener};
-use events::{Effects, Event, IppResponse, LpdResponse, Response as Says, Status};
+use events::{Effects, Event, IppResponse, LpdResponse, Response, Status};
 use planners::Planner;
 use responses::{ipp_response, lpd_ack, lpd_queue_text};
 
@@ -84,7 +84,7 @@ impl<P: Planner + Drop> Engine<P> {
         asker: Asker,
         request: u32,
         query: bool,
-        answer: Says,
+        answer: Response,
         notes: &mut N,
     )
         ensures { RefinesQuietly (alone N.told) (RepliesWith asker.key asker.id request query answer) notes.old self.old notes.new self.new }
@@ -151,13 +151,13 @@ impl<P: Planner + Drop> Engine<P> {
     }
 
     /// The bytes of an answer to an LPD client become due, if it is one.
-    fn tell_answer<N: Listener>(&mut self, asker: Asker, answer: &Says, notes: &mut N)
+    fn tell_answer<N: Listener>(&mut self, asker: Asker, answer: &Response, notes: &mut N)
         ensures { RefinesQuietly (alone N.told) (IsShown asker.key asker.id answer.now) notes.old self.old notes.new self.new }
     {
         match answer {
-            Says::Lpd(answer) => self.tell_client(asker, answer, notes),
-            Says::Ipp(_) => {}
-            Says::Nothing => {}
+            Response::Lpd(answer) => self.tell_client(asker, answer, notes),
+            Response::Ipp(_) => {}
+            Response::Nothing => {}
         }
     }
 
@@ -187,12 +187,12 @@ impl<P: Planner + Drop> Engine<P> {
 }
 
 /// The answer to an IPP request, where it is one.
-fn ipp_answer(answer: Says) -> Option<IppResponse>
+fn ipp_answer(answer: Response) -> Option<IppResponse>
     ensures { result ≡ ipp_answer answer }
 {
     match answer {
-        Says::Ipp(answer) => Some(answer),
-        Says::Lpd(_) => None,
-        Says::Nothing => None,
+        Response::Ipp(answer) => Some(answer),
+        Response::Lpd(_) => None,
+        Response::Nothing => None,
     }
 }

@@ -9,7 +9,7 @@ use crate::engine::Engine;
 use crate::served::{Served, answered};
 use base_types::{DeviceId, Moment, Report};
 use dispatcher::{AllocationSite, Listener};
-use events::{Effects, Event, Response as Says, Status};
+use events::{Effects, Event, Response, Status};
 use planners::Planner;
 use requests::{ParsedRequest, ipp_event};
 use responses::{ipp_refusal, ipp_response};
@@ -119,16 +119,16 @@ impl<P: Planner + Drop> Engine<P> {
     /// The bytes of an answer. The error is out of memory, which the listener is told of.
     fn answer_bytes<N: Listener>(
         &self,
-        answer: Says,
+        answer: Response,
         request: u32,
         notes: &mut N,
     ) -> Result<Vec<u8>, AllocError>
         ensures { AnswerAs N.told request answer notes.old result notes.new }
     {
         match answer {
-            Says::Lpd(_) => Ok(Vec::new(self.alloc)),
-            Says::Nothing => Ok(Vec::new(self.alloc)),
-            Says::Ipp(answer) => match ipp_response(self.alloc, answer, request) {
+            Response::Lpd(_) => Ok(Vec::new(self.alloc)),
+            Response::Nothing => Ok(Vec::new(self.alloc)),
+            Response::Ipp(answer) => match ipp_response(self.alloc, answer, request) {
                 Ok(bytes) => Ok(bytes),
                 Err(error) => {
                     notes.refused(AllocationSite::Reply, None);
