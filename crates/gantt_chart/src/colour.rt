@@ -82,6 +82,23 @@ impl Colour {
     }
 }
 
+/// What an area is filled with. Shown, it is as SVG writes it.
+#[derive(Clone, Copy)]
+pub(crate) enum Fill {
+    Plain(Colour),
+    /// What has a name: a pattern, or a colour.
+    Named(&'static str),
+}
+
+impl fmt::Display for Fill {
+    fn fmt<W: fmt::Write>(&self, f: &mut fmt::Formatter<W>) -> fmt::Result {
+        match self {
+            Fill::Plain(colour) => write!(f, "{colour}"),
+            Fill::Named(name) => f.write_str(name),
+        }
+    }
+}
+
 impl fmt::Display for Colour {
     fn fmt<W: fmt::Write>(&self, f: &mut fmt::Formatter<W>) -> fmt::Result {
         let (red, green, blue) = (self.red, self.green, self.blue);

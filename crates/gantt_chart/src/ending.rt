@@ -1,14 +1,15 @@
 //! What becomes of jobs on their devices, as it is shown.
 
 use crate::chart::Ending;
+use crate::colour::Fill;
 
 /// The endings that are shown: a bar without one of them was printed.
 pub(crate) const SHOWN: [Ending; 3] = [Ending::Canceled, Ending::Failed, Ending::Open];
 
-/// Its words.
+/// What is said of it; nothing, of a job that was printed.
 pub(crate) fn words_of(ending: Ending) -> &'static str {
     match ending {
-        Ending::Printed => "printed",
+        Ending::Printed => "",
         Ending::Canceled => "canceled",
         Ending::Failed => "failed",
         Ending::Open => "not ended",
@@ -16,13 +17,14 @@ pub(crate) fn words_of(ending: Ending) -> &'static str {
 }
 
 /// The filling of the strip below a bar, if it has one.
-pub(crate) fn strip_of(ending: Ending) -> Option<&'static str> {
-    match ending {
-        Ending::Printed => None,
-        Ending::Canceled => Some("url(#canceled)"),
-        Ending::Failed => Some("#d00000"),
-        Ending::Open => Some("url(#open)"),
-    }
+pub(crate) fn strip_of(ending: Ending) -> Option<Fill> {
+    let name = match ending {
+        Ending::Printed => return None,
+        Ending::Canceled => "url(#canceled)",
+        Ending::Failed => "#d00000",
+        Ending::Open => "url(#open)",
+    };
+    Some(Fill::Named(name))
 }
 
 /// What stands in a terminal where a bar ends.

@@ -2,7 +2,7 @@
 
 use crate::chart::{Bar, Lane, Mark};
 use crate::frame::{Frame, LABEL_PITCH, labels_width};
-use crate::length::ShortTime;
+use crate::length::{ShortTime, digits_of};
 use std::alloc::{AllocError, Global};
 use std::num::nearest_usize_to_f64;
 
@@ -12,15 +12,15 @@ const LETTER_WIDTH: f64 = 6.4;
 /// The room around a label in its bar.
 const ROOM: f64 = 5.0;
 
-/// The number of a job, and how long it is.
-#[derive(Drop)]
+/// The number of a job, and how long it is, where it was printed.
+#[derive(Clone, Copy)]
 pub(crate) struct Label {
-    pub(crate) number: String,
-    pub(crate) length: String,
+    pub(crate) number: u32,
+    pub(crate) length: Option<ShortTime>,
 }
 
 /// A label below its lane.
-#[derive(Drop)]
+#[derive(Clone, Copy)]
 pub(crate) struct Tag {
     pub(crate) label: Label,
     /// The middle of its bar.
@@ -31,54 +31,60 @@ pub(crate) struct Tag {
 
 impl Label {
     /// The label of a job of this number that takes so many ms.
-    pub(crate) fn of(alloc: Global, number: u32, length: u64) -> Result<Label, AllocError> {
-        let length = ShortTime(length);
-        Ok(Label {
-            number: format!(in alloc; "{number}")?,
-            length: format!(in alloc; "{length}")?,
-        })
+    pub(crate) fn of(number: u32, length: u64) -> Label {
+        Label {
+            number,
+            length: Some(ShortTime(length)),
+        }
+    }
+
+    /// How many letters its number has, and how many its length.
+    fn letters(self) -> (usize, usize) {
+        let number = digits_of(u64::from(self.number));
+        match self.length {
+            Some(length) => (number, length.letters()),
+            None => (number, 0),
+        }
     }
 
     /// Whether its two lines fit into a bar of this width.
-    pub(crate) fn fits(&self, width: f64) -> bool {
-        let letters = self.number.len().max(self.length.len());
-        LETTER_WIDTH * nearest_usize_to_f64(letters) + ROOM <= width
+    pub(crate) fn fits(self, width: f64) -> bool {
+        let (number, length) = self.letters();
+        LETTER_WIDTH * nearest_usize_to_f64(number.max(length)) + ROOM <= width
     }
 
     /// How long it is in one line.
-    fn extent(&self) -> f64 {
-        let letters = self.number.len().saturating_add(self.length.len());
-        LETTER_WIDTH * (nearest_usize_to_f64(letters) + 1.0)
+    fn extent(self) -> f64 {
+        let (number, length) = self.letters();
+        LETTER_WIDTH * (nearest_usize_to_f64(number.saturating_add(length)) + 1.0)
     }
 }
 
 /// The label of a bar, if it has one.
-fn label_of(alloc: Global, bar: &Bar) -> Result<Option<Label>, AllocError> {
+fn label_of(bar: &Bar) -> Option<Label> {
     match bar.mark {
-        Mark::Wait => Ok(None),
-        Mark::Job(job) => Ok(Some(Label::of(alloc, job.number, bar.length())?)),
-        Mark::Came(number) => Ok(Some(Label {
-            number: format!(in alloc; "{number}")?,
-            length: String::new(alloc),
-        })),
+        Mark::Wait => None,
+        Mark::Job(job) => Some(Label::of(job.number, bar.length())),
+        Mark::Came(number) => Some(Label {
+            number,
+            length: None,
+        }),
     }
 }
 
 /// The label of a bar below its lane, where the bar has no room for it.
-fn tag_of(alloc: Global, frame: Frame, bar: &Bar) -> Result<Option<Tag>, AllocError> {
-    let Some(label) = label_of(alloc, bar)? else {
-        return Ok(None);
-    };
+fn tag_of(frame: Frame, bar: &Bar) -> Option<Tag> {
+    let label = label_of(bar)?;
     let (start, end) = (frame.x(bar.start), frame.x(bar.end));
     if label.fits(end - start) {
-        return Ok(None);
+        return None;
     }
     let middle = (start + end) / 2.0;
-    Ok(Some(Tag {
+    Some(Tag {
         label,
         middle,
         x: middle,
-    }))
+    })
 }
 
 /// Moves each label so far to the right that it stands clear of the one before.
@@ -104,7 +110,7 @@ fn push_left(tags: &mut [Tag], right: f64) {
 pub(crate) fn tags_of(alloc: Global, frame: Frame, lane: &Lane) -> Result<Vec<Tag>, AllocError> {
     let mut tags = Vec::new(alloc);
     for bar in &lane.bars {
-        if let Some(tag) = tag_of(alloc, frame, bar)? {
+        if let Some(tag) = tag_of(frame, bar) {
             tags.push(tag)?;
         }
     }

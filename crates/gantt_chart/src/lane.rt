@@ -1,13 +1,16 @@
 //! A lane of a chart in a picture: the device's name, its bars, and the labels of its jobs.
 
 use crate::chart::{Bar, Chart, ChartJob, Ending, Lane, Mark};
-use crate::colour::class_colour;
+use crate::colour::{Fill, class_colour};
 use crate::ending::{strip_of, words_of};
 use crate::frame::{Frame, MARGIN};
 use crate::label::{Label, Tag, tags_height, tags_of};
+use crate::legend::WAIT;
+use crate::length::ShortTime;
 use crate::scale::MOST_MARKS;
-use crate::svg::put_text;
-use std::alloc::{AllocError, Global};
+use crate::svg::{end_text, put_text};
+use std::alloc::Global;
+use std::fmt;
 
 /// The height of a bar.
 const BAR_HEIGHT: f64 = 32.0;
@@ -43,7 +46,7 @@ fn extent_of(frame: Frame, bar: &Bar, y: f64) -> Extent {
 }
 
 /// Appends the lines of the scale behind a lane.
-fn put_grid(output: &mut String, frame: Frame, top: f64, bottom: f64) -> Result<(), AllocError> {
+fn put_grid<W: fmt::Write>(output: &mut W, frame: Frame, top: f64, bottom: f64) -> fmt::Result {
     for place in 0..=MOST_MARKS {
         let Some(mark) = frame.scale.mark(place) else {
             return Ok(());
@@ -58,7 +61,7 @@ fn put_grid(output: &mut String, frame: Frame, top: f64, bottom: f64) -> Result<
 }
 
 /// Appends the name of a lane, which ends before the bars begin.
-fn put_name(output: &mut String, frame: Frame, lane: &Lane, y: f64) -> Result<(), AllocError> {
+fn put_name<W: fmt::Write>(output: &mut W, frame: Frame, lane: &Lane, y: f64) -> fmt::Result {
     put_text(
         output,
         frame.left - MARGIN / 2.0,
@@ -68,16 +71,16 @@ fn put_name(output: &mut String, frame: Frame, lane: &Lane, y: f64) -> Result<()
     )
 }
 
-/// Appends the two lines of a label in its bar.
-fn put_label(
-    output: &mut String,
+/// Appends the two lines of a label in its bar: the number of the job, and how long it is.
+fn put_label<W: fmt::Write>(
+    output: &mut W,
     extent: Extent,
     ink: &str,
-    label: &Label,
-) -> Result<(), AllocError> {
+    number: u32,
+    length: u64,
+) -> fmt::Result {
     let x = extent.x + extent.width / 2.0;
-    let (upper, lower) = (extent.y + 14.0, extent.y + 27.0);
-    let (number, length) = (&label.number, &label.length);
+    let (upper, lower, length) = (extent.y + 14.0, extent.y + 27.0, ShortTime(length));
     write!(
         output,
         "<text x=\"{x:.1}\" y=\"{upper:.1}\" text-anchor=\"middle\" font-weight=\"bold\" fill=\"{ink}\">{number}</text>\n"
@@ -85,46 +88,46 @@ fn put_label(
     write!(
         output,
         "<text x=\"{x:.1}\" y=\"{lower:.1}\" text-anchor=\"middle\" font-size=\"11\" fill=\"{ink}\">{length}</text>\n"
-    )?;
-    Ok(())
+    )
 }
 
-/// Appends a rectangle, which says when it begins and ends if it is pointed at.
-fn put_rectangle(
-    output: &mut String,
-    extent: Extent,
-    fill: &str,
-    bar: &Bar,
-    what: &str,
-) -> Result<(), AllocError> {
+/// Appends a rectangle, up to what it says where it is pointed at.
+fn begin_rectangle<W: fmt::Write>(output: &mut W, extent: Extent, fill: Fill) -> fmt::Result {
     let Extent { x, y, width } = extent;
-    let (start, end) = (bar.start, bar.end);
     write!(
         output,
-        "<rect x=\"{x:.1}\" y=\"{y:.1}\" width=\"{width:.1}\" height=\"{BAR_HEIGHT}\" fill=\"{fill}\" stroke=\"#fff\" stroke-width=\"0.5\">"
-    )?;
-    write!(
-        output,
-        "<title>{what}: {start} to {end} ms</title></rect>\n"
-    )?;
-    Ok(())
+        "<rect x=\"{x:.1}\" y=\"{y:.1}\" width=\"{width:.1}\" height=\"{BAR_HEIGHT}\" fill=\"{fill}\" stroke=\"#fff\" stroke-width=\"0.5\"><title>"
+    )
 }
 
-/// What is told of a job.
-fn telling(alloc: Global, job: ChartJob, classes: &[u8]) -> Result<String, AllocError> {
-    let number = job.number;
-    let (comma, words) = match job.ending {
-        Ending::Printed => ("", ""),
-        ending => (", ", words_of(ending)),
-    };
-    match classes.get(job.class) {
-        Some(priority) => format!(in alloc; "job {number}, priority {priority}{comma}{words}"),
-        None => format!(in alloc; "job {number}{comma}{words}"),
+/// Appends when a bar begins and ends, and the end of its rectangle.
+fn end_rectangle<W: fmt::Write>(output: &mut W, bar: &Bar) -> fmt::Result {
+    let (start, end) = (bar.start, bar.end);
+    write!(output, ": {start} to {end} ms</title></rect>\n")
+}
+
+/// Appends the bar of a wait.
+fn put_wait<W: fmt::Write>(output: &mut W, extent: Extent, bar: &Bar) -> fmt::Result {
+    begin_rectangle(output, extent, WAIT)?;
+    output.write_str("not free")?;
+    end_rectangle(output, bar)
+}
+
+/// Appends what is told of a job.
+fn put_telling<W: fmt::Write>(output: &mut W, job: ChartJob, classes: &[u8]) -> fmt::Result {
+    let (number, words) = (job.number, words_of(job.ending));
+    write!(output, "job {number}")?;
+    if let Some(priority) = classes.get(job.class) {
+        write!(output, ", priority {priority}")?;
     }
+    if !words.is_empty() {
+        write!(output, ", {words}")?;
+    }
+    Ok(())
 }
 
 /// Appends the strip below a bar that shows what became of a job that wasn't printed.
-fn put_strip(output: &mut String, extent: Extent, ending: Ending) -> Result<(), AllocError> {
+fn put_strip<W: fmt::Write>(output: &mut W, extent: Extent, ending: Ending) -> fmt::Result {
     let Some(fill) = strip_of(ending) else {
         return Ok(());
     };
@@ -133,95 +136,87 @@ fn put_strip(output: &mut String, extent: Extent, ending: Ending) -> Result<(), 
     write!(
         output,
         "<rect x=\"{x:.1}\" y=\"{y:.1}\" width=\"{width:.1}\" height=\"{STRIP_HEIGHT}\" fill=\"{fill}\"/>\n"
-    )?;
-    Ok(())
+    )
 }
 
 /// Appends the pin of a job that came.
-fn put_pin(
-    output: &mut String,
-    extent: Extent,
-    number: u32,
-    moment: u64,
-) -> Result<(), AllocError> {
+fn put_pin<W: fmt::Write>(output: &mut W, extent: Extent, number: u32, moment: u64) -> fmt::Result {
     let (x, top, bottom) = (extent.x, extent.y + 12.0, extent.y + BAR_HEIGHT);
     write!(
         output,
         "<path d=\"M{x:.1} {bottom:.1}V{top:.1}h6v6h-6\" stroke=\"#444\" fill=\"#444\"><title>job {number} came at {moment} ms</title></path>\n"
-    )?;
-    Ok(())
+    )
 }
 
 /// Appends the bar of a job, with its label where it fits.
-fn put_job(
-    alloc: Global,
-    output: &mut String,
+fn put_job<W: fmt::Write>(
+    output: &mut W,
     extent: Extent,
     bar: &Bar,
     job: ChartJob,
     classes: &[u8],
-) -> Result<(), AllocError> {
+) -> fmt::Result {
     let colour = class_colour(job.class, classes.len());
-    let fill = format!(in alloc; "{colour}")?;
-    let what = telling(alloc, job, classes)?;
-    put_rectangle(output, extent, &fill, bar, &what)?;
+    begin_rectangle(output, extent, Fill::Plain(colour))?;
+    put_telling(output, job, classes)?;
+    end_rectangle(output, bar)?;
     put_strip(output, extent, job.ending)?;
-    let label = Label::of(alloc, job.number, bar.length())?;
-    if label.fits(extent.width) {
-        put_label(output, extent, colour.ink(), &label)?;
+    if Label::of(job.number, bar.length()).fits(extent.width) {
+        put_label(output, extent, colour.ink(), job.number, bar.length())?;
     }
     Ok(())
 }
 
 /// Appends a bar.
-fn put_bar(
-    alloc: Global,
-    output: &mut String,
+fn put_bar<W: fmt::Write>(
+    output: &mut W,
     extent: Extent,
     bar: &Bar,
     classes: &[u8],
-) -> Result<(), AllocError> {
+) -> fmt::Result {
     match bar.mark {
-        Mark::Wait => put_rectangle(output, extent, "url(#wait)", bar, "not free"),
-        Mark::Job(job) => put_job(alloc, output, extent, bar, job, classes),
+        Mark::Wait => put_wait(output, extent, bar),
+        Mark::Job(job) => put_job(output, extent, bar, job, classes),
         Mark::Came(number) => put_pin(output, extent, number, bar.start),
     }
 }
 
 /// Appends the label of a bar that stands below it, and a line to it.
-fn put_tag(output: &mut String, tag: &Tag, top: f64) -> Result<(), AllocError> {
+fn put_tag<W: fmt::Write>(output: &mut W, tag: &Tag, top: f64) -> fmt::Result {
     let (middle, x) = (tag.middle, tag.x);
     let (down, begin, text) = (top + LEADER - 3.0, top + LEADER, tag.x - 3.5);
-    let (number, length) = (&tag.label.number, &tag.label.length);
+    let number = tag.label.number;
     write!(
         output,
         "<path d=\"M{middle:.1} {top:.1}L{x:.1} {down:.1}\" stroke=\"#888\" stroke-width=\"0.5\"/>\n"
     )?;
     write!(
         output,
-        "<text transform=\"translate({text:.1} {begin:.1}) rotate(90)\" font-size=\"10\"><tspan font-weight=\"bold\">{number}</tspan> {length}</text>\n"
+        "<text transform=\"translate({text:.1} {begin:.1}) rotate(90)\" font-size=\"10\"><tspan font-weight=\"bold\">{number}</tspan> "
     )?;
-    Ok(())
+    if let Some(length) = tag.label.length {
+        write!(output, "{length}")?;
+    }
+    end_text(output)
 }
 
 /// Appends the bars of a lane, whose top is there.
-fn put_bars(
-    alloc: Global,
-    output: &mut String,
+fn put_bars<W: fmt::Write>(
+    output: &mut W,
     frame: Frame,
     chart: &Chart,
     lane: &Lane,
     y: f64,
-) -> Result<(), AllocError> {
+) -> fmt::Result {
     for bar in &lane.bars {
         let extent = extent_of(frame, bar, y);
-        put_bar(alloc, output, extent, bar, &chart.classes)?;
+        put_bar(output, extent, bar, &chart.classes)?;
     }
     Ok(())
 }
 
 /// Appends the labels below a lane.
-fn put_tags(output: &mut String, tags: &[Tag], top: f64) -> Result<(), AllocError> {
+fn put_tags<W: fmt::Write>(output: &mut W, tags: &[Tag], top: f64) -> fmt::Result {
     for tag in tags {
         put_tag(output, tag, top)?;
     }
@@ -229,14 +224,14 @@ fn put_tags(output: &mut String, tags: &[Tag], top: f64) -> Result<(), AllocErro
 }
 
 /// Appends a lane from there down, and tells where it ends.
-pub(crate) fn put_lane(
+pub(crate) fn put_lane<W: fmt::Write>(
     alloc: Global,
-    output: &mut String,
+    output: &mut W,
     frame: Frame,
     chart: &Chart,
     lane: &Lane,
     top: f64,
-) -> Result<f64, AllocError> {
+) -> Result<f64, fmt::Error> {
     let tags = tags_of(alloc, frame, lane)?;
     let bars = top + ABOVE;
     let below = bars + BAR_HEIGHT;
@@ -247,7 +242,7 @@ pub(crate) fn put_lane(
     };
     put_grid(output, frame, top, bottom)?;
     put_name(output, frame, lane, bars)?;
-    put_bars(alloc, output, frame, chart, lane, bars)?;
+    put_bars(output, frame, chart, lane, bars)?;
     put_tags(output, &tags, below)?;
     Ok(bottom)
 }

@@ -1,12 +1,15 @@
 //! What stands above the lanes of a chart in a picture: its title, its times, and what its colours mean.
 
 use crate::chart::Chart;
-use crate::colour::class_colour;
+use crate::colour::{Fill, class_colour};
 use crate::ending::{SHOWN, strip_of, words_of};
 use crate::frame::{Frame, MARGIN};
 use crate::length::LongTime;
-use crate::svg::put_text;
-use std::alloc::{AllocError, Global};
+use crate::svg::{begin_text, end_text, put_text};
+use std::fmt;
+
+/// The hatching of waits.
+pub(crate) const WAIT: Fill = Fill::Named("url(#wait)");
 
 /// The height of a line.
 const LINE: f64 = 20.0;
@@ -40,36 +43,38 @@ impl Pen {
     }
 }
 
-/// Appends what a filling means.
-fn put_entry(output: &mut String, pen: Pen, fill: &str, meaning: &str) -> Result<(), AllocError> {
+/// Appends a filling, and the begin of what it means.
+fn begin_entry<W: fmt::Write>(output: &mut W, pen: Pen, fill: Fill) -> fmt::Result {
     let (x, y) = (pen.x, pen.y - 11.0);
     write!(
         output,
         "<rect x=\"{x:.1}\" y=\"{y:.1}\" width=\"14\" height=\"14\" fill=\"{fill}\" stroke=\"#888\" stroke-width=\"0.5\"/>\n"
     )?;
-    put_text(output, pen.x + 20.0, pen.y, "", meaning.as_bytes())
+    begin_text(output, pen.x + 20.0, pen.y, "")
+}
+
+/// Appends what a filling means.
+fn put_entry<W: fmt::Write>(output: &mut W, pen: Pen, fill: Fill, meaning: &str) -> fmt::Result {
+    begin_entry(output, pen, fill)?;
+    output.write_str(meaning)?;
+    end_text(output)
 }
 
 /// Appends what the colours of the classes mean, and gives the place behind.
-fn put_classes(
-    alloc: Global,
-    output: &mut String,
-    chart: &Chart,
-    from: Pen,
-) -> Result<Pen, AllocError> {
+fn put_classes<W: fmt::Write>(output: &mut W, chart: &Chart, from: Pen) -> Result<Pen, fmt::Error> {
     let mut pen = from;
     for (place, priority) in chart.classes.iter().enumerate() {
         let colour = class_colour(place, chart.classes.len());
-        let fill = format!(in alloc; "{colour}")?;
-        let meaning = format!(in alloc; "priority {priority}")?;
-        put_entry(output, pen, &fill, &meaning)?;
+        begin_entry(output, pen, Fill::Plain(colour))?;
+        write!(output, "priority {priority}")?;
+        end_text(output)?;
         pen = pen.next();
     }
     Ok(pen)
 }
 
 /// Appends what the strips below bars mean, of those that there are, and gives the place behind.
-fn put_endings(output: &mut String, chart: &Chart, from: Pen) -> Result<Pen, AllocError> {
+fn put_endings<W: fmt::Write>(output: &mut W, chart: &Chart, from: Pen) -> Result<Pen, fmt::Error> {
     let mut pen = from;
     for ending in SHOWN {
         if let Some(fill) = strip_of(ending)
@@ -82,21 +87,19 @@ fn put_endings(output: &mut String, chart: &Chart, from: Pen) -> Result<Pen, All
     Ok(pen)
 }
 
-/// The times of a chart, in a sentence.
-pub(crate) fn times_of(alloc: Global, chart: &Chart) -> Result<String, AllocError> {
+/// Appends the times of a chart, in a sentence.
+pub(crate) fn put_times<W: fmt::Write>(output: &mut W, chart: &Chart) -> fmt::Result {
     let (total, mean) = (LongTime(chart.total), LongTime(chart.mean()));
-    format!(in alloc; "time to paper: {total} in all, {mean} in the mean")
+    write!(output, "time to paper: {total} in all, {mean} in the mean")
 }
 
 /// Appends what stands above the lanes, from there down, and tells where it ends.
-pub(crate) fn put_heading(
-    alloc: Global,
-    output: &mut String,
+pub(crate) fn put_heading<W: fmt::Write>(
+    output: &mut W,
     frame: Frame,
     chart: &Chart,
     top: f64,
-) -> Result<f64, AllocError> {
-    let times = times_of(alloc, chart)?;
+) -> Result<f64, fmt::Error> {
     let title = chart.title.as_bytes();
     put_text(
         output,
@@ -105,16 +108,18 @@ pub(crate) fn put_heading(
         " font-size=\"16\" font-weight=\"bold\"",
         title,
     )?;
-    put_text(output, MARGIN, top + 36.0, "", times.as_bytes())?;
+    begin_text(output, MARGIN, top + 36.0, "")?;
+    put_times(output, chart)?;
+    end_text(output)?;
     let pen = Pen {
         x: MARGIN,
         y: top + 58.0,
         right: frame.right(),
     };
-    let pen = put_classes(alloc, output, chart, pen)?;
+    let pen = put_classes(output, chart, pen)?;
     let pen = put_endings(output, chart, pen)?;
     if chart.waits() {
-        put_entry(output, pen, "url(#wait)", "not free")?;
+        put_entry(output, pen, WAIT, "not free")?;
     }
     Ok(pen.y + MARGIN)
 }

@@ -35,6 +35,31 @@ fn parts_of(millis: u128) -> Parts {
     }
 }
 
+/// How many digits a number has.
+pub(crate) fn digits_of(number: u64) -> usize {
+    match number.checked_ilog10() {
+        Some(more) => (more as usize).saturating_add(1),
+        None => 1,
+    }
+}
+
+impl ShortTime {
+    /// How many characters it has.
+    pub(crate) fn letters(self) -> usize {
+        let millis = self.0;
+        let (number, behind) = if millis < 1_000 {
+            (millis, 2)
+        } else if millis < 60_000 {
+            (millis / 1_000, 3)
+        } else if millis < 3_600_000 {
+            (millis / 60_000, 3)
+        } else {
+            (millis / 3_600_000, 3)
+        };
+        digits_of(number).saturating_add(behind)
+    }
+}
+
 impl fmt::Display for ShortTime {
     fn fmt<W: fmt::Write>(&self, f: &mut fmt::Formatter<W>) -> fmt::Result {
         let millis = self.0;
@@ -45,9 +70,11 @@ impl fmt::Display for ShortTime {
             tenths,
         } = parts_of(u128::from(millis));
         if hours > 0 {
-            write!(f, "{hours}h{minutes:02}")
+            let (tens, ones) = (minutes / 10, minutes % 10);
+            write!(f, "{hours}h{tens}{ones}")
         } else if minutes > 0 {
-            write!(f, "{minutes}m{seconds:02}")
+            let (tens, ones) = (seconds / 10, seconds % 10);
+            write!(f, "{minutes}m{tens}{ones}")
         } else if seconds > 0 {
             write!(f, "{seconds}.{tenths}s")
         } else {

@@ -1,11 +1,11 @@
 //! The jobs of each lane in words, for a terminal, and what its fillings mean.
 
-use crate::chart::{Bar, Chart, ChartJob, Ending, Lane, Mark};
+use crate::chart::{Bar, Chart, Lane, Mark};
 use crate::ending::{SHOWN, edge_of, words_of};
-use crate::length::ShortTime;
-use crate::row::{WAIT, filling_of};
+use crate::length::{ShortTime, digits_of};
+use crate::row::filling_of;
 use crate::terminal::{WIDTH, put_name};
-use std::alloc::{AllocError, Global};
+use std::fmt;
 
 /// A line under way: where it ends, and how far its continuation is indented.
 #[derive(Clone, Copy)]
@@ -15,126 +15,148 @@ struct Line {
 }
 
 impl Line {
-    /// Appends an entry behind two spaces, in a new line where this one has no room for it, and gives the
-    /// line under way then.
-    fn with_entry(self, output: &mut String, entry: &str) -> Result<Line, AllocError> {
-        let length = entry.len().saturating_add(2);
-        let mut end = self.end.saturating_add(length);
-        if end > WIDTH {
-            output.push('\n')?;
-            put_name(output, b"", self.indent)?;
-            end = self.indent.saturating_add(length);
+    /// The line of which so many columns more are taken.
+    fn longer(self, columns: usize) -> Line {
+        Line {
+            end: self.end.saturating_add(columns),
+            indent: self.indent,
         }
-        output.push_str("  ")?;
-        output.push_str(entry)?;
+    }
+
+    /// Makes room for so many columns: in a new line where this one has none. It gives the line under way.
+    fn with_room<W: fmt::Write>(self, output: &mut W, columns: usize) -> Result<Line, fmt::Error> {
+        if self.longer(columns).end <= WIDTH {
+            return Ok(self);
+        }
+        output.write_char('\n')?;
+        put_name(output, b"", self.indent)?;
         Ok(Line {
-            end,
+            end: self.indent,
             indent: self.indent,
         })
     }
-}
 
-/// The number and the length of a job, and what became of it where it wasn't printed.
-fn job_words(alloc: Global, job: ChartJob, length: u64) -> Result<String, AllocError> {
-    let (number, length) = (job.number, ShortTime(length));
-    if job.ending == Ending::Printed {
-        return format!(in alloc; "{number} {length}");
+    /// Appends the two spaces in front of an entry of so many letters, in a new line where this one has no
+    /// room for it, and gives the line under way then.
+    fn begin_entry<W: fmt::Write>(
+        self,
+        output: &mut W,
+        letters: usize,
+    ) -> Result<Line, fmt::Error> {
+        let columns = letters.saturating_add(2);
+        let line = self.with_room(output, columns)?;
+        output.write_str("  ")?;
+        Ok(line.longer(columns))
     }
-    let words = words_of(job.ending);
-    format!(in alloc; "{number} {length} {words}")
+
+    /// Appends an entry.
+    fn with_entry<W: fmt::Write>(self, output: &mut W, entry: &str) -> Result<Line, fmt::Error> {
+        let line = self.begin_entry(output, entry.len())?;
+        output.write_str(entry)?;
+        Ok(line)
+    }
 }
 
-/// Appends what a bar says of a job: how long it is, or when it came.
-fn put_job(alloc: Global, output: &mut String, line: Line, bar: &Bar) -> Result<Line, AllocError> {
-    let entry = match bar.mark {
-        Mark::Wait => return Ok(line),
-        Mark::Job(job) => job_words(alloc, job, bar.length())?,
-        Mark::Came(number) => {
-            let moment = ShortTime(bar.start);
-            format!(in alloc; "{number} {moment}")?
+/// Appends the number of a job, a time in ms and, behind a space, words, if there are any.
+fn put_entry<W: fmt::Write>(
+    output: &mut W,
+    line: Line,
+    number: u32,
+    millis: u64,
+    words: &str,
+) -> Result<Line, fmt::Error> {
+    let time = ShortTime(millis);
+    let space = if words.is_empty() { "" } else { " " };
+    let letters = digits_of(u64::from(number))
+        .saturating_add(1)
+        .saturating_add(time.letters())
+        .saturating_add(space.len())
+        .saturating_add(words.len());
+    let line = line.begin_entry(output, letters)?;
+    write!(output, "{number} {time}{space}{words}")?;
+    Ok(line)
+}
+
+/// Appends what a bar says of a job: how long it is and what became of it, or when it came.
+fn put_job<W: fmt::Write>(output: &mut W, line: Line, bar: &Bar) -> Result<Line, fmt::Error> {
+    match bar.mark {
+        Mark::Wait => Ok(line),
+        Mark::Job(job) => {
+            put_entry(output, line, job.number, bar.length(), words_of(job.ending))
         }
-    };
-    line.with_entry(output, &entry)
+        Mark::Came(number) => put_entry(output, line, number, bar.start, ""),
+    }
 }
 
 /// Appends the jobs of a lane, from the first to be printed on.
-pub(crate) fn put_jobs(
-    alloc: Global,
-    output: &mut String,
-    lane: &Lane,
-    indent: usize,
-) -> Result<(), AllocError> {
+pub(crate) fn put_jobs<W: fmt::Write>(output: &mut W, lane: &Lane, indent: usize) -> fmt::Result {
     put_name(output, lane.name.as_bytes(), indent)?;
     let mut line = Line {
         end: indent,
         indent,
     };
     for bar in &lane.bars {
-        line = put_job(alloc, output, line, bar)?;
+        line = put_job(output, line, bar)?;
     }
     if lane.jobs() == 0 {
         line.with_entry(output, "no job")?;
     }
-    output.push('\n')?;
-    Ok(())
+    output.write_char('\n')
 }
 
 /// Appends what the fillings of classes mean.
-fn put_classes(
-    alloc: Global,
-    output: &mut String,
+fn put_classes<W: fmt::Write>(
+    output: &mut W,
     chart: &Chart,
     from: Line,
-) -> Result<Line, AllocError> {
+) -> Result<Line, fmt::Error> {
     let mut line = from;
     for (place, priority) in chart.classes.iter().enumerate() {
+        let letters = digits_of(u64::from(*priority)).saturating_add("# priority ".len());
+        line = line.begin_entry(output, letters)?;
         let filling = char::from(filling_of(place));
-        let entry = format!(in alloc; "{filling} priority {priority}")?;
-        line = line.with_entry(output, &entry)?;
+        write!(output, "{filling} priority {priority}")?;
     }
     Ok(line)
 }
 
 /// Appends what the ends of bars mean, of those that there are.
-fn put_endings(
-    alloc: Global,
-    output: &mut String,
+fn put_endings<W: fmt::Write>(
+    output: &mut W,
     chart: &Chart,
     from: Line,
-) -> Result<Line, AllocError> {
+) -> Result<Line, fmt::Error> {
     let mut line = from;
     for ending in SHOWN {
         if chart.has_ending(ending) {
-            let (edge, words) = (char::from(edge_of(ending)), words_of(ending));
-            let entry = format!(in alloc; "{edge} {words}")?;
-            line = line.with_entry(output, &entry)?;
+            let words = words_of(ending);
+            line = line.begin_entry(output, words.len().saturating_add(2))?;
+            output.write_char(char::from(edge_of(ending)))?;
+            output.write_char(' ')?;
+            output.write_str(words)?;
         }
     }
     Ok(line)
 }
 
 /// Appends what the characters of a chart mean.
-pub(crate) fn put_fillings(
-    alloc: Global,
-    output: &mut String,
+pub(crate) fn put_fillings<W: fmt::Write>(
+    output: &mut W,
     chart: &Chart,
     indent: usize,
-) -> Result<(), AllocError> {
+) -> fmt::Result {
     put_name(output, b"", indent)?;
     let begun = Line {
         end: indent,
         indent,
     };
-    let line = put_classes(alloc, output, chart, begun)?;
-    let line = put_endings(alloc, output, chart, line)?;
+    let line = put_classes(output, chart, begun)?;
+    let line = put_endings(output, chart, line)?;
     if chart.lanes.iter().any(|lane| lane.has_arrivals()) {
         line.with_entry(output, "1-9 jobs came, + more")?;
     }
     if chart.waits() {
-        let wait = char::from(WAIT);
-        let entry = format!(in alloc; "{wait} not free")?;
-        line.with_entry(output, &entry)?;
+        line.with_entry(output, "/ not free")?;
     }
-    output.push('\n')?;
-    Ok(())
+    output.write_char('\n')
 }

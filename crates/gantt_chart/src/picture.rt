@@ -6,22 +6,23 @@ use crate::frame::{Frame, MARGIN};
 use crate::lane::put_lane;
 use crate::legend::put_heading;
 use crate::scale::MOST_MARKS;
-use crate::stranded::sentence;
-use crate::svg::put_text;
+use crate::stranded::put_sentence;
+use crate::svg::{begin_text, end_text, put_text};
 use base_types::Stranded;
 use std::alloc::{AllocError, Global};
+use std::fmt;
 
 /// The height of a line of text.
 const LINE: f64 = 18.0;
 
 /// Appends the lanes of a chart from there down, and tells where they end.
-fn put_lanes(
+fn put_lanes<W: fmt::Write>(
     alloc: Global,
-    output: &mut String,
+    output: &mut W,
     frame: Frame,
     chart: &Chart,
     top: f64,
-) -> Result<f64, AllocError> {
+) -> Result<f64, fmt::Error> {
     let mut bottom = top;
     for lane in &chart.lanes {
         bottom = put_lane(alloc, output, frame, chart, lane, bottom)?;
@@ -30,41 +31,31 @@ fn put_lanes(
 }
 
 /// Appends a number of the scale.
-fn put_number(
-    alloc: Global,
-    output: &mut String,
-    x: f64,
-    y: f64,
-    number: u64,
-) -> Result<(), AllocError> {
-    let text = format!(in alloc; "{number}")?;
-    put_text(output, x, y, " text-anchor=\"middle\"", text.as_bytes())
+fn put_number<W: fmt::Write>(output: &mut W, x: f64, y: f64, number: u64) -> fmt::Result {
+    begin_text(output, x, y, " text-anchor=\"middle\"")?;
+    write!(output, "{number}")?;
+    end_text(output)
 }
 
 /// Appends the numbers of the scale.
-fn put_numbers(alloc: Global, output: &mut String, frame: Frame, y: f64) -> Result<(), AllocError> {
+fn put_numbers<W: fmt::Write>(output: &mut W, frame: Frame, y: f64) -> fmt::Result {
     for place in 0..=MOST_MARKS {
         let Some(mark) = frame.scale.mark(place) else {
             return Ok(());
         };
-        put_number(alloc, output, frame.x(mark.moment), y, mark.number)?;
+        put_number(output, frame.x(mark.moment), y, mark.number)?;
     }
     Ok(())
 }
 
 /// Appends the scale from there down, and tells where it ends.
-fn put_scale(
-    alloc: Global,
-    output: &mut String,
-    frame: Frame,
-    top: f64,
-) -> Result<f64, AllocError> {
+fn put_scale<W: fmt::Write>(output: &mut W, frame: Frame, top: f64) -> Result<f64, fmt::Error> {
     let (left, right, line) = (frame.left, frame.right(), top + 6.0);
     write!(
         output,
         "<path d=\"M{left:.1} {line:.1}H{right:.1}\" stroke=\"#444\"/>\n"
     )?;
-    put_numbers(alloc, output, frame, line + LINE)?;
+    put_numbers(output, frame, line + LINE)?;
     let unit = frame.scale.unit().name();
     put_text(
         output,
@@ -77,23 +68,23 @@ fn put_scale(
 }
 
 /// Appends the jobs that no device can print, a line each, and tells where they end.
-fn put_stranded(
-    alloc: Global,
-    output: &mut String,
+fn put_stranded<W: fmt::Write>(
+    output: &mut W,
     stranded: &[Stranded],
     top: f64,
-) -> Result<f64, AllocError> {
+) -> Result<f64, fmt::Error> {
     let mut bottom = top;
     for one in stranded {
-        let text = sentence(alloc, one)?;
         bottom = bottom + LINE;
-        put_text(output, MARGIN, bottom, "", text.as_bytes())?;
+        begin_text(output, MARGIN, bottom, "")?;
+        put_sentence(output, one)?;
+        end_text(output)?;
     }
     Ok(bottom)
 }
 
 /// Appends what else is said of jobs, a line each, and tells where they end.
-fn put_notes(output: &mut String, notes: &[String], top: f64) -> Result<f64, AllocError> {
+fn put_notes<W: fmt::Write>(output: &mut W, notes: &[String], top: f64) -> Result<f64, fmt::Error> {
     let mut bottom = top;
     for note in notes {
         bottom = bottom + LINE;
@@ -103,28 +94,28 @@ fn put_notes(output: &mut String, notes: &[String], top: f64) -> Result<f64, All
 }
 
 /// Appends a chart from there down, and tells where it ends.
-fn put_chart(
+fn put_chart<W: fmt::Write>(
     alloc: Global,
-    output: &mut String,
+    output: &mut W,
     frame: Frame,
     chart: &Chart,
     top: f64,
-) -> Result<f64, AllocError> {
-    let lanes = put_heading(alloc, output, frame, chart, top)?;
+) -> Result<f64, fmt::Error> {
+    let lanes = put_heading(output, frame, chart, top)?;
     let scale = put_lanes(alloc, output, frame, chart, lanes)?;
-    let below = put_scale(alloc, output, frame, scale)?;
-    let stranded = put_stranded(alloc, output, &chart.stranded, below)?;
+    let below = put_scale(output, frame, scale)?;
+    let stranded = put_stranded(output, &chart.stranded, below)?;
     let bottom = put_notes(output, &chart.notes, stranded)?;
     Ok(bottom + MARGIN)
 }
 
 /// Appends charts below one another, and tells where they end.
-fn put_charts(
+fn put_charts<W: fmt::Write>(
     alloc: Global,
-    output: &mut String,
+    output: &mut W,
     frame: Frame,
     charts: &[Chart],
-) -> Result<f64, AllocError> {
+) -> Result<f64, fmt::Error> {
     let mut bottom = MARGIN;
     for chart in charts {
         bottom = put_chart(alloc, output, frame, chart, bottom)?;
@@ -141,18 +132,32 @@ fn have_strips(charts: &[Chart]) -> bool {
     SHOWN.iter().any(|ending| charts.iter().any(|chart| chart.has_ending(*ending)))
 }
 
-/// The begin of a picture of this size: a white ground, and the hatching of waits.
-fn head_of(alloc: Global, width: f64, height: f64) -> Result<String, AllocError> {
-    let mut head = String::new(alloc);
+/// Appends the begin of a picture of this size: a white ground, and the hatching of waits.
+fn put_head<W: fmt::Write>(output: &mut W, width: f64, height: f64) -> fmt::Result {
     write!(
-        head,
+        output,
         "<svg xmlns=\"http://www.w3.org/2000/svg\" width=\"{width:.0}\" height=\"{height:.0}\" font-family=\"Liberation Sans, Arial, Helvetica, sans-serif\" font-size=\"12\">\n"
     )?;
-    head.push_str(
+    output.write_str(
         "<defs><pattern id=\"wait\" width=\"6\" height=\"6\" patternUnits=\"userSpaceOnUse\" patternTransform=\"rotate(45)\"><rect width=\"6\" height=\"6\" fill=\"#f4f4f4\"/><path d=\"M0 0V6\" stroke=\"#777\" stroke-width=\"3\"/></pattern></defs>\n",
     )?;
-    head.push_str("<rect width=\"100%\" height=\"100%\" fill=\"#fff\"/>\n")?;
-    Ok(head)
+    output.write_str("<rect width=\"100%\" height=\"100%\" fill=\"#fff\"/>\n")
+}
+
+/// Appends a picture whose lanes have this text and end there.
+fn put_picture<W: fmt::Write>(
+    output: &mut W,
+    frame: Frame,
+    charts: &[Chart],
+    bottom: f64,
+    body: &str,
+) -> fmt::Result {
+    put_head(output, frame.right() + 2.0 * MARGIN, bottom)?;
+    if have_strips(charts) {
+        output.write_str(STRIPS)?;
+    }
+    output.write_str(body)?;
+    output.write_str("</svg>\n")
 }
 
 /// A picture of charts, below one another and over one scale: whole lines, as they are to be written.
@@ -161,12 +166,12 @@ fn head_of(alloc: Global, width: f64, height: f64) -> Result<String, AllocError>
 pub(crate) fn write_svg(alloc: Global, charts: &[Chart]) -> Result<String, AllocError> {
     let frame = Frame::of(charts);
     let mut body = String::new(alloc);
-    let bottom = put_charts(alloc, &mut body, frame, charts)?;
-    let mut picture = head_of(alloc, frame.right() + 2.0 * MARGIN, bottom)?;
-    if have_strips(charts) {
-        picture.push_str(STRIPS)?;
+    let Ok(bottom) = put_charts(alloc, &mut body, frame, charts) else {
+        return Err(AllocError);
+    };
+    let mut picture = String::new(alloc);
+    match put_picture(&mut picture, frame, charts, bottom, &body) {
+        Ok(()) => Ok(picture),
+        Err(_) => Err(AllocError),
     }
-    picture.push_str(&body)?;
-    picture.push_str("</svg>\n")?;
-    Ok(picture)
 }

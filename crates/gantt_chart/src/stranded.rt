@@ -1,7 +1,7 @@
 //! The jobs that no device can print, in sentences.
 
 use base_types::{Cause, Stranded};
-use std::alloc::{AllocError, Global};
+use std::fmt;
 
 /// What a cause means, behind its word in the text of a plan.
 fn meaning(cause: Cause) -> &'static str {
@@ -15,8 +15,8 @@ fn meaning(cause: Cause) -> &'static str {
     }
 }
 
-/// A sentence about a job that no device can print.
-pub(crate) fn sentence(alloc: Global, stranded: &Stranded) -> Result<String, AllocError> {
+/// Appends a sentence about a job that no device can print.
+pub(crate) fn put_sentence<W: fmt::Write>(output: &mut W, stranded: &Stranded) -> fmt::Result {
     let (number, cause) = (stranded.job.number(), meaning(stranded.cause));
-    format!(in alloc; "No device prints job {number}: {cause}.")
+    write!(output, "No device prints job {number}: {cause}.")
 }
