@@ -6,16 +6,18 @@
 A day: requests over all three doors, from tools/load.py's messages on several connections, from `lp` and from
 `rlpr`, of clients that stall and of clients that reset; three devices, each of which stands still for a while, resets
 its connection in the middle of a job, and comes back. The server records it with --record, and another day, a
-tenth as long, with --record-heads too. Then: `printd replay --verify` of each, and of the first with a byte changed;
-`printd log` compared with the log that the server wrote; the size of the file, also packed; a disk that is full in
-mid-day; and the speed of a server with a recording and without one, in turns. Ends with status 1 where a day isn't
-the same, or the changed one is.
+tenth as long, with --record-heads too. Then: `printd replay --verify` of each, and of the first with a byte changed,
+with an octet too few, and cut off in the middle of a document; `printd log` compared with the log that the server
+wrote; the size of the file, also packed; a day that begins four seconds before midnight of UTC, and goes on in a
+second file; a disk that is full in mid-day; and the speed of a server with a recording and without one, in turns.
+Ends with status 1 where a day isn't the same, or a changed one is.
 
-Wanted: Debian's cups-client and rlpr (absent ones are said, and their requests come from here), wrk for the speed,
-and for the full disk to be allowed to mount one. PRINTD names the program; without it, it is the one that ./printd
+Wanted: Debian's cups-client and rlpr (absent ones are said, and their requests come from here), a C compiler for
+midnight, wrk for the speed, and for the full disk to be allowed to mount one. PRINTD names the program; without it, it is the one that ./printd
 built.
 """
 import gzip
+import os
 import pathlib
 import random
 import shutil
@@ -50,6 +52,19 @@ media_default = "iso_a4_210x297mm"
 format_default = "application/octet-stream"
 """
 LINGER = struct.pack("ii", 1, 0)
+# a clock that is ahead by so many seconds; unlike faketime it goes with the checks of an unproved program
+AHEAD = """
+#define _GNU_SOURCE
+#include <sys/syscall.h>
+#include <time.h>
+#include <unistd.h>
+int clock_gettime(clockid_t clock, struct timespec *time) {
+    int failed = syscall(SYS_clock_gettime, clock, time);
+    if (!failed && clock == CLOCK_REALTIME) time->tv_sec += SECONDS;
+    return failed;
+}
+"""
+DAY = 86_400
 
 
 class Device(threading.Thread):
@@ -229,6 +244,64 @@ def change(trace):
     return changed
 
 
+def cut_short(trace):
+    """The same day without one octet of the first document that stands behind its line, and its line's number."""
+    octets = trace.read_bytes()
+    line = octets.index(b"\noctets ") + 1
+    place = octets.index(b"\n", line) + 1
+    short = trace.with_name("short.trace")
+    short.write_bytes(octets[:place] + octets[place + 1:])
+    return short, octets.count(b"\n", 0, line) + 1
+
+
+def cut_off(trace):
+    """The same day up to the middle of the last document that stands behind its line."""
+    octets = trace.read_bytes()
+    cut = trace.with_name("cut.trace")
+    cut.write_bytes(octets[:octets.rindex(b"\noctets ") + 500])
+    return cut
+
+
+def verify_cuts(trace):
+    """Whether a day with an octet too few is refused at its line, and one that is cut off is the same up to there."""
+    short, line = cut_short(trace)
+    said, status = verify(short)
+    refused = status == 2 and f"line {line}: " in said
+    return refused and verify(cut_off(trace))[0] == "same"
+
+
+def ahead_of_midnight(folder, seconds):
+    """A library by which a program's clock is so many seconds before the midnight of UTC to come."""
+    source, library = folder / "ahead.c", folder / "ahead.so"
+    source.write_text(AHEAD)
+    ahead = DAY - int(time.time()) % DAY - seconds
+    subprocess.run(["cc", "-shared", "-fPIC", f"-DSECONDS={ahead}", "-o", library, source], check=True)
+    return library
+
+
+def pass_midnight(folder):
+    """A day over midnight, by the clock that a server is given: whether both of its files play as one."""
+    if not shutil.which("cc"):
+        print("midnight: a C compiler is absent")
+        return True
+    trace, next_trace = folder / "night.trace", folder / "night.1.trace"
+    server = Running(folder / "settings.toml", ["--record", trace])
+    server.streams["env"] = os.environ | {"LD_PRELOAD": str(ahead_of_midnight(folder, 4))}
+    with server:
+        server.port, server.path, server.name = server.ipp, "/printers/lab", "printd"
+        client = load.Client(server)
+        for _ in range(80):
+            client.connection.sendall(post(server, load.message(load.PRINT_JOB, server, 0) + bytes(4_000), False))
+            client.reply()
+            time.sleep(0.1)
+    first = next_trace.read_bytes().split(b"\n")[0].decode().replace(str(folder) + "/", "")
+    print(f"midnight: {trace.stat().st_size} and {next_trace.stat().st_size} bytes, the second from {first}")
+    alone, status = verify(next_trace)
+    whole = folder / "whole.trace"
+    whole.write_bytes(trace.read_bytes() + next_trace.read_bytes())
+    return verify(trace)[0] == "same" and status == 2 and "goes on" in alone and verify(whole)[0] == "same"
+
+
 def show_sizes(trace):
     octets = trace.read_bytes()
     packed = len(gzip.compress(octets))
@@ -300,10 +373,12 @@ def main():
     changed = verify(change(trace))
     print("\n".join(line[:150] for line in changed[0].splitlines()[1:]))
     good &= changed[1] == 1
+    good &= verify_cuts(trace)
     good &= compare_logs(folder, trace)
     heads = make_day(folder, "heads", requests // 10, ["--record-heads"])
     show_sizes(heads)
     good &= verify(heads)[0] == "same"
+    good &= pass_midnight(folder)
     fill_disk(folder)
     compare_speed(folder)
     shutil.rmtree(folder, ignore_errors=True)

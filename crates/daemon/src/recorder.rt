@@ -2,10 +2,10 @@
 use base_types::Moment;
 use recordings::NoteText;
 
-/// How many bytes of lines are kept before they are written, while the server has much to do.
-const MOST: usize = 32_768;
+/// How many bytes of lines are kept before they are written.
+const MOST: usize = 65_536;
 
-/// For how long lines are kept then, in ms.
+/// For how long fewer are kept, in ms.
 const LONGEST: u64 = 100;
 
 /// Where a recording goes.
@@ -37,23 +37,44 @@ impl<'a, T: Tape> Recorder<'a, T> {
         }
     }
 
-    /// Writes the lines that are kept, after a turn of this moment that has added some or none.
-    pub(crate) fn heed(&mut self, notes: &mut NoteText, moment: Moment, added: bool) {
-        if self.ended || (added && !self.is_due(notes, moment)) {
+    /// Writes the lines that are kept, after a turn of this moment, if they are much or old.
+    pub(crate) fn heed(&mut self, notes: &mut NoteText, moment: Moment) {
+        if self.ended {
             return;
         }
         if !notes.keeps() {
             self.tape.lose();
             self.ended = true;
-        } else if !notes.text().is_empty() {
+        } else if self.is_due(notes, moment) {
             self.put(notes, moment);
         }
     }
 
-    /// Whether what is kept is much or old, or none is kept any more.
+    /// Writes the lines that are kept, behind the last turn.
+    pub(crate) fn finish(&mut self, notes: &mut NoteText) {
+        if !self.ended && !notes.text().is_empty() {
+            let moment = self.written;
+            self.put(notes, moment);
+        }
+    }
+
+    /// The ms from this moment on until lines that are kept are old, at most so many.
+    pub(crate) fn time_left(&self, notes: &NoteText, moment: Moment, most: u64) -> u64 {
+        if self.ended || notes.text().is_empty() {
+            return most;
+        }
+        LONGEST.saturating_sub(self.age(moment)).min(most)
+    }
+
+    /// The ms since lines were written.
+    fn age(&self, moment: Moment) -> u64 {
+        moment.millis().saturating_sub(self.written.millis())
+    }
+
+    /// Whether lines are kept, and much or old.
     fn is_due(&self, notes: &NoteText, moment: Moment) -> bool {
-        let age = moment.millis().saturating_sub(self.written.millis());
-        !notes.keeps() || notes.text().len() >= MOST || age >= LONGEST
+        let count = notes.text().len();
+        count >= MOST || (count > 0 && self.age(moment) >= LONGEST)
     }
 
     /// Writes the lines that are kept. Where that fails, none are kept any more.

@@ -104,9 +104,10 @@ fn take_recorded_turns<T: Tape>(
     for _ in 0..turns {
         let moment = moment_since(clock, &start)?;
         server.turn(moment);
-        heed(server, recorder, moment);
-        server.rest(PAUSE)?;
+        let pause = heed(server, recorder, moment);
+        server.rest(pause)?;
     }
+    recorder.finish(server.notes());
     Ok(())
 }
 
@@ -122,16 +123,19 @@ fn take_all_turns<W: Write, T: Tape>(
     for _ in 0..turns {
         let moment = moment_since(clock, &start)?;
         put_lines(server.turn_logged(moment), log);
-        heed(server, recorder, moment);
-        server.rest(PAUSE)?;
+        let pause = heed(server, recorder, moment);
+        server.rest(pause)?;
     }
+    recorder.finish(server.notes());
     Ok(())
 }
 
-/// Has what was noted of a turn of this moment recorded.
-fn heed<T: Tape>(server: &mut Server, recorder: &mut Recorder<'_, T>, moment: Moment) {
-    let noted = server.has_noted();
-    recorder.heed(server.notes(), moment, noted);
+/// Has what was noted of a turn of this moment recorded, once it is due: for how many ms the server may wait
+/// then, at most.
+fn heed<T: Tape>(server: &mut Server, recorder: &mut Recorder<'_, T>, moment: Moment) -> u64 {
+    let notes = server.notes();
+    recorder.heed(notes, moment);
+    recorder.time_left(notes, moment, PAUSE)
 }
 
 /// Writes the lines of a turn, or says that there was no memory for them.

@@ -28,8 +28,6 @@ pub struct Server {
     wire: Noted<Sockets>,
     chronicle: Chronicle,
     ticked: Option<Moment>,
-    /// Something happened in the last turn.
-    noted: bool,
 }
 
 /// Who came and went; nobody, where that isn't kept.
@@ -56,7 +54,6 @@ impl Server {
             wire: Noted::new(alloc, sockets),
             chronicle: Chronicle::new(alloc, names),
             ticked: None,
-            noted: false,
         })
     }
 
@@ -68,11 +65,6 @@ impl Server {
     /// Has it note each turn, as a recording has it. It has taken no turn yet.
     pub(crate) fn record(&mut self, heads: bool) {
         self.wire.notes.begin(heads);
-    }
-
-    /// Whether something happened in its last turn, where its turns are noted.
-    pub(crate) fn has_noted(&self) -> bool {
-        self.noted
     }
 
     /// What is noted of its turns.
@@ -137,11 +129,10 @@ impl Server {
         refused: bool,
     ) {
         let ticks = self.ticks_at(moment);
-        self.noted = ticks || told || self.wire.notes.has_call();
         if ticks {
             self.ticked = Some(moment);
         }
-        if !self.noted || !self.is_recorded() {
+        if !self.is_recorded() || !(ticks || told || self.wire.notes.has_call()) {
             return;
         }
         if let Ok(visits) = visits {

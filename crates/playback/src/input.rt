@@ -1,7 +1,9 @@
 //! The lines of a recording, which may be longer than memory.
 ghost use Rattle.std.specs.Io.{ReadsAtMost};
 
+use recordings::octets_behind;
 use std::alloc::Global;
+use std::cmp::min;
 use std::io;
 use std::io::Read;
 
@@ -24,6 +26,8 @@ pub(crate) struct Lines<'a, R: Read> {
     start: usize,
     /// How many it has.
     end: usize,
+    /// How many line feeds were passed.
+    passed: u64,
 }
 
 impl<'a, R: Read> Lines<'a, R> {
@@ -35,7 +39,13 @@ impl<'a, R: Read> Lines<'a, R> {
             piece,
             start: 0,
             end: 0,
+            passed: 0,
         })
+    }
+
+    /// How many lines were read, with those among octets.
+    pub(crate) fn passed(&self) -> u64 {
+        self.passed
     }
 
     /// Reads the next line, without its line feed, in the place of another: whether there is one. Bytes
@@ -53,6 +63,52 @@ impl<'a, R: Read> Lines<'a, R> {
         Ok(false)
     }
 
+    /// The same, and the octets that follow it.
+    pub(crate) fn read_whole(&mut self, line: &mut Vec<u8>) -> io::Result<bool> {
+        if !self.read(line)? {
+            return Ok(false);
+        }
+        match octets_behind(line) {
+            Some(count) => self.read_octets(line, count),
+            None => Ok(true),
+        }
+    }
+
+    /// Appends so many octets that follow a line, and passes the line feed behind them: whether they are there.
+    /// A byte that stands in its place is one more of them.
+    fn read_octets(&mut self, line: &mut Vec<u8>, count: usize) -> io::Result<bool> {
+        line.push(b'\n')?;
+        let mut left = count.saturating_add(1);
+        for _ in 0..u64::MAX {
+            left = left.saturating_sub(self.takes_octets(line, left)?);
+            if left == 0 {
+                break;
+            }
+            if !self.fills()? {
+                return Ok(false);
+            }
+        }
+        if line.last() == Some(&b'\n') {
+            line.pop();
+        }
+        Ok(true)
+    }
+
+    /// Appends so many octets, or as many as the piece has: how many they were.
+    fn takes_octets(&mut self, line: &mut Vec<u8>, most: usize) -> io::Result<usize> {
+        if self.start > self.end || self.end > self.piece.len() {
+            return Ok(0);
+        }
+        let rest = &self.piece[self.start..self.end];
+        let taken = min(most, rest.len());
+        let octets = &rest[..taken];
+        line.extend_from_slice(octets)?;
+        let feeds = octets.iter().filter(|byte| **byte == b'\n').count();
+        self.passed = self.passed.saturating_add(feeds as u64);
+        self.start = self.start.saturating_add(taken);
+        Ok(taken)
+    }
+
     /// Appends what the piece has of a line: whether that is all of it.
     fn takes(&mut self, line: &mut Vec<u8>) -> io::Result<bool> {
         if self.start > self.end || self.end > self.piece.len() {
@@ -63,6 +119,7 @@ impl<'a, R: Read> Lines<'a, R> {
             Some(place) => {
                 line.extend_from_slice(&rest[..place])?;
                 self.start = self.start.saturating_add(place).saturating_add(1);
+                self.passed = self.passed.saturating_add(1);
                 Ok(true)
             }
             None => {

@@ -71,8 +71,8 @@ fn said(status: ExitStatus, sentence: Result<String, AllocError>) -> Fault {
 /// What stands in front of the turns.
 #[derive(Drop)]
 enum Front {
-    /// The text of the settings, and how many lines it has with the point behind it.
-    Settings(Vec<u8>, u64),
+    /// The text of the settings.
+    Settings(Vec<u8>),
     /// The file goes on where another one ends.
     GoesOn,
     /// No line is a point.
@@ -88,7 +88,7 @@ fn read_front<R: Read>(alloc: Global, lines: &mut Lines<'_, R>) -> io::Result<Fr
             return Ok(Front::Neither);
         }
         if line.as_slice() == b".".as_slice() {
-            return Ok(Front::Settings(settings, number));
+            return Ok(Front::Settings(settings));
         }
         if number == 1 && line.starts_with(GOES_ON) {
             return Ok(Front::GoesOn);
@@ -120,17 +120,15 @@ fn settings_refused(alloc: Global, file: &str, settings: &[u8], fault: &Settings
     }
 }
 
-/// The text of the settings in front of the turns, and the number of the first line of these.
+/// The text of the settings in front of the turns.
 fn read_start<R: Read>(
     alloc: Global,
     file: &str,
     lines: &mut Lines<'_, R>,
-) -> Result<(Vec<u8>, u64), Fault> {
+) -> Result<Vec<u8>, Fault> {
     let sentence = match read_front(alloc, lines)? {
-        Front::Settings(text, number) if is_start(alloc, lines)? => {
-            return Ok((text, number.saturating_add(2)));
-        }
-        Front::Settings(_, _) => format!(in alloc;
+        Front::Settings(text) if is_start(alloc, lines)? => return Ok(text),
+        Front::Settings(_) => format!(in alloc;
             "{file}: this is no recorded day: the line behind \".\" isn't recorded and a number"
         ),
         Front::GoesOn => format!(in alloc;
@@ -194,7 +192,7 @@ fn put_out<W: Write>(writer: &mut W, output: &mut Vec<u8>, most: usize) -> Resul
     Ok(())
 }
 
-/// Plays the lines of turns, which come behind so many others.
+/// Plays the lines of turns, which come behind the settings.
 fn play_lines<R: Read, W: Write>(
     alloc: Global,
     file: &str,
@@ -203,11 +201,12 @@ fn play_lines<R: Read, W: Write>(
     output: &mut Vec<u8>,
     shows: Shows,
 ) -> Result<(), Fault> {
-    let (text, first) = read_start(alloc, file, lines)?;
+    let text = read_start(alloc, file, lines)?;
     let mut player = start(alloc, file, &text, shows)?;
     let mut line = Vec::new(alloc);
-    for number in first..u64::MAX {
-        if !lines.read(&mut line)? {
+    for _ in 0..u64::MAX {
+        let number = lines.passed().saturating_add(1);
+        if !lines.read_whole(&mut line)? {
             return Ok(());
         }
         let step = player.play(number, &line, output)?;

@@ -1,9 +1,10 @@
 //! A recorded day as a trace that a hand could have written.
+ghost use Rattle.std.specs.Prelude.{◌<◌, IfSome, length};
 
 use base_types::Moment;
-use recordings::{Entry, GOES_ON, read_entry};
+use recordings::{Entry, GOES_ON, octets_behind, read_entry};
 use std::alloc::{AllocError, Global};
-use traces::{next_line, split_settings};
+use traces::{CutLine, next_line, split_settings};
 use wires::{Door, WireId};
 
 /// What a trace comes to.
@@ -51,7 +52,7 @@ impl Writer {
     fn take(&mut self, entry: &Entry) -> Result<(), AllocError> {
         match entry {
             Entry::Accepted(accepted) => self.open(accepted.id, accepted.door),
-            Entry::Came(came) => self.put_input(came.id, &came.bytes),
+            Entry::Came(came) | Entry::Octets(came) => self.put_input(came.id, &came.bytes),
             Entry::Ended(id) | Entry::Failed(id) | Entry::Shut(id) | Entry::Broken(id) => {
                 self.end(*id)
             }
@@ -141,6 +142,44 @@ fn is_remark(line: &[u8]) -> bool {
     line.starts_with(b"#") || line.starts_with(b"recorded ")
 }
 
+/// The first line of a text with the octets that follow it, and what comes behind their line feeds. Where some
+/// of them aren't there, all is one line; where another byte stands in the place of the last line feed, none
+/// follow.
+fn next_whole(text: &[u8]) -> Option<CutLine<'_>>
+    ensures { IfSome result (λ cut. length cut.later.now < length text.now) }
+{
+    let cut = next_line(text)?;
+    let Some(count) = octets_behind(cut.line) else {
+        return Some(cut);
+    };
+    match cut.later.get(count) {
+        Some(byte) if *byte == b'\n' => whole_of(
+            text,
+            cut.line.len().saturating_add(1).saturating_add(count),
+        ),
+        Some(_) => Some(cut),
+        None => Some(CutLine {
+            line: text,
+            later: &[],
+        }),
+    }
+}
+
+/// A text cut at the byte of this place.
+fn whole_of(text: &[u8], place: usize) -> Option<CutLine<'_>>
+    ensures { IfSome result (λ cut. length cut.later.now < length text.now) }
+{
+    let (line, rest) = text.split_at_checked(place)?;
+    let (_, later) = rest.split_first()?;
+    Some(CutLine { line, later })
+}
+
+/// How many line feeds stand in a line with the octets that follow it, and behind it.
+fn feeds_of(line: &[u8]) -> u64 {
+    let within = line.iter().filter(|byte| **byte == b'\n').count();
+    (within as u64).saturating_add(1)
+}
+
 /// A trace as one that a hand could have written, if it isn't one.
 pub fn as_written(alloc: Global, trace: &[u8]) -> Result<Written, AllocError> {
     if trace.starts_with(GOES_ON) {
@@ -171,16 +210,16 @@ fn write_lines(
     };
     writer.text.extend_from_slice(front)?;
     let mut rest = lines;
-    let mut number = before;
-    while let Some(cut) = next_line(rest) {
-        number = number.saturating_add(1);
+    let mut passed = before;
+    while let Some(cut) = next_whole(rest) {
         if !is_remark(cut.line) {
             match read_entry(alloc, cut.line)? {
                 Some(entry) => writer.take(&entry)?,
                 None if cut.later.is_empty() => {}
-                None => return Ok(Written::Bad(number)),
+                None => return Ok(Written::Bad(passed.saturating_add(1))),
             }
         }
+        passed = passed.saturating_add(feeds_of(cut.line));
         rest = cut.later;
     }
     Ok(Written::Made(writer.text))

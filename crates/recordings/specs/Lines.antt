@@ -1,10 +1,10 @@
 -- The lines of a recording.
-use Rattle.std.specs.Prelude.{ℕ, ◌≡◌, List, ◌++◌, Option, Some, None, codes}
+use Rattle.std.specs.Prelude.{ℕ, ◌≡◌, nat_lt, if◌then◌else◌, List, ◌++◌, length, Option, Some, None, codes}
 use Rattle.std.specs.Fmt.{decimal}
 use Rattle.wires.specs.declared.wire.Door.{Door}
 use Rattle.wires.specs.declared.wire.Door.TheVariants.{Ipp, Lpd, Devices}
 use Rattle.recordings.specs.declared.entry.Entry.{Entry}
-use Rattle.recordings.specs.declared.entry.Entry.TheVariants.{Accepted, Came, Ended, Failed, Sent, Shut, Broken, Closed, Refused, Turn}
+use Rattle.recordings.specs.declared.entry.Entry.TheVariants.{Accepted, Came, Octets, Ended, Failed, Sent, Shut, Broken, Closed, Refused, Turn}
 use Rattle.recordings.specs.Data.{escaped}
 
 abbrev pub door_word : Door → List ℕ
@@ -28,6 +28,18 @@ accept_line door id = codes "accept " ++ line_about (door_word door) id
 abbrev pub read_line : ℕ → List ℕ → List ℕ
 read_line id bytes = about (codes "read") id ++ (codes " " ++ (escaped bytes ++ codes "\n"))
 
+-- so many bytes follow that were read, as they are
+abbrev pub octets_head : ℕ → ℕ → List ℕ
+octets_head id count = about (codes "octets") id ++ (codes " " ++ decimal count)
+
+-- the same with these bytes
+abbrev pub octets_line : ℕ → List ℕ → List ℕ
+octets_line id bytes = octets_head id (length bytes) ++ (codes "\n" ++ (bytes ++ codes "\n"))
+
+-- few bytes stand in their line, many behind it
+abbrev pub came_line : ℕ → List ℕ → List ℕ
+came_line id bytes = if nat_lt (length bytes) 1024 then read_line id bytes else octets_line id bytes
+
 -- a space and a sum, or a line where there is none
 abbrev pub sum_words : Option ℕ → List ℕ
 sum_words (Some sum) = codes " " ++ decimal sum
@@ -45,6 +57,7 @@ turn_line moment = line_about (codes "turn") moment
 abbrev pub entry_line : Entry → List ℕ
 entry_line (Accepted accepted) = accept_line accepted.door accepted.id
 entry_line (Came came) = read_line came.id came.bytes.items
+entry_line (Octets came) = octets_line came.id came.bytes.items
 entry_line (Ended id) = line_about (codes "end") id
 entry_line (Failed id) = line_about (codes "fail") id
 entry_line (Sent sent) = sent_line sent.id sent.count sent.sum

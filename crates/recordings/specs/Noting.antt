@@ -3,7 +3,7 @@ use Rattle.std.specs.Prelude.{ℕ, ◌≡◌, ◌⊎◌, Bool, true, false, List
 use Rattle.wires.specs.declared.wire.Progress.{Progress}
 use Rattle.wires.specs.declared.wire.Progress.TheVariants.{Done, Waiting, End, Fault}
 use Rattle.wires.specs.Poll.{Poll, Accepts, Reads, Writes, Closes}
-use Rattle.recordings.specs.Lines.{line_about, accept_line, read_line, sent_line, turn_line}
+use Rattle.recordings.specs.Lines.{line_about, accept_line, came_line, sent_line, turn_line}
 
 -- the line of a write; nothing of one that only waited
 abbrev pub written_note : ℕ → Progress ℕ → Option ℕ → List ℕ
@@ -19,7 +19,7 @@ note_of (Accepts door (Done id)) sum = accept_line door id
 note_of (Accepts door Waiting) sum = []
 note_of (Accepts door End) sum = []
 note_of (Accepts door Fault) sum = []
-note_of (Reads id (Done bytes)) sum = read_line id bytes
+note_of (Reads id (Done bytes)) sum = came_line id bytes
 note_of (Reads id Waiting) sum = []
 note_of (Reads id End) sum = line_about (codes "end") id
 note_of (Reads id Fault) sum = line_about (codes "fail") id

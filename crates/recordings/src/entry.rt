@@ -14,8 +14,10 @@ use wires::{Door, WireId};
 pub enum Entry {
     /// A connection was accepted.
     Accepted(Accepted),
-    /// Bytes were read.
+    /// Bytes were read, and stand in the line.
     Came(Came),
+    /// Bytes were read, and stand behind the line as they are.
+    Octets(Came),
     /// Nothing more came on the connection of a number.
     Ended(WireId),
     /// A read of it failed.
@@ -102,6 +104,33 @@ fn read_came(alloc: Global, said: &[u8]) -> Result<Option<Entry>, AllocError> {
     }
 }
 
+/// A number, how many bytes follow, and these, one at least.
+fn read_octets(alloc: Global, said: &[u8]) -> Result<Option<Entry>, AllocError> {
+    let Some((digits, counted)) = cut_at(said, b' ') else {
+        return Ok(None);
+    };
+    let Some((_, octets)) = cut_at(counted, b'\n') else {
+        return Ok(None);
+    };
+    let Some(id) = read_id(digits) else {
+        return Ok(None);
+    };
+    let mut bytes = Vec::new(alloc);
+    bytes.extend_from_slice(octets)?;
+    if bytes.is_empty() {
+        return Ok(None);
+    }
+    Ok(Some(Entry::Octets(Came { id, bytes })))
+}
+
+/// How many octets follow this line as they are, and a line feed, before what it says is whole; nothing where
+/// it is whole.
+pub fn octets_behind(line: &[u8]) -> Option<usize> {
+    let said = line.strip_prefix(b"octets ")?;
+    let (_, count) = cut_at(said, b' ')?;
+    Some(read_id(count)? as usize)
+}
+
 /// A sum, or nothing for a line alone, where there is none.
 fn read_sum(word: &[u8]) -> Option<Option<u32>> {
     if word == b"-".as_slice() {
@@ -129,8 +158,9 @@ fn read_turn(digits: &[u8]) -> Option<Entry> {
     Some(Entry::Turn(Moment::new(number)?))
 }
 
-/// What a line of a recording says, without its line feed; nothing where it is no such line, also where
-/// what it says is written in another way. The error is out of memory.
+/// What a line of a recording says, without its last line feed, and with the octets that follow it, where some
+/// do; nothing where it is no such line, also where what it says is written in another way. The error is out of
+/// memory.
 pub fn read_entry(alloc: Global, line: &[u8]) -> Result<Option<Entry>, AllocError>
     ensures { IfOk result (λ read. IfSome read (λ entry. IsLineOf line.now entry)) }
 {
@@ -167,6 +197,9 @@ fn is_written_so(alloc: Global, entry: &Entry, line: &[u8]) -> Result<bool, Allo
 fn read_any(alloc: Global, line: &[u8]) -> Result<Option<Entry>, AllocError> {
     if let Some(said) = line.strip_prefix(b"read ") {
         return read_came(alloc, said);
+    }
+    if let Some(said) = line.strip_prefix(b"octets ") {
+        return read_octets(alloc, said);
     }
     Ok(read_plain(line))
 }

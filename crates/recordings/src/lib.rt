@@ -18,7 +18,7 @@ mod script;
 mod sum;
 mod write;
 
-pub use entry::{Accepted, Came, Entry, Sent, read_entry};
+pub use entry::{Accepted, Came, Entry, Sent, octets_behind, read_entry};
 pub use noted::{NoteText, Noted};
 pub use script::{Deed, Moved, Script, Scripted, Stray};
 pub use write::{GOES_ON, put_entry, put_goes_on, put_start, put_turn};

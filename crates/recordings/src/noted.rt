@@ -5,8 +5,7 @@ ghost use Rattle.wires.specs.Poll.{Accepts, Reads, Writes, Closes, bytes_read, I
 ghost use Rattle.recordings.specs.Noting.{NoteState, Notes, EndsTurn};
 
 use crate::note_lines::NoteLines;
-use crate::parts::put_front;
-use crate::sum::sum_of;
+use crate::sum::sum_of_front;
 use base_types::Moment;
 use document_octets::Blanker;
 use std::alloc::{AllocError, Global};
@@ -19,8 +18,8 @@ use wires::{Door, Progress, Wire, WireId};
 #[derive(Drop)]
 pub struct NoteText {
     lines: NoteLines,
-    /// The bytes of a write, put together, or those of a read without documents.
-    joined: Vec<u8>,
+    /// The bytes of a read without those of documents, where heads are noted.
+    blanked: Vec<u8>,
     /// The octets of documents are noted as zeros, and of what devices get no sums.
     heads: bool,
     /// The connections, where heads are noted.
@@ -50,7 +49,7 @@ impl NoteText {
     {
         NoteText {
             lines: NoteLines::new(alloc),
-            joined: Vec::new(alloc),
+            blanked: Vec::new(alloc),
             heads: false,
             blanker: Blanker::new(alloc),
         }
@@ -146,55 +145,37 @@ impl NoteText {
             self.stop();
             return;
         }
-        self.lines.came(id, &self.joined);
+        self.lines.came(id, &self.blanked);
     }
 
-    /// Puts bytes that were read together without those of documents.
+    /// Keeps bytes that were read, those of documents as zeros.
     fn blank(&mut self, id: WireId, bytes: &[u8]) -> Result<(), AllocError>
         ensures { self.new ≡ self.old }
     {
-        self.joined.clear();
-        self.joined.extend_from_slice(bytes)?;
-        self.blanker.blank(id, &mut self.joined)
+        self.blanked.clear();
+        self.blanked.extend_from_slice(bytes)?;
+        self.blanker.blank(id, &mut self.blanked)
     }
 
     /// A write was answered so.
     fn written(&mut self, id: WireId, answer: Progress<usize>, parts: &[IoSlice<'_>])
         ensures { Notes (Writes id (io_slices_bytes parts.now) answer) self.old self.new }
     {
-        match self.sum_taken(id, parts, answer) {
-            Ok(sum) => self.lines.written(id, answer, sum),
-            Err(_) => self.stop(),
-        }
+        let sum = self.sum_taken(id, parts, answer);
+        self.lines.written(id, answer, sum);
     }
 
     /// The sum of the bytes that were taken of a write, if some were and it is noted.
-    fn sum_taken(
-        &mut self,
-        id: WireId,
-        parts: &[IoSlice<'_>],
-        answer: Progress<usize>,
-    ) -> Result<Option<u32>, AllocError>
-        ensures { self.new ≡ self.old }
-    {
+    fn sum_taken(&self, id: WireId, parts: &[IoSlice<'_>], answer: Progress<usize>) -> Option<u32> {
         match answer {
-            Progress::Done(count) if self.notes_sum(id) => self.sum_of(parts, count),
-            _ => Ok(None),
+            Progress::Done(count) if self.notes_sum(id) => Some(sum_of_front(parts, count)),
+            _ => None,
         }
     }
 
     /// Whether the sum of what is written to a connection is noted.
     fn notes_sum(&self, id: WireId) -> bool {
         self.lines.keeps() && !(self.heads && self.blanker.is_device(id))
-    }
-
-    /// The sum of the first so many of the bytes that lie in parts.
-    fn sum_of(&mut self, parts: &[IoSlice<'_>], count: usize) -> Result<Option<u32>, AllocError>
-        ensures { self.new ≡ self.old }
-    {
-        self.joined.clear();
-        put_front(&mut self.joined, parts, count)?;
-        Ok(Some(sum_of(&self.joined)))
     }
 
     /// A connection was given up.

@@ -223,7 +223,7 @@ impl Wire for Script {
 
     fn poll_read(&mut self, id: WireId, buffer: &mut [u8]) -> Progress<usize> {
         match self.next() {
-            Some(Entry::Came(came)) if came.id == id => {
+            Some(Entry::Came(came) | Entry::Octets(came)) if came.id == id => {
                 let count = came.bytes.len();
                 if count == 0 || count > buffer.len() {
                     self.strays(Deed::ReadsLess(id));

@@ -1,31 +1,112 @@
 //! The sum of bytes, by which two runs of them are told apart.
 
-/// Eight bytes as a number, the first the lowest.
-fn word_of(bytes: &[u8]) -> u64 {
-    match bytes {
-        [a, b, c, d, e, f, g, h] => u64::from_le_bytes([*a, *b, *c, *d, *e, *f, *g, *h]),
-        _ => last_word_of(bytes),
+use std::cmp::min;
+use std::io::IoSlice;
+
+/// How many bytes a word has.
+const WORD: usize = 8;
+
+/// The sum of bytes that come in pieces, as `docs/TRACES.md` has it: of their words of eight bytes, the last
+/// of which may be shorter, one number is the sum, and another the sum of all those sums.
+#[derive(Clone, Copy)]
+struct Sum {
+    sum: u64,
+    sums: u64,
+    /// The bytes of a word that isn't whole, as a number, the first the lowest.
+    word: u64,
+    /// What the next of them counts.
+    scale: u64,
+    /// How many more that word has; none, where it hasn't begun.
+    missing: usize,
+}
+
+impl Sum {
+    /// No bytes came yet.
+    fn new() -> Sum {
+        Sum {
+            sum: 0,
+            sums: 0,
+            word: 0,
+            scale: 1,
+            missing: 0,
+        }
+    }
+
+    /// These bytes follow.
+    fn add(&mut self, bytes: &[u8]) {
+        let (front, rest) = bytes.split_at(min(self.missing, bytes.len()));
+        self.add_bytes(front);
+        let (words, last) = rest.as_chunks::<WORD>();
+        self.add_words(words);
+        self.add_bytes(last);
+    }
+
+    /// These words follow, where the one before them is whole.
+    fn add_words(&mut self, words: &[[u8; WORD]]) {
+        let mut sum = self.sum;
+        let mut sums = self.sums;
+        for word in words {
+            sum = sum.wrapping_add(u64::from_le_bytes(*word));
+            sums = sums.wrapping_add(sum);
+        }
+        self.sum = sum;
+        self.sums = sums;
+    }
+
+    /// These bytes follow, one after the other.
+    fn add_bytes(&mut self, bytes: &[u8]) {
+        for byte in bytes {
+            self.add_byte(*byte);
+        }
+    }
+
+    /// This byte follows.
+    fn add_byte(&mut self, byte: u8) {
+        let counts = self.scale.wrapping_mul(u64::from(byte));
+        self.word = self.word.wrapping_add(counts);
+        self.scale = self.scale.wrapping_mul(256);
+        match self.missing {
+            0 => self.missing = WORD - 1,
+            1 => self.end_word(),
+            more => self.missing = more - 1,
+        }
+    }
+
+    /// The word that has begun is whole, or the last.
+    fn end_word(&mut self) {
+        self.sum = self.sum.wrapping_add(self.word);
+        self.sums = self.sums.wrapping_add(self.sum);
+        self.word = 0;
+        self.scale = 1;
+        self.missing = 0;
+    }
+
+    /// The sum, where no more bytes follow.
+    fn value(&mut self) -> u32 {
+        if self.missing > 0 {
+            self.end_word();
+        }
+        let mixed = self.sum ^ self.sums.rotate_left(17);
+        ((mixed ^ (mixed >> 32)) & 0xffff_ffff) as u32
     }
 }
 
-/// Fewer bytes as a number, the first the lowest.
-fn last_word_of(bytes: &[u8]) -> u64 {
-    let mut word = 0u64;
-    for byte in bytes.iter().rev() {
-        word = word.wrapping_mul(256).wrapping_add(u64::from(*byte));
-    }
-    word
-}
-
-/// The sum of bytes, as `docs/TRACES.md` has it: of their words of eight bytes, the last of which may be
-/// shorter, one number is the sum, and another the sum of all those sums.
+/// The sum of bytes.
 pub(crate) fn sum_of(bytes: &[u8]) -> u32 {
-    let mut sum = 0u64;
-    let mut sums = 0u64;
-    for word in bytes.chunks(8) {
-        sum = sum.wrapping_add(word_of(word));
-        sums = sums.wrapping_add(sum);
+    let mut sum = Sum::new();
+    sum.add(bytes);
+    sum.value()
+}
+
+/// The sum of the first so many of the bytes that lie in parts, where they lie.
+pub(crate) fn sum_of_front(parts: &[IoSlice<'_>], count: usize) -> u32 {
+    let mut sum = Sum::new();
+    let mut left = count;
+    for part in parts {
+        let bytes = part.as_slice();
+        let taken = min(left, bytes.len());
+        sum.add(&bytes[..taken]);
+        left -= taken;
     }
-    let mixed = sum ^ sums.rotate_left(17);
-    ((mixed ^ (mixed >> 32)) & 0xffff_ffff) as u32
+    sum.value()
 }

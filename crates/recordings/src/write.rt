@@ -1,7 +1,7 @@
 //! The lines of a recording, written.
 ghost use Rattle.std.specs.Prelude.{◌≡◌, ◌++◌, ℕ, OnOk, codes};
 ghost use Rattle.std.specs.Fmt.{decimal};
-ghost use Rattle.recordings.specs.Lines.{door_word, about, line_about, accept_line, read_line, sent_line, sum_words, turn_line, entry_line};
+ghost use Rattle.recordings.specs.Lines.{door_word, about, line_about, accept_line, read_line, octets_line, came_line, sent_line, sum_words, turn_line, entry_line};
 
 use crate::data::put_data;
 use crate::entry::{Accepted, Entry, Sent};
@@ -9,6 +9,9 @@ use base_types::Moment;
 use itoa::Buffer;
 use std::alloc::AllocError;
 use wires::{Door, WireId};
+
+/// From how many bytes on those that were read stand behind their line.
+const MANY: usize = 1024;
 
 /// What the first line of a file begins with that goes on where another one ends.
 pub const GOES_ON: &[u8] = b"#goes on behind ";
@@ -60,8 +63,8 @@ pub(crate) fn put_accepted(output: &mut Vec<u8>, door: Door, id: WireId) -> Resu
     Ok(())
 }
 
-/// Appends the line of bytes that were read.
-pub(crate) fn put_came(output: &mut Vec<u8>, id: WireId, bytes: &[u8]) -> Result<(), AllocError>
+/// Appends the line of bytes that were read, which stand in it.
+fn put_read(output: &mut Vec<u8>, id: WireId, bytes: &[u8]) -> Result<(), AllocError>
     ensures { OnOk result (output.new.items ≡ output.old.items ++ read_line id bytes.now) }
 {
     put_about(output, b"read", u64::from(id))?;
@@ -69,6 +72,29 @@ pub(crate) fn put_came(output: &mut Vec<u8>, id: WireId, bytes: &[u8]) -> Result
     put_data(output, bytes)?;
     output.extend_from_slice(b"\n")?;
     Ok(())
+}
+
+/// Appends the line of bytes that were read, and the bytes behind it, as they are.
+fn put_octets(output: &mut Vec<u8>, id: WireId, bytes: &[u8]) -> Result<(), AllocError>
+    ensures { OnOk result (output.new.items ≡ output.old.items ++ octets_line id bytes.now) }
+{
+    put_about(output, b"octets", u64::from(id))?;
+    put_about(output, b"", bytes.len() as u64)?;
+    output.extend_from_slice(b"\n")?;
+    output.extend_from_slice(bytes)?;
+    output.extend_from_slice(b"\n")?;
+    Ok(())
+}
+
+/// Appends what is noted of bytes that were read: few stand in their line, many behind it.
+pub(crate) fn put_came(output: &mut Vec<u8>, id: WireId, bytes: &[u8]) -> Result<(), AllocError>
+    ensures { OnOk result (output.new.items ≡ output.old.items ++ came_line id bytes.now) }
+{
+    if bytes.len() < MANY {
+        put_read(output, id, bytes)
+    } else {
+        put_octets(output, id, bytes)
+    }
 }
 
 /// Appends the line of bytes that were taken.
@@ -113,7 +139,8 @@ pub fn put_entry(output: &mut Vec<u8>, entry: &Entry) -> Result<(), AllocError>
 {
     match entry {
         Entry::Accepted(Accepted { door, id }) => put_accepted(output, *door, *id),
-        Entry::Came(came) => put_came(output, came.id, &came.bytes),
+        Entry::Came(came) => put_read(output, came.id, &came.bytes),
+        Entry::Octets(came) => put_octets(output, came.id, &came.bytes),
         Entry::Ended(id) => put_line(output, b"end", u64::from(*id)),
         Entry::Failed(id) => put_line(output, b"fail", u64::from(*id)),
         Entry::Sent(sent) => put_sent(output, *sent),
