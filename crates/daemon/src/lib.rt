@@ -5,7 +5,9 @@
 //! a recording where there is a [`Tape`]. What a log says is made by a [`Chronicle`], also of a day that is
 //! played again.
 //!
-//! What is proved of the sockets stands in `sockets`, and what an engine does over any wire in `server`.
+//! Its engine stands at a trace, and the calls that a turn made of its sockets are that trace's next turn,
+//! each of them noted where the turns are recorded. What is proved of the sockets stands in `sockets`, and
+//! what an engine does over any wire in `server`.
 //!
 //! Tests stand in `server_tests`.
 #![tactic(auto)]
@@ -18,6 +20,7 @@ mod log_writer;
 mod recorder;
 mod run;
 mod serving;
+mod traced;
 mod witness;
 
 pub use chronicle::Chronicle;

@@ -1,14 +1,16 @@
 //! A server over the system's sockets.
+ghost use Rattle.std.specs.Prelude.{◌≡◌};
 ghost use Rattle.settings_file.specs.Settings.{MeetsLimits};
+ghost use Rattle.daemon.specs.Serving.{TakesTurn, ServesTurn, AddsLines};
 
 use crate::chronicle::Chronicle;
+use crate::traced::TracedEngine;
 use crate::witness::Witness;
-use assignment::Lazy;
 use base_types::Moment;
 use dispatcher::{AllocationSite, DeviceRefusal, Dispatched, Listener};
 use events::Cancel;
 use recordings::{NoteText, Noted};
-use server::{Engine, NoteLog};
+use server::NoteLog;
 use settings_file::Settings;
 use sockets::{ConnectionEvent, ConnectionLog, Listening, Sockets};
 use std::alloc::{AllocError, Global};
@@ -24,7 +26,7 @@ const TICK_TIME: u64 = 1000;
 #[derive(Drop)]
 pub struct Server {
     alloc: Global,
-    engine: Engine<Lazy>,
+    engine: TracedEngine,
     wire: Noted<Sockets>,
     chronicle: Chronicle,
     ticked: Option<Moment>,
@@ -47,7 +49,7 @@ impl Server {
         requires { MeetsLimits settings }
     {
         let names = settings.device_names(alloc)?;
-        let engine = Engine::new(alloc, settings, Lazy::new(alloc))?;
+        let engine = TracedEngine::new(alloc, settings)?;
         Ok(Server {
             alloc,
             engine,
@@ -72,8 +74,11 @@ impl Server {
         &mut self.wire.notes
     }
 
-    /// One turn of its engine.
-    pub fn turn(&mut self, moment: Moment) {
+    /// One turn of its engine: at whatever trace the engine stood, it stands at that trace followed by this
+    /// turn, whose calls are those that it made of its sockets.
+    pub fn turn(&mut self, moment: Moment)
+        ensures { ServesTurn moment self.old.engine self.old.wire.notes self.new.engine self.new.wire.notes }
+    {
         if self.is_recorded() {
             self.wire.wire.keep_visits(self.alloc);
         }
@@ -84,17 +89,22 @@ impl Server {
 
     /// One turn of its engine: the lines of what was heard of it. The error is that there was no memory
     /// for them; the turn is taken all the same.
-    pub fn turn_logged(&mut self, moment: Moment) -> Result<Vec<u8>, AllocError> {
+    pub fn turn_logged(&mut self, moment: Moment) -> Result<Vec<u8>, AllocError>
+        ensures { ServesTurn moment self.old.engine self.old.wire.notes self.new.engine self.new.wire.notes }
+    {
         self.wire.wire.keep_visits(self.alloc);
         let mut seen = self.take(moment, NoteLog::new(self.alloc));
         let visits = self.visits();
         self.note_turn(moment, &visits, seen.told, seen.refused);
         let heard = seen.listener.take()?;
-        self.chronicle.lines(moment, &visits?, &heard, &self.engine)
+        self.chronicle
+            .lines(moment, &visits?, &heard, self.engine.engine())
     }
 
     /// One turn of its engine, of which this listener is told.
-    fn take<N: Listener>(&mut self, moment: Moment, listener: N) -> Witness<N> {
+    fn take<N: Listener>(&mut self, moment: Moment, listener: N) -> Witness<N>
+        ensures { TakesTurn moment self.old.engine self.old.wire.notes self.new.engine self.new.wire.notes }
+    {
         let mut witness = Witness::new(listener);
         self.wire.wire.set_moment(moment);
         self.engine.turn(&mut self.wire, &mut witness, moment);
@@ -102,7 +112,10 @@ impl Server {
     }
 
     /// Who came and went.
-    fn visits(&mut self) -> Result<Vec<ConnectionEvent>, AllocError> {
+    fn visits(&mut self) -> Result<Vec<ConnectionEvent>, AllocError>
+        ensures engine { self.new.engine ≡ self.old.engine }
+        ensures notes { self.new.wire.notes ≡ self.old.wire.notes }
+    {
         all_of(self.alloc, self.wire.wire.take_visits())
     }
 
@@ -127,22 +140,27 @@ impl Server {
         visits: &Result<Vec<ConnectionEvent>, AllocError>,
         told: bool,
         refused: bool,
-    ) {
+    )
+        ensures engine { self.new.engine ≡ self.old.engine }
+        ensures notes { AddsLines self.old.wire.notes self.new.wire.notes }
+    {
         let ticks = self.ticks_at(moment);
-        if ticks {
-            self.ticked = Some(moment);
-        }
+        self.ticked = if ticks { Some(moment) } else { self.ticked };
         if !self.is_recorded() || !(ticks || told || self.wire.notes.has_call()) {
             return;
         }
-        if let Ok(visits) = visits {
-            self.note_visits(visits);
-        }
+        self.note_visits(visits);
         self.wire.notes.end_turn(moment, refused);
     }
 
     /// Notes who came and went, in comments; none, where there is no memory for them.
-    fn note_visits(&mut self, visits: &[ConnectionEvent]) {
+    fn note_visits(&mut self, visits: &Result<Vec<ConnectionEvent>, AllocError>)
+        ensures engine { self.new.engine ≡ self.old.engine }
+        ensures notes { AddsLines self.old.wire.notes self.new.wire.notes }
+    {
+        let Ok(visits) = visits else {
+            return;
+        };
         if visits.is_empty() {
             return;
         }

@@ -1,5 +1,5 @@
 //! The lines of calls, as they are kept.
-ghost use Rattle.std.specs.Prelude.{◌≡◌, ℕ, List, Some, None, [], OnOk, length, option_map};
+ghost use Rattle.std.specs.Prelude.{◌≡◌, ◌⊎◌, ℕ, List, Some, None, [], OnOk, length, option_map};
 ghost use Rattle.wires.specs.Poll.{Accepts, Reads, Writes, Closes, bytes_read, IsCount};
 ghost use Rattle.recordings.specs.Noting.{note_of, written_note, end_of, with_note, NotesLine, EndsTurn};
 
@@ -65,7 +65,9 @@ impl NoteLines {
     }
 
     /// Adds whole lines, each of which is a comment.
-    pub(crate) fn comment(&mut self, lines: &[u8]) {
+    pub(crate) fn comment(&mut self, lines: &[u8])
+        ensures { (self.new ≡ None) ⊎ (self.new ≡ with_note lines.now self.old) }
+    {
         if self.keeps && self.text.extend_from_slice(lines).is_err() {
             self.stop();
         }

@@ -1,8 +1,8 @@
 //! A wire whose calls are noted.
-ghost use Rattle.std.specs.Prelude.{◌≡◌, ℕ, List, Some, None, [], length, option_map, false};
+ghost use Rattle.std.specs.Prelude.{◌≡◌, ◌⊎◌, ℕ, List, Some, None, [], length, option_map, false};
 ghost use Rattle.std.specs.Io.Slices.{io_slices_bytes};
 ghost use Rattle.wires.specs.Poll.{Accepts, Reads, Writes, Closes, bytes_read, IsCount};
-ghost use Rattle.recordings.specs.Noting.{NoteState, Notes, EndsTurn};
+ghost use Rattle.recordings.specs.Noting.{NoteState, Notes, EndsTurn, with_note};
 
 use crate::note_lines::NoteLines;
 use crate::sum::sum_of_front;
@@ -80,7 +80,10 @@ impl NoteText {
     }
 
     /// Adds whole lines, each of which is a comment.
-    pub fn comment(&mut self, lines: &[u8]) {
+    pub fn comment(&mut self, lines: &[u8])
+        ensures lines { (self.new.lines ≡ None) ⊎ (self.new.lines ≡ with_note lines.now self.old.lines) }
+        ensures heads { self.new.heads ≡ self.old.heads }
+    {
         self.lines.comment(lines);
     }
 
