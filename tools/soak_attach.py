@@ -3,13 +3,13 @@
 
     tools/soak_attach.py SCHEME JOBS [ADAPTERS]      (one adapter, where none is said)
 
-SCHEME is file, socket, lpd or ipp. A server with a device for each adapter is given jobs of 5,000 bytes, at most
+SCHEME is file, socket, pjl, lpd or ipp. A server with a device for each adapter is given jobs of 5,000 bytes, at most
 300 of them unfinished at a time, and `printd attach` prints them: into a folder in memory, to a printer here that
-takes what it is sent, or, with ipp, to tools/clients/ipp_printer.py, which takes a tenth of a second for each. It
-prints the resident memory of all and the adapters' descriptors at each tenth, how many jobs were done and failed,
-and the processor time of the adapters over a minute with nothing to do. It ends with status 1 where a job failed,
-or where memory has grown by more than a twentieth since half of them. PRINTD names the program; without it, it
-is the one that ./printd built.
+takes what it is sent, and with pjl tells of its pages, or, with ipp, to tools/clients/ipp_printer.py, which takes a
+tenth of a second for each. It prints the resident memory of all and the adapters' descriptors at each tenth, how many
+jobs were done and failed, and the processor time of the adapters over a minute with nothing to do. It ends with
+status 1 where a job failed, or where memory has grown by more than a twentieth since half of them. PRINTD names the
+program; without it, it is the one that ./printd built.
 """
 import contextlib
 import http.client
@@ -77,6 +77,18 @@ def take_app_socket(connection):
         pass
 
 
+def take_pjl(connection):
+    """Takes a job wrapped in PJL, and tells of its pages and of its end."""
+    taken = b""
+    while b"@PJL EOJ" not in taken and (part := connection.recv(65536)):
+        taken += part
+    pages = range(1, 2 + len(taken) // 4096)
+    told = b"".join(b"@PJL USTATUS PAGE\r\n%d\r\n\f" % page for page in pages)
+    connection.sendall(b"@PJL USTATUS DEVICE\r\nCODE=10001\r\n\f" + told + b"@PJL USTATUS JOB\r\nEND\r\nNAME=\"a job\"\r\n\f")
+    while connection.recv(65536):
+        pass
+
+
 def take_lpd(connection):
     stream = connection.makefile("rb")
     stream.readline()
@@ -112,8 +124,8 @@ def target(scheme, name, folder, ends):
     """What --to is given; what runs behind it ends with `ends`."""
     if scheme == "file":
         return f"file:{folder / name}"
-    if scheme == "socket":
-        return f"socket://127.0.0.1:{printer(take_app_socket)}"
+    if scheme in ("socket", "pjl"):
+        return f"socket://127.0.0.1:{printer(take_pjl if scheme == 'pjl' else take_app_socket)}"
     if scheme == "lpd":
         return f"lpd://127.0.0.1:{printer(take_lpd)}/lab"
     port = free_port()
@@ -169,7 +181,8 @@ def main():
         server = ends.enter_context(Running(folder / "settings.toml"))
         targets = [target(scheme, name, folder, ends) for name in names]
         time.sleep(1)
-        adapters = [Counted(name, server.devices, to, folder / f"{name}.log") for name, to in zip(names, targets)]
+        words = ["--pjl"] if scheme == "pjl" else []
+        adapters = [Counted(name, server.devices, to, folder / f"{name}.log", words) for name, to in zip(names, targets)]
         for adapter in adapters:
             ends.enter_context(adapter)
         time.sleep(1)

@@ -14,13 +14,18 @@ closes. FAULT N of the list is what it does at connection N instead, and after t
     slow         it reads 10,000 bytes a second
     talk         it writes 100,000 bytes of nonsense and then reads all
     pjl          it tells by PJL of each page (4,096 bytes) and of the end of the job, and doesn't close
-    jam          the same, but after the first page it is jammed for three seconds
-    given-up     the same, but the job ends after 1,000 bytes
+    rated        the same, but it takes SETUP seconds, and then RATE_ONE for each page, RATE_TWO on two sides
+    jam          as pjl, but after the first page it is jammed for three seconds
+    code-N       as pjl, but after the first page its state has the code N for a second
+    names        as pjl, but before that it tells of a job whose name has 10,000 bytes, twice
+    boasts       as pjl, but it tells of 10,000 pages
+    given-up     as pjl, but the job ends after 1,000 bytes
     mute         it reads all, says nothing of the job, and doesn't close
 
 It ends with SIGTERM.
 """
 import pathlib
+import re
 import socket
 import struct
 import sys
@@ -30,6 +35,11 @@ import time
 FIRST = 1000
 PAGE = 4096
 JOB_ENDS = b"@PJL EOJ"
+# how long a rated printer takes before a job, for a page on one side and for one on two, in seconds
+SETUP, RATE_ONE, RATE_TWO = 0.5, 0.2, 0.15
+# what stands before a job's octets
+HEAD = re.compile(rb"@PJL SET DUPLEX=(?:OFF|ON\r\n@PJL SET BINDING=[A-Z]+)\r\n")
+TELLING = ("pjl", "rated", "jam", "given-up", "mute", "names", "boasts")
 
 
 def rest_of(connection, taken):
@@ -50,22 +60,61 @@ def tell(connection, kind, *lines):
     connection.sendall(b"@PJL USTATUS %s\r\n" % kind + b"".join(line + b"\r\n" for line in lines) + b"\f")
 
 
+def tell_state(connection, code, text):
+    """Tells of the printer's state."""
+    tell(connection, b"DEVICE", b"CODE=%d" % code, b'DISPLAY="%s"' % text, b"ONLINE=TRUE")
+
+
+def tell_fault(connection, fault):
+    """Is in another state for a while, as the fault says."""
+    code, seconds = (42000, 3) if fault == "jam" else (int(fault.removeprefix("code-")), 1)
+    tell_state(connection, code, b"Look here")
+    time.sleep(seconds)
+    tell_state(connection, 10001, b"Ready")
+
+
+def document_of(taken):
+    """The octets of a job without the PJL around it."""
+    return bytes(taken[HEAD.search(taken).end() :].partition(b"\x1b%-12345X@PJL EOJ")[0])
+
+
+def tell_pages(connection, fault, pages, taken):
+    """Tells of the pages that come after this one, as far as the job is there: how many are told now."""
+    while pages < len(taken) // PAGE:
+        pages += 1
+        tell(connection, b"PAGE", b"%d" % pages)
+        if pages == 1 and (fault == "jam" or fault.startswith("code-")):
+            tell_fault(connection, fault)
+    return pages
+
+
+def print_pages(connection, fault, taken):
+    """Prints the pages of a job that is there whole, and tells of each: how many they are."""
+    pages = 10_000 if fault == "boasts" else max(1, -(-len(document_of(taken)) // PAGE))
+    rate = RATE_TWO if b"DUPLEX=ON" in taken else RATE_ONE
+    time.sleep(SETUP if fault == "rated" else 0)
+    for page in range(1, 1 + pages):
+        time.sleep(rate if fault == "rated" else 0)
+        tell(connection, b"PAGE", b"%d" % page)
+    return pages
+
+
 def serve_telling(connection, fault, taken):
     """Takes a job wrapped in PJL, and tells of it."""
     pages = 0
-    tell(connection, b"DEVICE", b"CODE=10001", b'DISPLAY="Ready"', b"ONLINE=TRUE")
+    if fault == "names":
+        for _ in range(2):
+            tell(connection, b"JOB", b"START", b'NAME="%s"' % (b"n" * 10_000))
+    tell_state(connection, 10001, b"Ready")
     tell(connection, b"JOB", b"START", b'NAME="a job"')
-    while JOB_ENDS not in taken and (part := connection.recv(65536)):
+    while JOB_ENDS not in taken[-200:] and (part := connection.recv(65536)):
         taken.extend(part)
-        while pages < len(taken) // PAGE:
-            pages += 1
-            tell(connection, b"PAGE", str(pages).encode("ascii"))
-            if fault == "jam" and pages == 1:
-                tell(connection, b"DEVICE", b"CODE=42000", b'DISPLAY="Paper jam"', b"ONLINE=FALSE")
-                time.sleep(3)
-                tell(connection, b"DEVICE", b"CODE=10001", b'DISPLAY="Ready"', b"ONLINE=TRUE")
+        if fault not in ("rated", "boasts"):
+            pages = tell_pages(connection, fault, pages, taken)
         if fault == "given-up" and len(taken) > FIRST:
             break
+    if fault in ("rated", "boasts"):
+        pages = print_pages(connection, fault, taken)
     if fault != "mute":
         tell(connection, b"JOB", b"END", b'NAME="a job"', b"PAGES=%d" % pages)
     rest_of(connection, taken)
@@ -73,7 +122,7 @@ def serve_telling(connection, fault, taken):
 
 def serve(connection, fault, taken):
     """Takes a connection's bytes, or does what the fault says."""
-    if fault in ("pjl", "jam", "given-up", "mute"):
+    if fault in TELLING or fault.startswith("code-"):
         serve_telling(connection, fault, taken)
         return
     if fault in ("early", "reset", "stall"):

@@ -67,9 +67,9 @@ class Running(Process):
 class Adapter(Process):
     """`printd attach`: a device of this name of the server at this port, whose log is this file."""
 
-    def __init__(self, name, port, to, log, words=(), command=(PROGRAM, "attach"), **streams):
+    def __init__(self, name, port, to, log, words=(), command=(PROGRAM, "attach"), host="127.0.0.1", **streams):
         self.log = log
-        words = [*command, "--name", name, "--server", f"127.0.0.1:{port}", "--to", to, *words, "--log"]
+        words = [*command, "--name", name, "--server", f"{host}:{port}", "--to", to, *words, "--log"]
         super().__init__(words, stderr=log.open("w"), **streams)
 
 

@@ -1,18 +1,22 @@
 #!/usr/bin/env python3
 """Has printers that misbehave print by `printd attach`, and prints a table of what came of each job.
 
-    tools/clients/try_printers.py [NAME..]      (all rows, where none is named)
+    tools/clients/try_printers.py [NAME..]      (all rows, where none is named; some six minutes)
 
 In a row a server (`printd serve`) and a printer of its own (printer.py, lpd_printer.py, ipp_printer.py) have an
 adapter between them. A first job meets the fault of the row, and a second one has to be printed byte for byte
-by the same adapter. Then servers that misbehave: the lines that one writes to an adapter are no lines of a
-server, or are cut; on the connection after that it brings a job. Then adapters that are told to end (SIGTERM to
-printd-attach): the server has to hear of the job in hand. Then words that make no sense. The last column
-is the most memory that the adapter had. Ends with status 1 where a row isn't as it is wanted here. PRINTD names
-the program; without it, it is the one that ./printd built.
+by the same adapter; each job has to be answered once. Then servers that misbehave: the lines that one writes to
+an adapter are no lines of a server, or are cut; on the connection after that it brings a job. Then adapters that
+are told to end (SIGTERM to printd-attach): the server has to hear of the job in hand. Then words that make no
+sense, before which nothing may be opened. Then what any printer is promised (attach_rows.py), and what one of IPP
+is asked and tells (ipp_rows.py). A line says what the log has of the row, and what the server was told; last
+comes the most memory that the adapter had. Several rows are played at a time. Ends with status 1 where a row isn't
+as it is wanted here. PRINTD names the program; without it, it is the one that ./printd built.
 """
+import concurrent.futures
 import contextlib
 import http.client
+import os
 import pathlib
 import re
 import socket
@@ -25,15 +29,24 @@ import time
 import typing
 
 sys.path.insert(0, str(pathlib.Path(__file__).resolve().parent))
+import attach_rows  # noqa: E402
+import ipp_rows  # noqa: E402
 from ipp_printer import CANCEL_JOB, CHARSET, INTEGER, LANGUAGE, PRINT_JOB, attribute  # noqa: E402
-from running import PROGRAM, TOP, Adapter, EndingAdapter, Process, Running  # noqa: E402
+from printer import document_of  # noqa: E402
+from running import PROGRAM, TOP, Adapter, EndingAdapter, Running  # noqa: E402
+from scripted_server import A4, Printer, Tap, attached  # noqa: E402
 
 URI = 0x45
+NAME = 0x42
 LARGE = 8 << 20
-TOOLS = {"socket": "printer.py", "pjl": "printer.py", "lpd": "lpd_printer.py", "ipp": "ipp_printer.py"}
-PATHS = {"socket": "", "pjl": "", "lpd": "/lab", "ipp": "/printer"}
-# how long a printer may be silent in these rows, in seconds
+# the largest job that there is, and the most KiB that an adapter may have with it
+LARGEST = 16 << 20
+MOST_KIB = 24 << 10
+# how many rows are played at a time
+ROWS_AT_A_TIME = 8
+# how long a printer may be silent in these rows, in seconds, and where that isn't what is tried
 PATIENCE = ("--timeout", "3", "--linger", "2")
+LONG_PATIENCE = ("--timeout", "60", "--linger", "2")
 
 
 class Row(typing.NamedTuple):
@@ -92,6 +105,18 @@ ROWS = [
     Row("ipp", "aborted", ["fail 1 given up"]),
     Row("ipp", "stuck", ["fail 1 canceled"], cancels=True),
     Row("ipp", "stopped", ["printer stopped", "done 1", "printer runs"]),
+    Row("ipp", "failed", ["fail 1 http 500"]),
+    Row("ipp", "short", ["fail 1 no reply of IPP"]),
+    Row("ipp", "untold", ["done 1"]),
+    Row("ipp", "newer", ["done 1"]),
+    Row("ipp", "deaf", ["fail 1 silent"]),
+    Row("ipp", "forgetful", ["done 1"]),
+    Row("pjl", "names", ["done 1"]),
+    Row("pjl", "boasts", ["done 1"]),
+    *(Row("pjl", f"code-{code}", ["printer stopped", "printer runs", "done 1"]) for code in (40021, 41213, 42000, 43005, 50000)),
+    *(Row("pjl", f"code-{code}", ["done 1"]) for code in (10003, 30016, 35075, 39999)),
+    *(Row(to, "well", ["done 1"], LARGEST) for to in ("file", "socket", "pjl", "lpd", "ipp")),
+    *(Row(to, "stall", ["fail 1 canceled"], LARGEST, cancels=True) for to in ("socket", "pjl", "lpd", "ipp")),
 ]
 
 JOB = b"JOB 1 5 1 1 iso_a4_210x297mm\nhello"
@@ -134,18 +159,21 @@ WORDS = [
     ("--name", "a name", "--to", "file:printed"),
     ("--name", "A", "--to", "file:printed", "--server", "host"),
     ("--name", "A"),
+    ("--name", "n" * 33, "--to", "file:printed"),
+    ("--name", "", "--to", "file:printed"),
+    ("--name", "A", "--to", "file:printed", "--format", "nonsense"),
+    ("--name", "A", "--to", "file:printed", "--format", ""),
+    ("--name", "A", "--to", "file:printed", "--format", "text/pl ain"),
+    ("--name", "A", "--to", "file:printed", "--format", "text/" + "n" * 300),
+    ("--name", "A", "--to", "lpd://host/" + "n" * 70_000),
+    ("--name", "A", "--to", "ipp://host/" + "n" * 70_000),
+    ("--name", "A", "--to", "socket://host:65536"),
+    ("--name", "A", "--to", "file:printed", "--server", "host:65536"),
+    ("--name", "A", "--to", "file:printed", "--timeout", "-1"),
+    ("--name", "A", "--to", "file:printed", "--linger", "soon"),
+    ("--name", "A", "--to", "file:printed", "--unknown"),
+    ("--name", "A", "--to", "file:printed", "more"),
 ]
-
-
-def free_port():
-    with socket.create_server(("127.0.0.1", 0)) as listener:
-        return listener.getsockname()[1]
-
-
-def listens(port):
-    """Whether a program listens there; it isn't asked, which a printer would count."""
-    place = f"{socket.ntohl(struct.unpack('>I', socket.inet_aton('127.0.0.1'))[0]):08X}:{port:04X}"
-    return any(f" {place} 00000000:0000 0A " in line for line in pathlib.Path("/proc/net/tcp").read_text().splitlines())
 
 
 def ask(server, operation, rest=b"", contents=b""):
@@ -153,7 +181,7 @@ def ask(server, operation, rest=b"", contents=b""):
     head = struct.pack(">BBHiB", 1, 1, operation, 1, 1) + attribute(CHARSET, b"attributes-charset", b"utf-8")
     head += attribute(LANGUAGE, b"attributes-natural-language", b"en")
     head += attribute(URI, b"printer-uri", b"ipp://localhost/printers/lab") + rest + b"\x03"
-    door = http.client.HTTPConnection("127.0.0.1", server.ipp, timeout=60)
+    door = http.client.HTTPConnection("127.0.0.1", server.ipp, timeout=600)
     door.request("POST", "/printers/lab", head + contents, {"Content-Type": "application/ipp"})
     return struct.unpack(">H", door.getresponse().read()[2:4])[0]
 
@@ -174,49 +202,87 @@ def wait_for(adapter, pattern, seconds=40.0):
 
 def kept(folder, job, to):
     """The document that the printer kept of a job."""
-    path = folder / "kept" / str(job)
+    path = folder / "kept" / (f"{job}-window.bin" if to == "file" else str(job))
     contents = path.read_bytes() if path.exists() else b""
-    if to == "pjl":
-        return contents.partition(b"SET DUPLEX=OFF\r\n")[2].partition(b"\x1b%-12345X@PJL EOJ")[0]
-    return contents
+    return document_of(contents) if to == "pjl" and contents else contents
 
 
-def printer_of(row, port, folder):
-    """The printer of a row, which is there at once or later."""
-    words = [sys.executable, str(TOP / "tools/clients" / TOOLS[row.to]), str(port), str(folder / "kept"), row.fault, "pjl" if row.to == "pjl" else "well"]
-    if row.late:
-        words = ["sh", "-c", f'sleep {row.late}; exec "$@"', "sh", *words]
-    return Process(words, stdout=subprocess.DEVNULL)
+@contextlib.contextmanager
+def printer_of(to, fault, folder, late=0.0):
+    """Where a printer that does this is, if it isn't a folder."""
+    if to == "file":
+        yield f"file:{folder / 'kept'}"
+        return
+    with Printer(to, folder / "kept", [fault], late=late) as printer:
+        yield printer.address
 
 
 def print_two(server, adapter, row, contents):
-    """Has two jobs printed: what the log says of both, the second behind the first."""
+    """Has two jobs printed, the second behind the first: what the log says of both."""
     ask(server, PRINT_JOB, contents=contents)
     if row.cancels:
+        wait_for_line(adapter, " job 1 ", 600)
         time.sleep(2)
         ask(server, CANCEL_JOB, attribute(INTEGER, b"job-id", 1))
-    wait_for(adapter, r"(done|fail) 1\b")
+    wait_for(adapter, r"(done|fail) 1\b", 600 if row.octets == LARGEST else 60)
     ask(server, PRINT_JOB, contents=contents[:20_000])
     return wait_for(adapter, r"(done|fail) 2\b")
 
 
+def is_proved():
+    """Whether it is the proved program that is tried: the other has checks that take memory."""
+    return "unproved" not in PROGRAM.name
+
+
 def play(row, folder):
     """What came of a row: whether it is as it is wanted, and a text."""
-    port = free_port()
-    to = address_of(row.to, port)
-    words = [*PATIENCE, "--pjl"] if row.to == "pjl" else PATIENCE
-    contents = bytes(n % 251 for n in range(20_000)) * (row.octets // 20_000)
-    with printer_of(row, port, folder), Running(log=open(folder / "server.log", "wb"), words=["--log"]) as server:
-        while not row.late and not listens(port):
-            time.sleep(0.05)
-        with Adapter("window", server.devices, to, folder / "adapter.log", words) as adapter:
+    patience = LONG_PATIENCE if row.cancels or row.octets == LARGEST else PATIENCE
+    words = [*patience, "--pjl"] if row.to == "pjl" else patience
+    contents = (attach_rows.DOCUMENT * (1 + row.octets // 20_000))[: row.octets]
+    with printer_of(row.to, row.fault, folder, row.late) as address, Running(log=open(folder / "server.log", "wb"), words=["--log"]) as server:
+        tap = Tap(server.devices)
+        with Adapter("window", tap.port, address, folder / "adapter.log", words) as adapter:
             notes = print_two(server, adapter, row, contents)
-            peak = adapter.peak_kib()
+            time.sleep(0.1)
+            peak, told = adapter.peak_kib(), tap.lines()
     wanted = [*row.says, "done 2"]
     good = len(notes) == len(wanted) and all(re.fullmatch(one, note) for one, note in zip(wanted, notes))
+    answers = [line for line in told if line.startswith(("DONE", "FAIL"))]
+    good = good and answers == ["DONE 1" if "done 1" in notes else "FAIL 1", "DONE 2"]
+    good = good and (peak < MOST_KIB or not is_proved())
     for job, document in ((1, contents), (2, contents[:20_000])):
         good = good and (f"done {job}" not in notes or kept(folder, job, row.to) == document)
-    return good, ", ".join(notes), peak
+    return good, f"{', '.join(notes)}; told {', '.join(told)}", peak
+
+
+def play_media(folder):
+    """What becomes of a job whose medium isn't loaded until later, while one is that the settings don't have."""
+    with Printer("ipp", folder / "kept", attributes={"media-ready": ["na_letter_8.5x11in", "custom_of-nobody_10x20in"]}) as printer:
+        with Running(log=open(folder / "server.log", "wb"), words=["--log"]) as server:
+            tap = Tap(server.devices)
+            with Adapter("window", tap.port, printer.address, folder / "adapter.log", ["--timeout", "60"]) as adapter:
+                wait_for_line(adapter, " linked")
+                time.sleep(2)
+                ask(server, PRINT_JOB, contents=attach_rows.DOCUMENT)
+                time.sleep(3)
+                waited = "job 1" not in adapter.log.read_text()
+                printer.has({"media-ready": [A4, "custom_of-nobody_10x20in"]})
+                notes, peak, told = wait_for(adapter, "done 1"), adapter.peak_kib(), tap.lines()
+    return waited and notes == ["done 1"], f"{'waits' if waited else 'is begun'}, {', '.join(notes)}; told {', '.join(told)}", peak
+
+
+def play_long_names(folder):
+    """What becomes of jobs whose clients say longer names than there may be: each gets an answer, and the last is printed."""
+    with Printer("lpd", folder / "kept") as printer, Running(log=open(folder / "server.log", "wb"), words=["--log"]) as server:
+        with Adapter("window", server.devices, printer.address, folder / "adapter.log") as adapter:
+            statuses = []
+            for name in (b"job-name", b"requesting-user-name", b"document-name"):
+                statuses += [ask(server, PRINT_JOB, attribute(NAME, name, b"n" * size), attach_rows.DOCUMENT) for size in (255, 256, 1023, 32_767)]
+            ask(server, PRINT_JOB, attribute(NAME, b"job-name", b"the last"), attach_rows.DOCUMENT)
+            taken = 1 + sum(status < 0x100 for status in statuses)
+            notes, peak = wait_for(adapter, f"done {taken}"), adapter.peak_kib()
+    good = notes == [f"done {job}" for job in range(1, 1 + taken)]
+    return good, f"{' '.join(f'{status:04x}' for status in statuses)}, {taken} taken, {notes[-1]}", peak
 
 
 class LineServer:
@@ -265,11 +331,6 @@ def play_lines(front, closes, says, folder):
     return good, ", ".join(notes), peak
 
 
-def address_of(to, port):
-    """The target of an adapter whose printer listens there."""
-    return f"{'socket' if to == 'pjl' else to}://127.0.0.1:{port}{PATHS[to]}"
-
-
 def wait_for_line(adapter, text, seconds=20.0):
     """Waits until the log has this text, or it took too long."""
     end = time.monotonic() + seconds
@@ -279,12 +340,10 @@ def wait_for_line(adapter, text, seconds=20.0):
 
 def play_end(to, fault, front, wanted, folder):
     """What an adapter does that is told to end, while its server has written this."""
-    port, server = free_port(), LineServer(front, False)
+    server = LineServer(front, False)
     words = ["--timeout", "60", *(["--pjl"] if to == "pjl" else [])]
-    with printer_of(Row(to, fault, []), port, folder):
-        while not listens(port):
-            time.sleep(0.05)
-        with EndingAdapter("window", server.port, address_of(to, port), folder / "adapter.log", words) as adapter:
+    with printer_of(to, fault, folder) as address:
+        with EndingAdapter("window", server.port, address, folder / "adapter.log", words) as adapter:
             wait_for_line(adapter, " job 1 " if front else " linked")
             time.sleep(1)
             begun = time.monotonic()
@@ -298,17 +357,33 @@ def play_end(to, fault, front, wanted, folder):
     return good, f"status {status} after {took:.1f} s, {', '.join(notes)}", 0
 
 
-def play_words(words):
-    """What a command line without sense comes to."""
-    ended = subprocess.run([str(PROGRAM), "attach", *words, "--turns", "1"], capture_output=True, text=True, timeout=60)
+def play_words(words, folder):
+    """What a command line without sense comes to, and that nothing was opened by then."""
+    with socket.create_server(("127.0.0.1", 0)) as listener:
+        there = [] if "--server" in words else ["--server", f"127.0.0.1:{listener.getsockname()[1]}"]
+        ended = subprocess.run([str(PROGRAM), "attach", *words, *there, "--turns", "20"], capture_output=True, text=True, timeout=60, cwd=folder)
+        listener.setblocking(False)
+        with contextlib.suppress(BlockingIOError):
+            listener.accept()
+            return False, "it called the server", 0
     said = ended.stderr.strip().splitlines() or ["nothing"]
+    return ended.returncode == 2 and said != ["nothing"] and not os.listdir(folder), f"status {ended.returncode}, {said[0][:100]}", 0
+
+
+def play_settings(key, folder):
+    """What is said of settings in which a name is longer than it may be."""
+    name = "window" if key == "device" else "lab"
+    (folder / "settings.toml").write_text(pathlib.Path(TOP / "examples/office.toml").read_text().replace(f'"{name}"', f'"{"n" * 33}"'))
+    ended = subprocess.run([str(PROGRAM), "settings", folder / "settings.toml"], capture_output=True, text=True, timeout=60)
+    said = (ended.stdout + ended.stderr).strip().splitlines() or ["nothing"]
     return ended.returncode == 2 and said != ["nothing"], f"status {ended.returncode}, {said[0]}", 0
 
 
 def rows():
     """The name of each row, and how it is played."""
     for row in ROWS:
-        name = f"{row.to} {row.fault}" + (", there late" if row.late else "") + (", a cancel" if row.cancels else "")
+        marks = {"there late": row.late, "a cancel": row.cancels, "16 MiB": row.octets == LARGEST}
+        name = ", ".join([f"{row.to} {row.fault}", *(mark for mark, is_so in marks.items() if is_so)])
         yield name, lambda folder, row=row: play(row, folder)
     for front, closes, says in LINES:
         name = f"server writes {front[:24]!r}" + (", closes" if closes else "")
@@ -317,21 +392,36 @@ def rows():
         what = "idle" if not front else "half a job" if front is HALF_A_JOB else "a job"
         yield f"SIGTERM, {what}, {to} {fault}", lambda folder, end=(to, fault, front, wanted): play_end(*end, folder)
     for words in WORDS:
-        yield "words " + " ".join(words), lambda _folder, words=words: play_words(words)
+        yield "words " + " ".join(words)[:60], lambda folder, words=words: play_words(words, folder)
+    for key in ("device", "printer"):
+        yield f"settings, a name of 33 bytes, {key}", lambda folder, key=key: play_settings(key, folder)
+    yield "ipp media that the settings lack", play_media
+    yield "lpd, clients with long names", play_long_names
+    yield from attach_rows.rows()
+    yield from ipp_rows.rows()
+
+
+def play_row(number, name, run, top):
+    """Plays a row in a folder of its own: whether it is as it is wanted. It prints a line of it."""
+    folder = top / str(number)
+    folder.mkdir()
+    try:
+        good, text, peak = run(folder)
+    except Exception as error:  # a row that breaks off isn't as it is wanted
+        good, text, peak = False, f"broke off: {error!r}", 0
+    print(f"{'ok  ' if good else 'NOT '} {name:40} {text[:300]}" + (f" ({peak} KiB)" if peak else ""), flush=True)
+    return good
 
 
 def main():
     top = pathlib.Path(tempfile.mkdtemp(prefix="printers."))
-    fails = 0
-    for number, (name, run) in enumerate(rows()):
-        if len(sys.argv) > 1 and not any(word in name for word in sys.argv[1:]):
-            continue
-        folder = top / str(number)
-        folder.mkdir()
-        good, text, peak = run(folder)
-        fails += not good
-        print(f"{'ok  ' if good else 'NOT '} {name:40} {text}" + (f" ({peak} KiB)" if peak else ""), flush=True)
-    print(f"what each wrote: {top}")
+    wanted = [(name, run) for name, run in rows() if len(sys.argv) == 1 or any(word in name for word in sys.argv[1:])]
+    # what waits for long is begun first
+    wanted.sort(key=lambda row: not row[0].startswith(("wait", "away")))
+    with concurrent.futures.ThreadPoolExecutor(ROWS_AT_A_TIME) as pool:
+        played = [pool.submit(play_row, number, name, run, top) for number, (name, run) in enumerate(wanted)]
+        fails = sum(not one.result() for one in played)
+    print(f"{len(wanted)} rows, {fails} not as they are wanted; what each wrote: {top}")
     sys.exit(fails > 0)
 
 
