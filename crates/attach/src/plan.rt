@@ -1,7 +1,7 @@
 //! What an adapter is to do.
 use base_types::is_name;
 use ipp_printer::IppAddress;
-use printers::{Format, Place};
+use printers::{MediaType, Place};
 use std::alloc::{AllocError, Global};
 use url::{ParseError, Url};
 
@@ -13,6 +13,13 @@ const LPD: u16 = 515;
 
 /// The port of IPP (RFC 8010, section 4).
 const IPP: u16 = 631;
+
+/// How many bytes an address has at most: its URI has 1,023, with a port that isn't said (RFC 8011, section
+/// 5.1.6).
+const ADDRESS_BYTES: usize = 1_000;
+
+/// How many bytes a media type has at most (RFC 8011, section 5.1.10).
+const MEDIA_TYPE_BYTES: usize = 255;
 
 /// What prints.
 #[derive(Drop)]
@@ -36,7 +43,7 @@ pub struct Plan {
     pub server: Place,
     pub target: Target,
     /// What every document is; where it isn't said, the first bytes tell.
-    pub format: Option<Format>,
+    pub format: Option<MediaType>,
     /// How long a folder takes for a page, in ms.
     pub ms_per_page: u32,
     /// How long a printer that has taken all may be silent before the job counts as printed, in ms.
@@ -85,6 +92,8 @@ pub enum WordFault {
     To,
     /// PJL is wanted, and the target doesn't speak AppSocket.
     Pjl,
+    /// The format is no media type.
+    Format,
     OutOfMemory,
 }
 
@@ -106,11 +115,12 @@ pub fn read_plan(alloc: Global, words: PlanWords<'_>) -> Result<Plan, WordFault>
     if words.pjl && !matches!(&target, Target::AppSocket(_)) {
         return Err(WordFault::Pjl);
     }
+    let format = read_format(alloc, words.format)?;
     Ok(Plan {
         name: String::from_str(alloc, words.name)?,
         server,
         target,
-        format: words.format.map(|name| Format::named(name)),
+        format,
         ms_per_page: words.ms_per_page,
         linger: u64::from(words.linger) * 1000,
         timeout: u64::from(words.timeout) * 1000,
@@ -120,6 +130,28 @@ pub fn read_plan(alloc: Global, words: PlanWords<'_>) -> Result<Plan, WordFault>
         measures: words.measures,
         until_closed: words.until_closed,
     })
+}
+
+/// What every document is, where it is said.
+fn read_format(alloc: Global, text: Option<&str>) -> Result<Option<MediaType>, WordFault> {
+    let Some(text) = text else {
+        return Ok(None);
+    };
+    if !is_media_type(text) {
+        return Err(WordFault::Format);
+    }
+    Ok(Some(MediaType {
+        name: String::from_str(alloc, text)?,
+    }))
+}
+
+/// Whether a text is a type and a subtype, with a slash between them and no space.
+fn is_media_type(text: &str) -> bool {
+    let Some((kind, subtype)) = text.split_once('/') else {
+        return false;
+    };
+    let prints = text.as_bytes().iter().all(|byte| byte.is_ascii_graphic());
+    !kind.is_empty() && !subtype.is_empty() && text.len() <= MEDIA_TYPE_BYTES && prints
 }
 
 /// The target that a text names.
@@ -143,7 +175,7 @@ fn read_url(alloc: Global, url: &Url) -> Result<Target, WordFault> {
     let Some(host) = url.host_str() else {
         return Err(WordFault::To);
     };
-    if has_more(url) || url.port() == Some(0) {
+    if has_more(url) || url.port() == Some(0) || url.as_str().len() > ADDRESS_BYTES {
         return Err(WordFault::To);
     }
     let path = url.path().strip_prefix('/').unwrap_or(url.path());

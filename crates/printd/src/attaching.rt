@@ -49,6 +49,12 @@ fn refuse(rt: &HostRuntime, fault: WordFault, words: PlanWords<'_>) -> ExitStatu
             words.to,
             "file:DIR, socket://HOST[:PORT], lpd://HOST[:PORT]/QUEUE or ipp://HOST[:PORT]/PATH",
         ),
+        WordFault::Format => say(
+            rt,
+            "--format",
+            words.format.unwrap_or(""),
+            "a media type, as application/pdf",
+        ),
         WordFault::Pjl => say(rt, "--to", words.to, "with --pjl, socket://HOST[:PORT]"),
         WordFault::OutOfMemory => return cannot(rt, "attach a printer", out_of_memory()),
     };

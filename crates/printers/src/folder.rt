@@ -1,5 +1,5 @@
 //! A printer that is a folder of files.
-use crate::format::Format;
+use crate::format::{Format, MediaType};
 use crate::heard::{Breach, Heard};
 use crate::printer::Printer;
 use attachment::Attachment;
@@ -27,7 +27,7 @@ pub struct Folder {
     alloc: Global,
     path: String,
     name: String,
-    format: Option<Format>,
+    format: Option<MediaType>,
     ms_per_page: u32,
     /// The copies of the job.
     copies: u32,
@@ -41,7 +41,7 @@ impl Folder {
         alloc: Global,
         path: String,
         name: String,
-        format: Option<Format>,
+        format: Option<MediaType>,
         ms_per_page: u32,
     ) -> Folder {
         Folder {
@@ -83,7 +83,10 @@ impl Folder {
 
     /// The files of a job, and when it is printed.
     fn sheet_of(&self, job: u32, octets: &[u8], now: u64) -> Result<Sheet, AllocError> {
-        let ending = self.format.unwrap_or(Format::sniffed(octets)).ending();
+        let ending = match &self.format {
+            Some(format) => format.ending(),
+            None => Format::sniffed(octets).ending(),
+        };
         let path = self.path.as_str();
         let name = self.name.as_str();
         Ok(Sheet {

@@ -1,4 +1,4 @@
-//! What a document is, by its first bytes.
+//! What a document is, by its first bytes, or as it was said.
 
 /// What a document is.
 #[derive(Clone, Copy)]
@@ -17,12 +17,15 @@ pub enum Format {
 }
 
 /// The first bytes of documents, and what they are.
-const FRONTS: [(&[u8], Format); 9] = [
+const FRONTS: [(&[u8], Format); 12] = [
     (b"%PDF-", Format::Pdf),
     (b"%!", Format::PostScript),
     (b"\x1b%-12345X", Format::Pcl),
     (b"\x1bE", Format::Pcl),
     (b"\x1b&", Format::Pcl),
+    (b"\x1b*", Format::Pcl),
+    (b"\x1b(", Format::Pcl),
+    (b"\x1b)", Format::Pcl),
     (b"RaS2", Format::PwgRaster),
     (b"UNIRAST", Format::AppleRaster),
     (b"\xff\xd8\xff", Format::Jpeg),
@@ -62,7 +65,7 @@ impl Format {
     }
 
     /// The format of this media type, in any case; any other is octets.
-    pub fn named(media_type: &str) -> Format {
+    fn named(media_type: &str) -> Format {
         for format in ALL {
             if format.media_type().eq_ignore_ascii_case(media_type) {
                 return format;
@@ -99,6 +102,19 @@ impl Format {
             Format::Text => "txt",
             Format::Octets => "bin",
         }
+    }
+}
+
+/// What every document is, as it was said.
+#[derive(Drop)]
+pub struct MediaType {
+    pub name: String,
+}
+
+impl MediaType {
+    /// The ending of files of it.
+    pub(crate) fn ending(&self) -> &'static str {
+        Format::named(self.name.as_str()).ending()
     }
 }
 

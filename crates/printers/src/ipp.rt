@@ -1,5 +1,5 @@
 //! IPP: the connections of a printer's tasks.
-use crate::format::Format;
+use crate::format::{Format, MediaType};
 use crate::heard::{Breach, Heard};
 use crate::protocol::Protocol;
 use crate::session::{CALLS, Moved, PIECE, Session};
@@ -13,7 +13,7 @@ use std::alloc::AllocError;
 #[derive(Drop)]
 pub struct Ipp {
     printer: IppPrinter,
-    format: Option<Format>,
+    format: Option<MediaType>,
     /// When the printer last answered, or had no job.
     answered: u64,
     /// A task has ended in the last turn, so that another may begin.
@@ -22,7 +22,7 @@ pub struct Ipp {
 
 impl Ipp {
     /// The printer is given documents of this format, where it is said.
-    pub fn new(printer: IppPrinter, format: Option<Format>) -> Ipp {
+    pub fn new(printer: IppPrinter, format: Option<MediaType>) -> Ipp {
         Ipp {
             printer,
             format,
@@ -136,8 +136,11 @@ impl Protocol for Ipp {
         if matches!(heard, Heard::Back) {
             self.printer.forget_stop();
         }
-        let format = self.format.unwrap_or(Format::sniffed(attachment.due()));
-        self.printer.open(format.media_type())?;
+        let format = match &self.format {
+            Some(format) => format.name.as_str(),
+            None => Format::sniffed(attachment.due()).media_type(),
+        };
+        self.printer.open(format)?;
         Ok(heard)
     }
 

@@ -28,7 +28,7 @@ mod session;
 pub use app_socket::AppSocket;
 pub use caller::{Caller, Reached};
 pub use folder::Folder;
-pub use format::Format;
+pub use format::{Format, MediaType};
 pub use heard::{Breach, Heard};
 pub use ipp::Ipp;
 pub use link::{Link, has_to_wait};
