@@ -107,10 +107,12 @@ impl IppPrinter {
         self.left_out = None;
     }
 
-    /// Forgets the job. One that the printer has is to be canceled there.
+    /// Forgets the job. One that the printer has is to be canceled there, and the printer is asked for its
+    /// state behind that.
     pub fn drop_job(&mut self) {
         if let Stage::Printing(job) = self.stage {
             self.cancels = Some(job);
+            self.ask_at = 0;
         }
         self.stage = Stage::None;
         self.end_task();
