@@ -112,15 +112,15 @@ impl Lpd {
         Vec::from_slice(self.alloc, text.as_bytes())
     }
 
-    /// The control file: whose job it is, and a line for each copy of the data file, which is printed as
-    /// it is.
+    /// The control file: whose job it is, in 31 octets at most (RFC 1179, section 7.8), and a line for each
+    /// copy of the data file, which is printed as it is.
     fn control(&self) -> Result<String, AllocError> {
         let name = self.name.as_str();
         let job = self.job;
         let number = job % 1000;
         let lines = self.copy_lines()?;
         format!(in self.alloc;
-            "H{HOST}\nP{name}\nJ{name}-{job}\n{lines}UdfA{number:03}{HOST}\nN{name}-{job}\n"
+            "H{HOST}\nP{HOST}\nJ{name}-{job}\n{lines}UdfA{number:03}{HOST}\nN{name}-{job}\n"
         )
     }
 
