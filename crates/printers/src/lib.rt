@@ -23,6 +23,7 @@ mod pjl;
 mod place;
 mod printer;
 mod protocol;
+mod send_buffer;
 mod session;
 
 pub use app_socket::AppSocket;

@@ -1,6 +1,7 @@
 //! A socket to a peer.
 ghost use Rattle.std.specs.Io.{ReadsAtMost, WritesAtMost};
 
+use crate::send_buffer::keep_small;
 use mio::event::Event;
 use mio::net::TcpStream;
 use mio::{Interest, Poll, Token};
@@ -31,6 +32,7 @@ impl Link {
         token: Token,
     ) -> io::Result<Link> {
         let mut stream = TcpStream::connect(net, address)?;
+        let _small = keep_small(&stream);
         poll.registry().register(&mut stream, token, Interest::READABLE | Interest::WRITABLE)?;
         Ok(Link {
             stream,
