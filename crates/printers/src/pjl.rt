@@ -56,17 +56,33 @@ impl Pjl {
         }
     }
 
-    /// Hears the next that the printer says of a job, a page or itself.
+    /// Hears the next that the printer says of a job, a page or itself. Where that is nothing, there is
+    /// nothing more for now, or bytes were moved.
     fn hear(&mut self, session: &mut Session, now: u64) -> Result<Heard, AllocError> {
-        if self.input.is_empty() {
-            let mut buffer = [0u8; PIECE];
-            match session.read(&mut buffer, now) {
-                Moved::Bytes(count) => self.input.extend_from_slice(&buffer[..count])?,
-                Moved::Nothing => return Ok(Heard::Nothing),
-                Moved::End | Moved::Broken => return Ok(Heard::Failed(Breach::Broken)),
+        for _ in 0..CALLS {
+            if self.input.is_empty() {
+                match self.read_piece(session, now)? {
+                    Moved::Bytes(_) => {}
+                    Moved::Nothing => return Ok(Heard::Nothing),
+                    Moved::End | Moved::Broken => return Ok(Heard::Failed(Breach::Broken)),
+                }
+            }
+            match self.read_input()? {
+                Heard::Nothing => {}
+                heard => return Ok(heard),
             }
         }
-        self.read_input()
+        Ok(Heard::Nothing)
+    }
+
+    /// Takes a piece of what the printer says.
+    fn read_piece(&mut self, session: &mut Session, now: u64) -> Result<Moved, AllocError> {
+        let mut buffer = [0u8; PIECE];
+        let moved = session.read(&mut buffer, now);
+        if let Moved::Bytes(count) = moved {
+            self.input.extend_from_slice(&buffer[..count])?;
+        }
+        Ok(moved)
     }
 
     /// Reads what the printer said, up to the first that is worth telling.
