@@ -115,7 +115,8 @@ ROWS = [
     Row("pjl", "boasts", ["done 1"]),
     *(Row("pjl", f"code-{code}", ["printer stopped", "printer runs", "done 1"]) for code in (40021, 41213, 42000, 43005, 50000)),
     *(Row("pjl", f"code-{code}", ["done 1"]) for code in (10003, 30016, 35075, 39999)),
-    *(Row(to, "well", ["done 1"], LARGEST) for to in ("file", "socket", "pjl", "lpd", "ipp")),
+    *(Row(to, "well", ["done 1"], LARGEST) for to in ("file", "socket", "lpd", "ipp")),
+    Row("pjl", "pjl", ["done 1"], LARGEST),
     *(Row(to, "stall", ["fail 1 canceled"], LARGEST, cancels=True) for to in ("socket", "pjl", "lpd", "ipp")),
 ]
 
