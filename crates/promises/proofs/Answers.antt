@@ -29,7 +29,7 @@ use Rattle.connections.specs.declared.ask.Client.TheVariants as client
 use Rattle.server.specs.Polls.{Happening, Found}
 use Rattle.server.specs.Ledger.{Ledger}
 use Rattle.server.specs.Rel.{Tells, Chooses, Then, If}
-use Rattle.server.specs.Enqueuing.{Breaks, Enqueues, EnqueuesReply, EnqueuesStatus}
+use Rattle.server.specs.Enqueuing.{Breaks, Enqueues, EnqueuesResponse, EnqueuesStatus}
 use Rattle.server.specs.Answering.{Drops, LosesReply, RepliesWith, Declines, Shows, IsTold, IsShown, Answers, IsAnswered}
 use Rattle.server.specs.Turn as Between
 use Rattle.promises.specs.OneLedger.{StepsOnce}
@@ -63,12 +63,12 @@ loses_reply key id request query = alike_then (fixed_tells (Refused At.Reply (So
 loses_first : (key id request : ℕ) (query : Bool) → Begins is_choice false (LosesReply key id request query)
 loses_first key id request query = begins_then is_choice false (Tells (Refused At.Reply (Some id))) (If query (EnqueuesStatus key TemporaryError request) (Breaks key)) (begins_tells is_choice false (Refused At.Reply (Some id)) refl)
 
-found_reply : (key : ℕ) (bytes : List ℕ) → Begins is_choice true (Then (Chooses Found) (EnqueuesReply key bytes))
-found_reply key bytes = begins_then is_choice true (Chooses Found) (EnqueuesReply key bytes) (begins_chooses is_choice true Found refl)
+found_reply : (key : ℕ) (bytes : List ℕ) → Begins is_choice true (Then (Chooses Found) (EnqueuesResponse key bytes))
+found_reply key bytes = begins_then is_choice true (Chooses Found) (EnqueuesResponse key bytes) (begins_chooses is_choice true Found refl)
 
 replies_one : (key id request : ℕ) (query : Bool) (one other : IppResponse) → SameIppAnswer one other → (l : Ledger) (hs rest : List Happening) (a : Ledger) (ks more : List Happening) (b : Ledger) → hs ++ rest ≡ ks ++ more → RepliesWith key id request query (Says.Ipp one) l hs a → RepliesWith key id request query (Says.Ipp other) l ks b → (hs ≡ ks) × (a ≡ b)
 replies_one key id request query one other same l hs rest a ks more b e (inl (bytes, is, p)) (inl (said, its, q)) =
-    (alike_then (fixed_chooses Found) (fixed_reply key bytes)).one l hs rest a ks more b e p (subst (λ (x : List ℕ). Then (Chooses Found) (EnqueuesReply key x) l ks b) (sym (same_bytes one other request bytes said same is its)) q)
+    (alike_then (fixed_chooses Found) (fixed_reply key bytes)).one l hs rest a ks more b e p (subst (λ (x : List ℕ). Then (Chooses Found) (EnqueuesResponse key x) l ks b) (sym (same_bytes one other request bytes said same is its)) q)
 replies_one key id request query one other same l hs rest a ks more b e (inl (bytes, is, p)) (inr q) = apart is_choice hs rest ks more e ((found_reply key bytes).begins l hs a p) ((loses_first key id request query).begins l ks b q)
 replies_one key id request query one other same l hs rest a ks more b e (inr p) (inl (said, its, q)) = apart is_choice ks more hs rest (sym e) ((found_reply key said).begins l ks b q) ((loses_first key id request query).begins l hs a p)
 replies_one key id request query one other same l hs rest a ks more b e (inr p) (inr q) = (loses_reply key id request query).one l hs rest a ks more b e p q

@@ -45,7 +45,7 @@ use Rattle.server.specs.Polls.{Happening, Polled, Told, Choice, Found, On, Reste
 use Rattle.server.specs.Ledger.{Ledger, Fate, Drained, Broken, at_key, with_entry, job_bytes, opening_ledger}
 use Rattle.print_room.specs.State.{State}
 use Rattle.server.specs.Rel.{Rel, Nothing, Polls, Tells, Chooses, Then, If, Or, Times, Many, Each, EachOf}
-use Rattle.server.specs.Enqueuing.{Sets, BreaksAt, Breaks, Drops, EnqueuesOpen, EnqueuesAt, EnqueuesWhere, Enqueues, EnqueuesReplyAt, EnqueuesReply, EnqueuesStatus, EnqueuesOn}
+use Rattle.server.specs.Enqueuing.{Sets, BreaksAt, Breaks, Drops, EnqueuesOpen, EnqueuesAt, EnqueuesWhere, Enqueues, EnqueuesReplyAt, EnqueuesResponse, EnqueuesStatus, EnqueuesOn}
 use Rattle.server.specs.Happening.{now_at, found_by, Decides, Sends, Starts, StartsAll, SendsAll, Orders, Happens, Unanswered}
 use Rattle.server.specs.Closing.{Leaves, IsGone, ClosesAs, ClosesFirst, Settles}
 use Rattle.server.specs.Answering as Ans
@@ -311,7 +311,7 @@ reply_at : (bytes : Bool → List ℕ) (key : ℕ) (o : Option Entry) → Carrie
 reply_at bytes key None = carries_nothing
 reply_at bytes key (Some e) = carries_enqueues key (bytes (closes_of e.talk))
 
-carries_reply : (key : ℕ) (bytes : List ℕ) → Carries (EnqueuesReply key bytes)
+carries_reply : (key : ℕ) (bytes : List ℕ) → Carries (EnqueuesResponse key bytes)
 carries_reply key bytes c l hs l' a new it = reply_at (λ closes. http_reply closes bytes) key (l.entries key) c l hs l' a new it
 
 carries_status : (key : ℕ) (status : Status) (request : ℕ) → Carries (EnqueuesStatus key status request)
@@ -367,7 +367,7 @@ carries_lost key id request query =
     (carries_if query (EnqueuesStatus key TemporaryError request) (Breaks key) (carries_status key TemporaryError request) (carries_breaks key))
 
 carries_replies_with : (key id request : ℕ) (query : Bool) (answer : Response) → Carries (Ans.RepliesWith key id request query answer)
-carries_replies_with key id request query (answered.Ipp answer) c l hs l' a new (inl (bytes, is, it)) = carries_then (Chooses Found) (EnqueuesReply key bytes) (carries_chooses Found) (carries_reply key bytes) c l hs l' a new it
+carries_replies_with key id request query (answered.Ipp answer) c l hs l' a new (inl (bytes, is, it)) = carries_then (Chooses Found) (EnqueuesResponse key bytes) (carries_chooses Found) (carries_reply key bytes) c l hs l' a new it
 carries_replies_with key id request query (answered.Ipp answer) c l hs l' a new (inr it) = carries_lost key id request query c l hs l' a new it
 carries_replies_with key id request query (answered.Lpd answer) c l hs l' a new it = carries_nothing c l hs l' a new it
 carries_replies_with key id request query answered.Nothing c l hs l' a new it = carries_nothing c l hs l' a new it

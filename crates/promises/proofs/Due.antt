@@ -13,7 +13,7 @@ use Rattle.connections.specs.Steps.{http_status}
 use Rattle.server.specs.Polls.{Happening, Told, Found, On}
 use Rattle.server.specs.Ledger.{Ledger, with_entry, job_bytes}
 use Rattle.server.specs.Rel.{Chooses, Then}
-use Rattle.server.specs.Enqueuing.{Sets, BreaksAt, Breaks, Drops, EnqueuesOpen, EnqueuesAt, EnqueuesWhere, Enqueues, EnqueuesReplyAt, EnqueuesReply, EnqueuesStatus, EnqueuesOn}
+use Rattle.server.specs.Enqueuing.{Sets, BreaksAt, Breaks, Drops, EnqueuesOpen, EnqueuesAt, EnqueuesWhere, Enqueues, EnqueuesReplyAt, EnqueuesResponse, EnqueuesStatus, EnqueuesOn}
 use Rattle.server.specs.Happening.{Sends, Starts, StartsAll}
 use Rattle.promises.proofs.Alike.{Fixed, fixed_just, fixed_nothing, fixed_chooses, alike_then, Begins, begins_just, begins_then, begins_chooses, is_choice, choice_one, fixed_or, alike_if, fixed_each_of}
 
@@ -54,7 +54,7 @@ reply_at : (bytes : Bool → List ℕ) (key : ℕ) (o : Option Entry) → Fixed 
 reply_at bytes key None = fixed_nothing
 reply_at bytes key (Some e) = fixed_enqueues key (bytes (closes_of e.talk))
 
-pub fixed_reply : (key : ℕ) (bytes : List ℕ) → Fixed (EnqueuesReply key bytes)
+pub fixed_reply : (key : ℕ) (bytes : List ℕ) → Fixed (EnqueuesResponse key bytes)
 fixed_reply key bytes = record { one = λ l hs rest a ks more b e p q. (reply_at (λ closes. http_reply closes bytes) key (l.entries key)).one l hs rest a ks more b e p q }
 
 pub fixed_status : (key : ℕ) (status : Status) (request : ℕ) → Fixed (EnqueuesStatus key status request)

@@ -21,7 +21,7 @@ use Rattle.connections.specs.Entry.{Entry, closes_of, broken, owing, needs_memor
 use Rattle.server.specs.Polls.{Happening, Told, Choice, Found}
 use Rattle.server.specs.Ledger.{Ledger, at_key, with_entry}
 use Rattle.server.specs.Rel.{Rel, Nothing, Tells, Chooses, Then, If}
-use Rattle.server.specs.Enqueuing.{BreaksAt, Breaks, EnqueuesOpen, EnqueuesAt, Enqueues, EnqueuesReplyAt, EnqueuesReply, EnqueuesStatus}
+use Rattle.server.specs.Enqueuing.{BreaksAt, Breaks, EnqueuesOpen, EnqueuesAt, Enqueues, EnqueuesReplyAt, EnqueuesResponse, EnqueuesStatus}
 use Rattle.server.specs.Answering as Ans
 use Rattle.server.specs.Law.{core_notes}
 use Rattle.promises.proofs.Typing.{IsTyped, IsTypedReply}
@@ -196,7 +196,7 @@ gives_reply_at bytes key None l hs l' there it = gives_breaks_at key (By_closing
 gives_reply_at bytes key (Some d) l hs l' there it =
     gave_as key (Just_these (bytes (closes_of d.talk))) (By_closing bytes) l hs l' (λ e given is these. these ∙ ap (λ (x : Entry). bytes (closes_of x.talk)) (one_entry d e (sym there ∙ is))) (gives_enqueues key (bytes (closes_of d.talk)) l hs l' it)
 
-pub gives_reply : (key : ℕ) (bytes : List ℕ) → Gives key (By_closing (λ closes. http_reply closes bytes)) (EnqueuesReply key bytes)
+pub gives_reply : (key : ℕ) (bytes : List ℕ) → Gives key (By_closing (λ closes. http_reply closes bytes)) (EnqueuesResponse key bytes)
 gives_reply key bytes l hs l' it = gives_reply_at (λ closes. http_reply closes bytes) key (l.entries key) l hs l' refl it
 
 pub gives_status : (key : ℕ) (status : Status) (request : ℕ) → Gives key (By_closing (λ closes. http_status closes status request)) (EnqueuesStatus key status request)
@@ -275,7 +275,7 @@ gives_lost key id request query =
 pub gives_replies_with : (key id request : ℕ) (query : Bool) (answer : Response) → Gives key (λ closes bytes. LooseIpp closes request answer bytes) (Ans.RepliesWith key id request query answer)
 gives_replies_with key id request query (answered.Ipp answer) l hs l' (inl (spelt, is, it)) =
     gave_as key (By_closing (λ closes. http_reply closes spelt)) (λ closes bytes. LooseIpp closes request (answered.Ipp answer) bytes) l hs l' (λ d bytes there these. inl (spelt, is, these))
-    (gave_after key (By_closing (λ closes. http_reply closes spelt)) (Chooses Found) (EnqueuesReply key spelt) still_found (gives_reply key spelt) l hs l' it)
+    (gave_after key (By_closing (λ closes. http_reply closes spelt)) (Chooses Found) (EnqueuesResponse key spelt) still_found (gives_reply key spelt) l hs l' it)
 gives_replies_with key id request query (answered.Ipp answer) l hs l' (inr it) =
     gave_as key (No_memory request) (λ closes bytes. LooseIpp closes request (answered.Ipp answer) bytes) l hs l' (λ d bytes there these. inr these) (gives_lost key id request query l hs l' it)
 gives_replies_with key id request query (answered.Lpd answer) l hs l' it = gives_nothing key (λ closes bytes. LooseIpp closes request (answered.Lpd answer) bytes) (λ closes. refl) l hs l' it

@@ -34,7 +34,7 @@ use Rattle.connections.specs.Entry.{Entry, device_of, closes_of, broken, owing, 
 use Rattle.server.specs.Polls.{Happening, Choice, Found, Rested}
 use Rattle.server.specs.Ledger.{Ledger, Drained, at_key, with_entry, job_bytes}
 use Rattle.server.specs.Rel.{Rel, Nothing, Polls, Tells, Chooses, Then, If, Or, Times, Many, EachOf}
-use Rattle.server.specs.Enqueuing.{Sets, BreaksAt, Breaks, Drops, EnqueuesOpen, EnqueuesAt, Enqueues, EnqueuesReplyAt, EnqueuesReply, EnqueuesStatus, IsDevice, EnqueuesOn}
+use Rattle.server.specs.Enqueuing.{Sets, BreaksAt, Breaks, Drops, EnqueuesOpen, EnqueuesAt, Enqueues, EnqueuesReplyAt, EnqueuesResponse, EnqueuesStatus, IsDevice, EnqueuesOn}
 use Rattle.server.specs.Happening.{Decides, Sends, Starts, StartsAll, SendsAll, Orders, Happens, Unanswered}
 use Rattle.server.specs.Closing.{Leaves, IsGone, ClosesAs, IsBroken, ClosesFirst, NoneBroken, Settles}
 use Rattle.server.specs.Answering as Ans
@@ -216,7 +216,7 @@ module _ (other key : ℕ) (apart : other ≢ key) where
   reply_at bytes None = left_nothing other
   reply_at bytes (Some e) = left_enqueues (bytes (closes_of e.talk))
 
-  left_reply : (bytes : List ℕ) → Leaves_it other (EnqueuesReply key bytes)
+  left_reply : (bytes : List ℕ) → Leaves_it other (EnqueuesResponse key bytes)
   left_reply bytes l hs l' it = reply_at (λ closes. http_reply closes bytes) (l.entries key) l hs l' it
 
   left_status : (status : Status) (request : ℕ) → Leaves_it other (EnqueuesStatus key status request)
@@ -233,7 +233,7 @@ module _ (other key : ℕ) (apart : other ≢ key) where
       (left_if other query (EnqueuesStatus key TemporaryError request) (Breaks key) (left_status TemporaryError request) left_breaks)
 
   left_replies_with : (id request : ℕ) (query : Bool) (answer : Response) → Leaves_it other (Ans.RepliesWith key id request query answer)
-  left_replies_with id request query (answered.Ipp answer) l hs l' (inl (bytes, is, it)) = left_joined other (Chooses Found) (EnqueuesReply key bytes) (left_chooses other Found) (left_reply bytes) l hs l' it
+  left_replies_with id request query (answered.Ipp answer) l hs l' (inl (bytes, is, it)) = left_joined other (Chooses Found) (EnqueuesResponse key bytes) (left_chooses other Found) (left_reply bytes) l hs l' it
   left_replies_with id request query (answered.Ipp answer) l hs l' (inr it) = left_lost id request query l hs l' it
   left_replies_with id request query (answered.Lpd answer) l hs l' it = left_nothing other l hs l' it
   left_replies_with id request query answered.Nothing l hs l' it = left_nothing other l hs l' it

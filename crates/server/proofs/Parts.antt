@@ -47,7 +47,7 @@ use Rattle.server.specs.Polls.{Happening, Polled, Told, Choice, Found, On, Opene
 use Rattle.server.specs.Polls as As
 use Rattle.server.specs.Ledger.{Ledger, Fate, Drained, Broken, with_entry, with_new}
 use Rattle.server.specs.Rel.{Rel, Nothing, Polls, Tells, Chooses, Then, If, Or, Times, Many, Each}
-use Rattle.server.specs.Enqueuing.{Sets, Breaks, Enqueues, EnqueuesReplyAt, EnqueuesReply, EnqueuesStatus}
+use Rattle.server.specs.Enqueuing.{Sets, Breaks, Enqueues, EnqueuesReplyAt, EnqueuesResponse, EnqueuesStatus}
 use Rattle.server.specs.Happening.{Happens, Unanswered}
 use Rattle.server.specs.Closing as Closing
 use Rattle.server.specs.Closing.{Leaves, ClosesAs, ClosesFirst, Settles}
@@ -130,7 +130,7 @@ calm_reply_at : (bytes : Bool → List ℕ) (key : ℕ) (o : Option Entry) → C
 calm_reply_at bytes key None = calm_nothing
 calm_reply_at bytes key (Some e) = calm_enqueues key (bytes (closes_of e.talk))
 
-calm_reply : (key : ℕ) (bytes : List ℕ) → Calmly (EnqueuesReply key bytes)
+calm_reply : (key : ℕ) (bytes : List ℕ) → Calmly (EnqueuesResponse key bytes)
 calm_reply key bytes l hs l' it = calm_reply_at (λ closes. http_reply closes bytes) key (l.entries key) l hs l' it
 
 calm_status : (key : ℕ) (status : Status) (request : ℕ) → Calmly (EnqueuesStatus key status request)

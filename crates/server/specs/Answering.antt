@@ -20,7 +20,7 @@ use Rattle.connections.specs.declared.ask.Client.{Client}
 use Rattle.connections.specs.declared.ask.Client.TheVariants as client
 use Rattle.server.specs.Polls.{Found}
 use Rattle.server.specs.Rel.{Rel, Nothing, Tells, Chooses, Then, If, Or}
-use Rattle.server.specs.Enqueuing.{Breaks, Enqueues, EnqueuesReply, EnqueuesStatus}
+use Rattle.server.specs.Enqueuing.{Breaks, Enqueues, EnqueuesResponse, EnqueuesStatus}
 use Rattle.server.specs.Happening.{Happens}
 
 -- ---- an IPP client
@@ -42,7 +42,7 @@ ipp_answer Says.Nothing = None
 -- the answer's bytes become due
 abbrev pub RepliesWith : ℕ → ℕ → ℕ → Bool → Response → Rel
 RepliesWith key id request query (Says.Ipp answer) l hs l' =
-    ((bytes : List ℕ) × IsReply answer request bytes × Then (Chooses Found) (EnqueuesReply key bytes) l hs l') ⊎ LosesReply key id request query l hs l'
+    ((bytes : List ℕ) × IsReply answer request bytes × Then (Chooses Found) (EnqueuesResponse key bytes) l hs l') ⊎ LosesReply key id request query l hs l'
 RepliesWith key id request query (Says.Lpd answer) l hs l' = Nothing l hs l'
 RepliesWith key id request query Says.Nothing l hs l' = Nothing l hs l'
 

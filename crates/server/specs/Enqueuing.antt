@@ -46,8 +46,8 @@ abbrev pub EnqueuesReplyAt : (Bool → List ℕ) → ℕ → Option Entry → Re
 EnqueuesReplyAt bytes key None = Nothing
 EnqueuesReplyAt bytes key (Some e) = Enqueues key (bytes (closes_of e.talk))
 
-abbrev pub EnqueuesReply : ℕ → List ℕ → Rel
-EnqueuesReply key bytes l hs l' = EnqueuesReplyAt (λ closes. http_reply closes bytes) key (l.entries key) l hs l'
+abbrev pub EnqueuesResponse : ℕ → List ℕ → Rel
+EnqueuesResponse key bytes l hs l' = EnqueuesReplyAt (λ closes. http_reply closes bytes) key (l.entries key) l hs l'
 
 -- the reply of a status alone does
 abbrev pub EnqueuesStatus : ℕ → Status → ℕ → Rel

@@ -2,7 +2,7 @@
 ghost use Rattle.std.specs.Prelude.{◌≡◌};
 ghost use Rattle.std.specs.Option.{is_some};
 ghost use Rattle.server.specs.Polls.{alone};
-ghost use Rattle.server.specs.Enqueuing.{Enqueues, EnqueuesReply, EnqueuesStatus};
+ghost use Rattle.server.specs.Enqueuing.{Enqueues, EnqueuesResponse, EnqueuesStatus};
 ghost use Rattle.server.specs.Refinement.{RefinesQuietly, ToldOf};
 
 use crate::engine::Engine;
@@ -25,7 +25,7 @@ impl<P: Planner + Drop> Engine<P> {
 
     /// A reply of IPP becomes due on the connection under a key.
     pub(crate) fn enqueue_response<N: Listener>(&mut self, key: usize, bytes: &[u8], notes: &mut N)
-        ensures { RefinesQuietly (alone N.told) (EnqueuesReply key bytes.now) notes.old self.old notes.new self.new }
+        ensures { RefinesQuietly (alone N.told) (EnqueuesResponse key bytes.now) notes.old self.old notes.new self.new }
     {
         let broke = enqueue_response(&mut self.connections, key, bytes);
         tell(broke, notes);
