@@ -4,8 +4,12 @@ ghost use Rattle.std.specs.Prelude.{◌≡◌, ◌+◌, ◌≤◌, ◌++◌, [],
 use std::alloc::{AllocError, Global};
 use std::marker::Model;
 
-/// How many octets a page has room for.
-pub(crate) const PAGE_BYTES: usize = 4096;
+/// How many octets a page has room for. The wire takes four pages at once, so that a large document goes out in
+/// few calls of the system.
+pub(crate) const PAGE_BYTES: usize = 16_384;
+
+/// For how many octets a page takes memory first: a short document takes no more.
+const FIRST_BYTES: usize = 4096;
 
 /// Octets that lie together. In clauses it is their list.
 #[derive(Debug, Drop)]
@@ -38,8 +42,8 @@ impl Page {
         &self.bytes
     }
 
-    /// Adds octets that fit the page. The first take the memory of the whole page. Where there is
-    /// none, nothing is added.
+    /// Adds octets that fit the page. The first take memory for some, the next for the whole page. Where
+    /// there is none, nothing is added.
     pub fn append(&mut self, piece: &[u8]) -> Result<(), AllocError>
         requires { length self.old + length piece.now ≤ PAGE_BYTES }
         ensures ok { OnOk result (self.new ≡ self.old ++ piece.now) }
@@ -48,7 +52,13 @@ impl Page {
         if piece.is_empty() {
             return Ok(());
         }
-        self.bytes.reserve_exact(PAGE_BYTES - self.bytes.len())?;
+        let behind = self.bytes.len() + piece.len();
+        let room = if behind <= FIRST_BYTES {
+            FIRST_BYTES
+        } else {
+            PAGE_BYTES
+        };
+        self.bytes.reserve_exact(room - self.bytes.len())?;
         self.bytes.extend_from_slice(piece)
     }
 }
