@@ -2,7 +2,7 @@
 
     scipy_plans.py JOBS DEVICES SEED COUNT
 
-The classes are those of `plan_bench lazy` with the same words (crates/plan_bench/src/made_class.rt): a job k places
+The classes are those of `plan_bench paths` with the same words (crates/plan_bench/src/made_class.rt): a job k places
 from the end of a device costs the device's wait and k times its own time there. Each device shows as many places as
 there are jobs. The seconds are those of linear_sum_assignment alone, not of making the table of costs.
 """

@@ -1,4 +1,4 @@
--- The jobs in seats: each is below the number of jobs, and no two are the same.
+-- The jobs in columns: each is below the number of jobs, and no two are the same.
 use Rattle.std.proofs.Common.{◌≡◌, ◌≢◌, ℕ, ◌+◌, ◌<◌, false, eqb, List, length, get_or, arith}
 use Rattle.std.specs.List.{range_with_len, IsDistinct}
 use Rattle.std.specs.List.Sorted.{IsPermutation}

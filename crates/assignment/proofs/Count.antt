@@ -1,4 +1,4 @@
--- How many seats are unsettled.
+-- How many columns are unsettled.
 use Rattle.std.proofs.Common.{◌≡◌, ◌≢◌, ℕ, ◌+◌, ◌<◌, ◌≤◌, List, [], ◌∷◌, length, get_or, set, sum_by, arith}
 use Rattle.std.proofs.lemmas.Bool.Decides.{nat_tests}
 use Rattle.std.proofs.lemmas.List.Sums.{sum_by-cons, sum_by-set}
@@ -22,7 +22,7 @@ pub open_count-le : (xs : List ℕ) → open_count xs ≤ length xs
 unfolding open_count
 open_count-le xs = open_sum-le xs
 
--- a seat that is settled is one unsettled seat less
+-- a column that is settled is one unsettled column less
 pub open_count-set : (ranks : List ℕ) (c top : ℕ) → c < length ranks → get_or ranks c 0 ≡ UNSETTLED → top ≢ UNSETTLED → open_count (set ranks c top) + 1 ≡ open_count ranks
 unfolding open_count
 open_count-set ranks c top lt e ne =

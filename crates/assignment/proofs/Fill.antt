@@ -1,4 +1,4 @@
--- A class whose jobs all have a device can be seated where all free places are shown.
+-- A class whose jobs all have a device can be matched where all free places are shown.
 use Rattle.std.proofs.Common.{◌≡◌, ℕ, suc, ◌*◌, ◌<◌, ◌≤◌, [], Option, Some, None, IfSome, length, get_or, ap, subst, ◌∙◌, refl, arith}
 use Rattle.std.proofs.Math.Nat.{mul-le-mul_left, suc-mul}
 use Rattle.std.proofs.lemmas.Nat.{mul-le}

@@ -11,9 +11,9 @@ use Rattle.std.proofs.Math.ListN.{length-set}
 use Rattle.assignment.specs.declared.costs.Costs.{Costs}
 use Rattle.assignment.specs.declared.costs.Place.{Place}
 use Rattle.assignment.specs.declared.costs.TheConstants.{UNABLE}
-use Rattle.assignment.specs.declared.seating.Seating.{Seating}
+use Rattle.assignment.specs.declared.matching.Matching.{Matching}
 use Rattle.assignment.specs.Costs.{cost_of, cost_at, row_of, nowhere}
-use Rattle.assignment.specs.Seating.{HasRoom, IsFair, IsSeated}
+use Rattle.assignment.specs.Matching.{HasRoom, IsFair, IsFairlyMatched}
 use Rattle.assignment.specs.Layout.{taken, IsFilled, IsLaid, ShowsNext, place_before}
 
 abbrev before_of : ℕ → ℕ → Place
@@ -40,30 +40,30 @@ pub taken-none : (device : ℕ) → taken device [] ≡ 0
 unfolding taken
 taken-none device = refl
 
-pub laid_now : (devices f : ℕ) (seats free seats' : List Place) → IsLaid devices seats → ShowsNext devices seats free → f < devices → seats' ≡ seats ++ get_or free f nowhere ∷ [] → IsLaid devices seats'
-laid_now devices f seats free seats' h show lt es =
+pub laid_now : (devices f : ℕ) (columns free columns' : List Place) → IsLaid devices columns → ShowsNext devices columns free → f < devices → columns' ≡ columns ++ get_or free f nowhere ∷ [] → IsLaid devices columns'
+laid_now devices f columns free columns' h show lt es =
     let x = get_or free f nowhere in
     let next = show.next f lt in
-    let new : get_or (seats ++ x ∷ []) (length seats) nowhere ≡ x = get_or_push seats x nowhere (length seats) refl in
-    let whole : take (length seats) (seats ++ x ∷ []) ≡ seats = take-append-le (length seats) seats (x ∷ []) (omega arith) ∙ take-length seats in
+    let new : get_or (columns ++ x ∷ []) (length columns) nowhere ≡ x = get_or_push columns x nowhere (length columns) refl in
+    let whole : take (length columns) (columns ++ x ∷ []) ≡ columns = take-append-le (length columns) columns (x ∷ []) (omega arith) ∙ take-length columns in
     record {
-      known = λ c below. elim (cases_eq c (length seats)) [
+      known = λ c below. elim (cases_eq c (length columns)) [
         | inl e ↦ rw (es, e, new, next) lt
         | inr ne ↦
-            let before : c < length seats = omega (arith, below, ap length es, length_push seats x) in
-            rw (es, get_or_append_left seats (x ∷ []) nowhere c before) (h.known c before)
+            let before : c < length columns = omega (arith, below, ap length es, length_push columns x) in
+            rw (es, get_or_append_left columns (x ∷ []) nowhere c before) (h.known c before)
       ];
-      places = λ c below. elim (cases_eq c (length seats)) [
+      places = λ c below. elim (cases_eq c (length columns)) [
         | inl e ↦ rw (es, e, new, whole, next) refl
         | inr ne ↦
-            let before : c < length seats = omega (arith, below, ap length es, length_push seats x) in
-            let front : take c (seats ++ x ∷ []) ≡ take c seats = take-append-le c seats (x ∷ []) (omega arith) in
-            rw (es, get_or_append_left seats (x ∷ []) nowhere c before, front) (h.places c before)
+            let before : c < length columns = omega (arith, below, ap length es, length_push columns x) in
+            let front : take c (columns ++ x ∷ []) ≡ take c columns = take-append-le c columns (x ∷ []) (omega arith) in
+            rw (es, get_or_append_left columns (x ∷ []) nowhere c before, front) (h.places c before)
       ];
     }
 
-pub shows_now : (devices f : ℕ) (seats free seats' free' : List Place) → ShowsNext devices seats free → f < devices → seats' ≡ seats ++ get_or free f nowhere ∷ [] → free' ≡ set free f (place_before (get_or free f nowhere)) → ShowsNext devices seats' free'
-shows_now devices f seats free seats' free' show lt es ef =
+pub shows_now : (devices f : ℕ) (columns free columns' free' : List Place) → ShowsNext devices columns free → f < devices → columns' ≡ columns ++ get_or free f nowhere ∷ [] → free' ≡ set free f (place_before (get_or free f nowhere)) → ShowsNext devices columns' free'
+shows_now devices f columns free columns' free' show lt es ef =
     let x = get_or free f nowhere in
     let next = show.next f lt in
     record {
@@ -103,14 +103,14 @@ room_later costs f k jobs prices free free' slacks slacks' room lt len ef ek now
 pub room_none : (costs : Costs) (jobs prices : List ℕ) (free : List Place) (slacks : List ℕ) → jobs ≡ [] → HasRoom (cost_of costs) jobs prices free slacks
 room_none costs jobs prices free slacks e = record { at = λ q d lq ld. absurd (omega (arith, lq, ap length e)) }
 
-pub laid_none : (devices : ℕ) (seats : List Place) → seats ≡ [] → IsLaid devices seats
-laid_none devices seats e = record {
+pub laid_none : (devices : ℕ) (columns : List Place) → columns ≡ [] → IsLaid devices columns
+laid_none devices columns e = record {
   known = λ c below. absurd (omega (arith, below, ap length e));
   places = λ c below. absurd (omega (arith, below, ap length e));
 }
 
-pub shows_none : (devices : ℕ) (seats free : List Place) → seats ≡ [] → length free ≡ devices → ((d : ℕ) → d < devices → get_or free d nowhere ≡ record { device = d; after = 0 }) → ShowsNext devices seats free
-shows_none devices seats free e len places = record {
+pub shows_none : (devices : ℕ) (columns free : List Place) → columns ≡ [] → length free ≡ devices → ((d : ℕ) → d < devices → get_or free d nowhere ≡ record { device = d; after = 0 }) → ShowsNext devices columns free
+shows_none devices columns free e len places = record {
   one_each = len;
   next = λ d below. rw (e, taken-none) (places d below);
 }
@@ -123,39 +123,39 @@ pub range-push : (a n : ℕ) → range_with_len a (n + 1) ≡ range_with_len a n
 range-push a n = rw add-one (range-suc a n)
 
 -- with other free places towards which prices are fair
-pub seated_with : (costs : Costs) (s : Seating) (free free' : List Place) → IsSeated (cost_of costs) s free → IsFair (cost_of costs) s.jobs.items s.prices.items free' [] → IsSeated (cost_of costs) s free'
-seated_with costs s free free' h fair = record {
+pub matched_with : (costs : Costs) (s : Matching) (free free' : List Place) → IsFairlyMatched (cost_of costs) s free → IsFair (cost_of costs) s.jobs.items s.prices.items free' [] → IsFairlyMatched (cost_of costs) s free'
+matched_with costs s free free' h fair = record {
   jobs = h.jobs;
   prices = h.prices;
-  rents = h.rents;
+  duals = h.duals;
   fair = h.fair;
   fair_free = fair;
   tight = h.tight;
 }
 
--- no job in no seat
-pub seated_none : (costs : Costs) (s : Seating) (free : List Place) → s.seats.items ≡ [] → s.jobs.items ≡ [] → vec_len s.seats ≡ 0 → vec_len s.jobs ≡ 0 → vec_len s.prices ≡ 0 → vec_len s.rents ≡ 0 → IsSeated (cost_of costs) s free
-seated_none costs s free es ej ls lj lp lr = record {
+-- no job in no column
+pub matched_none : (costs : Costs) (s : Matching) (free : List Place) → s.columns.items ≡ [] → s.jobs.items ≡ [] → vec_len s.columns ≡ 0 → vec_len s.jobs ≡ 0 → vec_len s.prices ≡ 0 → vec_len s.duals ≡ 0 → IsFairlyMatched (cost_of costs) s free
+matched_none costs s free es ej ls lj lp lr = record {
   jobs = omega arith;
   prices = omega arith;
-  rents = omega arith;
+  duals = omega arith;
   fair = record { at = λ q k lq lk. absurd (omega (arith, lk, ap length es)) };
   fair_free = record { at = λ q k lq lk. absurd (omega (arith, lq, ap length ej)) };
   tight = record { at = λ k lk. absurd (omega (arith, lk, ap length es)) };
 }
 
 -- what a place shows can go up by one
-pub shown_low : (devices f : ℕ) (seats free : List Place) → ShowsNext devices seats free → f < devices → length seats < 2 ^ 63 → (get_or free f nowhere).after < 2 ^ 63
-shown_low devices f seats free show lt small = rw (show.next f lt) (omega (arith, taken-le f seats))
+pub shown_low : (devices f : ℕ) (columns free : List Place) → ShowsNext devices columns free → f < devices → length columns < 2 ^ 63 → (get_or free f nowhere).after < 2 ^ 63
+shown_low devices f columns free show lt small = rw (show.next f lt) (omega (arith, taken-le f columns))
 
 -- the whole of a list that was lent
 pub lent_whole : {X : Type 0} (n : ℕ) (new old : List X) → length new ≡ n → take n (new ++ drop (length new) old) ≡ new
 lent_whole n new old e = rw (← e) (take-append-le (length new) new (drop (length new) old) (omega arith) ∙ take-length new)
 
--- the seating is filled, once its free places are the next ones
-pub filled_from : (costs : Costs) (s : Seating) (free : List Place) → IsSeated (cost_of costs) s free → IsLaid (vec_len costs.waits) s.seats.items → ShowsNext (vec_len costs.waits) s.seats.items free → IsFilled costs s
+-- the matching is filled, once its free places are the next ones
+pub filled_from : (costs : Costs) (s : Matching) (free : List Place) → IsFairlyMatched (cost_of costs) s free → IsLaid (vec_len costs.waits) s.columns.items → ShowsNext (vec_len costs.waits) s.columns.items free → IsFilled costs s
 filled_from costs s free h laid show = record {
-  seated = seated_with costs s free [] h (record { at = λ q k lq lk. absurd (omega (arith, lk)) });
+  matched = matched_with costs s free [] h (record { at = λ q k lq lk. absurd (omega (arith, lk)) });
   laid = laid;
   next = λ q d lq ld.
       let at = h.fair_free.at q d (omega (arith, lq, h.jobs, s.jobs.ok.0)) (omega (arith, ld, show.one_each)) in

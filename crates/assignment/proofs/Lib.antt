@@ -6,7 +6,7 @@ pub mod Fill
 pub mod Filled
 pub mod Gaps
 pub mod Laid
-pub mod LaneGrowth
+pub mod ColumnGrowth
 pub mod Listed
 pub mod Nearest
 pub mod Opening

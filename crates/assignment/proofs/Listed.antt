@@ -1,4 +1,4 @@
--- The list of the seats that were reached.
+-- The list of the columns that were reached.
 use Rattle.std.proofs.Common.{◌≡◌, ◌≢◌, ℕ, ◌+◌, ◌<◌, ◌≤◌, List, [], ◌∷◌, length, get_or, set, sum_by, inl, inr, ◌∙◌, sym, arith}
 use Rattle.std.proofs.lemmas.Bool.{cases_eq}
 use Rattle.std.proofs.lemmas.Bool.Decides.{nat_tests}
@@ -24,7 +24,7 @@ pub far_count-le : (xs : List ℕ) → far_count xs ≤ length xs
 unfolding far_count
 far_count-le xs = far_sum-le xs
 
--- a seat that is reached is one far seat less
+-- a column that is reached is one far column less
 pub far_count-reached : (lengths : List ℕ) (c new : ℕ) → c < length lengths → FAR ≤ get_or lengths c 0 → new < FAR → far_count (set lengths c new) + 1 ≡ far_count lengths
 unfolding far_count
 far_count-reached lengths c new lt far near =
@@ -35,7 +35,7 @@ unfolding far_count
 far_count-same lengths c new lt was near =
     omega (arith, sum_by-set far_of lengths c new 0 lt, far_of-near new near, far_of-near (get_or lengths c 0) was)
 
--- there is room for a seat that no way reached
+-- there is room for a column that no way reached
 pub listed_room : (lengths ranks reached : List ℕ) (count len c : ℕ) → AreListed lengths ranks reached count len → c < length lengths → FAR ≤ get_or lengths c 0 → count + 1 < len
 listed_room lengths ranks reached count len c h lt far = omega (arith, h.room, far_count-reached lengths c 0 lt far (omega arith))
 
@@ -69,14 +69,14 @@ listed_again lengths ranks reached count len c new h ll inside unsettled was nea
       ];
     }
 
--- a seat is reached
+-- a column is reached
 pub listed_more : (lengths ranks reached reached' : List ℕ) (count count' len c new : ℕ) → AreListed lengths ranks reached count len → length reached ≡ len → length lengths ≡ len → c + 1 < len → get_or ranks c 0 ≡ UNSETTLED → new < FAR → IsNoted (get_or lengths c 0) c reached reached' count count' → AreListed (set lengths c new) ranks reached' count' len
 listed_more lengths ranks reached reached' count count' len c new h lr ll inside unsettled near noted = elim noted [
   | inl k ↦ rw (k.1, k.2) (listed_new lengths ranks reached count len c new h lr ll inside k.0 near)
   | inr k ↦ rw (k.1, k.2) (listed_again lengths ranks reached count len c new h ll inside unsettled k.0 near)
 ]
 
--- a seat is settled
+-- a column is settled
 pub listed_settled : (lengths ranks reached : List ℕ) (count len c top : ℕ) → AreListed lengths ranks reached count len → get_or ranks c 0 ≡ UNSETTLED → AreListed lengths (set ranks c top) reached count len
 listed_settled lengths ranks reached count len c top h unsettled = record {
   room = h.room;

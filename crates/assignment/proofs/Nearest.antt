@@ -1,9 +1,9 @@
--- The seats that were looked at so far.
+-- The columns that were looked at so far.
 use Rattle.std.proofs.Common.{◌≡◌, ℕ, ◌<◌, ◌≤◌, ◌+◌, List, Option, Some, None, get_or, arith}
 use Rattle.assignment.specs.declared.search.TheConstants.{UNSETTLED}
 use Rattle.assignment.specs.Search.{IsNearestOf, IsRelaxed}
 
--- `least` is the length of the nearest unsettled one of the first n seats, or as far as `reach`
+-- `least` is the length of the nearest unsettled one of the first n columns, or as far as `reach`
 abbrev pub IsFound : List ℕ → List ℕ → (n reach least : ℕ) → Option ℕ → Type 0
 IsFound lengths ranks n reach least None = least ≡ reach
 IsFound lengths ranks n reach least (Some c) = (c < n) × (get_or ranks c 0 ≡ UNSETTLED) × (get_or lengths c 0 ≡ least) × (least < reach)
@@ -20,7 +20,7 @@ pub nearest_of : (lengths ranks : List ℕ) (n reach least : ℕ) (r : Option �
 nearest_of lengths ranks n reach least None h all = λ k lt e. omega (arith, all k lt e, h)
 nearest_of lengths ranks n reach least (Some c) h all = (h.0, h.1, omega (arith, h.2, h.3), λ k lt e. omega (arith, all k lt e, h.2))
 
--- the seat that is looked at, and one that was
+-- the column that is looked at, and one that was
 pub relaxed_here : (e e' r r' o x x' l l' f f' m g : ℕ) → IsRelaxed e r o x l m f g → e' ≡ e → r' ≡ r → x' ≡ x → l' ≡ l → f' ≡ f → IsRelaxed e' r' o x' l' m f' g
 relaxed_here e e' r r' o x x' l l' f f' m g h ee er ex el ef = rw (ee, er, ex, el, ef) h
 

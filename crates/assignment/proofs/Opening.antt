@@ -8,9 +8,9 @@ use Rattle.assignment.specs.declared.costs.TheConstants.{UNABLE}
 use Rattle.assignment.specs.Costs.{nowhere}
 use Rattle.assignment.specs.Search.{AreNears, IsRelaxed, IsSearched}
 
-pub record Begins (cost : ℕ → Place → ℕ) (jobs prices : List ℕ) (seats : List Place) (rents : List ℕ) (free : List Place) (L F L' F' R : List ℕ) (E E' : Exit) (n : ℕ) : Type 0 where
+pub record Begins (cost : ℕ → Place → ℕ) (jobs prices : List ℕ) (columns : List Place) (duals : List ℕ) (free : List Place) (L F L' F' R : List ℕ) (E E' : Exit) (n : ℕ) : Type 0 where
   pub low : (job : ℕ) (place : Place) → cost job place ≤ UNABLE
-  pub rents_low : (c : ℕ) → c < n → get_or rents c 0 ≤ UNABLE
+  pub duals_low : (c : ℕ) → c < n → get_or duals c 0 ≤ UNABLE
   pub uncharged : get_or prices n 0 ≡ 0
   pub some : 0 < length free
   pub far : (c : ℕ) → c < n → get_or L c 0 ≡ FAR
@@ -19,19 +19,19 @@ pub record Begins (cost : ℕ → Place → ℕ) (jobs prices : List ℕ) (seats
   pub unsettled : (c : ℕ) → c < n → get_or R c 0 ≡ UNSETTLED
   pub root_rank : get_or R n 0 ≡ 0
   pub far_exit : E.length ≡ FAR
-  pub relaxed : (c : ℕ) → c < n → IsRelaxed E'.length (get_or R c 0) n (get_or L n 0 + (cost (get_or jobs n 0) (get_or seats c nowhere) + get_or rents c 0 - get_or prices n 0)) (get_or L c 0) (get_or L' c 0) (get_or F c 0) (get_or F' c 0)
+  pub relaxed : (c : ℕ) → c < n → IsRelaxed E'.length (get_or R c 0) n (get_or L n 0 + (cost (get_or jobs n 0) (get_or columns c nowhere) + get_or duals c 0 - get_or prices n 0)) (get_or L c 0) (get_or L' c 0) (get_or F c 0) (get_or F' c 0)
   pub rest : get_or L' n 0 ≡ get_or L n 0
   pub exit_every : (f : ℕ) → f < length free → E'.length ≤ get_or L n 0 + (cost (get_or jobs n 0) (get_or free f nowhere) - get_or prices n 0)
   pub exit_edge : (E' ≡ E) ⊎ ((E'.place < length free) × (E'.length ≡ get_or L n 0 + (cost (get_or jobs n 0) (get_or free E'.place nowhere) - get_or prices n 0)) × (E'.from ≡ n))
 
-at_root : {cost : ℕ → Place → ℕ} {jobs prices : List ℕ} {seats : List Place} {rents : List ℕ} {free : List Place} {L F L' F' R : List ℕ} {E E' : Exit} {n : ℕ} → Begins cost jobs prices seats rents free L F L' F' R E E' n → get_or L' n 0 ≡ 0
+at_root : {cost : ℕ → Place → ℕ} {jobs prices : List ℕ} {columns : List Place} {duals : List ℕ} {free : List Place} {L F L' F' R : List ℕ} {E E' : Exit} {n : ℕ} → Begins cost jobs prices columns duals free L F L' F' R E E' n → get_or L' n 0 ≡ 0
 at_root h = h.rest ∙ h.root
 
--- a seat is reached from the new job, or it is no nearer than the exit
-reached : {cost : ℕ → Place → ℕ} {jobs prices : List ℕ} {seats : List Place} {rents : List ℕ} {free : List Place} {L F L' F' R : List ℕ} {E E' : Exit} {n : ℕ} → Begins cost jobs prices seats rents free L F L' F' R E E' n → (c : ℕ) → c < n → ((get_or L' c 0 ≡ cost (get_or jobs n 0) (get_or seats c nowhere) + get_or rents c 0) ⊎ ((get_or L' c 0 ≡ FAR) × (E'.length ≤ cost (get_or jobs n 0) (get_or seats c nowhere) + get_or rents c 0))) × (get_or F' c 0 ≡ n)
-reached {cost} {jobs} {seats} {n} h c lt =
-    let low = h.low (get_or jobs n 0) (get_or seats c nowhere) in
-    let rent = h.rents_low c lt in
+-- a column is reached from the new job, or it is no nearer than the exit
+reached : {cost : ℕ → Place → ℕ} {jobs prices : List ℕ} {columns : List Place} {duals : List ℕ} {free : List Place} {L F L' F' R : List ℕ} {E E' : Exit} {n : ℕ} → Begins cost jobs prices columns duals free L F L' F' R E E' n → (c : ℕ) → c < n → ((get_or L' c 0 ≡ cost (get_or jobs n 0) (get_or columns c nowhere) + get_or duals c 0) ⊎ ((get_or L' c 0 ≡ FAR) × (E'.length ≤ cost (get_or jobs n 0) (get_or columns c nowhere) + get_or duals c 0))) × (get_or F' c 0 ≡ n)
+reached {cost} {jobs} {columns} {n} h c lt =
+    let low = h.low (get_or jobs n 0) (get_or columns c nowhere) in
+    let dual = h.duals_low c lt in
     let far = h.far c lt in
     let root = h.root in
     let uncharged = h.uncharged in
@@ -46,7 +46,7 @@ reached {cost} {jobs} {seats} {n} h c lt =
       ]
     ]
 
-onward_root : {cost : ℕ → Place → ℕ} {jobs prices : List ℕ} {seats : List Place} {rents : List ℕ} {free : List Place} {L F L' F' R : List ℕ} {E E' : Exit} {n : ℕ} → Begins cost jobs prices seats rents free L F L' F' R E E' n → (c : ℕ) → c < n → (get_or L' c 0 + get_or prices n 0 ≤ get_or L' n 0 + (cost (get_or jobs n 0) (get_or seats c nowhere) + get_or rents c 0)) ⊎ (E'.length + get_or prices n 0 ≤ get_or L' n 0 + (cost (get_or jobs n 0) (get_or seats c nowhere) + get_or rents c 0))
+onward_root : {cost : ℕ → Place → ℕ} {jobs prices : List ℕ} {columns : List Place} {duals : List ℕ} {free : List Place} {L F L' F' R : List ℕ} {E E' : Exit} {n : ℕ} → Begins cost jobs prices columns duals free L F L' F' R E E' n → (c : ℕ) → c < n → (get_or L' c 0 + get_or prices n 0 ≤ get_or L' n 0 + (cost (get_or jobs n 0) (get_or columns c nowhere) + get_or duals c 0)) ⊎ (E'.length + get_or prices n 0 ≤ get_or L' n 0 + (cost (get_or jobs n 0) (get_or columns c nowhere) + get_or duals c 0))
 onward_root h c lt =
     let uncharged = h.uncharged in
     elim (reached h c lt).0 [
@@ -54,7 +54,7 @@ onward_root h c lt =
       | inr far ↦ inr (omega (arith, far.1))
     ]
 
-edge_root : {cost : ℕ → Place → ℕ} {jobs prices : List ℕ} {seats : List Place} {rents : List ℕ} {free : List Place} {L F L' F' R : List ℕ} {E E' : Exit} {n : ℕ} → Begins cost jobs prices seats rents free L F L' F' R E E' n → (c : ℕ) → c < n → get_or L' c 0 < FAR → get_or L' c 0 + get_or prices n 0 ≡ get_or L' n 0 + (cost (get_or jobs n 0) (get_or seats c nowhere) + get_or rents c 0)
+edge_root : {cost : ℕ → Place → ℕ} {jobs prices : List ℕ} {columns : List Place} {duals : List ℕ} {free : List Place} {L F L' F' R : List ℕ} {E E' : Exit} {n : ℕ} → Begins cost jobs prices columns duals free L F L' F' R E E' n → (c : ℕ) → c < n → get_or L' c 0 < FAR → get_or L' c 0 + get_or prices n 0 ≡ get_or L' n 0 + (cost (get_or jobs n 0) (get_or columns c nowhere) + get_or duals c 0)
 edge_root h c lt near =
     let uncharged = h.uncharged in
     let root = at_root h in
@@ -64,19 +64,19 @@ edge_root h c lt near =
     ]
 
 -- only the new job is settled
-is_root : {cost : ℕ → Place → ℕ} {jobs prices : List ℕ} {seats : List Place} {rents : List ℕ} {free : List Place} {L F L' F' R : List ℕ} {E E' : Exit} {n : ℕ} → Begins cost jobs prices seats rents free L F L' F' R E E' n → (q : ℕ) → q ≤ n → get_or R q 0 ≢ UNSETTLED → q ≡ n
+is_root : {cost : ℕ → Place → ℕ} {jobs prices : List ℕ} {columns : List Place} {duals : List ℕ} {free : List Place} {L F L' F' R : List ℕ} {E E' : Exit} {n : ℕ} → Begins cost jobs prices columns duals free L F L' F' R E E' n → (q : ℕ) → q ≤ n → get_or R q 0 ≢ UNSETTLED → q ≡ n
 is_root {n} h q le ne = elim (cases_eq q n) [ inl e ↦ e | inr d ↦ absurd (ne (h.unsettled q (omega arith))) ]
 
-exit_near : {cost : ℕ → Place → ℕ} {jobs prices : List ℕ} {seats : List Place} {rents : List ℕ} {free : List Place} {L F L' F' R : List ℕ} {E E' : Exit} {n : ℕ} → Begins cost jobs prices seats rents free L F L' F' R E E' n → E'.length ≤ UNABLE
+exit_near : {cost : ℕ → Place → ℕ} {jobs prices : List ℕ} {columns : List Place} {duals : List ℕ} {free : List Place} {L F L' F' R : List ℕ} {E E' : Exit} {n : ℕ} → Begins cost jobs prices columns duals free L F L' F' R E E' n → E'.length ≤ UNABLE
 exit_near {jobs} {free} {n} h = omega (arith, h.exit_every 0 h.some, h.low (get_or jobs n 0) (get_or free 0 nowhere), h.root)
 
-exit_of : {cost : ℕ → Place → ℕ} {jobs prices : List ℕ} {seats : List Place} {rents : List ℕ} {free : List Place} {L F L' F' R : List ℕ} {E E' : Exit} {n : ℕ} → Begins cost jobs prices seats rents free L F L' F' R E E' n → (E'.place < length free) × (E'.length ≡ cost (get_or jobs n 0) (get_or free E'.place nowhere)) × (E'.from ≡ n)
+exit_of : {cost : ℕ → Place → ℕ} {jobs prices : List ℕ} {columns : List Place} {duals : List ℕ} {free : List Place} {L F L' F' R : List ℕ} {E E' : Exit} {n : ℕ} → Begins cost jobs prices columns duals free L F L' F' R E E' n → (E'.place < length free) × (E'.length ≡ cost (get_or jobs n 0) (get_or free E'.place nowhere)) × (E'.from ≡ n)
 exit_of {n} h = elim h.exit_edge [
   | inl e ↦ absurd (omega (arith, ap (λ (x : Exit). x.length) e, h.far_exit, exit_near h))
   | inr k ↦ (k.0, omega (arith, k.1, h.root, h.uncharged), k.2)
 ]
 
-pub begun : {cost : ℕ → Place → ℕ} {jobs prices : List ℕ} {seats : List Place} {rents : List ℕ} {free : List Place} {L F L' F' R : List ℕ} {E E' : Exit} {n : ℕ} → Begins cost jobs prices seats rents free L F L' F' R E E' n → IsSearched cost jobs prices seats rents free L' F' R E' 1 n
+pub begun : {cost : ℕ → Place → ℕ} {jobs prices : List ℕ} {columns : List Place} {duals : List ℕ} {free : List Place} {L F L' F' R : List ℕ} {E E' : Exit} {n : ℕ} → Begins cost jobs prices columns duals free L F L' F' R E E' n → IsSearched cost jobs prices columns duals free L' F' R E' 1 n
 begun {jobs} {free} {R} {n} h =
     let root = at_root h in
     let uncharged = h.uncharged in
@@ -102,7 +102,7 @@ begun {jobs} {free} {R} {n} h =
       exit_edge = rw out.2 (omega (arith, out.1));
     }
 
-pub nears_begun : {cost : ℕ → Place → ℕ} {jobs prices : List ℕ} {seats : List Place} {rents : List ℕ} {free : List Place} {L F L' F' R : List ℕ} {E E' : Exit} {n : ℕ} → Begins cost jobs prices seats rents free L F L' F' R E E' n → (N : List ℕ) → length N ≡ length free
+pub nears_begun : {cost : ℕ → Place → ℕ} {jobs prices : List ℕ} {columns : List Place} {duals : List ℕ} {free : List Place} {L F L' F' R : List ℕ} {E E' : Exit} {n : ℕ} → Begins cost jobs prices columns duals free L F L' F' R E E' n → (N : List ℕ) → length N ≡ length free
     → ((f : ℕ) → f < length free → get_or N f 0 ≤ get_or L n 0 + (cost (get_or jobs n 0) (get_or free f nowhere) - get_or prices n 0))
     → AreNears cost jobs prices free L' R N n
 nears_begun h N one_each taken = record {

@@ -1,4 +1,4 @@
--- By how much all prices may rise, after one job more has a seat.
+-- By how much all prices may rise, after one job more has a column.
 use Rattle.std.proofs.Common.{◌≡◌, ℕ, ◌+◌, ◌-◌, ◌<◌, ◌≤◌, ◌≢◌, List, [], ◌∷◌, ◌++◌, length, get_or, ap, inl, inr, arith}
 use Rattle.std.proofs.lemmas.Bool.{cases_eq}
 use Rattle.std.proofs.lemmas.List.{get_or_append_left}
@@ -6,7 +6,7 @@ use Rattle.assignment.specs.declared.costs.Place.{Place}
 use Rattle.assignment.specs.declared.search.TheConstants.{UNSETTLED}
 use Rattle.assignment.specs.Costs.{nowhere}
 use Rattle.assignment.specs.Search.{AreNears}
-use Rattle.assignment.specs.Seating.{AreMoved, HasRoom}
+use Rattle.assignment.specs.Matching.{AreMoved, HasRoom}
 
 -- prices P' are raised from P: an unsettled job has its price still
 pub room_up : (cost : ℕ → Place → ℕ) (J0 P0 jobs P P' L R N : List ℕ) (free : List Place) (K K' : List ℕ) (reach n job : ℕ)

@@ -1,4 +1,4 @@
--- One step of the search: the nearest seat is settled, and its job's ways are taken.
+-- One step of the search: the nearest column is settled, and its job's ways are taken.
 use Rattle.std.proofs.Common.{◌≡◌, ◌≢◌, ◌⊎◌, ℕ, ◌+◌, ◌-◌, ◌<◌, ◌≤◌, List, length, get_or, ap, sym, subst, inl, inr, ◌∙◌, arith}
 use Rattle.std.proofs.lemmas.Bool.{cases_eq}
 use Rattle.assignment.specs.declared.costs.Place.{Place}
@@ -7,10 +7,10 @@ use Rattle.assignment.specs.declared.search.TheConstants.{UNSETTLED, FAR}
 use Rattle.assignment.specs.Costs.{nowhere}
 use Rattle.assignment.specs.Search.{IsReached, AreNears, IsRelaxed, IsSearched}
 
-pub record Settles (cost : ℕ → Place → ℕ) (jobs prices : List ℕ) (seats : List Place) (rents : List ℕ) (free : List Place) (L F R L' F' R' : List ℕ) (E E' : Exit) (top s n : ℕ) : Type 0 where
-  pub fair : (q c : ℕ) → q ≤ n → c < n → get_or prices q 0 ≤ cost (get_or jobs q 0) (get_or seats c nowhere) + get_or rents c 0
+pub record Settles (cost : ℕ → Place → ℕ) (jobs prices : List ℕ) (columns : List Place) (duals : List ℕ) (free : List Place) (L F R L' F' R' : List ℕ) (E E' : Exit) (top s n : ℕ) : Type 0 where
+  pub fair : (q c : ℕ) → q ≤ n → c < n → get_or prices q 0 ≤ cost (get_or jobs q 0) (get_or columns c nowhere) + get_or duals c 0
   pub fair_free : (q f : ℕ) → q ≤ n → f < length free → get_or prices q 0 ≤ cost (get_or jobs q 0) (get_or free f nowhere)
-  pub old : IsSearched cost jobs prices seats rents free L F R E top n
+  pub old : IsSearched cost jobs prices columns duals free L F R E top n
   pub here : s < n
   pub unsettled : get_or R s 0 ≡ UNSETTLED
   pub least : (k : ℕ) → k < n → get_or R k 0 ≡ UNSETTLED → get_or L s 0 ≤ get_or L k 0
@@ -18,7 +18,7 @@ pub record Settles (cost : ℕ → Place → ℕ) (jobs prices : List ℕ) (seat
   pub room : top < UNSETTLED
   pub rank_same : get_or R' s 0 ≡ top
   pub rank_other : (q : ℕ) → q ≢ s → get_or R' q 0 ≡ get_or R q 0
-  pub relaxed : (c : ℕ) → c < n → IsRelaxed E'.length (get_or R' c 0) s (get_or L s 0 + (cost (get_or jobs s 0) (get_or seats c nowhere) + get_or rents c 0 - get_or prices s 0)) (get_or L c 0) (get_or L' c 0) (get_or F c 0) (get_or F' c 0)
+  pub relaxed : (c : ℕ) → c < n → IsRelaxed E'.length (get_or R' c 0) s (get_or L s 0 + (cost (get_or jobs s 0) (get_or columns c nowhere) + get_or duals c 0 - get_or prices s 0)) (get_or L c 0) (get_or L' c 0) (get_or F c 0) (get_or F' c 0)
   pub rest : get_or L' n 0 ≡ get_or L n 0
   pub exit_le : E'.length ≤ E.length
   pub exit_every : (f : ℕ) → f < length free → E'.length ≤ get_or L s 0 + (cost (get_or jobs s 0) (get_or free f nowhere) - get_or prices s 0)
@@ -45,39 +45,39 @@ relaxed_by reach rank o x l l' f f' h e = elim h [ inl a ↦ inr a.0 | inr b ↦
 reached_either : (rank o x l l' f f' : ℕ) → IsReached rank o x l l' f f' → ((l' ≡ l) × (f' ≡ f)) ⊎ ((rank ≡ UNSETTLED) × (l' ≡ x) × (f' ≡ o))
 reached_either rank o x l l' f f' h = elim h [ inl a ↦ inl (a.1, a.2) | inr b ↦ elim b [ inl a ↦ inr (a.0, a.2, a.3) | inr a ↦ inl (a.2, a.3) ] ]
 
--- a relaxed seat is as it was, or it is reached from the settled one
+-- a relaxed column is as it was, or it is reached from the settled one
 relaxed_either : (reach rank o x l l' f f' : ℕ) → IsRelaxed reach rank o x l l' f f' → ((l' ≡ l) × (f' ≡ f)) ⊎ ((rank ≡ UNSETTLED) × (l' ≡ x) × (f' ≡ o))
 relaxed_either reach rank o x l l' f f' h = elim h [ inl a ↦ inl (a.1, a.2) | inr b ↦ reached_either rank o x l l' f f' b ]
 
-length_le : {cost : ℕ → Place → ℕ} {jobs prices : List ℕ} {seats : List Place} {rents : List ℕ} {free : List Place} {L F R L' F' R' : List ℕ} {E E' : Exit} {top s n : ℕ} → Settles cost jobs prices seats rents free L F R L' F' R' E E' top s n → (c : ℕ) → c < n → get_or L' c 0 ≤ get_or L c 0
+length_le : {cost : ℕ → Place → ℕ} {jobs prices : List ℕ} {columns : List Place} {duals : List ℕ} {free : List Place} {L F R L' F' R' : List ℕ} {E E' : Exit} {top s n : ℕ} → Settles cost jobs prices columns duals free L F R L' F' R' E E' top s n → (c : ℕ) → c < n → get_or L' c 0 ≤ get_or L c 0
 length_le h c lt = relaxed_le _ _ _ _ _ _ _ _ (h.relaxed c lt)
 
-length_same : {cost : ℕ → Place → ℕ} {jobs prices : List ℕ} {seats : List Place} {rents : List ℕ} {free : List Place} {L F R L' F' R' : List ℕ} {E E' : Exit} {top s n : ℕ} → Settles cost jobs prices seats rents free L F R L' F' R' E E' top s n → (q : ℕ) → q ≤ n → get_or R' q 0 ≢ UNSETTLED → get_or L' q 0 ≡ get_or L q 0
+length_same : {cost : ℕ → Place → ℕ} {jobs prices : List ℕ} {columns : List Place} {duals : List ℕ} {free : List Place} {L F R L' F' R' : List ℕ} {E E' : Exit} {top s n : ℕ} → Settles cost jobs prices columns duals free L F R L' F' R' E E' top s n → (q : ℕ) → q ≤ n → get_or R' q 0 ≢ UNSETTLED → get_or L' q 0 ≡ get_or L q 0
 length_same {L} {L'} {n} h q le ne = elim (cases_eq q n) [
   | inl e ↦ rw e h.rest
   | inr d ↦ relaxed_settled _ _ _ _ _ _ _ _ (h.relaxed q (omega arith)) ne
 ]
 
 -- what was settled, is
-was_settled : {cost : ℕ → Place → ℕ} {jobs prices : List ℕ} {seats : List Place} {rents : List ℕ} {free : List Place} {L F R L' F' R' : List ℕ} {E E' : Exit} {top s n : ℕ} → Settles cost jobs prices seats rents free L F R L' F' R' E E' top s n → (q : ℕ) → get_or R q 0 ≢ UNSETTLED → (q ≢ s) × (get_or R' q 0 ≡ get_or R q 0)
+was_settled : {cost : ℕ → Place → ℕ} {jobs prices : List ℕ} {columns : List Place} {duals : List ℕ} {free : List Place} {L F R L' F' R' : List ℕ} {E E' : Exit} {top s n : ℕ} → Settles cost jobs prices columns duals free L F R L' F' R' E E' top s n → (q : ℕ) → get_or R q 0 ≢ UNSETTLED → (q ≢ s) × (get_or R' q 0 ≡ get_or R q 0)
 was_settled {R} h q ne =
     let apart : q ≢ _ = λ e. ne (ap (λ x. get_or R x 0) e ∙ h.unsettled) in
     (apart, h.rank_other q apart)
 
--- what is settled now is the seat, or was settled
-settled_now : {cost : ℕ → Place → ℕ} {jobs prices : List ℕ} {seats : List Place} {rents : List ℕ} {free : List Place} {L F R L' F' R' : List ℕ} {E E' : Exit} {top s n : ℕ} → Settles cost jobs prices seats rents free L F R L' F' R' E E' top s n → (q : ℕ) → get_or R' q 0 ≢ UNSETTLED → (q ≡ s) ⊎ ((q ≢ s) × (get_or R q 0 ≢ UNSETTLED))
+-- what is settled now is the column, or was settled
+settled_now : {cost : ℕ → Place → ℕ} {jobs prices : List ℕ} {columns : List Place} {duals : List ℕ} {free : List Place} {L F R L' F' R' : List ℕ} {E E' : Exit} {top s n : ℕ} → Settles cost jobs prices columns duals free L F R L' F' R' E E' top s n → (q : ℕ) → get_or R' q 0 ≢ UNSETTLED → (q ≡ s) ⊎ ((q ≢ s) × (get_or R q 0 ≢ UNSETTLED))
 settled_now {s} h q ne = elim (cases_eq q s) [
   | inl e ↦ inl e
   | inr d ↦ inr (d, λ e. ne (h.rank_other q d ∙ e))
 ]
 
-open_now : {cost : ℕ → Place → ℕ} {jobs prices : List ℕ} {seats : List Place} {rents : List ℕ} {free : List Place} {L F R L' F' R' : List ℕ} {E E' : Exit} {top s n : ℕ} → Settles cost jobs prices seats rents free L F R L' F' R' E E' top s n → (c : ℕ) → get_or R' c 0 ≡ UNSETTLED → get_or R c 0 ≡ UNSETTLED
+open_now : {cost : ℕ → Place → ℕ} {jobs prices : List ℕ} {columns : List Place} {duals : List ℕ} {free : List Place} {L F R L' F' R' : List ℕ} {E E' : Exit} {top s n : ℕ} → Settles cost jobs prices columns duals free L F R L' F' R' E E' top s n → (c : ℕ) → get_or R' c 0 ≡ UNSETTLED → get_or R c 0 ≡ UNSETTLED
 open_now {s} h c e = elim (cases_eq c s) [
   | inl same ↦ rw same h.unsettled
   | inr d ↦ sym (h.rank_other c d) ∙ e
 ]
 
-onward_here : {cost : ℕ → Place → ℕ} {jobs prices : List ℕ} {seats : List Place} {rents : List ℕ} {free : List Place} {L F R L' F' R' : List ℕ} {E E' : Exit} {top s n : ℕ} → Settles cost jobs prices seats rents free L F R L' F' R' E E' top s n → (c : ℕ) → c < n → (get_or L' c 0 + get_or prices s 0 ≤ get_or L s 0 + (cost (get_or jobs s 0) (get_or seats c nowhere) + get_or rents c 0)) ⊎ (E'.length + get_or prices s 0 ≤ get_or L s 0 + (cost (get_or jobs s 0) (get_or seats c nowhere) + get_or rents c 0))
+onward_here : {cost : ℕ → Place → ℕ} {jobs prices : List ℕ} {columns : List Place} {duals : List ℕ} {free : List Place} {L F R L' F' R' : List ℕ} {E E' : Exit} {top s n : ℕ} → Settles cost jobs prices columns duals free L F R L' F' R' E E' top s n → (c : ℕ) → c < n → (get_or L' c 0 + get_or prices s 0 ≤ get_or L s 0 + (cost (get_or jobs s 0) (get_or columns c nowhere) + get_or duals c 0)) ⊎ (E'.length + get_or prices s 0 ≤ get_or L s 0 + (cost (get_or jobs s 0) (get_or columns c nowhere) + get_or duals c 0))
 onward_here {L} {R'} {s} {n} h c lt =
     let fair = h.fair s c (omega (arith, h.here)) lt in
     elim (cases_eq (get_or R' c 0) UNSETTLED) [
@@ -93,7 +93,7 @@ onward_here {L} {R'} {s} {n} h c lt =
           ]
     ]
 
-onward_now : {cost : ℕ → Place → ℕ} {jobs prices : List ℕ} {seats : List Place} {rents : List ℕ} {free : List Place} {L F R L' F' R' : List ℕ} {E E' : Exit} {top s n : ℕ} → Settles cost jobs prices seats rents free L F R L' F' R' E E' top s n → (q c : ℕ) → q ≤ n → c < n → get_or R' q 0 ≢ UNSETTLED → (get_or L' c 0 + get_or prices q 0 ≤ get_or L' q 0 + (cost (get_or jobs q 0) (get_or seats c nowhere) + get_or rents c 0)) ⊎ (E'.length + get_or prices q 0 ≤ get_or L' q 0 + (cost (get_or jobs q 0) (get_or seats c nowhere) + get_or rents c 0))
+onward_now : {cost : ℕ → Place → ℕ} {jobs prices : List ℕ} {columns : List Place} {duals : List ℕ} {free : List Place} {L F R L' F' R' : List ℕ} {E E' : Exit} {top s n : ℕ} → Settles cost jobs prices columns duals free L F R L' F' R' E E' top s n → (q c : ℕ) → q ≤ n → c < n → get_or R' q 0 ≢ UNSETTLED → (get_or L' c 0 + get_or prices q 0 ≤ get_or L' q 0 + (cost (get_or jobs q 0) (get_or columns c nowhere) + get_or duals c 0)) ⊎ (E'.length + get_or prices q 0 ≤ get_or L' q 0 + (cost (get_or jobs q 0) (get_or columns c nowhere) + get_or duals c 0))
 onward_now {L} {R'} {s} {n} h q c le lt ne =
     let same = length_same h q le ne in
     let less = length_le h c lt in
@@ -106,7 +106,7 @@ onward_now {L} {R'} {s} {n} h q c le lt ne =
       ]
     ]
 
-out_now : {cost : ℕ → Place → ℕ} {jobs prices : List ℕ} {seats : List Place} {rents : List ℕ} {free : List Place} {L F R L' F' R' : List ℕ} {E E' : Exit} {top s n : ℕ} → Settles cost jobs prices seats rents free L F R L' F' R' E E' top s n → (q f : ℕ) → q ≤ n → f < length free → get_or R' q 0 ≢ UNSETTLED → E'.length + get_or prices q 0 ≤ get_or L' q 0 + cost (get_or jobs q 0) (get_or free f nowhere)
+out_now : {cost : ℕ → Place → ℕ} {jobs prices : List ℕ} {columns : List Place} {duals : List ℕ} {free : List Place} {L F R L' F' R' : List ℕ} {E E' : Exit} {top s n : ℕ} → Settles cost jobs prices columns duals free L F R L' F' R' E E' top s n → (q f : ℕ) → q ≤ n → f < length free → get_or R' q 0 ≢ UNSETTLED → E'.length + get_or prices q 0 ≤ get_or L' q 0 + cost (get_or jobs q 0) (get_or free f nowhere)
 out_now {L} {R'} {s} {n} h q f le lt ne =
     let same = length_same h q le ne in
     let less = h.exit_le in
@@ -118,14 +118,14 @@ out_now {L} {R'} {s} {n} h q f le lt ne =
       | inr d ↦ let old = h.old.out q f le lt d.1 in omega arith
     ]
 
--- what is settled now is no farther than the seat
-before_here : {cost : ℕ → Place → ℕ} {jobs prices : List ℕ} {seats : List Place} {rents : List ℕ} {free : List Place} {L F R L' F' R' : List ℕ} {E E' : Exit} {top s n : ℕ} → Settles cost jobs prices seats rents free L F R L' F' R' E E' top s n → (q : ℕ) → q ≤ n → get_or R' q 0 ≢ UNSETTLED → get_or L q 0 ≤ get_or L s 0
+-- what is settled now is no farther than the column
+before_here : {cost : ℕ → Place → ℕ} {jobs prices : List ℕ} {columns : List Place} {duals : List ℕ} {free : List Place} {L F R L' F' R' : List ℕ} {E E' : Exit} {top s n : ℕ} → Settles cost jobs prices columns duals free L F R L' F' R' E E' top s n → (q : ℕ) → q ≤ n → get_or R' q 0 ≢ UNSETTLED → get_or L q 0 ≤ get_or L s 0
 before_here {s} {n} h q le ne = elim (settled_now h q ne) [
   | inl e ↦ rw e (omega arith)
   | inr d ↦ h.old.ordered q s le h.here d.1 h.unsettled
 ]
 
-ordered_now : {cost : ℕ → Place → ℕ} {jobs prices : List ℕ} {seats : List Place} {rents : List ℕ} {free : List Place} {L F R L' F' R' : List ℕ} {E E' : Exit} {top s n : ℕ} → Settles cost jobs prices seats rents free L F R L' F' R' E E' top s n → (q c : ℕ) → q ≤ n → c < n → get_or R' q 0 ≢ UNSETTLED → get_or R' c 0 ≡ UNSETTLED → get_or L' q 0 ≤ get_or L' c 0
+ordered_now : {cost : ℕ → Place → ℕ} {jobs prices : List ℕ} {columns : List Place} {duals : List ℕ} {free : List Place} {L F R L' F' R' : List ℕ} {E E' : Exit} {top s n : ℕ} → Settles cost jobs prices columns duals free L F R L' F' R' E E' top s n → (q c : ℕ) → q ≤ n → c < n → get_or R' q 0 ≢ UNSETTLED → get_or R' c 0 ≡ UNSETTLED → get_or L' q 0 ≤ get_or L' c 0
 ordered_now h q c le lt ne e =
     let same = length_same h q le ne in
     let before = before_here h q le ne in
@@ -134,7 +134,7 @@ ordered_now h q c le lt ne e =
       | inr k ↦ let got = k.1 in omega arith
     ]
 
-within_now : {cost : ℕ → Place → ℕ} {jobs prices : List ℕ} {seats : List Place} {rents : List ℕ} {free : List Place} {L F R L' F' R' : List ℕ} {E E' : Exit} {top s n : ℕ} → Settles cost jobs prices seats rents free L F R L' F' R' E E' top s n → (q : ℕ) → q ≤ n → get_or R' q 0 ≢ UNSETTLED → get_or L' q 0 ≤ E'.length
+within_now : {cost : ℕ → Place → ℕ} {jobs prices : List ℕ} {columns : List Place} {duals : List ℕ} {free : List Place} {L F R L' F' R' : List ℕ} {E E' : Exit} {top s n : ℕ} → Settles cost jobs prices columns duals free L F R L' F' R' E E' top s n → (q : ℕ) → q ≤ n → get_or R' q 0 ≢ UNSETTLED → get_or L' q 0 ≤ E'.length
 within_now {E} {E'} h q le ne =
     let same = length_same h q le ne in
     let before = before_here h q le ne in
@@ -144,22 +144,22 @@ within_now {E} {E'} h q le ne =
       | inr k ↦ let got = k.1 in omega arith
     ]
 
-origin_now : {cost : ℕ → Place → ℕ} {jobs prices : List ℕ} {seats : List Place} {rents : List ℕ} {free : List Place} {L F R L' F' R' : List ℕ} {E E' : Exit} {top s n : ℕ} → Settles cost jobs prices seats rents free L F R L' F' R' E E' top s n → (c : ℕ) → c < n → get_or F' c 0 ≤ n
+origin_now : {cost : ℕ → Place → ℕ} {jobs prices : List ℕ} {columns : List Place} {duals : List ℕ} {free : List Place} {L F R L' F' R' : List ℕ} {E E' : Exit} {top s n : ℕ} → Settles cost jobs prices columns duals free L F R L' F' R' E E' top s n → (c : ℕ) → c < n → get_or F' c 0 ≤ n
 origin_now {n} h c lt = elim (relaxed_either _ _ _ _ _ _ _ _ (h.relaxed c lt)) [
   | inl k ↦ rw k.1 (h.old.origin c lt)
   | inr k ↦ rw k.2 (omega (arith, h.here))
 ]
 
-rank_top : {cost : ℕ → Place → ℕ} {jobs prices : List ℕ} {seats : List Place} {rents : List ℕ} {free : List Place} {L F R L' F' R' : List ℕ} {E E' : Exit} {top s n : ℕ} → Settles cost jobs prices seats rents free L F R L' F' R' E E' top s n → get_or R' s 0 ≢ UNSETTLED
+rank_top : {cost : ℕ → Place → ℕ} {jobs prices : List ℕ} {columns : List Place} {duals : List ℕ} {free : List Place} {L F R L' F' R' : List ℕ} {E E' : Exit} {top s n : ℕ} → Settles cost jobs prices columns duals free L F R L' F' R' E E' top s n → get_or R' s 0 ≢ UNSETTLED
 rank_top h e = omega (arith, h.rank_same, h.room)
 
-origin_settled_now : {cost : ℕ → Place → ℕ} {jobs prices : List ℕ} {seats : List Place} {rents : List ℕ} {free : List Place} {L F R L' F' R' : List ℕ} {E E' : Exit} {top s n : ℕ} → Settles cost jobs prices seats rents free L F R L' F' R' E E' top s n → (c : ℕ) → c < n → get_or R' (get_or F' c 0) 0 ≢ UNSETTLED
+origin_settled_now : {cost : ℕ → Place → ℕ} {jobs prices : List ℕ} {columns : List Place} {duals : List ℕ} {free : List Place} {L F R L' F' R' : List ℕ} {E E' : Exit} {top s n : ℕ} → Settles cost jobs prices columns duals free L F R L' F' R' E E' top s n → (c : ℕ) → c < n → get_or R' (get_or F' c 0) 0 ≢ UNSETTLED
 origin_settled_now h c lt = elim (relaxed_either _ _ _ _ _ _ _ _ (h.relaxed c lt)) [
   | inl k ↦ rw k.1 (λ e. h.old.origin_settled c lt (sym (was_settled h _ (h.old.origin_settled c lt)).1 ∙ e))
   | inr k ↦ rw k.2 (rank_top h)
 ]
 
-falling_now : {cost : ℕ → Place → ℕ} {jobs prices : List ℕ} {seats : List Place} {rents : List ℕ} {free : List Place} {L F R L' F' R' : List ℕ} {E E' : Exit} {top s n : ℕ} → Settles cost jobs prices seats rents free L F R L' F' R' E E' top s n → (c : ℕ) → c < n → get_or R' (get_or F' c 0) 0 < get_or R' c 0
+falling_now : {cost : ℕ → Place → ℕ} {jobs prices : List ℕ} {columns : List Place} {duals : List ℕ} {free : List Place} {L F R L' F' R' : List ℕ} {E E' : Exit} {top s n : ℕ} → Settles cost jobs prices columns duals free L F R L' F' R' E E' top s n → (c : ℕ) → c < n → get_or R' (get_or F' c 0) 0 < get_or R' c 0
 falling_now {F} {R} {R'} {top} {s} h c lt = elim (relaxed_either _ _ _ _ _ _ _ _ (h.relaxed c lt)) [
   | inl k ↦
       let was = was_settled h (get_or F c 0) (h.old.origin_settled c lt) in
@@ -172,7 +172,7 @@ falling_now {F} {R} {R'} {top} {s} h c lt = elim (relaxed_either _ _ _ _ _ _ _ _
   | inr k ↦ let at = k.0 in let same = h.rank_same in let room = h.room in rw k.2 (omega arith)
 ]
 
-edge_now : {cost : ℕ → Place → ℕ} {jobs prices : List ℕ} {seats : List Place} {rents : List ℕ} {free : List Place} {L F R L' F' R' : List ℕ} {E E' : Exit} {top s n : ℕ} → Settles cost jobs prices seats rents free L F R L' F' R' E E' top s n → (c : ℕ) → c < n → get_or L' c 0 < FAR → get_or L' c 0 + get_or prices (get_or F' c 0) 0 ≡ get_or L' (get_or F' c 0) 0 + (cost (get_or jobs (get_or F' c 0) 0) (get_or seats c nowhere) + get_or rents c 0)
+edge_now : {cost : ℕ → Place → ℕ} {jobs prices : List ℕ} {columns : List Place} {duals : List ℕ} {free : List Place} {L F R L' F' R' : List ℕ} {E E' : Exit} {top s n : ℕ} → Settles cost jobs prices columns duals free L F R L' F' R' E E' top s n → (c : ℕ) → c < n → get_or L' c 0 < FAR → get_or L' c 0 + get_or prices (get_or F' c 0) 0 ≡ get_or L' (get_or F' c 0) 0 + (cost (get_or jobs (get_or F' c 0) 0) (get_or columns c nowhere) + get_or duals c 0)
 edge_now {L} {F} {s} {n} h c lt near = elim (relaxed_either _ _ _ _ _ _ _ _ (h.relaxed c lt)) [
   | inl k ↦
       let was = was_settled h (get_or F c 0) (h.old.origin_settled c lt) in
@@ -185,13 +185,13 @@ edge_now {L} {F} {s} {n} h c lt near = elim (relaxed_either _ _ _ _ _ _ _ _ (h.r
       rw (k.2, k.1, same) (omega arith)
 ]
 
-ranked_now : {cost : ℕ → Place → ℕ} {jobs prices : List ℕ} {seats : List Place} {rents : List ℕ} {free : List Place} {L F R L' F' R' : List ℕ} {E E' : Exit} {top s n : ℕ} → Settles cost jobs prices seats rents free L F R L' F' R' E E' top s n → (q : ℕ) → q ≤ n → get_or R' q 0 ≢ UNSETTLED → get_or R' q 0 < top + 1
+ranked_now : {cost : ℕ → Place → ℕ} {jobs prices : List ℕ} {columns : List Place} {duals : List ℕ} {free : List Place} {L F R L' F' R' : List ℕ} {E E' : Exit} {top s n : ℕ} → Settles cost jobs prices columns duals free L F R L' F' R' E E' top s n → (q : ℕ) → q ≤ n → get_or R' q 0 ≢ UNSETTLED → get_or R' q 0 < top + 1
 ranked_now h q le ne = elim (settled_now h q ne) [
   | inl e ↦ rw (e, h.rank_same) (omega arith)
   | inr d ↦ let old = h.old.ranked q le d.1 in let at = h.rank_other q d.0 in omega arith
 ]
 
-exit_now : {cost : ℕ → Place → ℕ} {jobs prices : List ℕ} {seats : List Place} {rents : List ℕ} {free : List Place} {L F R L' F' R' : List ℕ} {E E' : Exit} {top s n : ℕ} → Settles cost jobs prices seats rents free L F R L' F' R' E E' top s n → (E'.from ≤ n) × (get_or R' E'.from 0 ≢ UNSETTLED) × (E'.place < length free) × (E'.length + get_or prices E'.from 0 ≡ get_or L' E'.from 0 + cost (get_or jobs E'.from 0) (get_or free E'.place nowhere))
+exit_now : {cost : ℕ → Place → ℕ} {jobs prices : List ℕ} {columns : List Place} {duals : List ℕ} {free : List Place} {L F R L' F' R' : List ℕ} {E E' : Exit} {top s n : ℕ} → Settles cost jobs prices columns duals free L F R L' F' R' E E' top s n → (E'.from ≤ n) × (get_or R' E'.from 0 ≢ UNSETTLED) × (E'.place < length free) × (E'.length + get_or prices E'.from 0 ≡ get_or L' E'.from 0 + cost (get_or jobs E'.from 0) (get_or free E'.place nowhere))
 exit_now {cost} {jobs} {prices} {free} {L} {L'} {R'} {E} {E'} {s} {n} h = elim h.exit_edge [
   | inl e ↦
       let was = was_settled h E.from h.old.exit_settled in
@@ -206,7 +206,7 @@ exit_now {cost} {jobs} {prices} {free} {L} {L'} {R'} {E} {E'} {s} {n} h = elim h
 ]
 
 -- the search goes on
-pub searched_now : {cost : ℕ → Place → ℕ} {jobs prices : List ℕ} {seats : List Place} {rents : List ℕ} {free : List Place} {L F R L' F' R' : List ℕ} {E E' : Exit} {top s n : ℕ} → Settles cost jobs prices seats rents free L F R L' F' R' E E' top s n → get_or R' n 0 ≡ 0 → IsSearched cost jobs prices seats rents free L' F' R' E' (top + 1) n
+pub searched_now : {cost : ℕ → Place → ℕ} {jobs prices : List ℕ} {columns : List Place} {duals : List ℕ} {free : List Place} {L F R L' F' R' : List ℕ} {E E' : Exit} {top s n : ℕ} → Settles cost jobs prices columns duals free L F R L' F' R' E E' top s n → get_or R' n 0 ≡ 0 → IsSearched cost jobs prices columns duals free L' F' R' E' (top + 1) n
 searched_now h root = record {
   root = h.rest ∙ h.old.root;
   root_rank = root;
@@ -228,7 +228,7 @@ searched_now h root = record {
 }
 
 -- and so are the free places' distances kept
-pub nears_now : {cost : ℕ → Place → ℕ} {jobs prices : List ℕ} {seats : List Place} {rents : List ℕ} {free : List Place} {L F R L' F' R' : List ℕ} {E E' : Exit} {top s n : ℕ} → Settles cost jobs prices seats rents free L F R L' F' R' E E' top s n → (N N' : List ℕ) → AreNears cost jobs prices free L R N n → length N' ≡ length free
+pub nears_now : {cost : ℕ → Place → ℕ} {jobs prices : List ℕ} {columns : List Place} {duals : List ℕ} {free : List Place} {L F R L' F' R' : List ℕ} {E E' : Exit} {top s n : ℕ} → Settles cost jobs prices columns duals free L F R L' F' R' E E' top s n → (N N' : List ℕ) → AreNears cost jobs prices free L R N n → length N' ≡ length free
     → ((f : ℕ) → f < length free → get_or N' f 0 ≤ get_or N f 0)
     → ((f : ℕ) → f < length free → get_or N' f 0 ≤ get_or L s 0 + (cost (get_or jobs s 0) (get_or free f nowhere) - get_or prices s 0))
     → AreNears cost jobs prices free L' R' N' n

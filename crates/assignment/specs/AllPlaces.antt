@@ -16,6 +16,6 @@ pub record CanFill (costs : Costs) : Type 0 where
   pub rises : (job device after before : ℕ) → job < vec_len costs.rows → device < vec_len costs.waits → after < before → cost_of costs job (place_on device before) < UNABLE → cost_of costs job (place_on device after) < cost_of costs job (place_on device before)
 
 -- of so many places on each device just those are free that aren't used
-pub record ShowsAll (costs : Costs) (seats free : List Place) : Type 0 where
-  pub there : (device after : ℕ) → device < vec_len costs.waits → taken device seats ≤ after → after ≤ vec_len costs.rows → Contains free (place_on device after)
-  pub only : (place : Place) → Contains free place → (place.device < vec_len costs.waits) × (taken place.device seats ≤ place.after)
+pub record ShowsAll (costs : Costs) (columns free : List Place) : Type 0 where
+  pub there : (device after : ℕ) → device < vec_len costs.waits → taken device columns ≤ after → after ≤ vec_len costs.rows → Contains free (place_on device after)
+  pub only : (place : Place) → Contains free place → (place.device < vec_len costs.waits) × (taken place.device columns ≤ place.after)

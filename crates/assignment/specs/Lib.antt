@@ -1,9 +1,9 @@
 pub mod Costs
-pub mod Seating
+pub mod Matching
 pub mod Search
 pub mod Layout
 pub mod Entries
 pub mod Answer
 pub mod AllPlaces
-pub mod Lanes
+pub mod DeviceColumns
 pub mod Begun

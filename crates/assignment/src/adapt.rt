@@ -1,13 +1,13 @@
-//! The last plan's seats under the next waits. None of it needs a proof, since it only makes a hint
+//! The last plan's columns under the next waits. None of it needs a proof, since it only makes a hint
 //! better.
 //!
 //! Prices fall by the time gone, or by as much more or less as makes them fair. A device that is late
-//! gives up its first jobs, whose rents would be below nothing. The next place of one that is early may
+//! gives up its first jobs, whose duals would be below nothing. The next place of one that is early may
 //! be better for a job than its own: then jobs move, as if a job there had left.
 
 use crate::costs::{Costs, Place, cost, on_device};
-use crate::recall::drop_seat;
-use crate::seating::Seating;
+use crate::matching::Matching;
+use crate::recall::drop_column;
 use crate::vacancy::vacate;
 use std::alloc::{AllocError, Global};
 
@@ -19,20 +19,20 @@ const MOST_FILLED: usize = 2;
 pub(crate) fn adapt(
     alloc: Global,
     costs: &Costs,
-    seating: &mut Seating,
+    matching: &mut Matching,
     before: &[u64],
     gone: u64,
 ) -> Result<(), AllocError> {
-    let mut early = next_places(alloc, costs, seating)?;
+    let mut early = next_places(alloc, costs, matching)?;
     early.retain(|place| is_early(costs, before, place.device, gone));
-    let less = fall(costs, seating, &early, gone);
-    for price in seating.prices.iter_mut() {
+    let less = fall(costs, matching, &early, gone);
+    for price in matching.prices.iter_mut() {
         *price = (*price).saturating_sub(less);
     }
-    let most = kept_places(alloc, costs, seating)?;
-    drop_before(seating, &most);
-    set_rents(costs, seating);
-    fill_early(alloc, costs, seating, &early)
+    let most = kept_places(alloc, costs, matching)?;
+    drop_before(matching, &most);
+    set_duals(costs, matching);
+    fill_early(alloc, costs, matching, &early)
 }
 
 /// Whether a device is free sooner than the last plan had it, with the time gone taken off.
@@ -41,12 +41,16 @@ fn is_early(costs: &Costs, before: &[u64], device: usize, gone: u64) -> bool {
 }
 
 /// The next place of each device.
-fn next_places(alloc: Global, costs: &Costs, seating: &Seating) -> Result<Vec<Place>, AllocError> {
+fn next_places(
+    alloc: Global,
+    costs: &Costs,
+    matching: &Matching,
+) -> Result<Vec<Place>, AllocError> {
     let mut places = Vec::with_capacity(alloc, costs.waits.len())?;
     for device in 0..costs.waits.len() {
         places.push(Place { device, after: 0 })?;
     }
-    for place in &seating.seats {
+    for place in &matching.columns {
         if let Some(next) = places.get_mut(place.device) {
             next.after = next.after.saturating_add(1);
         }
@@ -55,13 +59,13 @@ fn next_places(alloc: Global, costs: &Costs, seating: &Seating) -> Result<Vec<Pl
 }
 
 /// By how much prices fall: by the time gone, unless more is needed for the places that are free early,
-/// or less for the rents.
-fn fall(costs: &Costs, seating: &Seating, early: &[Place], gone: u64) -> u64 {
+/// or less for the duals.
+fn fall(costs: &Costs, matching: &Matching, early: &[Place], gone: u64) -> u64 {
     let mut least = 0;
     let mut most = u64::MAX;
-    for (seat, place) in seating.seats.iter().enumerate() {
-        let job = seating.jobs.get(seat).copied().unwrap_or(0);
-        let price = seating.prices.get(seat).copied().unwrap_or(0);
+    for (column, place) in matching.columns.iter().enumerate() {
+        let job = matching.jobs.get(column).copied().unwrap_or(0);
+        let price = matching.prices.get(column).copied().unwrap_or(0);
         let row = costs.row(job);
         most = most.min(price.saturating_sub(cost(&costs.waits, row, *place)));
         least = least.max(excess(costs, row, price, early));
@@ -82,19 +86,19 @@ fn excess(costs: &Costs, row: &[u64], price: u64, places: &[Place]) -> u64 {
     most
 }
 
-/// The cost of the job of a seat there.
-fn cost_at_seat(costs: &Costs, seating: &Seating, seat: usize, place: Place) -> u64 {
-    let job = seating.jobs.get(seat).copied().unwrap_or(0);
+/// The cost of the job of a column there.
+fn cost_at_column(costs: &Costs, matching: &Matching, column: usize, place: Place) -> u64 {
+    let job = matching.jobs.get(column).copied().unwrap_or(0);
     cost(&costs.waits, costs.row(job), place)
 }
 
 /// How many places each device keeps, where each job whose place costs more than it is charged is given
 /// up, and those before it are too.
-fn kept_places(alloc: Global, costs: &Costs, seating: &Seating) -> Result<Vec<u64>, AllocError> {
+fn kept_places(alloc: Global, costs: &Costs, matching: &Matching) -> Result<Vec<u64>, AllocError> {
     let mut most = vec![in alloc; u64::MAX; costs.waits.len()]?;
-    for (seat, place) in seating.seats.iter().enumerate() {
-        let price = seating.prices.get(seat).copied().unwrap_or(0);
-        if price < cost_at_seat(costs, seating, seat, *place) {
+    for (column, place) in matching.columns.iter().enumerate() {
+        let price = matching.prices.get(column).copied().unwrap_or(0);
+        if price < cost_at_column(costs, matching, column, *place) {
             lower_to(&mut most, *place);
         }
     }
@@ -108,28 +112,28 @@ fn lower_to(most: &mut [u64], place: Place) {
     }
 }
 
-/// Takes out the seats that have so many places after them.
-fn drop_before(seating: &mut Seating, most: &[u64]) {
-    for seat in (0..seating.seats.len()).rev() {
-        let Some(place) = seating.seats.get(seat).copied() else {
+/// Takes out the columns that have so many places after them.
+fn drop_before(matching: &mut Matching, most: &[u64]) {
+    for column in (0..matching.columns.len()).rev() {
+        let Some(place) = matching.columns.get(column).copied() else {
             return;
         };
         if place.after >= most.get(place.device).copied().unwrap_or(0) {
-            drop_seat(seating, seat);
+            drop_column(matching, column);
         }
     }
 }
 
-/// Sets each rent to what is charged above the cost.
-fn set_rents(costs: &Costs, seating: &mut Seating) {
-    for seat in 0..seating.seats.len() {
-        let Some(place) = seating.seats.get(seat).copied() else {
+/// Sets each dual to what is charged above the cost.
+fn set_duals(costs: &Costs, matching: &mut Matching) {
+    for column in 0..matching.columns.len() {
+        let Some(place) = matching.columns.get(column).copied() else {
             return;
         };
-        let price = seating.prices.get(seat).copied().unwrap_or(0);
-        let charge = cost_at_seat(costs, seating, seat, place);
-        if let Some(rent) = seating.rents.get_mut(seat) {
-            *rent = price.saturating_sub(charge);
+        let price = matching.prices.get(column).copied().unwrap_or(0);
+        let charge = cost_at_column(costs, matching, column, place);
+        if let Some(dual) = matching.duals.get_mut(column) {
+            *dual = price.saturating_sub(charge);
         }
     }
 }
@@ -139,41 +143,41 @@ fn set_rents(costs: &Costs, seating: &mut Seating) {
 fn fill_early(
     alloc: Global,
     costs: &Costs,
-    seating: &mut Seating,
+    matching: &mut Matching,
     early: &[Place],
 ) -> Result<(), AllocError> {
     let mut filled = 0;
     for place in early {
-        let rent = rent_wanted(costs, seating, *place);
-        if rent > 0 && filled < MOST_FILLED {
+        let dual = dual_wanted(costs, matching, *place);
+        if dual > 0 && filled < MOST_FILLED {
             filled += 1;
-            fill(alloc, costs, seating, *place, rent)?;
+            fill(alloc, costs, matching, *place, dual)?;
         }
     }
     Ok(())
 }
 
-/// The least rent of a free place with which no job is better off there.
-fn rent_wanted(costs: &Costs, seating: &Seating, place: Place) -> u64 {
-    let mut rent: u64 = 0;
-    for (seat, price) in seating.prices.iter().enumerate() {
-        rent = rent.max((*price).saturating_sub(cost_at_seat(costs, seating, seat, place)));
+/// The least dual of a free place with which no job is better off there.
+fn dual_wanted(costs: &Costs, matching: &Matching, place: Place) -> u64 {
+    let mut dual: u64 = 0;
+    for (column, price) in matching.prices.iter().enumerate() {
+        dual = dual.max((*price).saturating_sub(cost_at_column(costs, matching, column, place)));
     }
-    rent
+    dual
 }
 
-/// Fills a free place as if a job had sat there at this rent and left.
+/// Fills a free place as if a job had been matched to it at this dual and left.
 fn fill(
     alloc: Global,
     costs: &Costs,
-    seating: &mut Seating,
+    matching: &mut Matching,
     place: Place,
-    rent: u64,
+    dual: u64,
 ) -> Result<(), AllocError> {
-    let seat = seating.seats.len();
-    seating.seats.push(place)?;
-    seating.rents.push(rent)?;
-    seating.jobs.push(usize::MAX)?;
-    seating.prices.push(0)?;
-    vacate(alloc, costs, seating, seat)
+    let column = matching.columns.len();
+    matching.columns.push(place)?;
+    matching.duals.push(dual)?;
+    matching.jobs.push(usize::MAX)?;
+    matching.prices.push(0)?;
+    vacate(alloc, costs, matching, column)
 }

@@ -4,16 +4,16 @@ ghost use Rattle.std.specs.List.{range_with_len};
 ghost use Rattle.std.specs.List.Sorted.{IsPermutation};
 ghost use Rattle.assignment.specs.declared.costs.Place.{Place};
 ghost use Rattle.assignment.specs.Costs.{cost_of, nowhere};
-ghost use Rattle.assignment.specs.Seating.{IsSeated};
-ghost use Rattle.assignment.specs.Lanes.{IsLaned};
+ghost use Rattle.assignment.specs.Matching.{IsFairlyMatched};
+ghost use Rattle.assignment.specs.DeviceColumns.{AreByDevice};
 ghost use Rattle.assignment.specs.Layout.{IsFilled, IsLaid};
 ghost use Rattle.assignment.specs.AllPlaces.{CanFill, ShowsAll, place_on};
 
 use crate::costs::{Costs, Place};
+use crate::device_columns::{DeviceColumns, add_to_device, no_columns};
 use crate::hint::Hint;
-use crate::lanes::{Lane, add_to_lane, empty_lanes};
+use crate::matching::{Matching, augment};
 use crate::order::longest_first;
-use crate::seating::{Seating, insert};
 use crate::solver::solve;
 use std::alloc::{AllocError, Global};
 
@@ -24,14 +24,14 @@ pub(crate) enum Shown {
     All,
 }
 
-/// Seats all jobs, one by one, where each device shows these free places. The hint is of use where it
+/// Matches all jobs, one by one, where each device shows these free places. The hint is of use where it
 /// is the next one alone.
-pub(crate) fn seat_all(
+pub(crate) fn match_all(
     alloc: Global,
     costs: &Costs,
     shown: Shown,
     hint: &Hint,
-) -> Result<Seating, AllocError>
+) -> Result<Matching, AllocError>
     requires { CanFill costs.now }
     ensures filled { IfOk result (λ s. IsFilled costs.now s) }
     ensures all { IfOk result (λ s. IsPermutation (range_with_len 0 (vec_len costs.now.rows)) s.jobs.items) }
@@ -42,56 +42,63 @@ pub(crate) fn seat_all(
     }
 }
 
-/// Seats all jobs, one by one, where each device shows all its free places.
-fn solve_densely(alloc: Global, costs: &Costs) -> Result<Seating, AllocError>
+/// Matches all jobs, one by one, where each device shows all its free places.
+fn solve_densely(alloc: Global, costs: &Costs) -> Result<Matching, AllocError>
     requires { CanFill costs.now }
     ensures filled { IfOk result (λ s. IsFilled costs.now s) }
     ensures all { IfOk result (λ s. IsPermutation (range_with_len 0 (vec_len costs.now.rows)) s.jobs.items) }
 {
     let order = longest_first(alloc, costs)?;
     let mut free = all_places(alloc, costs.waits.len(), costs.rows.len())?;
-    let mut lanes = empty_lanes(alloc, costs.waits.len())?;
-    let mut seating = Seating {
-        seats: Vec::new(alloc),
-        rents: Vec::new(alloc),
+    let mut by_device = no_columns(alloc, costs.waits.len())?;
+    let mut matching = Matching {
+        columns: Vec::new(alloc),
+        duals: Vec::new(alloc),
         jobs: Vec::new(alloc),
         prices: Vec::new(alloc),
     };
     for place in 0..order.len() {
-        free = seat_among(alloc, costs, &mut lanes, &mut seating, &free, order[place])?;
+        free = match_among(
+            alloc,
+            costs,
+            &mut by_device,
+            &mut matching,
+            &free,
+            order[place],
+        )?;
     }
-    Ok(seating)
+    Ok(matching)
 }
 
-/// Seats one job more at one of the free places, and gives those that are left.
-fn seat_among(
+/// Matches one job more at one of the free places, and gives those that are left.
+fn match_among(
     alloc: Global,
     costs: &Costs,
-    lanes: &mut [Lane],
-    seating: &mut Seating,
+    by_device: &mut [DeviceColumns],
+    matching: &mut Matching,
     free: &[Place],
     job: usize,
 ) -> Result<Vec<Place>, AllocError>
     requires fill { CanFill costs.now }
     requires job { job < vec_len costs.now.rows }
-    requires room { vec_len seating.old.seats < vec_len costs.now.rows }
-    requires known { All (λ j. j < vec_len costs.now.rows) seating.old.jobs.items }
-    requires seated { IsSeated (cost_of costs.now) seating.old free.now }
-    requires laid { IsLaid (vec_len costs.now.waits) seating.old.seats.items }
-    requires laned { IsLaned (vec_len costs.now.waits) seating.old.seats.items lanes.old }
-    requires shows { ShowsAll costs.now seating.old.seats.items free.now }
-    ensures known { IfOk result (λ _. All (λ j. j < vec_len costs.now.rows) seating.new.jobs.items) }
-    ensures count { IfOk result (λ _. vec_len seating.new.seats ≡ vec_len seating.old.seats + 1) }
-    ensures seated { IfOk result (λ left. IsSeated (cost_of costs.now) seating.new left.items) }
-    ensures laid { IfOk result (λ _. IsLaid (vec_len costs.now.waits) seating.new.seats.items) }
-    ensures laned { IfOk result (λ _. IsLaned (vec_len costs.now.waits) seating.new.seats.items lanes.new) }
-    ensures shows { IfOk result (λ left. ShowsAll costs.now seating.new.seats.items left.items) }
-    ensures jobs { IfOk result (λ _. IsPermutation (seating.old.jobs.items ++ job ∷ []) seating.new.jobs.items) }
+    requires room { vec_len matching.old.columns < vec_len costs.now.rows }
+    requires known { All (λ j. j < vec_len costs.now.rows) matching.old.jobs.items }
+    requires matched { IsFairlyMatched (cost_of costs.now) matching.old free.now }
+    requires laid { IsLaid (vec_len costs.now.waits) matching.old.columns.items }
+    requires by_device { AreByDevice (vec_len costs.now.waits) matching.old.columns.items by_device.old }
+    requires shows { ShowsAll costs.now matching.old.columns.items free.now }
+    ensures known { IfOk result (λ _. All (λ j. j < vec_len costs.now.rows) matching.new.jobs.items) }
+    ensures count { IfOk result (λ _. vec_len matching.new.columns ≡ vec_len matching.old.columns + 1) }
+    ensures matched { IfOk result (λ left. IsFairlyMatched (cost_of costs.now) matching.new left.items) }
+    ensures laid { IfOk result (λ _. IsLaid (vec_len costs.now.waits) matching.new.columns.items) }
+    ensures by_device { IfOk result (λ _. AreByDevice (vec_len costs.now.waits) matching.new.columns.items by_device.new) }
+    ensures shows { IfOk result (λ left. ShowsAll costs.now matching.new.columns.items left.items) }
+    ensures jobs { IfOk result (λ _. IsPermutation (matching.old.jobs.items ++ job ∷ []) matching.new.jobs.items) }
 {
-    let seat = seating.seats.len();
-    let at = insert(alloc, costs, lanes, seating, free, &mut [], job)?;
+    let column = matching.columns.len();
+    let at = augment(alloc, costs, by_device, matching, free, &mut [], job)?;
     let taken = free[at];
-    add_to_lane(lanes, taken.device, seat)?;
+    add_to_device(by_device, taken.device, column)?;
     let left = without(alloc, free, taken)?;
     Ok(left)
 }

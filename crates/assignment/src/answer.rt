@@ -1,25 +1,25 @@
-//! The answer of a planner: a priced way, made of who sits where and at which rents.
+//! The answer of a planner: a priced way, made of a matching.
 ghost use Rattle.std.specs.Prelude.{◌≡◌, ℕ, ◌^◌, ◌<◌, ◌≤◌, IfOk, List, length, map, pos, slice_index, sum, vec_len};
 ghost use Rattle.std.specs.List.{range_with_len};
 ghost use Rattle.std.specs.List.Sorted.{IsPermutation};
-ghost use Rattle.assignment.specs.Answer.{cost_of_seats, place_prices_of, price_of_rent, queue_of_seats, rents_of_seats, way_of};
+ghost use Rattle.assignment.specs.Answer.{cost_of_columns, place_prices_of, price_of_dual, queue_of_columns, duals_of_columns, way_of};
 
 use crate::costs::{Costs, UNABLE, cost};
-use crate::seating::Seating;
+use crate::matching::Matching;
 use crate::times::Entries;
 use base_types::JobId;
 use prices::{PlacePrices, Prices, Queue, Way};
 use std::alloc::{AllocError, Global};
 
-/// The way of a seating: each device prints the jobs of its seats, the latest seat first.
-pub(crate) fn way(alloc: Global, entries: &Entries, seating: &Seating) -> Result<Way, AllocError>
-    requires jobs_len { vec_len seating.now.jobs ≡ vec_len seating.now.seats }
-    requires known { (c : ℕ) → c < vec_len seating.now.jobs → slice_index seating.now.jobs.items c < vec_len entries.now.ids }
-    ensures { IfOk result (λ way. way ≡ way_of entries.now seating.now) }
+/// The way of a matching: each device prints the jobs of its columns, the latest column first.
+pub(crate) fn way(alloc: Global, entries: &Entries, matching: &Matching) -> Result<Way, AllocError>
+    requires jobs_len { vec_len matching.now.jobs ≡ vec_len matching.now.columns }
+    requires known { (c : ℕ) → c < vec_len matching.now.jobs → slice_index matching.now.jobs.items c < vec_len entries.now.ids }
+    ensures { IfOk result (λ way. way ≡ way_of entries.now matching.now) }
 {
     let mut queues = Vec::new(alloc);
     for device in 0..entries.costs.waits.len() {
-        queues.push(queue(alloc, &entries.ids, seating, device)?)?;
+        queues.push(queue(alloc, &entries.ids, matching, device)?)?;
     }
     Ok(Way::new(queues))
 }
@@ -28,17 +28,17 @@ pub(crate) fn way(alloc: Global, entries: &Entries, seating: &Seating) -> Result
 fn queue(
     alloc: Global,
     ids: &[JobId],
-    seating: &Seating,
+    matching: &Matching,
     device: usize,
 ) -> Result<Queue, AllocError>
-    requires jobs_len { vec_len seating.now.jobs ≡ vec_len seating.now.seats }
-    requires known { (c : ℕ) → c < vec_len seating.now.jobs → slice_index seating.now.jobs.items c < length ids.now }
-    ensures { IfOk result (λ queue. queue ≡ queue_of_seats device ids.now seating.now.seats.items seating.now.jobs.items (vec_len seating.now.seats)) }
+    requires jobs_len { vec_len matching.now.jobs ≡ vec_len matching.now.columns }
+    requires known { (c : ℕ) → c < vec_len matching.now.jobs → slice_index matching.now.jobs.items c < length ids.now }
+    ensures { IfOk result (λ queue. queue ≡ queue_of_columns device ids.now matching.now.columns.items matching.now.jobs.items (vec_len matching.now.columns)) }
 {
     let mut jobs = Vec::new(alloc);
-    for seat in (0..seating.seats.len()).rev() {
-        if seating.seats[seat].device == device {
-            jobs.push(ids[seating.jobs[seat]])?;
+    for column in (0..matching.columns.len()).rev() {
+        if matching.columns[column].device == device {
+            jobs.push(ids[matching.jobs[column]])?;
         }
     }
     Ok(Queue::new(jobs))
@@ -48,21 +48,21 @@ fn queue(
 pub(crate) fn prices(
     alloc: Global,
     entries: &Entries,
-    seating: &Seating,
+    matching: &Matching,
 ) -> Result<Prices, AllocError>
-    requires sizes { (vec_len seating.now.prices ≡ vec_len seating.now.jobs) × (vec_len seating.now.rents ≡ vec_len seating.now.seats) }
-    requires all { IsPermutation (range_with_len 0 (vec_len seating.now.jobs)) seating.now.jobs.items }
-    requires prices_low { (q : ℕ) → q < vec_len seating.now.prices → slice_index seating.now.prices.items q ≤ UNABLE }
-    requires rents_low { (c : ℕ) → c < vec_len seating.now.rents → slice_index seating.now.rents.items c ≤ UNABLE }
-    ensures jobs { IfOk result (λ p. (u : List ℕ) × (length u ≡ vec_len seating.now.jobs) × (p.jobs ≡ map pos u) × (sum u ≡ sum seating.now.prices.items)
-        × ((c : ℕ) → c < vec_len seating.now.jobs → slice_index u (slice_index seating.now.jobs.items c) ≡ slice_index seating.now.prices.items c)) }
-    ensures places { IfOk result (λ p. p.places ≡ place_prices_of entries.now seating.now) }
+    requires sizes { (vec_len matching.now.prices ≡ vec_len matching.now.jobs) × (vec_len matching.now.duals ≡ vec_len matching.now.columns) }
+    requires all { IsPermutation (range_with_len 0 (vec_len matching.now.jobs)) matching.now.jobs.items }
+    requires prices_low { (q : ℕ) → q < vec_len matching.now.prices → slice_index matching.now.prices.items q ≤ UNABLE }
+    requires duals_low { (c : ℕ) → c < vec_len matching.now.duals → slice_index matching.now.duals.items c ≤ UNABLE }
+    ensures jobs { IfOk result (λ p. (u : List ℕ) × (length u ≡ vec_len matching.now.jobs) × (p.jobs ≡ map pos u) × (sum u ≡ sum matching.now.prices.items)
+        × ((c : ℕ) → c < vec_len matching.now.jobs → slice_index u (slice_index matching.now.jobs.items c) ≡ slice_index matching.now.prices.items c)) }
+    ensures places { IfOk result (λ p. p.places ≡ place_prices_of entries.now matching.now) }
 {
-    let charged = by_job(alloc, &seating.jobs, &seating.prices)?;
+    let charged = by_job(alloc, &matching.jobs, &matching.prices)?;
     let jobs = signed(alloc, &charged)?;
     let mut places = Vec::new(alloc);
     for device in 0..entries.costs.waits.len() {
-        places.push(place_prices(alloc, seating, device)?)?;
+        places.push(place_prices(alloc, matching, device)?)?;
     }
     Ok(Prices::new(jobs, places))
 }
@@ -97,33 +97,37 @@ fn signed(alloc: Global, values: &[u64]) -> Result<Vec<i64>, AllocError>
     Ok(signed)
 }
 
-/// The prices of a device's used places, the last place first: its rents, taken off.
-fn place_prices(alloc: Global, seating: &Seating, device: usize) -> Result<PlacePrices, AllocError>
-    requires len { vec_len seating.now.rents ≡ vec_len seating.now.seats }
-    requires low { (c : ℕ) → c < vec_len seating.now.rents → slice_index seating.now.rents.items c ≤ UNABLE }
-    ensures { IfOk result (λ prices. prices ≡ map price_of_rent (rents_of_seats device seating.now.seats.items seating.now.rents.items (vec_len seating.now.seats))) }
+/// The prices of a device's used places, the last place first: the duals of its columns, below 0.
+fn place_prices(
+    alloc: Global,
+    matching: &Matching,
+    device: usize,
+) -> Result<PlacePrices, AllocError>
+    requires len { vec_len matching.now.duals ≡ vec_len matching.now.columns }
+    requires low { (c : ℕ) → c < vec_len matching.now.duals → slice_index matching.now.duals.items c ≤ UNABLE }
+    ensures { IfOk result (λ prices. prices ≡ map price_of_dual (duals_of_columns device matching.now.columns.items matching.now.duals.items (vec_len matching.now.columns))) }
 {
     let mut prices = Vec::new(alloc);
-    for seat in 0..seating.seats.len() {
-        if seating.seats[seat].device == device {
-            prices.push(-(seating.rents[seat] as i64))?;
+    for column in 0..matching.columns.len() {
+        if matching.columns[column].device == device {
+            prices.push(-(matching.duals[column] as i64))?;
         }
     }
     Ok(PlacePrices::new(prices))
 }
 
-/// What the seated jobs cost at their places.
-pub(crate) fn total(costs: &Costs, seating: &Seating) -> u64
-    requires len { vec_len seating.now.jobs ≡ vec_len seating.now.seats }
-    requires fits { cost_of_seats costs.now seating.now.seats.items seating.now.jobs.items (vec_len seating.now.seats) < 2 ^ 64 }
-    ensures { result ≡ cost_of_seats costs.now seating.now.seats.items seating.now.jobs.items (vec_len seating.now.seats) }
+/// What the matched jobs cost at their places.
+pub(crate) fn total(costs: &Costs, matching: &Matching) -> u64
+    requires len { vec_len matching.now.jobs ≡ vec_len matching.now.columns }
+    requires fits { cost_of_columns costs.now matching.now.columns.items matching.now.jobs.items (vec_len matching.now.columns) < 2 ^ 64 }
+    ensures { result ≡ cost_of_columns costs.now matching.now.columns.items matching.now.jobs.items (vec_len matching.now.columns) }
 {
     let mut sum = 0;
-    for seat in 0..seating.seats.len() {
+    for column in 0..matching.columns.len() {
         sum += cost(
             &costs.waits,
-            costs.row(seating.jobs[seat]),
-            seating.seats[seat],
+            costs.row(matching.jobs[column]),
+            matching.columns[column],
         );
     }
     sum

@@ -6,32 +6,32 @@ ghost use Rattle.std.specs.List.Sorted.{IsPermutation};
 ghost use Rattle.assignment.specs.Begun.{IsBegun, IsLaidOut};
 
 use crate::costs::{Costs, Place, UNABLE, cost};
+use crate::device_columns::{DeviceColumns, add_to_device, no_columns};
 use crate::fit::fits;
 use crate::free_places::{advance, last_places};
 use crate::hint::Hint;
-use crate::lanes::{Lane, add_to_lane, empty_lanes};
+use crate::matching::Matching;
 use crate::order::{hinted_first, longest_first};
-use crate::seating::Seating;
 use std::alloc::{AllocError, Global};
 
 /// How often jobs are given up and the others looked at again, before all are given up.
 const ROUNDS: u64 = 4;
 
-/// What stands between two jobs that are seated, and the jobs that have no seat yet.
+/// What stands between two jobs that are matched, and the jobs that have no column yet.
 #[derive(Debug, Drop)]
 pub(crate) struct Begun {
-    pub(crate) seating: Seating,
-    pub(crate) lanes: Vec<Lane>,
+    pub(crate) matching: Matching,
+    pub(crate) by_device: Vec<DeviceColumns>,
     pub(crate) free: Vec<Place>,
     pub(crate) slacks: Vec<u64>,
     pub(crate) left: Vec<usize>,
 }
 
-/// What a job can keep: the next place of a device, at this rent.
+/// What a job can keep: the next place of a device, at this dual.
 #[derive(Clone, Copy, Debug)]
 struct Stay {
     device: usize,
-    rent: u64,
+    dual: u64,
 }
 
 /// The jobs that stay where the hint says, and all others left. Prices are fair whatever the hint
@@ -50,36 +50,36 @@ pub(crate) fn begin_by(alloc: Global, costs: &Costs, hint: &Hint) -> Result<Begu
             return Ok(begun);
         }
     }
-    nothing_seated(alloc, costs, longest_first(alloc, costs)?)
+    nothing_matched(alloc, costs, longest_first(alloc, costs)?)
 }
 
-/// Whether so few jobs are left that to seat them among the others takes less time than to seat all
+/// Whether so few jobs are left that to match them among the others takes less time than to match all
 /// anew.
 fn is_worth(begun: &Begun) -> bool {
-    let seats = begun.seating.seats.len();
+    let columns = begun.matching.columns.len();
     let left = begun.left.len();
-    left <= seats / 4 && left <= seats / 48 + 3
+    left <= columns / 4 && left <= columns / 48 + 3
 }
 
-/// No job in any seat, and these left.
-fn nothing_seated(alloc: Global, costs: &Costs, left: Vec<usize>) -> Result<Begun, AllocError>
+/// No job is matched, and these are left.
+fn nothing_matched(alloc: Global, costs: &Costs, left: Vec<usize>) -> Result<Begun, AllocError>
     ensures laid_out { IfOk result (λ b. IsLaidOut costs.now b) }
     ensures begun { IfOk result (λ b. IsPermutation (range_with_len 0 (vec_len costs.now.rows)) left.items → IsBegun costs.now b) }
-    ensures jobs { IfOk result (λ b. b.seating.jobs.items ≡ []) }
+    ensures jobs { IfOk result (λ b. b.matching.jobs.items ≡ []) }
     ensures left { IfOk result (λ b. b.left ≡ left) }
 {
     let free = last_places(alloc, costs.waits.len())?;
     let slacks = vec![in alloc; UNABLE; costs.waits.len()]?;
-    let lanes = empty_lanes(alloc, costs.waits.len())?;
-    let seating = Seating {
-        seats: Vec::new(alloc),
-        rents: Vec::new(alloc),
+    let by_device = no_columns(alloc, costs.waits.len())?;
+    let matching = Matching {
+        columns: Vec::new(alloc),
+        duals: Vec::new(alloc),
         jobs: Vec::new(alloc),
         prices: Vec::new(alloc),
     };
     Ok(Begun {
-        seating,
-        lanes,
+        matching,
+        by_device,
         free,
         slacks,
         left,
@@ -96,17 +96,17 @@ fn laid_out(
     order: &[usize],
 ) -> Result<Begun, AllocError>
     ensures laid_out { IfOk result (λ b. IsLaidOut costs.now b) }
-    ensures jobs { IfOk result (λ b. IsPermutation order.now (b.seating.jobs.items ++ b.left.items)) }
+    ensures jobs { IfOk result (λ b. IsPermutation order.now (b.matching.jobs.items ++ b.left.items)) }
 {
-    let mut begun = nothing_seated(alloc, costs, Vec::new(alloc))?;
+    let mut begun = nothing_matched(alloc, costs, Vec::new(alloc))?;
     for place in 0..order.len() {
-        seat_or_leave(costs, hint, most, &mut begun, order[place])?;
+        match_or_leave(costs, hint, most, &mut begun, order[place])?;
     }
     Ok(begun)
 }
 
-/// Seats a job where the hint says, if it can stay there, or leaves it.
-fn seat_or_leave(
+/// Matches a job where the hint says, if it can stay there, or leaves it.
+fn match_or_leave(
     costs: &Costs,
     hint: &Hint,
     most: &[u64],
@@ -115,10 +115,10 @@ fn seat_or_leave(
 ) -> Result<(), AllocError>
     requires { IsLaidOut costs.now begun.old }
     ensures laid_out { OnOk result (IsLaidOut costs.now begun.new) }
-    ensures jobs { OnOk result (IsPermutation ((begun.old.seating.jobs.items ++ begun.old.left.items) ++ job ∷ []) (begun.new.seating.jobs.items ++ begun.new.left.items)) }
+    ensures jobs { OnOk result (IsPermutation ((begun.old.matching.jobs.items ++ begun.old.left.items) ++ job ∷ []) (begun.new.matching.jobs.items ++ begun.new.left.items)) }
 {
     match stay_of(costs, hint, most, &begun.free, job) {
-        Some(stay) => seat_at(costs, begun, job, stay),
+        Some(stay) => match_at(costs, begun, job, stay),
         None => leave(begun, job),
     }
 }
@@ -126,7 +126,7 @@ fn seat_or_leave(
 /// What the job can keep: the place that the hint says, where it is the next one of its device, and
 /// costs no more than the hint's price.
 fn stay_of(costs: &Costs, hint: &Hint, most: &[u64], free: &[Place], job: usize) -> Option<Stay>
-    ensures { IfSome result (λ s. (s.device < length free.now) × (s.rent ≤ UNABLE)) }
+    ensures { IfSome result (λ s. (s.device < length free.now) × (s.dual ≤ UNABLE)) }
 {
     let guess = hint.guess(job)?;
     let device = guess.place.device;
@@ -141,11 +141,11 @@ fn stay_of(costs: &Costs, hint: &Hint, most: &[u64], free: &[Place], job: usize)
     if guess.price < cost || guess.price > UNABLE {
         return None;
     }
-    let rent = guess.price - cost;
-    Some(Stay { device, rent })
+    let dual = guess.price - cost;
+    Some(Stay { device, dual })
 }
 
-/// Leaves a job without a seat.
+/// Leaves a job without a column.
 fn leave(begun: &mut Begun, job: usize) -> Result<(), AllocError>
     ensures same { OnOk result (begun.new ≡ record begun.old { left = begun.new.left }) }
     ensures left { OnOk result (begun.new.left.items ≡ begun.old.left.items ++ job ∷ []) }
@@ -154,22 +154,22 @@ fn leave(begun: &mut Begun, job: usize) -> Result<(), AllocError>
     Ok(())
 }
 
-/// Seats a job at the next place of a device, at a rent: it is charged both.
-fn seat_at(costs: &Costs, begun: &mut Begun, job: usize, stay: Stay) -> Result<(), AllocError>
+/// Matches a job to the next place of a device, at a dual: it is charged both.
+fn match_at(costs: &Costs, begun: &mut Begun, job: usize, stay: Stay) -> Result<(), AllocError>
     requires laid_out { IsLaidOut costs.now begun.old }
     requires device { stay.device < vec_len begun.old.free }
-    requires rent { stay.rent ≤ UNABLE }
+    requires dual { stay.dual ≤ UNABLE }
     ensures laid_out { OnOk result (IsLaidOut costs.now begun.new) }
-    ensures jobs { OnOk result ((begun.new.seating.jobs.items ≡ begun.old.seating.jobs.items ++ job ∷ []) × (begun.new.left ≡ begun.old.left)) }
+    ensures jobs { OnOk result ((begun.new.matching.jobs.items ≡ begun.old.matching.jobs.items ++ job ∷ []) × (begun.new.left ≡ begun.old.left)) }
 {
     let place = begun.free[stay.device];
-    let price = cost(&costs.waits, costs.row(job), place) + stay.rent;
-    let seat = begun.seating.seats.len();
-    add_to_lane(&mut begun.lanes, stay.device, seat)?;
+    let price = cost(&costs.waits, costs.row(job), place) + stay.dual;
+    let column = begun.matching.columns.len();
+    add_to_device(&mut begun.by_device, stay.device, column)?;
     advance(&mut begun.free, stay.device);
-    begun.seating.seats.push(place)?;
-    begun.seating.rents.push(stay.rent)?;
-    begun.seating.jobs.push(job)?;
-    begun.seating.prices.push(price)?;
+    begun.matching.columns.push(place)?;
+    begun.matching.duals.push(stay.dual)?;
+    begun.matching.jobs.push(job)?;
+    begun.matching.prices.push(price)?;
     Ok(())
 }

@@ -1,15 +1,15 @@
-//! Whether jobs in seats are charged fair prices.
+//! Whether jobs in columns are charged fair prices.
 ghost use Rattle.std.specs.Prelude.{◌≡◌, ℕ, ◌+◌, ◌<◌, ◌≤◌, [], IsTrue, length, slice_index, slice_index_or, vec_len};
 ghost use Rattle.assignment.specs.Costs.{cost_at, cost_of, nowhere};
-ghost use Rattle.assignment.specs.Lanes.{IsLane, IsLaned};
-ghost use Rattle.assignment.specs.Seating.{HasRoom, IsFair};
+ghost use Rattle.assignment.specs.DeviceColumns.{AreColumnsOf, AreByDevice};
+ghost use Rattle.assignment.specs.Matching.{HasRoom, IsFair};
 ghost use Rattle.assignment.specs.AllPlaces.{place_on};
 ghost use Rattle.assignment.specs.Begun.{IsFairAt, IsFairBeside, IsLaidOut};
 
 use crate::begun::Begun;
 use crate::costs::{Costs, Place, UNABLE, on_device};
-use crate::lanes::Lane;
-use crate::seating::{Seating, slack};
+use crate::device_columns::DeviceColumns;
+use crate::matching::{Matching, slack};
 
 /// Whether the prices are fair, also towards the free places; if so, the slacks are set. If not,
 /// `most` is lowered for each job that has a better place, to how many places come after its own.
@@ -17,11 +17,11 @@ pub(crate) fn fits(costs: &Costs, begun: &mut Begun, most: &mut [u64]) -> bool
     requires { IsLaidOut costs.now begun.old }
     ensures same { begun.new ≡ record begun.old { slacks = begun.new.slacks } }
     ensures one_each { vec_len begun.new.slacks ≡ vec_len begun.old.slacks }
-    ensures fair { IsTrue result → IsFair (cost_of costs.now) begun.old.seating.jobs.items begun.old.seating.prices.items begun.old.seating.seats.items begun.old.seating.rents.items }
-    ensures room { IsTrue result → HasRoom (cost_of costs.now) begun.old.seating.jobs.items begun.old.seating.prices.items begun.old.free.items begun.new.slacks.items }
+    ensures fair { IsTrue result → IsFair (cost_of costs.now) begun.old.matching.jobs.items begun.old.matching.prices.items begun.old.matching.columns.items begun.old.matching.duals.items }
+    ensures room { IsTrue result → HasRoom (cost_of costs.now) begun.old.matching.jobs.items begun.old.matching.prices.items begun.old.free.items begun.new.slacks.items }
 {
-    if !all_fair(costs, &begun.lanes, &begun.seating) {
-        cut_unfair(costs, &begun.lanes, &begun.seating, most);
+    if !all_fair(costs, &begun.by_device, &begun.matching) {
+        cut_unfair(costs, &begun.by_device, &begun.matching, most);
         return false;
     }
     renew_slacks(costs, begun);
@@ -32,16 +32,16 @@ pub(crate) fn fits(costs: &Costs, begun: &mut Begun, most: &mut [u64]) -> bool
 /// where no job is left, since they are of no use then.
 fn renew_slacks(costs: &Costs, begun: &mut Begun)
     requires laid_out { IsLaidOut costs.now begun.old }
-    requires fair { IsFair (cost_of costs.now) begun.old.seating.jobs.items begun.old.seating.prices.items begun.old.free.items [] }
+    requires fair { IsFair (cost_of costs.now) begun.old.matching.jobs.items begun.old.matching.prices.items begun.old.free.items [] }
     ensures same { begun.new ≡ record begun.old { slacks = begun.new.slacks } }
     ensures one_each { vec_len begun.new.slacks ≡ vec_len begun.old.slacks }
-    ensures room { HasRoom (cost_of costs.now) begun.old.seating.jobs.items begun.old.seating.prices.items begun.old.free.items begun.new.slacks.items }
+    ensures room { HasRoom (cost_of costs.now) begun.old.matching.jobs.items begun.old.matching.prices.items begun.old.free.items begun.new.slacks.items }
 {
     if begun.left.is_empty() {
         clear_slacks(&mut begun.slacks);
         return;
     }
-    set_slacks(costs, &begun.seating, &begun.free, &mut begun.slacks);
+    set_slacks(costs, &begun.matching, &begun.free, &mut begun.slacks);
 }
 
 /// Sets all slacks to 0.
@@ -55,30 +55,30 @@ fn clear_slacks(slacks: &mut [u64])
 }
 
 /// Sets the slack of each free place.
-fn set_slacks(costs: &Costs, seating: &Seating, free: &[Place], slacks: &mut [u64])
-    requires jobs { vec_len seating.now.jobs ≡ vec_len seating.now.seats }
-    requires prices { vec_len seating.now.prices ≡ vec_len seating.now.seats }
-    requires fair { IsFair (cost_of costs.now) seating.now.jobs.items seating.now.prices.items free.now [] }
+fn set_slacks(costs: &Costs, matching: &Matching, free: &[Place], slacks: &mut [u64])
+    requires jobs { vec_len matching.now.jobs ≡ vec_len matching.now.columns }
+    requires prices { vec_len matching.now.prices ≡ vec_len matching.now.columns }
+    requires fair { IsFair (cost_of costs.now) matching.now.jobs.items matching.now.prices.items free.now [] }
     requires one_each { length slacks.old ≡ length free.now }
     ensures one_each { length slacks.new ≡ length slacks.old }
-    ensures room { HasRoom (cost_of costs.now) seating.now.jobs.items seating.now.prices.items free.now slacks.new }
+    ensures room { HasRoom (cost_of costs.now) matching.now.jobs.items matching.now.prices.items free.now slacks.new }
 {
     for f in 0..free.len() {
-        slacks[f] = slack(costs, seating, free[f]);
+        slacks[f] = slack(costs, matching, free[f]);
     }
 }
 
-/// Whether no job has a better place, among the seats or the next places.
-fn all_fair(costs: &Costs, lanes: &[Lane], seating: &Seating) -> bool
-    requires jobs { vec_len seating.now.jobs ≡ vec_len seating.now.seats }
-    requires prices { vec_len seating.now.prices ≡ vec_len seating.now.seats }
-    requires rents { vec_len seating.now.rents ≡ vec_len seating.now.seats }
-    requires laned { IsLaned (vec_len costs.now.waits) seating.now.seats.items lanes.now }
-    ensures seats { IsTrue result → IsFair (cost_of costs.now) seating.now.jobs.items seating.now.prices.items seating.now.seats.items seating.now.rents.items }
-    ensures next { IsTrue result → (q : ℕ) → q < vec_len seating.now.seats → IsFairBeside costs.now lanes.now seating.now q }
+/// Whether no job has a better place, among the columns or the next places.
+fn all_fair(costs: &Costs, by_device: &[DeviceColumns], matching: &Matching) -> bool
+    requires jobs { vec_len matching.now.jobs ≡ vec_len matching.now.columns }
+    requires prices { vec_len matching.now.prices ≡ vec_len matching.now.columns }
+    requires duals { vec_len matching.now.duals ≡ vec_len matching.now.columns }
+    requires by_device { AreByDevice (vec_len costs.now.waits) matching.now.columns.items by_device.now }
+    ensures columns { IsTrue result → IsFair (cost_of costs.now) matching.now.jobs.items matching.now.prices.items matching.now.columns.items matching.now.duals.items }
+    ensures next { IsTrue result → (q : ℕ) → q < vec_len matching.now.columns → IsFairBeside costs.now by_device.now matching.now q }
 {
-    for q in 0..seating.seats.len() {
-        if !is_fair(costs, lanes, seating, q) {
+    for q in 0..matching.columns.len() {
+        if !is_fair(costs, by_device, matching, q) {
             return false;
         }
     }
@@ -86,15 +86,15 @@ fn all_fair(costs: &Costs, lanes: &[Lane], seating: &Seating) -> bool
 }
 
 /// Of each job that has a better place, its device keeps only the places after it.
-fn cut_unfair(costs: &Costs, lanes: &[Lane], seating: &Seating, most: &mut [u64])
-    requires jobs { vec_len seating.now.jobs ≡ vec_len seating.now.seats }
-    requires prices { vec_len seating.now.prices ≡ vec_len seating.now.seats }
-    requires rents { vec_len seating.now.rents ≡ vec_len seating.now.seats }
-    requires laned { IsLaned (vec_len costs.now.waits) seating.now.seats.items lanes.now }
+fn cut_unfair(costs: &Costs, by_device: &[DeviceColumns], matching: &Matching, most: &mut [u64])
+    requires jobs { vec_len matching.now.jobs ≡ vec_len matching.now.columns }
+    requires prices { vec_len matching.now.prices ≡ vec_len matching.now.columns }
+    requires duals { vec_len matching.now.duals ≡ vec_len matching.now.columns }
+    requires by_device { AreByDevice (vec_len costs.now.waits) matching.now.columns.items by_device.now }
 {
-    for q in 0..seating.seats.len() {
-        if !is_fair(costs, lanes, seating, q) {
-            cut(most, seating.seats[q]);
+    for q in 0..matching.columns.len() {
+        if !is_fair(costs, by_device, matching, q) {
+            cut(most, matching.columns[q]);
         }
     }
 }
@@ -106,55 +106,55 @@ fn cut(most: &mut [u64], place: Place) {
     }
 }
 
-/// Whether the job at `q` has no better place, among the seats or the next places.
-fn is_fair(costs: &Costs, lanes: &[Lane], seating: &Seating, q: usize) -> bool
-    requires here { q < vec_len seating.now.seats }
-    requires jobs { vec_len seating.now.jobs ≡ vec_len seating.now.seats }
-    requires prices { vec_len seating.now.prices ≡ vec_len seating.now.seats }
-    requires rents { vec_len seating.now.rents ≡ vec_len seating.now.seats }
-    requires laned { IsLaned (vec_len costs.now.waits) seating.now.seats.items lanes.now }
-    ensures seats { IsTrue result → IsFairAt costs.now seating.now q }
-    ensures next { IsTrue result → IsFairBeside costs.now lanes.now seating.now q }
+/// Whether the job at `q` has no better place, among the columns or the next places.
+fn is_fair(costs: &Costs, by_device: &[DeviceColumns], matching: &Matching, q: usize) -> bool
+    requires here { q < vec_len matching.now.columns }
+    requires jobs { vec_len matching.now.jobs ≡ vec_len matching.now.columns }
+    requires prices { vec_len matching.now.prices ≡ vec_len matching.now.columns }
+    requires duals { vec_len matching.now.duals ≡ vec_len matching.now.columns }
+    requires by_device { AreByDevice (vec_len costs.now.waits) matching.now.columns.items by_device.now }
+    ensures columns { IsTrue result → IsFairAt costs.now matching.now q }
+    ensures next { IsTrue result → IsFairBeside costs.now by_device.now matching.now q }
 {
-    let row = costs.row(seating.jobs[q]);
-    let price = seating.prices[q];
+    let row = costs.row(matching.jobs[q]);
+    let price = matching.prices[q];
     if price > UNABLE {
         return false;
     }
-    for device in 0..lanes.len() {
-        let lane = lanes[device].seats();
-        if !is_fair_on(&costs.waits, row, device, lane, seating, price) {
+    for device in 0..by_device.len() {
+        let device_columns = by_device[device].columns();
+        if !is_fair_on(&costs.waits, row, device, device_columns, matching, price) {
             return false;
         }
     }
     true
 }
 
-/// Whether no seat of the device, nor its next place, is better for a job with these times that is
+/// Whether no column of the device, nor its next place, is better for a job with these times that is
 /// charged so much. Once a place alone costs it as much, so does each place before it.
 fn is_fair_on(
     waits: &[u64],
     row: &[u64],
     device: usize,
-    lane: &[usize],
-    seating: &Seating,
+    device_columns: &[usize],
+    matching: &Matching,
     price: u64,
 ) -> bool
-    requires rents { vec_len seating.now.rents ≡ vec_len seating.now.seats }
-    requires lane { IsLane device seating.now.seats.items lane.now }
+    requires duals { vec_len matching.now.duals ≡ vec_len matching.now.columns }
+    requires device_columns { AreColumnsOf device matching.now.columns.items device_columns.now }
     requires low { price ≤ UNABLE }
-    ensures seats { IsTrue result → (c : ℕ) → c < vec_len seating.now.seats → (slice_index_or seating.now.seats.items c nowhere).device ≡ device
-        → price ≤ cost_at waits.now row.now (slice_index_or seating.now.seats.items c nowhere) + slice_index seating.now.rents.items c }
-    ensures next { IsTrue result → price ≤ cost_at waits.now row.now (place_on device (length lane.now)) }
+    ensures columns { IsTrue result → (c : ℕ) → c < vec_len matching.now.columns → (slice_index_or matching.now.columns.items c nowhere).device ≡ device
+        → price ≤ cost_at waits.now row.now (slice_index_or matching.now.columns.items c nowhere) + slice_index matching.now.duals.items c }
+    ensures next { IsTrue result → price ≤ cost_at waits.now row.now (place_on device (length device_columns.now)) }
 {
     let time = on_device(row, device);
     let mut left = price.saturating_sub(on_device(waits, device));
-    for after in 0..lane.len() {
+    for after in 0..device_columns.len() {
         if time >= left {
             return true;
         }
         left -= time;
-        if seating.rents[lane[after]] < left {
+        if matching.duals[device_columns[after]] < left {
             return false;
         }
     }

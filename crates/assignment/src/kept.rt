@@ -1,7 +1,7 @@
 //! What a planner keeps of the classes that it planned last.
 
 use crate::costs::Costs;
-use crate::seating::Seating;
+use crate::matching::Matching;
 use base_types::JobId;
 use std::alloc::Global;
 
@@ -13,7 +13,7 @@ const MOST: usize = 8;
 pub(crate) struct Kept {
     pub(crate) ids: Vec<JobId>,
     pub(crate) costs: Costs,
-    pub(crate) seating: Seating,
+    pub(crate) matching: Matching,
 }
 
 /// The classes that were planned last.

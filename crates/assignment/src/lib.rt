@@ -4,7 +4,7 @@
 //! that is able; out of memory is the only refusal. It doesn't promise speed, nor which of several
 //! best ways it finds.
 //!
-//! `Lazy` keeps its last classes, and begins with what is left of one. That is a hint: it is tested
+//! `AugmentingPaths` keeps its last classes, and begins with what is left of one. That is a hint: it is tested
 //! before it is used, and no promise rests on it.
 //!
 //! Tests stand in `planner_tests`.
@@ -15,20 +15,20 @@ mod all_places;
 mod answer;
 mod begun;
 mod costs;
+mod device_columns;
 mod equals;
 mod fit;
 mod free_places;
 mod hint;
 mod kept;
-mod lanes;
+mod matching;
 mod order;
 mod planner;
 mod recall;
 mod search;
-mod seating;
 mod solver;
 mod times;
 mod vacancy;
 
-pub use planner::{Dense, Lazy};
+pub use planner::{AugmentingPaths, DenseAugmentingPaths};
 pub use times::{Counted, Times};

@@ -5,7 +5,7 @@ ghost use Rattle.prices.specs.Total.{IsBest};
 ghost use Rattle.prices.specs.Prices.{IsProved};
 ghost use Rattle.planners.specs.Able.{EachAble};
 
-use crate::all_places::{Shown, seat_all};
+use crate::all_places::{Shown, match_all};
 use crate::answer::{prices, total, way};
 use crate::kept::{Kept, Memory};
 use crate::recall::recall;
@@ -18,15 +18,15 @@ use std::alloc::{AllocError, Global};
 /// Shows for each device the used places and the next free one. It keeps the last plan of each of some
 /// classes, and begins the next one with what is left of it.
 #[derive(Debug, Drop)]
-pub struct Lazy {
+pub struct AugmentingPaths {
     alloc: Global,
     memory: Memory,
 }
 
-impl Lazy {
+impl AugmentingPaths {
     /// A planner that takes its memory from here.
-    pub fn new(alloc: Global) -> Lazy {
-        Lazy {
+    pub fn new(alloc: Global) -> AugmentingPaths {
+        AugmentingPaths {
             alloc,
             memory: Memory::new(alloc),
         }
@@ -47,27 +47,27 @@ impl Lazy {
     }
 }
 
-impl Planner for Lazy {
+impl Planner for AugmentingPaths {
     fn plan_class(&mut self, class: &ClassProblem) -> Result<PricedWay, AllocError> {
         let mut counted = Counted::new(class);
         self.plan_counted(&mut counted)
     }
 }
 
-/// Shows for each device all its free places. It finds what [`Lazy`] finds, in more time.
+/// Shows for each device all its free places. It finds what [`AugmentingPaths`] finds, in more time.
 #[derive(Clone, Copy, Debug)]
-pub struct Dense {
+pub struct DenseAugmentingPaths {
     alloc: Global,
 }
 
-impl Dense {
+impl DenseAugmentingPaths {
     /// A planner that takes its memory from here.
-    pub fn new(alloc: Global) -> Dense {
-        Dense { alloc }
+    pub fn new(alloc: Global) -> DenseAugmentingPaths {
+        DenseAugmentingPaths { alloc }
     }
 }
 
-impl Planner for Dense {
+impl Planner for DenseAugmentingPaths {
     fn plan_class(&mut self, class: &ClassProblem) -> Result<PricedWay, AllocError> {
         let mut counted = Counted::new(class);
         let mut memory = Memory::new(self.alloc);
@@ -95,15 +95,15 @@ fn plan<T: Times>(
 {
     let entries = read(alloc, times)?;
     let hint = recall(alloc, memory.take(&entries.ids), &entries);
-    let seating = seat_all(alloc, &entries.costs, shown, &hint)?;
-    let way = way(alloc, &entries, &seating)?;
-    let prices = prices(alloc, &entries, &seating)?;
-    let total = total(&entries.costs, &seating);
+    let matching = match_all(alloc, &entries.costs, shown, &hint)?;
+    let way = way(alloc, &entries, &matching)?;
+    let prices = prices(alloc, &entries, &matching)?;
+    let total = total(&entries.costs, &matching);
     let Entries { ids, costs } = entries;
     memory.keep(Kept {
         ids,
         costs,
-        seating,
+        matching,
     });
     Ok(PricedWay { way, prices, total })
 }

@@ -10,7 +10,7 @@ use crate::costs::{Place, on_device};
 use crate::equals::order_equal;
 use crate::hint::{Guess, Hint};
 use crate::kept::Kept;
-use crate::seating::Seating;
+use crate::matching::Matching;
 use crate::times::Entries;
 use crate::vacancy::vacate;
 use base_types::JobId;
@@ -38,10 +38,10 @@ fn recalled(alloc: Global, mut kept: Kept, entries: &Entries) -> Result<Hint, Al
     let gone = time_gone(alloc, &kept, &numbers, waits)?;
     take_begun(&mut kept, &numbers, waits, gone);
     take_left(alloc, &mut kept, &numbers)?;
-    let mut seating = renumbered(alloc, &kept.seating, &numbers)?;
+    let mut matching = renumbered(alloc, &kept.matching, &numbers)?;
     let before = &kept.costs.waits;
-    adapt(alloc, &entries.costs, &mut seating, before, gone)?;
-    let mut guesses = guesses(alloc, &seating, entries.ids.len())?;
+    adapt(alloc, &entries.costs, &mut matching, before, gone)?;
+    let mut guesses = guesses(alloc, &matching, entries.ids.len())?;
     order_equal(alloc, &entries.costs, &mut guesses)?;
     Ok(Hint::new(guesses))
 }
@@ -74,7 +74,7 @@ fn time_gone(
 ) -> Result<u64, AllocError> {
     let mut falls = Vec::new(alloc);
     for device in 0..waits.len() {
-        if let Some(job) = first_job(&kept.seating, device) {
+        if let Some(job) = first_job(&kept.matching, device) {
             let before = wait_with(kept, numbers, device, job);
             falls.push(before.saturating_sub(on_device(waits, device)))?;
         }
@@ -92,59 +92,59 @@ fn wait_with(kept: &Kept, numbers: &[Option<usize>], device: usize, job: usize) 
     }
 }
 
-/// The seat before all others of a device.
-fn first_seat(seating: &Seating, device: usize) -> Option<usize> {
+/// The column before all others of a device.
+fn first_column(matching: &Matching, device: usize) -> Option<usize> {
     let mut first = None;
     let mut most = 0;
-    for (seat, place) in seating.seats.iter().enumerate() {
+    for (column, place) in matching.columns.iter().enumerate() {
         if place.device == device && place.after >= most {
             most = place.after;
-            first = Some(seat);
+            first = Some(column);
         }
     }
     first
 }
 
 /// The job there.
-fn first_job(seating: &Seating, device: usize) -> Option<usize> {
-    seating.jobs.get(first_seat(seating, device)?).copied()
+fn first_job(matching: &Matching, device: usize) -> Option<usize> {
+    matching.jobs.get(first_column(matching, device)?).copied()
 }
 
 /// Takes out each job that began: the first one of a device whose wait has grown.
 fn take_begun(kept: &mut Kept, numbers: &[Option<usize>], waits: &[u64], gone: u64) {
     for device in 0..waits.len() {
-        let Some(seat) = first_seat(&kept.seating, device) else {
+        let Some(column) = first_column(&kept.matching, device) else {
             continue;
         };
-        let job = kept.seating.jobs.get(seat).copied().unwrap_or(0);
+        let job = kept.matching.jobs.get(column).copied().unwrap_or(0);
         let grown = on_device(waits, device).saturating_add(gone);
         if number_now(numbers, job).is_none() && grown > on_device(&kept.costs.waits, device) {
-            begin(kept, device, seat, job);
+            begin(kept, device, column, job);
         }
     }
 }
 
 /// Takes out the first job of a device, whose time is a part of the device's wait from then on.
-fn begin(kept: &mut Kept, device: usize, seat: usize, job: usize) {
+fn begin(kept: &mut Kept, device: usize, column: usize, job: usize) {
     let time = on_device(kept.costs.row(job), device);
     if let Some(wait) = kept.costs.waits.get_mut(device) {
         *wait = (*wait).saturating_add(time);
     }
-    let seating = &mut kept.seating;
-    for (rent, place) in seating.rents.iter_mut().zip(seating.seats.iter()) {
+    let matching = &mut kept.matching;
+    for (dual, place) in matching.duals.iter_mut().zip(matching.columns.iter()) {
         if place.device == device {
-            *rent = (*rent).saturating_sub(time);
+            *dual = (*dual).saturating_sub(time);
         }
     }
-    drop_seat(seating, seat);
+    drop_column(matching, column);
 }
 
-/// Takes out a seat and its job, and puts the last seat in its place.
-pub(crate) fn drop_seat(seating: &mut Seating, seat: usize) {
-    drop_at(&mut seating.seats, seat);
-    drop_at(&mut seating.rents, seat);
-    drop_at(&mut seating.jobs, seat);
-    drop_at(&mut seating.prices, seat);
+/// Takes out a column and its job, and puts the last column in its place.
+pub(crate) fn drop_column(matching: &mut Matching, column: usize) {
+    drop_at(&mut matching.columns, column);
+    drop_at(&mut matching.duals, column);
+    drop_at(&mut matching.jobs, column);
+    drop_at(&mut matching.prices, column);
 }
 
 /// Takes out an element, and puts the last one in its place.
@@ -157,57 +157,57 @@ fn drop_at<T: Drop>(items: &mut Vec<T>, at: usize) {
 /// Takes out the jobs that left in another way, up to some.
 fn take_left(alloc: Global, kept: &mut Kept, numbers: &[Option<usize>]) -> Result<(), AllocError> {
     for _ in 0..MOST_TAKEN {
-        let Some(seat) = left_seat(&kept.seating, numbers) else {
+        let Some(column) = left_column(&kept.matching, numbers) else {
             return Ok(());
         };
-        vacate(alloc, &kept.costs, &mut kept.seating, seat)?;
+        vacate(alloc, &kept.costs, &mut kept.matching, column)?;
     }
     Ok(())
 }
 
-/// A seat whose job isn't there any more.
-fn left_seat(seating: &Seating, numbers: &[Option<usize>]) -> Option<usize> {
-    seating
+/// A column whose job isn't there any more.
+fn left_column(matching: &Matching, numbers: &[Option<usize>]) -> Option<usize> {
+    matching
         .jobs
         .iter()
         .position(|job| number_now(numbers, *job).is_none())
 }
 
-/// The seats whose jobs are still there, with the numbers that those have now.
+/// The columns whose jobs are still there, with the numbers that those have now.
 fn renumbered(
     alloc: Global,
-    before: &Seating,
+    before: &Matching,
     numbers: &[Option<usize>],
-) -> Result<Seating, AllocError> {
-    let mut seating = Seating {
-        seats: Vec::with_capacity(alloc, before.seats.len())?,
-        rents: Vec::with_capacity(alloc, before.seats.len())?,
-        jobs: Vec::with_capacity(alloc, before.seats.len())?,
-        prices: Vec::with_capacity(alloc, before.seats.len())?,
+) -> Result<Matching, AllocError> {
+    let mut matching = Matching {
+        columns: Vec::with_capacity(alloc, before.columns.len())?,
+        duals: Vec::with_capacity(alloc, before.columns.len())?,
+        jobs: Vec::with_capacity(alloc, before.columns.len())?,
+        prices: Vec::with_capacity(alloc, before.columns.len())?,
     };
-    for (seat, place) in before.seats.iter().enumerate() {
-        let job = before.jobs.get(seat).copied().unwrap_or(0);
+    for (column, place) in before.columns.iter().enumerate() {
+        let job = before.jobs.get(column).copied().unwrap_or(0);
         if let Some(number) = number_now(numbers, job) {
-            seating.seats.push(*place)?;
-            seating.rents.push(0)?;
-            seating.jobs.push(number)?;
-            let price = before.prices.get(seat).copied().unwrap_or(0);
-            seating.prices.push(price)?;
+            matching.columns.push(*place)?;
+            matching.duals.push(0)?;
+            matching.jobs.push(number)?;
+            let price = before.prices.get(column).copied().unwrap_or(0);
+            matching.prices.push(price)?;
         }
     }
-    Ok(seating)
+    Ok(matching)
 }
 
 /// The guesses for so many jobs.
 fn guesses(
     alloc: Global,
-    seating: &Seating,
+    matching: &Matching,
     jobs: usize,
 ) -> Result<Vec<Option<Guess>>, AllocError> {
     let mut guesses = vec![in alloc; None; jobs]?;
-    for (seat, place) in seating.seats.iter().enumerate() {
-        let number = seating.jobs.get(seat).copied().unwrap_or(jobs);
-        let price = seating.prices.get(seat).copied().unwrap_or(0);
+    for (column, place) in matching.columns.iter().enumerate() {
+        let number = matching.jobs.get(column).copied().unwrap_or(jobs);
+        let price = matching.prices.get(column).copied().unwrap_or(0);
         note(&mut guesses, number, *place, price);
     }
     Ok(guesses)

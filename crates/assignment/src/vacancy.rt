@@ -1,16 +1,16 @@
-//! A seat whose job has left: its rent is lowered to nothing along the shortest way to a place before
-//! all others of a device, over which jobs move nearer to the seat. None of it needs a proof, since it
+//! A column whose job has left: its dual is lowered to nothing along the shortest way to a place before
+//! all others of a device, over which jobs move nearer to the column. None of it needs a proof, since it
 //! only makes a hint better.
 
 use crate::costs::{Costs, cost};
-use crate::recall::drop_seat;
-use crate::seating::Seating;
+use crate::recall::drop_column;
+use crate::matching::Matching;
 use std::alloc::{AllocError, Global};
 
-/// Farther than any seat.
+/// Farther than any column.
 const FAR: u64 = u64::MAX / 4;
 
-/// The ways so far: of each seat how far it is, from which one it was reached and whether it is
+/// The ways so far: of each column how far it is, from which one it was reached and whether it is
 /// settled, and where a way ends so far, and how far that is.
 #[derive(Debug, Drop)]
 struct Ways {
@@ -21,67 +21,67 @@ struct Ways {
     end: usize,
 }
 
-/// Takes out the job of a seat, and moves others so that prices stay fair.
+/// Takes out the job of a column, and moves others so that prices stay fair.
 pub(crate) fn vacate(
     alloc: Global,
     costs: &Costs,
-    seating: &mut Seating,
+    matching: &mut Matching,
     hole: usize,
 ) -> Result<(), AllocError> {
-    let seats = seating.seats.len();
+    let columns = matching.columns.len();
     let mut ways = Ways {
-        lengths: vec![in alloc; FAR; seats]?,
-        froms: vec![in alloc; hole; seats]?,
-        settled: vec![in alloc; false; seats]?,
-        least: seating.rents.get(hole).copied().unwrap_or(0),
+        lengths: vec![in alloc; FAR; columns]?,
+        froms: vec![in alloc; hole; columns]?,
+        settled: vec![in alloc; false; columns]?,
+        least: matching.duals.get(hole).copied().unwrap_or(0),
         end: hole,
     };
     set(&mut ways.lengths, hole, 0);
-    for _ in 0..seats {
-        let Some(seat) = nearest(&ways) else {
+    for _ in 0..columns {
+        let Some(column) = nearest(&ways) else {
             break;
         };
-        settle(costs, seating, &mut ways, seat);
+        settle(costs, matching, &mut ways, column);
     }
-    lower(&mut seating.rents, &ways);
-    lower(&mut seating.prices, &ways);
-    move_jobs(seating, &ways, hole);
-    drop_seat(seating, ways.end);
+    lower(&mut matching.duals, &ways);
+    lower(&mut matching.prices, &ways);
+    move_jobs(matching, &ways, hole);
+    drop_column(matching, ways.end);
     Ok(())
 }
 
-/// The nearest of the seats that aren't settled, where it is nearer than the end.
+/// The nearest of the columns that aren't settled, where it is nearer than the end.
 fn nearest(ways: &Ways) -> Option<usize> {
     let mut nearest = None;
     let mut least = ways.least;
-    for (seat, length) in ways.lengths.iter().enumerate() {
-        if *length < least && ways.settled.get(seat) == Some(&false) {
-            nearest = Some(seat);
+    for (column, length) in ways.lengths.iter().enumerate() {
+        if *length < least && ways.settled.get(column) == Some(&false) {
+            nearest = Some(column);
             least = *length;
         }
     }
     nearest
 }
 
-/// Settles a seat: each other job may move there.
-fn settle(costs: &Costs, seating: &Seating, ways: &mut Ways, seat: usize) {
-    let Some(place) = seating.seats.get(seat).copied() else {
+/// Settles a column: each other job may move there.
+fn settle(costs: &Costs, matching: &Matching, ways: &mut Ways, column: usize) {
+    let Some(place) = matching.columns.get(column).copied() else {
         return;
     };
-    let rent = seating.rents.get(seat).copied().unwrap_or(0);
-    let base = ways.lengths.get(seat).copied().unwrap_or(0);
-    set(&mut ways.settled, seat, true);
-    for (other, price) in seating.prices.iter().enumerate() {
-        let job = seating.jobs.get(other).copied().unwrap_or(0);
-        let charge = cost(&costs.waits, costs.row(job), place).saturating_add(rent);
+    let dual = matching.duals.get(column).copied().unwrap_or(0);
+    let base = ways.lengths.get(column).copied().unwrap_or(0);
+    set(&mut ways.settled, column, true);
+    for (other, price) in matching.prices.iter().enumerate() {
+        let job = matching.jobs.get(other).copied().unwrap_or(0);
+        let charge = cost(&costs.waits, costs.row(job), place).saturating_add(dual);
         let length = charge.saturating_sub(*price).saturating_add(base);
-        let end = length.saturating_add(seating.rents.get(other).copied().unwrap_or(0));
-        reach(ways, other, seat, length, end);
+        let end = length.saturating_add(matching.duals.get(other).copied().unwrap_or(0));
+        reach(ways, other, column, length, end);
     }
 }
 
-/// Reaches a seat from another one, where that is the shortest way so far.
-fn reach(ways: &mut Ways, other: usize, seat: usize, length: u64, end: u64) {
+/// Reaches a column from another one, where that is the shortest way so far.
+fn reach(ways: &mut Ways, other: usize, column: usize, length: u64, end: u64) {
     if length >= ways.least
         || ways.lengths.get(other).copied().unwrap_or(0) <= length
         || ways.settled.get(other) == Some(&true)
@@ -89,32 +89,32 @@ fn reach(ways: &mut Ways, other: usize, seat: usize, length: u64, end: u64) {
         return;
     }
     set(&mut ways.lengths, other, length);
-    set(&mut ways.froms, other, seat);
+    set(&mut ways.froms, other, column);
     if end < ways.least {
         ways.least = end;
         ways.end = other;
     }
 }
 
-/// Lowers the value of each seat by how much nearer than the end it is.
+/// Lowers the value of each column by how much nearer than the end it is.
 fn lower(values: &mut [u64], ways: &Ways) {
     for (value, length) in values.iter_mut().zip(ways.lengths.iter()) {
         *value = (*value).saturating_sub(ways.least.saturating_sub(*length));
     }
 }
 
-/// Moves each job on the way to the end to the seat from which its own was reached.
-fn move_jobs(seating: &mut Seating, ways: &Ways, hole: usize) {
-    let mut job = seating.jobs.get(ways.end).copied().unwrap_or(0);
-    let mut price = seating.prices.get(ways.end).copied().unwrap_or(0);
-    let mut seat = ways.end;
+/// Moves each job on the way to the end to the column from which its own was reached.
+fn move_jobs(matching: &mut Matching, ways: &Ways, hole: usize) {
+    let mut job = matching.jobs.get(ways.end).copied().unwrap_or(0);
+    let mut price = matching.prices.get(ways.end).copied().unwrap_or(0);
+    let mut column = ways.end;
     for _ in 0..ways.froms.len() {
-        if seat == hole {
+        if column == hole {
             return;
         }
-        seat = ways.froms.get(seat).copied().unwrap_or(hole);
-        exchange(&mut seating.jobs, seat, &mut job);
-        exchange(&mut seating.prices, seat, &mut price);
+        column = ways.froms.get(column).copied().unwrap_or(hole);
+        exchange(&mut matching.jobs, column, &mut job);
+        exchange(&mut matching.prices, column, &mut price);
     }
 }
 

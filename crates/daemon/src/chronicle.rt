@@ -1,7 +1,7 @@
 //! What a log says of the turns of a server.
 use crate::ends::Begun;
 use crate::log::Lines;
-use assignment::Lazy;
+use assignment::AugmentingPaths;
 use base_types::{Moment, Text};
 use server::{Engine, LoggedNote};
 use sockets::ConnectionEvent;
@@ -32,7 +32,7 @@ impl Chronicle {
         moment: Moment,
         visits: &[ConnectionEvent],
         heard: &[LoggedNote],
-        engine: &Engine<Lazy>,
+        engine: &Engine<AugmentingPaths>,
     ) -> Result<Vec<u8>, AllocError> {
         self.begun.add(heard)?;
         let ended = self.begun.take_ended(self.alloc, engine)?;

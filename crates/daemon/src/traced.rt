@@ -4,7 +4,7 @@ ghost use Rattle.server.specs.Polls.{both};
 ghost use Rattle.server.specs.Refinement.{RefinesTurn};
 ghost use Rattle.settings_file.specs.Settings.{MeetsLimits};
 
-use assignment::Lazy;
+use assignment::AugmentingPaths;
 use base_types::Moment;
 use dispatcher::Listener;
 use server::Engine;
@@ -17,7 +17,7 @@ use wires::Wire;
 /// trace: that of these turns.
 #[derive(Drop)]
 pub(crate) struct TracedEngine {
-    engine: Engine<Lazy>,
+    engine: Engine<AugmentingPaths>,
 }
 
 impl Model for TracedEngine {
@@ -36,7 +36,7 @@ impl TracedEngine {
     pub(crate) fn new(alloc: Global, settings: Settings) -> Result<TracedEngine, AllocError>
         requires { MeetsLimits settings }
     {
-        let engine = Engine::new(alloc, settings, Lazy::new(alloc))?;
+        let engine = Engine::new(alloc, settings, AugmentingPaths::new(alloc))?;
         Ok(TracedEngine { engine })
     }
 
@@ -48,7 +48,7 @@ impl TracedEngine {
     }
 
     /// The engine, to look at.
-    pub(crate) fn engine(&self) -> &Engine<Lazy>
+    pub(crate) fn engine(&self) -> &Engine<AugmentingPaths>
         ensures { result.now ≡ self.now }
     {
         &self.engine

@@ -1,7 +1,7 @@
 //! Plans classes made of a seed, so that planners can be timed from outside and compared.
 //!
-//! `plan_bench lazy JOBS DEVICES SEED COUNT` makes so many class problems, plans each by `Lazy` and
-//! writes its total in ms; `dense` does so by `Dense`. `plan_bench compare ..` makes problems of up to
+//! `plan_bench paths JOBS DEVICES SEED COUNT` makes so many class problems, plans each by `AugmentingPaths` and
+//! writes its total in ms; `dense` does so by `DenseAugmentingPaths`. `plan_bench compare ..` makes problems of up to
 //! so many jobs and devices, plans each by both, and where there are few jobs tries all ways too; it
 //! stops where two totals differ. Times are made of impressions and speeds, as the server makes them,
 //! or with the word `uniform` after the others each uniform at random. The same arguments give the
@@ -24,7 +24,7 @@ use crate::made_class::{Kind, made_class};
 use crate::played::{By, play};
 use crate::random::Random;
 use anyhow::{Context, Error, bail};
-use assignment::{Dense, Lazy};
+use assignment::{AugmentingPaths, DenseAugmentingPaths};
 use cost_table::ClassProblem;
 use exhaustive_search::least_total;
 use planners::{Planner, each_able};
@@ -37,7 +37,7 @@ const FEW_JOBS: usize = 4;
 /// How classes are planned.
 #[derive(Clone, Copy, PartialEq, Eq)]
 enum Mode {
-    Lazy,
+    Paths,
     Dense,
     Compare,
     /// A day of events.
@@ -59,13 +59,13 @@ struct Asked {
 /// How a word says that classes are planned.
 fn read_mode(word: &str) -> Result<Mode, Error> {
     match word {
-        "lazy" => Ok(Mode::Lazy),
+        "paths" => Ok(Mode::Paths),
         "dense" => Ok(Mode::Dense),
         "compare" => Ok(Mode::Compare),
         "estimated" => Ok(Mode::Day(Course::Estimated)),
         "otherwise" => Ok(Mode::Day(Course::Otherwise)),
         "moving" => Ok(Mode::Day(Course::Moving)),
-        _ => bail!("expected lazy, dense, compare, estimated, otherwise or moving"),
+        _ => bail!("expected paths, dense, compare, estimated, otherwise or moving"),
     }
 }
 
@@ -108,7 +108,7 @@ fn read_asked(rt: &HostRuntime) -> Result<Asked, Error> {
 /// The next class: of so many jobs and devices, or in a comparison of at most as many.
 fn next_class(alloc: Global, random: &mut Random, asked: &Asked) -> Result<ClassProblem, Error> {
     let (jobs, devices) = match asked.mode {
-        Mode::Lazy | Mode::Dense | Mode::Day(_) => (asked.jobs, asked.devices),
+        Mode::Paths | Mode::Dense | Mode::Day(_) => (asked.jobs, asked.devices),
         Mode::Compare => (
             u32::try_from(random.below(u64::from(asked.jobs)))?.saturating_add(1),
             usize::try_from(random.below(asked.devices as u64))?.saturating_add(1),
@@ -127,8 +127,8 @@ fn planned<P: Planner>(planner: &mut P, class: &ClassProblem) -> Result<u64, Err
 
 /// The total of both planners, which must be the same, and where there are few jobs the least.
 fn compared(alloc: Global, class: &ClassProblem) -> Result<u64, Error> {
-    let total = planned(&mut Lazy::new(alloc), class)?;
-    if planned(&mut Dense::new(alloc), class)? != total {
+    let total = planned(&mut AugmentingPaths::new(alloc), class)?;
+    if planned(&mut DenseAugmentingPaths::new(alloc), class)? != total {
         bail!("the planners differ");
     }
     if class.ids().len() <= FEW_JOBS && least_total(alloc, class)? != Some(total) {
@@ -140,8 +140,8 @@ fn compared(alloc: Global, class: &ClassProblem) -> Result<u64, Error> {
 /// The total of a best way.
 fn total_of(alloc: Global, class: &ClassProblem, mode: Mode) -> Result<u64, Error> {
     match mode {
-        Mode::Lazy => planned(&mut Lazy::new(alloc), class),
-        Mode::Dense => planned(&mut Dense::new(alloc), class),
+        Mode::Paths => planned(&mut AugmentingPaths::new(alloc), class),
+        Mode::Dense => planned(&mut DenseAugmentingPaths::new(alloc), class),
         Mode::Compare | Mode::Day(_) => compared(alloc, class),
     }
 }
@@ -170,6 +170,6 @@ fn main(rt: HostRuntime) -> Result<(), Error> {
     let asked = read_asked(&rt)?;
     match asked.mode {
         Mode::Day(course) => play_day(&rt, &asked, course),
-        Mode::Lazy | Mode::Dense | Mode::Compare => plan_all(&rt, &asked),
+        Mode::Paths | Mode::Dense | Mode::Compare => plan_all(&rt, &asked),
     }
 }

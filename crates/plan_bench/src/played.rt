@@ -2,7 +2,7 @@
 
 use crate::day::{Course, Day};
 use anyhow::{Error, bail};
-use assignment::Lazy;
+use assignment::AugmentingPaths;
 use cost_table::ClassProblem;
 use plan_checker::{Verdict, check_class};
 use planners::{Planner, each_able};
@@ -22,12 +22,12 @@ pub(crate) enum By {
 
 /// Plays so many events of a day, each planned, and gives the sum of the totals.
 pub(crate) fn play(alloc: Global, mut day: Day, by: By, events: u32) -> Result<u64, Error> {
-    let mut planner = Lazy::new(alloc);
+    let mut planner = AugmentingPaths::new(alloc);
     let mut sum: u64 = 0;
     for _ in 0..events {
         let class = day.class(alloc)?;
         let priced = match by {
-            By::New => planned(&mut Lazy::new(alloc), &class)?,
+            By::New => planned(&mut AugmentingPaths::new(alloc), &class)?,
             _ => planned(&mut planner, &class)?,
         };
         if by == By::Both {
@@ -49,7 +49,7 @@ fn planned<P: Planner>(planner: &mut P, class: &ClassProblem) -> Result<PricedWa
 
 /// Compares a plan with one from nothing, and has it checked.
 fn compare(alloc: Global, class: &ClassProblem, priced: &PricedWay) -> Result<(), Error> {
-    if planned(&mut Lazy::new(alloc), class)?.total != priced.total {
+    if planned(&mut AugmentingPaths::new(alloc), class)?.total != priced.total {
         bail!("the totals differ");
     }
     let lists = priced.prices.places().len();

@@ -1,5 +1,5 @@
 //! The totals that the planners find.
-use assignment::{Counted, Dense, Lazy, Times};
+use assignment::{AugmentingPaths, Counted, DenseAugmentingPaths, Times};
 use base_types::JobId;
 use cost_table::{ClassProblem, Row, is_class};
 use planners::{Planner, each_able};
@@ -55,7 +55,7 @@ fn best_of_three(rt: HostRuntime) -> Result<(), Fail> {
         return Err(Fail::from("a job without a device"));
     }
     let mut counted = Counted::new(&class);
-    let priced = Lazy::new(alloc).plan_counted(&mut counted)?;
+    let priced = AugmentingPaths::new(alloc).plan_counted(&mut counted)?;
     assert_eq!(rt; priced.total, 45);
     assert!(rt; counted.looks() <= 6);
     Ok(())
@@ -74,7 +74,10 @@ fn known_totals(rt: HostRuntime) -> Result<(), Fail> {
     ];
     for (times, waits, total) in rows {
         let class = class_of(alloc, times, waits)?;
-        assert_eq!(rt; planned(&mut Dense::new(alloc), &class)?, total);
+        assert_eq!(rt;
+            planned(&mut DenseAugmentingPaths::new(alloc), &class)?,
+            total
+        );
     }
     Ok(())
 }
@@ -86,11 +89,11 @@ fn largest_totals(rt: HostRuntime) -> Result<(), Fail> {
     let alloc = rt.alloc();
     let class = class_of(alloc, &[LONGEST; 127], &[599_403_600_000])?;
     assert_eq!(rt;
-        planned(&mut Lazy::new(alloc), &class)?,
+        planned(&mut AugmentingPaths::new(alloc), &class)?,
         4_948_076_718_000_000
     );
     assert_eq!(rt;
-        planned(&mut Dense::new(alloc), &class)?,
+        planned(&mut DenseAugmentingPaths::new(alloc), &class)?,
         4_948_076_718_000_000
     );
     Ok(())

@@ -4,7 +4,7 @@ ghost use Rattle.settings_file.specs.Settings.{MeetsLimits};
 use crate::difference::put_difference;
 use crate::listener::Told;
 use crate::playing::Shows;
-use assignment::Lazy;
+use assignment::AugmentingPaths;
 use base_types::Moment;
 use daemon::Chronicle;
 use recordings::{Entry, Moved, Script, read_entry};
@@ -29,7 +29,7 @@ pub(crate) enum Step {
 #[derive(Drop)]
 pub(crate) struct Player {
     alloc: Global,
-    engine: Engine<Lazy>,
+    engine: Engine<AugmentingPaths>,
     script: Script,
     shows: Shows,
     told: Told,
@@ -93,7 +93,7 @@ impl Player {
     {
         let names = settings.device_names(alloc)?;
         let chronicle = Chronicle::new(alloc, settings.device_names(alloc)?);
-        let engine = Engine::new(alloc, settings, Lazy::new(alloc))?;
+        let engine = Engine::new(alloc, settings, AugmentingPaths::new(alloc))?;
         Ok(Player {
             alloc,
             engine,

@@ -2,7 +2,7 @@
 ghost use Rattle.settings_file.specs.Settings.{MeetsLimits};
 
 use crate::recorder::Recorder;
-use assignment::Lazy;
+use assignment::AugmentingPaths;
 use base_types::{Moment, Text};
 use replay::{LineFault, TraceWire, form_fault};
 use server::{Engine, NoteLog};
@@ -19,7 +19,7 @@ const MOST_TURNS: usize = 16_777_216;
 #[derive(Drop)]
 pub(crate) struct Player {
     alloc: Global,
-    engine: Engine<Lazy>,
+    engine: Engine<AugmentingPaths>,
     wire: TraceWire,
     connections: Vec<Connection>,
     heard: NoteLog,
@@ -35,7 +35,7 @@ impl Player {
     pub(crate) fn new(alloc: Global, settings: Settings) -> Result<Player, AllocError>
         requires { MeetsLimits settings }
     {
-        let engine = Engine::new(alloc, settings, Lazy::new(alloc))?;
+        let engine = Engine::new(alloc, settings, AugmentingPaths::new(alloc))?;
         Ok(Player {
             alloc,
             engine,

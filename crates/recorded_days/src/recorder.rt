@@ -1,7 +1,7 @@
 //! What is seen of a server's jobs while it plays.
 
 use crate::job::{RecordedJob, RecordedPrint};
-use assignment::Lazy;
+use assignment::AugmentingPaths;
 use base_types::{Activity, DeviceId, JobId, Limits, Stranded};
 use dispatcher::Started;
 use job_objects::Job;
@@ -42,13 +42,13 @@ fn last_begun(heard: &[LoggedNote]) -> u32 {
 }
 
 /// The job of the id of a number, if it is kept.
-fn job_numbered(engine: &Engine<Lazy>, number: u32) -> Option<&Job> {
+fn job_numbered(engine: &Engine<AugmentingPaths>, number: u32) -> Option<&Job> {
     let id = JobId::new(number)?;
     engine.job(id)
 }
 
 /// Whether a device has a job.
-fn has(engine: &Engine<Lazy>, device: usize, job: JobId) -> bool {
+fn has(engine: &Engine<AugmentingPaths>, device: usize, job: JobId) -> bool {
     let Some(device) = engine.device(DeviceId::new(device)) else {
         return false;
     };
@@ -78,7 +78,7 @@ impl Recorder {
     /// Notes what a server did until a moment, and what was heard of it.
     pub(crate) fn look(
         &mut self,
-        engine: &Engine<Lazy>,
+        engine: &Engine<AugmentingPaths>,
         heard: &[LoggedNote],
         now: u64,
     ) -> Result<(), AllocError> {
@@ -90,7 +90,11 @@ impl Recorder {
     }
 
     /// Finds the jobs that were made. One that was made, has ended and is forgotten is left out.
-    fn find_jobs(&mut self, engine: &Engine<Lazy>, least: u32) -> Result<(), AllocError> {
+    fn find_jobs(
+        &mut self,
+        engine: &Engine<AugmentingPaths>,
+        least: u32,
+    ) -> Result<(), AllocError> {
         for number in self.next..=Limits::LAST_JOB_ID {
             let found = job_numbered(engine, number);
             if found.is_none() && number > least {
@@ -145,7 +149,7 @@ impl Recorder {
     }
 
     /// Notes what the jobs are that weren't finished.
-    fn note_jobs(&mut self, engine: &Engine<Lazy>, now: u64) -> Result<(), AllocError> {
+    fn note_jobs(&mut self, engine: &Engine<AugmentingPaths>, now: u64) -> Result<(), AllocError> {
         for step in 0..self.unfinished.len() {
             self.note_job(engine, step, now)?;
         }
@@ -155,7 +159,12 @@ impl Recorder {
     }
 
     /// Notes what the job at a place of those is that weren't finished.
-    fn note_job(&mut self, engine: &Engine<Lazy>, step: usize, now: u64) -> Result<(), AllocError> {
+    fn note_job(
+        &mut self,
+        engine: &Engine<AugmentingPaths>,
+        step: usize,
+        now: u64,
+    ) -> Result<(), AllocError> {
         let Some(place) = self.unfinished.get(step).copied() else {
             return Ok(());
         };
@@ -172,7 +181,7 @@ impl Recorder {
     }
 
     /// Ends the prints whose devices have let go of their jobs.
-    fn end_prints(&mut self, engine: &Engine<Lazy>, now: u64) {
+    fn end_prints(&mut self, engine: &Engine<AugmentingPaths>, now: u64) {
         for step in 0..self.running.len() {
             self.end_print(engine, step, now);
         }
@@ -181,7 +190,7 @@ impl Recorder {
     }
 
     /// Ends the print at a place of those that hadn't ended, if its device has let go of its job.
-    fn end_print(&mut self, engine: &Engine<Lazy>, step: usize, now: u64) {
+    fn end_print(&mut self, engine: &Engine<AugmentingPaths>, step: usize, now: u64) {
         let Some(place) = self.running.get(step).copied() else {
             return;
         };

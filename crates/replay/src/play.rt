@@ -12,7 +12,7 @@ ghost use Rattle.transcripts.specs.Printed.{reply_line};
 use crate::log::Log;
 use crate::objection::{LineFault, form_fault};
 use crate::wire::TraceWire;
-use assignment::Lazy;
+use assignment::AugmentingPaths;
 use base_types::{DeviceId, Moment, Report};
 use server::{Engine, Served};
 use settings_file::Settings;
@@ -31,7 +31,7 @@ const MOST_TURNS: usize = 16_777_216;
 #[derive(Drop)]
 pub(crate) struct Play {
     alloc: Global,
-    engine: Engine<Lazy>,
+    engine: Engine<AugmentingPaths>,
     wire: TraceWire,
     connections: Vec<Connection>,
     log: Log,
@@ -64,7 +64,7 @@ impl Play {
         ensures { IfOk result (IsStart texts settings) }
     {
         let names = settings.device_names(alloc)?;
-        let engine = Engine::new(alloc, settings, Lazy::new(alloc))?;
+        let engine = Engine::new(alloc, settings, AugmentingPaths::new(alloc))?;
         Ok(Play {
             alloc,
             engine,

@@ -1,6 +1,6 @@
 //! Bodies, reports and ticks without a wire.
 use crate::exchanges::{BODY, REPLY, SETTINGS};
-use assignment::Lazy;
+use assignment::AugmentingPaths;
 use base_types::{DeviceId, Moment, Report};
 use server::{Engine, LoggedNote, NoteLog, Served};
 use settings_file::read_settings;
@@ -8,7 +8,11 @@ use std::alloc::Global;
 use std::test::Fail;
 
 /// What a body is answered; then the device runs, and a tick comes.
-fn answered(engine: &mut Engine<Lazy>, body: &[u8], notes: &mut NoteLog) -> Option<Served> {
+fn answered(
+    engine: &mut Engine<AugmentingPaths>,
+    body: &[u8],
+    notes: &mut NoteLog,
+) -> Option<Served> {
     let moment = Moment::start();
     let served = engine.serve_body(body, notes, moment);
     let runs = engine.report(DeviceId::new(0), Report::Ready, notes, moment);
@@ -25,7 +29,7 @@ fn served(alloc: Global, body: &[u8], notes: &mut NoteLog) -> Option<Served> {
     let Ok(settings) = read_settings(alloc, SETTINGS) else {
         return None;
     };
-    let Ok(mut engine) = Engine::new(alloc, settings, Lazy::new(alloc)) else {
+    let Ok(mut engine) = Engine::new(alloc, settings, AugmentingPaths::new(alloc)) else {
         return None;
     };
     answered(&mut engine, body, notes)

@@ -1,5 +1,5 @@
 //! Lists of events, and who hears of their plans.
-use assignment::Lazy;
+use assignment::AugmentingPaths;
 use base_types::{DeviceId, Moment, Report};
 use dispatcher::{AllocationSite, Core, DeviceRefusal, Dispatched, Listener, Outcome, Timed};
 use events::{Cancel, Event};
@@ -66,7 +66,7 @@ fn day(alloc: Global) -> Result<Vec<Timed>, Fail> {
 /// How many events of the day were dispatched, and how many plans and starts were heard of.
 fn heard(alloc: Global) -> Result<(usize, u64, u64), Fail> {
     let settings = read_settings(alloc, ONE_DEVICE)?;
-    let mut core = Core::new(alloc, settings, Lazy::new(alloc))?;
+    let mut core = Core::new(alloc, settings, AugmentingPaths::new(alloc))?;
     let mut counts = Counts {
         plans: 0,
         starts: 0,

@@ -2,7 +2,7 @@
 use crate::exchanges::{
     BOTH_FRAMINGS, CHUNKED, Exchange, LAST, NOT_POST, PLAIN, SETTINGS, SHORT_BODY, TWO,
 };
-use assignment::Lazy;
+use assignment::AugmentingPaths;
 use base_types::Moment;
 use server::{Engine, NoteLog};
 use settings_file::read_settings;
@@ -27,11 +27,11 @@ pub(crate) const CUTS: [(usize, usize); 3] = [(4096, 4096), (7, 3), (1, 1)];
 pub(crate) const TURNS: usize = 1000;
 
 /// A server that has just started.
-pub(crate) fn engine(alloc: Global) -> Result<Engine<Lazy>, AllocError> {
+pub(crate) fn engine(alloc: Global) -> Result<Engine<AugmentingPaths>, AllocError> {
     let Ok(settings) = read_settings(alloc, SETTINGS) else {
         return Err(AllocError);
     };
-    Engine::new(alloc, settings, Lazy::new(alloc))
+    Engine::new(alloc, settings, AugmentingPaths::new(alloc))
 }
 
 /// Turns of a server that has just started, over this wire; what is heard is left in the notes.

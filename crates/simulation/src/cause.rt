@@ -1,7 +1,7 @@
 //! Why no device of a core can print a job.
 ghost use Rattle.std.specs.Prelude.{◌<◌, length};
 
-use assignment::Lazy;
+use assignment::AugmentingPaths;
 use base_types::{Cause, DeviceId, DeviceNow, Needs, PrinterSet};
 use capabilities::stranded_cause;
 use dispatcher::Core;
@@ -32,7 +32,7 @@ fn later(one: Cause, other: Cause) -> Cause {
 /// Why no device of its printer can print a job: the first of the tests that leaves none.
 pub(crate) fn cause_of(
     alloc: Global,
-    core: &Core<Lazy>,
+    core: &Core<AugmentingPaths>,
     needs: &Needs,
 ) -> Result<Cause, AllocError> {
     let alone = first_alone(alloc)?;

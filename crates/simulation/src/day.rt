@@ -1,7 +1,7 @@
 //! The jobs of a day, with how long each takes on each device of its printer.
 
 use crate::cause::cause_of;
-use assignment::Lazy;
+use assignment::AugmentingPaths;
 use base_types::{DeviceId, DeviceNow, JobId, Needs, PrinterSet, Stranded};
 use capabilities::able;
 use cost_table::time;
@@ -49,7 +49,7 @@ fn part_of(percent: u8, chance: &mut Pcg32) -> f64 {
 
 /// How long a job takes on a device of a core.
 fn time_at(
-    core: &Core<Lazy>,
+    core: &Core<AugmentingPaths>,
     device: DeviceId,
     needs: &Needs,
     printer: &PrinterSet,
@@ -61,7 +61,7 @@ fn time_at(
 /// How long a job takes on each device of its printer.
 fn members_of(
     alloc: Global,
-    core: &Core<Lazy>,
+    core: &Core<AugmentingPaths>,
     needs: &Needs,
     printer: &PrinterSet,
 ) -> Result<Vec<Member>, AllocError> {
@@ -76,7 +76,11 @@ fn members_of(
 }
 
 /// The job of a list as the policies see it. One whose printer isn't there has no device.
-fn day_job(alloc: Global, core: &Core<Lazy>, job: &ListedJob) -> Result<DayJob, AllocError> {
+fn day_job(
+    alloc: Global,
+    core: &Core<AugmentingPaths>,
+    job: &ListedJob,
+) -> Result<DayJob, AllocError> {
     let printer = job.needs.printer.place();
     let members = match core.settings().printers.get(printer) {
         Some(found) => members_of(alloc, core, &job.needs, &found.devices)?,
@@ -94,7 +98,7 @@ fn day_job(alloc: Global, core: &Core<Lazy>, job: &ListedJob) -> Result<DayJob, 
 fn note_stranded(
     alloc: Global,
     stranded: &mut Vec<Stranded>,
-    core: &Core<Lazy>,
+    core: &Core<AugmentingPaths>,
     needs: &Needs,
     place: usize,
 ) -> Result<(), AllocError> {
@@ -110,7 +114,7 @@ impl Day {
     /// The day of a list of jobs, by what the devices of a core are.
     pub(crate) fn new(
         alloc: Global,
-        core: &Core<Lazy>,
+        core: &Core<AugmentingPaths>,
         listed: &[ListedJob],
         noise: Noise,
     ) -> Result<Day, AllocError> {
@@ -127,7 +131,7 @@ impl Day {
     fn add_all(
         &mut self,
         alloc: Global,
-        core: &Core<Lazy>,
+        core: &Core<AugmentingPaths>,
         listed: &[ListedJob],
         noise: Noise,
     ) -> Result<(), AllocError> {
@@ -143,7 +147,7 @@ impl Day {
     fn add(
         &mut self,
         alloc: Global,
-        core: &Core<Lazy>,
+        core: &Core<AugmentingPaths>,
         place: usize,
         listed: &ListedJob,
     ) -> Result<(), AllocError> {

@@ -3,7 +3,7 @@ ghost use Rattle.std.specs.Prelude.{IfOk};
 ghost use Rattle.settings_file.specs.Settings.{MeetsLimits};
 
 use crate::planned::apply_to;
-use assignment::Lazy;
+use assignment::AugmentingPaths;
 use base_types::{DeviceId, Finishings, Moment, Report, Text};
 use dispatcher::Core;
 use events::Event;
@@ -260,7 +260,7 @@ fn with_devices(
 }
 
 /// Has all devices of a core say that they are ready, but for those that are away.
-fn make_ready(core: &mut Core<Lazy>, away: &[usize]) -> Result<(), AllocError> {
+fn make_ready(core: &mut Core<AugmentingPaths>, away: &[usize]) -> Result<(), AllocError> {
     for place in 0..core.settings().devices.len() {
         if !away.contains(&place) {
             let report = Event::Report(DeviceId::new(place), Report::Ready);
@@ -286,12 +286,12 @@ pub(crate) fn core_of(
     settings: Settings,
     added: &[Added<'_>],
     away: &[&str],
-) -> Result<Core<Lazy>, FleetFault>
+) -> Result<Core<AugmentingPaths>, FleetFault>
     requires { MeetsLimits settings }
 {
     let settings = with_devices(alloc, settings, added)?;
     let places = places_of(alloc, &settings, away)?;
-    let mut core = Core::new(alloc, settings, Lazy::new(alloc))?;
+    let mut core = Core::new(alloc, settings, AugmentingPaths::new(alloc))?;
     make_ready(&mut core, &places)?;
     Ok(core)
 }

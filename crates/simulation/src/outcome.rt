@@ -3,7 +3,7 @@
 use crate::day::Day;
 use crate::floor::{Print, Watch, play};
 use crate::planned::Planned;
-use assignment::Lazy;
+use assignment::AugmentingPaths;
 use dispatcher::Core;
 use job_lists::ListedJob;
 use policies::{Policy, Queue};
@@ -23,7 +23,7 @@ pub(crate) struct Outcome {
 /// Plays a day with the real core.
 fn play_planned<W: Watch>(
     alloc: Global,
-    core: Core<Lazy>,
+    core: Core<AugmentingPaths>,
     listed: &[ListedJob],
     day: &Day,
     watch: &mut W,
@@ -57,7 +57,7 @@ fn play_policy<W: Watch>(
 /// Plays a day with the real core, and then once for each policy.
 pub(crate) fn play_all<W: Watch>(
     alloc: Global,
-    core: Core<Lazy>,
+    core: Core<AugmentingPaths>,
     listed: &[ListedJob],
     day: &Day,
     watch: &mut W,

@@ -2,7 +2,7 @@
 
 use crate::request::print_job;
 use crate::room::Room;
-use assignment::Lazy;
+use assignment::AugmentingPaths;
 use base_types::{DeviceId, JobId, Limits, Moment, Report};
 use dispatcher::Core;
 use events::{Effects, Event, Response, Status};
@@ -26,7 +26,7 @@ pub(crate) enum Sent {
 #[derive(Drop)]
 pub(crate) struct Planned<'a> {
     alloc: Global,
-    core: Core<Lazy>,
+    core: Core<AugmentingPaths>,
     listed: &'a [ListedJob],
     /// The places of the jobs that were taken, in the order of their ids, from 1 on, which is that of the list.
     taken: Vec<usize>,
@@ -55,7 +55,7 @@ fn sent_by(reply: &Effects) -> Sent {
 
 /// Has a core act on an event: what its answer says became of a job.
 pub(crate) fn apply_to(
-    core: &mut Core<Lazy>,
+    core: &mut Core<AugmentingPaths>,
     event: Event,
     now: Moment,
 ) -> Result<Sent, AllocError> {
@@ -65,7 +65,11 @@ pub(crate) fn apply_to(
 
 impl<'a> Planned<'a> {
     /// A core whose devices are ready, but for those that are away, before the first job of a list.
-    pub(crate) fn new(alloc: Global, core: Core<Lazy>, listed: &'a [ListedJob]) -> Planned<'a> {
+    pub(crate) fn new(
+        alloc: Global,
+        core: Core<AugmentingPaths>,
+        listed: &'a [ListedJob],
+    ) -> Planned<'a> {
         Planned {
             alloc,
             core,

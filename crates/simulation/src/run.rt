@@ -7,7 +7,7 @@ use crate::floor::Watch;
 use crate::outcome::play_all;
 use crate::picture::{Drawn, picture_of};
 use crate::table::table_of;
-use assignment::Lazy;
+use assignment::AugmentingPaths;
 use base_types::Text;
 use dispatcher::Core;
 use job_lists::ListedJob;
@@ -35,7 +35,7 @@ struct Stage {
 /// The names of the devices of a core, and the day of a list, by what these devices are.
 fn stage_of(
     alloc: Global,
-    core: &Core<Lazy>,
+    core: &Core<AugmentingPaths>,
     listed: &[ListedJob],
     noise: Noise,
 ) -> Result<Stage, AllocError> {
@@ -47,7 +47,7 @@ fn stage_of(
 /// Plays a day: the table of what came of it, or a picture.
 fn play_on<W: Watch>(
     alloc: Global,
-    core: Core<Lazy>,
+    core: Core<AugmentingPaths>,
     listed: &[ListedJob],
     stage: &Stage,
     drawn: Option<Drawn>,

@@ -16,7 +16,7 @@ loop-place-init c =
 
 pub loop-place-preserved : goal.loop-place-preserved
 loop-place-preserved c =
-    let s = c.in_ok-seat_or_leave.ensures {u = tt} in
+    let s = c.in_ok-match_or_leave.ensures {u = tt} in
     let order = c.args.order.now in
     let at = c.loop-place.place in
     let more : take (at + 1) order ≡ take at order ++ get_or order at 0 ∷ [] = take_more order at 0 c.loop-place-test.true in

@@ -6,5 +6,5 @@ use Rattle.assignment.proofs.begun.laid_out.Given as goal
 abbrev pub invariant-loop-place : goal.invariant-loop-place
 invariant-loop-place l = record {
   laid_out : IsLaidOut l.costs l.begun;
-  jobs : IsPermutation (take l.place l.order) (l.begun.seating.jobs.items ++ l.begun.left.items);
+  jobs : IsPermutation (take l.place l.order) (l.begun.matching.jobs.items ++ l.begun.left.items);
 }

@@ -4,6 +4,6 @@ use Rattle.assignment.proofs.fit.all_fair.Given as goal
 
 abbrev pub invariant-loop-q : goal.invariant-loop-q
 invariant-loop-q l = record {
-  seats : (q : ℕ) → q < l.q → IsFairAt l.costs l.seating q;
-  next : (q : ℕ) → q < l.q → IsFairBeside l.costs l.lanes l.seating q;
+  columns : (q : ℕ) → q < l.q → IsFairAt l.costs l.matching q;
+  next : (q : ℕ) → q < l.q → IsFairBeside l.costs l.by_device l.matching q;
 }

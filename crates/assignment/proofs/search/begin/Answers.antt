@@ -7,14 +7,14 @@ use Rattle.assignment.proofs.Opening.{Begins, begun, nears_begun}
 use Rattle.assignment.proofs.Charges.{cost_of-low}
 use Rattle.assignment.proofs.search.begin.Goals as goal
 
-begins_here : (c : goal.After-relax) → Begins (cost_of c.args.costs.now) c.args.seating.now.jobs.items c.args.seating.now.prices.items c.args.seating.now.seats.items c.args.seating.now.rents.items c.args.free.now c.in_ok-search.search.lengths.items c.in_ok-search.search.froms.items c.relax.new.search.lengths.items c.relax.new.search.froms.items c.in_ok-search.search.ranks.items c.in_ok-search.search.exit c.relax.new.search.exit (vec_len c.args.seating.now.seats)
+begins_here : (c : goal.After-relax) → Begins (cost_of c.args.costs.now) c.args.matching.now.jobs.items c.args.matching.now.prices.items c.args.matching.now.columns.items c.args.matching.now.duals.items c.args.free.now c.in_ok-search.search.lengths.items c.in_ok-search.search.froms.items c.relax.new.search.lengths.items c.relax.new.search.froms.items c.in_ok-search.search.ranks.items c.in_ok-search.search.exit c.relax.new.search.exit (vec_len c.args.matching.now.columns)
 begins_here c =
-    let s = c.args.seating.now in
+    let s = c.args.matching.now in
     let x = c.in_ok-search.search in
     let y = c.leave.new.search in
     let z = c.relax.new.search in
     let r = c.requires in
-    let n = vec_len s.seats in
+    let n = vec_len s.columns in
     let en : c.len-new.result ≡ n = c.len-new.ensures in
     let b : IsBlank n (length c.args.free.now) x = subst (λ (k : ℕ). IsBlank k (length c.args.free.now) x) en (c.in_ok-search.ensures {u = tt}) in
     let el : y.lengths.items ≡ x.lengths.items = ap (λ (v : Search). v.lengths.items) c.leave.ensures.same in
@@ -24,7 +24,7 @@ begins_here c =
     let ex : z.exit ≡ y.exit = c.relax.ensures.same.1 in
     record {
       low = cost_of-low c.args.costs.now;
-      rents_low = r.rents_low;
+      duals_low = r.duals_low;
       uncharged = r.new_job.uncharged;
       some = r.some;
       far = b.far;
@@ -48,7 +48,7 @@ returns-clause-searched c =
 
 pub returns-clause-nears : goal.returns-clause-nears
 returns-clause-nears c =
-    let n = vec_len c.args.seating.now.seats in
+    let n = vec_len c.args.matching.now.columns in
     let en : c.len-new.result ≡ n = c.len-new.ensures in
     let er = ap (λ (v : Vec ℕ). v.items) c.relax.ensures.same.0 ∙ ap (λ (v : Search). v.ranks.items) c.leave.ensures.same in
     let kept = ap (λ (v : Vec ℕ). v.items) c.relax.ensures.same.3 in
@@ -58,7 +58,7 @@ returns-clause-nears c =
 
 pub returns-clause-counted : goal.returns-clause-counted
 returns-clause-counted c =
-    let n = vec_len c.args.seating.now.seats in
+    let n = vec_len c.args.matching.now.columns in
     let x = c.in_ok-search.search in
     let en : c.len-new.result ≡ n = c.len-new.ensures in
     let b : IsBlank n (length c.args.free.now) x = subst (λ (k : ℕ). IsBlank k (length c.args.free.now) x) en (c.in_ok-search.ensures {u = tt}) in
@@ -67,13 +67,13 @@ returns-clause-counted c =
     rw (es, ranks) (omega (arith, b.settled, b.counted, b.ranks))
 
 pub relax-requires-clause-listed : goal.relax-requires-clause-listed
-relax-requires-clause-listed c = subst IsListed (sym c.leave.ensures.same) (let b = c.in_ok-search.ensures {u = tt} in record { len = b.listed.len; seats = b.listed.seats })
+relax-requires-clause-listed c = subst IsListed (sym c.leave.ensures.same) (let b = c.in_ok-search.ensures {u = tt} in record { len = b.listed.len; columns = b.listed.columns })
 
 pub relax-requires-clause-reach : goal.relax-requires-clause-reach
 relax-requires-clause-reach c =
-    let s = c.args.seating.now in
+    let s = c.args.matching.now in
     let r = c.requires in
-    let en : c.len-new.result ≡ vec_len s.seats = c.len-new.ensures in
+    let en : c.len-new.result ≡ vec_len s.columns = c.len-new.ensures in
     let price : get_or s.prices.items c.len-new.result 0 ≡ 0 = rw en r.new_job.uncharged in
     let lengths = ap (λ (v : Search). get_or v.lengths.items c.len-new.result 0) c.leave.ensures.same in
     omega (arith, price, lengths, c.leave.ensures.every 0 r.some, cost_of-low c.args.costs.now (get_or s.jobs.items c.len-new.result 0) (get_or c.args.free.now 0 nowhere))

@@ -7,7 +7,7 @@ use Rattle.assignment.proofs.search.search_exit.Goals as goal
 settled_one : (c : goal.After-settle) → open_count (set c.settling.search.ranks.items c.in-Some.c c.settling.search.settled) + 1 ≡ open_count c.settling.search.ranks.items
 settled_one c =
     let was = c.settling.search in
-    let found : IsNearestOf was.lengths.items was.ranks.items (vec_len c.args.seating.now.seats) was.exit.length (Some c.in-Some.c) = search rules in
+    let found : IsNearestOf was.lengths.items was.ranks.items (vec_len c.args.matching.now.columns) was.exit.length (Some c.in-Some.c) = search rules in
     let lt : c.in-Some.c < length was.ranks.items = omega (arith, found.0, c.settling.invariant.sizes.ranks, was.ranks.ok.0) in
     let at : get_or was.ranks.items c.in-Some.c 0 ≡ UNSETTLED = found.1 in
     open_count-set was.ranks.items c.in-Some.c was.settled lt at (λ e. omega (arith, e, c.settling.invariant.counted, was.ranks.small, was.ranks.ok.0))

@@ -4,9 +4,9 @@ use Rattle.assignment.proofs.search.search_exit.Given as goal
 
 abbrev pub invariant-settling : goal.invariant-settling
 invariant-settling l = record {
-  sizes : IsSized l.seating l.search;
-  searched : SearchedFrom l.costs l.seating l.free l.search;
-  nears : KeepsNears l.costs l.seating l.free l.search;
+  sizes : IsSized l.matching l.search;
+  searched : SearchedFrom l.costs l.matching l.free l.search;
+  nears : KeepsNears l.costs l.matching l.free l.search;
   listed : IsListed l.search;
   counted : l.search.settled + open_count l.search.ranks.items ≤ vec_len l.search.ranks;
 }

@@ -8,9 +8,9 @@ use Rattle.assignment.proofs.Listed.{listed_settled}
 use Rattle.assignment.proofs.Step.{Settles, nears_now, searched_now}
 use Rattle.assignment.proofs.search.settle.Goals as goal
 
-settles_here : (c : goal.After-relax) → Settles (cost_of c.args.costs.now) c.args.seating.now.jobs.items c.args.seating.now.prices.items c.args.seating.now.seats.items c.args.seating.now.rents.items c.args.free.now c.args.search.now.lengths.items c.args.search.now.froms.items c.args.search.now.ranks.items c.relax.new.search.lengths.items c.relax.new.search.froms.items c.relax.new.search.ranks.items c.args.search.now.exit c.relax.new.search.exit c.args.search.now.settled c.args.c (vec_len c.args.seating.now.seats)
+settles_here : (c : goal.After-relax) → Settles (cost_of c.args.costs.now) c.args.matching.now.jobs.items c.args.matching.now.prices.items c.args.matching.now.columns.items c.args.matching.now.duals.items c.args.free.now c.args.search.now.lengths.items c.args.search.now.froms.items c.args.search.now.ranks.items c.relax.new.search.lengths.items c.relax.new.search.froms.items c.relax.new.search.ranks.items c.args.search.now.exit c.relax.new.search.exit c.args.search.now.settled c.args.c (vec_len c.args.matching.now.columns)
 settles_here c =
-    let s = c.args.seating.now in
+    let s = c.args.matching.now in
     let x = c.args.search.now in
     let y = c.leave.new.search in
     let z = c.relax.new.search in
@@ -23,7 +23,7 @@ settles_here c =
     let in_ranks : c.args.c < length x.ranks.items = omega (arith, x.ranks.ok.0, r.sizes.ranks, r.here) in
     let top : get_or (set x.ranks.items c.args.c x.settled) c.args.c 0 ≡ x.settled = get_or-set_same _ _ _ _ in_ranks in
     record {
-      fair = λ q k le lt. r.fair.at q k (omega (arith, s.jobs.ok.0, r.sizes.jobs)) (omega (arith, s.seats.ok.0));
+      fair = λ q k le lt. r.fair.at q k (omega (arith, s.jobs.ok.0, r.sizes.jobs)) (omega (arith, s.columns.ok.0));
       fair_free = λ q k le lt. omega (arith, r.fair_free.at q k (omega (arith, s.jobs.ok.0, r.sizes.jobs)) lt);
       old = r.searched;
       here = r.here;
@@ -42,13 +42,13 @@ settles_here c =
 
 pub returns-clause-searched : goal.returns-clause-searched
 returns-clause-searched c =
-    let s = c.args.seating.now in
+    let s = c.args.matching.now in
     let x = c.args.search.now in
     let r = c.requires in
     let es = c.relax.ensures.same.2 ∙ ap (λ (v : Search). v.settled) c.leave.ensures.same in
     let er : c.relax.new.search.ranks.items ≡ set x.ranks.items c.args.c x.settled = ap (λ (v : Vec ℕ). v.items) c.relax.ensures.same.0 ∙ ap (λ (v : Search). v.ranks.items) c.leave.ensures.same in
-    let apart : vec_len s.seats ≢ c.args.c = omega (arith, r.here) in
-    rw es (searched_now (settles_here c) (rw er (get_or-set_other x.ranks.items c.args.c (vec_len s.seats) x.settled 0 apart ∙ r.searched.root_rank)))
+    let apart : vec_len s.columns ≢ c.args.c = omega (arith, r.here) in
+    rw es (searched_now (settles_here c) (rw er (get_or-set_other x.ranks.items c.args.c (vec_len s.columns) x.settled 0 apart ∙ r.searched.root_rank)))
 
 pub returns-clause-nears : goal.returns-clause-nears
 returns-clause-nears c =
@@ -68,12 +68,12 @@ relax-requires-clause-listed c =
     let ek : y.count ≡ x.count = ap (λ (v : Search). v.count) c.leave.ensures.same in
     record {
       len = rw (el, et) r.listed.len;
-      seats = rw (el, ey, et, ek) (listed_settled x.lengths.items x.ranks.items x.reached.items x.count (vec_len x.reached) c.args.c x.settled r.listed.seats r.unsettled);
+      columns = rw (el, ey, et, ek) (listed_settled x.lengths.items x.ranks.items x.reached.items x.count (vec_len x.reached) c.args.c x.settled r.listed.columns r.unsettled);
     }
 
 pub relax-requires-clause-reach : goal.relax-requires-clause-reach
 relax-requires-clause-reach c =
-    let s = c.args.seating.now in
+    let s = c.args.matching.now in
     let r = c.requires in
     let f = c.args.search.now.exit.place in
     let lengths = ap (λ (v : Search). get_or v.lengths.items c.args.c 0) c.leave.ensures.same in
