@@ -2,9 +2,9 @@
 //! all others of a device, over which jobs move nearer to the column. None of it needs a proof, since it
 //! only makes a hint better.
 
-use crate::costs::{Costs, cost};
-use crate::recall::drop_column;
+use crate::costs::{Costs, on_device};
 use crate::matching::Matching;
+use crate::recall::drop_column;
 use std::alloc::{AllocError, Global};
 
 /// Farther than any column.
@@ -29,6 +29,7 @@ pub(crate) fn vacate(
     hole: usize,
 ) -> Result<(), AllocError> {
     let columns = matching.columns.len();
+    let mut times = no_times(alloc, costs.waits.len())?;
     let mut ways = Ways {
         lengths: vec![in alloc; FAR; columns]?,
         froms: vec![in alloc; hole; columns]?,
@@ -41,7 +42,8 @@ pub(crate) fn vacate(
         let Some(column) = nearest(&ways) else {
             break;
         };
-        settle(costs, matching, &mut ways, column);
+        read_times(costs, matching, &mut times, column)?;
+        settle(costs, matching, &times, &mut ways, column);
     }
     lower(&mut matching.duals, &ways);
     lower(&mut matching.prices, &ways);
@@ -63,33 +65,68 @@ fn nearest(ways: &Ways) -> Option<usize> {
     nearest
 }
 
+/// The times of all columns' jobs, device by device, of which none is read yet.
+fn no_times(alloc: Global, devices: usize) -> Result<Vec<Vec<u64>>, AllocError> {
+    let mut times = Vec::with_capacity(alloc, devices)?;
+    for _ in 0..devices {
+        times.push(Vec::new(alloc))?;
+    }
+    Ok(times)
+}
+
+/// Reads the times of all columns' jobs on the device of a column, unless that is done: they lie apart,
+/// each in the row of its job.
+fn read_times(
+    costs: &Costs,
+    matching: &Matching,
+    times: &mut [Vec<u64>],
+    column: usize,
+) -> Result<(), AllocError> {
+    let Some(place) = matching.columns.get(column) else {
+        return Ok(());
+    };
+    let Some(times) = times.get_mut(place.device) else {
+        return Ok(());
+    };
+    if times.is_empty() {
+        times.reserve_exact(matching.jobs.len())?;
+        for job in &matching.jobs {
+            times.push(on_device(costs.row(*job), place.device))?;
+        }
+    }
+    Ok(())
+}
+
 /// Settles a column: each other job may move there.
-fn settle(costs: &Costs, matching: &Matching, ways: &mut Ways, column: usize) {
-    let Some(place) = matching.columns.get(column).copied() else {
+fn settle(costs: &Costs, matching: &Matching, times: &[Vec<u64>], ways: &mut Ways, column: usize) {
+    set(&mut ways.settled, column, true);
+    let Some(place) = matching.columns.get(column) else {
+        return;
+    };
+    let Some(times) = times.get(place.device) else {
         return;
     };
     let dual = matching.duals.get(column).copied().unwrap_or(0);
     let base = ways.lengths.get(column).copied().unwrap_or(0);
-    set(&mut ways.settled, column, true);
-    for (other, price) in matching.prices.iter().enumerate() {
-        let job = matching.jobs.get(other).copied().unwrap_or(0);
-        let charge = cost(&costs.waits, costs.row(job), place).saturating_add(dual);
-        let length = charge.saturating_sub(*price).saturating_add(base);
-        let end = length.saturating_add(matching.duals.get(other).copied().unwrap_or(0));
-        reach(ways, other, column, length, end);
+    let charge = on_device(&costs.waits, place.device).saturating_add(dual);
+    let count = place.after.saturating_add(1);
+    for (other, (time, price)) in times.iter().zip(matching.prices.iter()).enumerate() {
+        let cost = charge.saturating_add(time.saturating_mul(count));
+        let length = base.saturating_add(cost.saturating_sub(*price));
+        if length < ways.least {
+            reach(matching, ways, other, column, length);
+        }
     }
 }
 
 /// Reaches a column from another one, where that is the shortest way so far.
-fn reach(ways: &mut Ways, other: usize, column: usize, length: u64, end: u64) {
-    if length >= ways.least
-        || ways.lengths.get(other).copied().unwrap_or(0) <= length
-        || ways.settled.get(other) == Some(&true)
-    {
+fn reach(matching: &Matching, ways: &mut Ways, other: usize, column: usize, length: u64) {
+    if ways.lengths.get(other).copied().unwrap_or(0) <= length {
         return;
     }
     set(&mut ways.lengths, other, length);
     set(&mut ways.froms, other, column);
+    let end = length.saturating_add(matching.duals.get(other).copied().unwrap_or(0));
     if end < ways.least {
         ways.least = end;
         ways.end = other;
