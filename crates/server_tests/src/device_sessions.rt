@@ -1,7 +1,6 @@
 //! Devices over a wire in memory: what they write, and what they get.
 use crate::exchanges::PLAIN;
-use crate::in_memory::{CUTS, TURNS, client, engine, got, is_closed, serve};
-use base_types::Moment;
+use crate::in_memory::{CUTS, TURNS, client, got, is_closed, serve};
 use server::NoteLog;
 use std::alloc::{AllocError, Global};
 use std::test::Fail;
@@ -16,6 +15,12 @@ struct Session {
     /// Whether the server closes the connection.
     closes: bool,
 }
+
+/// What a device writes that runs.
+const GREETING: &[u8] = b"HELLO A\nREADY\n";
+
+/// What one writes a turn later that is done early.
+const EARLY: &[u8] = b"HELLO A\nREADY\nDONE 1\n";
 
 /// The bytes of the client's job.
 const JOB: &[u8] = b"JOB 1 5 1 1 iso_a4_210x297mm\nhello";
@@ -107,11 +112,12 @@ fn sessions_in_pieces(rt: HostRuntime) -> Result<(), Fail> {
     Ok(())
 }
 
-/// A device takes three bytes of what is written to it at a time.
-fn slow_device(alloc: Global) -> Result<MemoryWire, AllocError> {
-    let lines = b"HELLO A\nREADY\n".as_slice();
+/// A client that prints, and a device that writes these lines one after the other, one a turn, and takes
+/// three bytes of what is written to it a turn.
+fn slow_device(alloc: Global, lines: &[u8]) -> Result<MemoryWire, AllocError> {
     let mut wire = print_room(alloc, PLAIN.sent, &[lines], (4096, 4096))?;
     if let Some(device) = wire.peers.get_mut(1) {
+        device.piece = GREETING.len();
         device.most = 3;
     }
     Ok(wire)
@@ -120,18 +126,16 @@ fn slow_device(alloc: Global) -> Result<MemoryWire, AllocError> {
 /// Whether a device that says that its job is done once it has taken three of the job's bytes gets the
 /// rest of them, once.
 fn gets_the_rest(alloc: Global) -> Result<bool, AllocError> {
-    let mut wire = slow_device(alloc)?;
     let mut notes = NoteLog::new(alloc);
-    let mut engine = engine(alloc)?;
-    engine.turn(&mut wire, &mut notes, Moment::start());
-    let begun = got(&wire, 1, b"JOB");
-    if let Some(device) = wire.peers.get_mut(1) {
-        device.input.extend_from_slice(b"DONE 1\n")?;
-    }
-    for _turn in 0..20 {
-        engine.turn(&mut wire, &mut notes, Moment::start());
-    }
-    Ok(begun && got(&wire, 1, JOB) && !is_closed(&wire, 1))
+    let mut begun = slow_device(alloc, EARLY)?;
+    let mut wire = slow_device(alloc, EARLY)?;
+    Ok(
+        serve(alloc, &mut begun, &mut notes, 1)
+            && got(&begun, 1, b"JOB")
+            && serve(alloc, &mut wire, &mut notes, 21)
+            && got(&wire, 1, JOB)
+            && !is_closed(&wire, 1),
+    )
 }
 
 #[test]
@@ -141,27 +145,28 @@ fn early_done(rt: HostRuntime) -> Result<(), Fail> {
     Ok(())
 }
 
-/// Whether a device whose input has ended while its job waits loses its name to one that says it: the job
-/// is given up, and the newcomer gets the next.
-fn comes_again(alloc: Global) -> Result<bool, AllocError> {
-    let mut wire = slow_device(alloc)?;
-    let mut notes = NoteLog::new(alloc);
-    let mut engine = engine(alloc)?;
-    engine.turn(&mut wire, &mut notes, Moment::start());
+/// A slow device whose input ends behind its greeting, and one that says its name a turn later, when
+/// another client prints.
+fn newcomer(alloc: Global) -> Result<MemoryWire, AllocError> {
+    let mut wire = slow_device(alloc, GREETING)?;
     if let Some(device) = wire.peers.get_mut(1) {
         device.ended = true;
     }
     let whole = (4096, 4096);
-    let lines = b"HELLO A\nREADY\n".as_slice();
-    wire.peers
-        .push(client(alloc, Door::Devices, lines, whole)?)?;
-    wire.peers
-        .push(client(alloc, Door::Ipp, PLAIN.sent, whole)?)?;
-    for _turn in 0..5 {
-        engine.turn(&mut wire, &mut notes, Moment::start());
-    }
+    let peers = &mut wire.peers;
+    peers.push(client(alloc, Door::Devices, GREETING, whole)?)?;
+    peers.push(client(alloc, Door::Ipp, PLAIN.sent, whole)?)?;
+    Ok(wire)
+}
+
+/// Whether a device whose input has ended while its job waits loses its name to one that says it: the job
+/// is given up, and the newcomer gets the next.
+fn comes_again(alloc: Global) -> Result<bool, AllocError> {
+    let mut wire = newcomer(alloc)?;
+    let mut notes = NoteLog::new(alloc);
     Ok(
-        is_closed(&wire, 1)
+        serve(alloc, &mut wire, &mut notes, 6)
+            && is_closed(&wire, 1)
             && !is_closed(&wire, 2)
             && got(&wire, 2, b"JOB 2 5 1 1 iso_a4_210x297mm\nhello"),
     )

@@ -26,14 +26,6 @@ pub(crate) const CUTS: [(usize, usize); 3] = [(4096, 4096), (7, 3), (1, 1)];
 /// Turns that serve any of the exchanges, a byte at a time.
 pub(crate) const TURNS: usize = 1000;
 
-/// A server that has just started.
-pub(crate) fn engine(alloc: Global) -> Result<Engine<AugmentingPaths>, AllocError> {
-    let Ok(settings) = read_settings(alloc, SETTINGS) else {
-        return Err(AllocError);
-    };
-    Engine::new(alloc, settings, AugmentingPaths::new(alloc))
-}
-
 /// Turns of a server that has just started, over this wire; what is heard is left in the notes.
 pub(crate) fn serve(
     alloc: Global,
@@ -41,7 +33,10 @@ pub(crate) fn serve(
     notes: &mut NoteLog,
     turns: usize,
 ) -> bool {
-    let Ok(mut engine) = engine(alloc) else {
+    let Ok(settings) = read_settings(alloc, SETTINGS) else {
+        return false;
+    };
+    let Ok(mut engine) = Engine::new(alloc, settings, AugmentingPaths::new(alloc)) else {
         return false;
     };
     for _turn in 0..turns {
