@@ -8,7 +8,7 @@ ghost use Rattle.server.specs.Polls.{both};
 ghost use Rattle.server.specs.State.{EngineState};
 ghost use Rattle.server.specs.Refinement.{StandsAt, RefinesTurn};
 
-use base_types::{DeviceId, DeviceNow, JobId, Limits, Moment};
+use base_types::{DeviceId, DeviceNow, JobId, Moment};
 use connections::Connection;
 use dispatcher::{Core, Listener};
 use job_objects::Job;
@@ -46,7 +46,8 @@ impl<P: Planner + Drop> Engine<P> {
         ensures { IfOk result (StandsAt (opening settings 1) []) }
     {
         let core = Core::new(alloc, settings, planner)?;
-        let connections = Slab::with_capacity(alloc, Limits::CONNECTIONS)?;
+        // As many keys as there were connections at a time: each turn goes over all of them.
+        let connections = Slab::new(alloc);
         Ok(Engine {
             core,
             connections,

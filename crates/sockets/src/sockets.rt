@@ -6,7 +6,7 @@ use crate::entrance::{Entrance, Entrances, Listening};
 use crate::keepalive::probe;
 use crate::lingering::Lingerings;
 use crate::link::Link;
-use base_types::{Limits, Moment};
+use base_types::Moment;
 use mio::net::TcpStream;
 use mio::{Events, Interest, Poll, Token};
 use slab::Slab;
@@ -81,7 +81,7 @@ impl Sockets {
         Ok(Sockets {
             alloc,
             entrances: Entrances::new(alloc),
-            links: Slab::with_capacity(alloc, Limits::CONNECTIONS)?,
+            links: Slab::new(alloc),
             lingerings: Lingerings::new(alloc)?,
             events: Events::with_capacity(alloc, EVENTS)?,
             poll: Poll::new(net)?,
