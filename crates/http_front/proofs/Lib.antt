@@ -7,3 +7,5 @@ pub mod Feeding
 pub mod Orders
 pub mod Replies
 pub mod Saying
+pub mod Deciding
+pub mod Telling

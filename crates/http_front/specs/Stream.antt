@@ -149,6 +149,10 @@ Exchanges stream said = Says Head stream said
 abbrev pub SaysOne : Type 0
 SaysOne = (stream : List ℕ) (given said : List Said) → Exchanges stream given → Exchanges stream said → given ≡ said
 
+-- a stream says something
+abbrev pub SaysSome : Type 0
+SaysSome = (stream : List ℕ) → (said : List Said) × Exchanges stream said
+
 -- what a stream says stays at the front where more comes
 abbrev pub StaysInFront : Type 0
 StaysInFront = (stream more : List ℕ) (given said : List Said) → Exchanges stream given → Exchanges (stream ++ more) said → (later : List Said) × (said ≡ given ++ later)
@@ -192,6 +196,10 @@ pub record Stands (stream : List ℕ) (given : List Said) (reader : HttpState) :
   pub left : List ℕ
   pub leads : Leads Head stream given reader.awaited left
   pub kept : IsOver reader ⊎ (left ≡ reader.rest)
+
+-- what a reader has given is the front of what its stream says
+abbrev pub GivesTheFront : Type 0
+GivesTheFront = (stream : List ℕ) (given : List Said) (reader : HttpState) → Stands stream given reader → (later : List Said) × Exchanges stream (given ++ later)
 
 -- whatever comes yet, the whole stream says what a reader has given, and then what it will hear
 abbrev pub HearsTheRest : Type 0

@@ -1,5 +1,5 @@
 //! Laws of the exchanges. Their functions do nothing: their contracts are what they are for.
-ghost use Rattle.http_front.specs.Stream.{SaysOne, StaysInFront, FirstIsOne, FirstStays, HearsTheRest};
+ghost use Rattle.http_front.specs.Stream.{SaysOne, SaysSome, StaysInFront, FirstIsOne, FirstStays, GivesTheFront, HearsTheRest};
 ghost use Rattle.http_front.specs.Order.{SaysInOrder};
 ghost use Rattle.http_front.specs.Written.{LengthSays, ChunksSay};
 
@@ -7,6 +7,12 @@ ghost use Rattle.http_front.specs.Written.{LengthSays, ChunksSay};
 pub fn one_saying()
     ensures one { SaysOne }
     ensures front { StaysInFront }
+{}
+
+/// Every stream says something. However it was cut for a reader, what that has given is the front of it.
+pub fn some_saying()
+    ensures some { SaysSome }
+    ensures front { GivesTheFront }
 {}
 
 /// Of one length a stream says one thing first.

@@ -23,7 +23,9 @@ mod section;
 mod words;
 
 pub use item::HttpItem;
-pub use law::{exchanges_in_order, given_first, one_front, one_saying, written_is_said};
+pub use law::{
+    exchanges_in_order, given_first, one_front, one_saying, some_saying, written_is_said,
+};
 pub use reader::HttpReader;
 pub use refusal::HttpRejection;
 pub use reply::{continue_head, write_head};
