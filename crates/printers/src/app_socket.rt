@@ -15,7 +15,8 @@ pub struct AppSocket {
 }
 
 impl AppSocket {
-    /// Once a printer has taken all, it may be silent for so many ms before the job counts as printed.
+    /// Once a printer's machine has taken all, the printer may be silent for so many ms before the job counts as
+    /// printed.
     pub fn new(linger: u64) -> AppSocket {
         AppSocket {
             linger,
@@ -63,7 +64,7 @@ impl Protocol for AppSocket {
         if !self.ends && self.send_all(session, attachment, now) == Moved::Broken {
             return Ok(Heard::Failed(Breach::Broken));
         }
-        if !self.ends {
+        if !self.ends || session.has_backlog() {
             return Ok(session.wait(now));
         }
         Ok(if session.silence(now) >= self.linger {
@@ -78,7 +79,7 @@ impl Protocol for AppSocket {
     }
 
     fn pause(&self, session: &Session, now: u64, has_job: bool) -> Option<u64> {
-        let patience = if self.ends {
+        let patience = if self.ends && !session.has_backlog() {
             self.linger
         } else {
             session.timeout()

@@ -7,6 +7,7 @@ use pauses::Pauses;
 use std::alloc::Global;
 use std::io;
 use std::net::Net;
+use std::rt::Files;
 
 /// How long a connection may take to come about, in ms.
 const CONNECTING: u64 = 20_000;
@@ -134,6 +135,12 @@ impl Caller {
     /// The connection, if there is one.
     pub fn link(&mut self) -> Option<&mut Link> {
         if self.open { self.link.as_mut() } else { None }
+    }
+
+    /// How many bytes that were written the peer hasn't acknowledged, where the system tells.
+    pub(crate) fn unacknowledged(&self, files: &impl Files) -> Option<u64> {
+        let link = self.link.as_ref()?;
+        link.unacknowledged(self.alloc, files).ok()?
     }
 
     /// Closes the connection, if there is one; the next try is made at once.

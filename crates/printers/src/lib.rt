@@ -11,6 +11,7 @@
 #![tactic(auto)]
 
 mod app_socket;
+mod backlog;
 mod caller;
 mod folder;
 mod format;
@@ -25,6 +26,7 @@ mod printer;
 mod protocol;
 mod send_buffer;
 mod session;
+mod socket_table;
 
 pub use app_socket::AppSocket;
 pub use caller::{Caller, Reached};

@@ -2,12 +2,15 @@
 ghost use Rattle.std.specs.Io.{ReadsAtMost, WritesAtMost};
 
 use crate::send_buffer::keep_small;
+use crate::socket_table::unacknowledged;
 use mio::event::Event;
 use mio::net::TcpStream;
 use mio::{Interest, Poll, Token};
+use std::alloc::Global;
 use std::io;
 use std::io::{ErrorKind, Read, Write};
 use std::net::{Net, Shutdown, SocketAddr};
+use std::rt::Files;
 
 /// A socket to a peer, with what was told of it. Where a call had to wait, none is made until something is
 /// told.
@@ -91,6 +94,16 @@ impl Link {
     /// Nothing more will be written.
     pub fn end_writing(&self) -> io::Result<()> {
         self.stream.shutdown(Shutdown::Write)
+    }
+
+    /// How many bytes that were written the peer hasn't acknowledged, where the system tells. The end of the
+    /// writing side counts as a byte.
+    pub(crate) fn unacknowledged(
+        &self,
+        alloc: Global,
+        files: &impl Files,
+    ) -> io::Result<Option<u64>> {
+        unacknowledged(alloc, files, &self.stream)
     }
 }
 

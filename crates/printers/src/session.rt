@@ -4,6 +4,7 @@ ghost use Rattle.std.specs.Io.{WritesAtMost};
 ghost use Rattle.printers.specs.declared.session.Moved.TheVariants.{End, Nothing};
 ghost use Rattle.printers.specs.Moved.{MovesAtMost};
 
+use crate::backlog::Backlog;
 use crate::caller::{Caller, Reached};
 use crate::heard::{Breach, Heard};
 use crate::link::has_to_wait;
@@ -12,6 +13,7 @@ use mio::Poll;
 use mio::event::Event;
 use std::io;
 use std::net::Net;
+use std::rt::Files;
 use text::drop_front;
 
 /// How many calls to a printer a turn makes at most.
@@ -51,6 +53,8 @@ pub struct Session {
     /// When bytes last went or came, or none were to.
     last: u64,
     worked: bool,
+    /// What waits in this machine once the writing side is ended.
+    backlog: Backlog,
 }
 
 impl Session {
@@ -62,6 +66,7 @@ impl Session {
             away: false,
             last: 0,
             worked: false,
+            backlog: Backlog::none(),
         }
     }
 
@@ -70,20 +75,41 @@ impl Session {
         self.caller.told(event);
     }
 
-    /// Connects where there is a job, or the printer is away.
-    pub(crate) fn reach(&mut self, net: &impl Net, poll: &Poll, has_job: bool, now: u64) -> Stage {
+    /// Connects where there is a job, or the printer is away, and looks at what waits of a job that is written.
+    pub(crate) fn reach<R: Net + Files>(
+        &mut self,
+        rt: &R,
+        poll: &Poll,
+        has_job: bool,
+        now: u64,
+    ) -> Stage {
         self.worked = false;
         if !has_job && !self.away {
             return Stage::Waits(Heard::Nothing);
         }
-        match self.caller.turn(net, poll, now) {
+        match self.caller.turn(rt, poll, now) {
             Reached::Not => Stage::Waits(Heard::Nothing),
             Reached::Away => {
                 self.away = true;
                 Stage::Waits(Heard::Away)
             }
             Reached::Now => self.open(has_job, now),
-            Reached::Still => Stage::Open,
+            Reached::Still => {
+                self.look(rt, now);
+                Stage::Open
+            }
+        }
+    }
+
+    /// Looks at what waits in this machine, where it is time. The printer's time begins anew with each byte that
+    /// its machine takes.
+    fn look(&mut self, files: &impl Files, now: u64) {
+        if !self.backlog.is_due(now) {
+            return;
+        }
+        let bytes = self.caller.unacknowledged(files);
+        if self.backlog.heed(bytes, now) {
+            self.last = now;
         }
     }
 
@@ -91,6 +117,7 @@ impl Session {
     fn open(&mut self, has_job: bool, now: u64) -> Stage {
         self.last = now;
         self.worked = true;
+        self.backlog = Backlog::none();
         if !has_job {
             self.caller.close();
         }
@@ -176,14 +203,20 @@ impl Session {
         moved
     }
 
-    /// Ends the writing side.
+    /// Ends the writing side. What waits is looked at from now on.
     pub(crate) fn end_writing(&mut self, now: u64) -> Moved {
         self.last = now;
         self.worked = true;
+        self.backlog = Backlog::unknown(now);
         match self.caller.link() {
             Some(link) if link.end_writing().is_ok() => Moved::Nothing,
             _ => Moved::Broken,
         }
+    }
+
+    /// Whether something of a job that is written waits in this machine.
+    pub(crate) fn has_backlog(&self) -> bool {
+        self.backlog.waits()
     }
 
     /// Nothing is to be sent or heard for now: the printer's time begins anew.
@@ -225,7 +258,10 @@ impl Session {
         }
         match self.caller.pause(now) {
             Some(pause) => Some(pause),
-            None => Some(patience.saturating_sub(self.silence(now))),
+            None => {
+                let left = patience.saturating_sub(self.silence(now));
+                Some(self.backlog.pause(now).unwrap_or(left).min(left))
+            }
         }
     }
 

@@ -1,0 +1,64 @@
+//! What the system tells of a socket's bytes.
+//!
+//! Linux tells how many wait by the ioctl SIOCOUTQ and by the option TCP_INFO. The kit's C library has no ioctl,
+//! and its `getsockopt` takes neither that option nor a value of more than 16 bytes. The same number stands in the
+//! tables of this machine's sockets, which are files.
+use mio::net::TcpStream;
+use std::alloc::Global;
+use std::fs::File;
+use std::io::{BufRead, BufReader};
+use std::os::fd::AsRawFd;
+use std::os::unix::fs::MetadataExt;
+use std::rt::Files;
+use std::{fs, io};
+
+/// The tables of the sockets of IPv4 and of IPv6: a line for each socket, behind a line of headings.
+const TABLES: [&str; 2] = ["/proc/self/net/tcp", "/proc/self/net/tcp6"];
+
+/// Which word of a line has the bytes that wait, to be sent and to be read, and how many words behind it the
+/// socket's number stands.
+const WAITING: usize = 4;
+
+const NUMBER_BEHIND: usize = 4;
+
+/// How many bytes that a socket took its peer hasn't acknowledged, where the system tells. The end of the writing
+/// side counts as a byte.
+pub(crate) fn unacknowledged(
+    alloc: Global,
+    files: &impl Files,
+    stream: &TcpStream,
+) -> io::Result<Option<u64>> {
+    let link = format!(in alloc; "/proc/self/fd/{}", stream.as_raw_fd())?;
+    let number = fs::metadata(files, link.as_str())?.ino();
+    for table in TABLES {
+        let bytes = look_up(alloc, files, table, number)?;
+        if bytes.is_some() {
+            return Ok(bytes);
+        }
+    }
+    Ok(None)
+}
+
+/// What a table tells of the socket of this number, if it has it.
+fn look_up(alloc: Global, files: &impl Files, table: &str, number: u64) -> io::Result<Option<u64>> {
+    let reader = BufReader::new(alloc, File::open(files, table)?)?;
+    for line in reader.lines(alloc) {
+        let bytes = bytes_of(line?.as_str(), number);
+        if bytes.is_some() {
+            return Ok(bytes);
+        }
+    }
+    Ok(None)
+}
+
+/// What a line tells, if it is that of the socket of this number.
+fn bytes_of(line: &str, number: u64) -> Option<u64> {
+    let mut words = line.split_whitespace();
+    let waiting = words.nth(WAITING)?;
+    let told = words.nth(NUMBER_BEHIND)?;
+    if told.parse::<u64>() != Ok(number) {
+        return None;
+    }
+    let (sending, _reading) = waiting.split_once(':')?;
+    u64::from_str_radix(sending, 16).ok()
+}
