@@ -57,7 +57,7 @@ impl Protocol for AppSocket {
         now: u64,
     ) -> Result<Heard, AllocError> {
         match listen(session, now) {
-            Moved::End if self.ends => return Ok(Heard::Printed(None)),
+            Moved::End if self.ends => return Ok(session.heed_end(now)),
             Moved::End | Moved::Broken => return Ok(Heard::Failed(Breach::Broken)),
             Moved::Bytes(_) | Moved::Nothing => {}
         }

@@ -137,6 +137,14 @@ impl Caller {
         if self.open { self.link.as_mut() } else { None }
     }
 
+    /// Whether both sides of the connection have ended, and the peer has acknowledged all. The error is why it broke.
+    pub(crate) fn has_ended(&self) -> io::Result<bool> {
+        match &self.link {
+            Some(link) => link.has_ended(),
+            None => Ok(true),
+        }
+    }
+
     /// How many bytes that were written the peer hasn't acknowledged, where the system tells.
     pub(crate) fn unacknowledged(&self, files: &impl Files) -> Option<u64> {
         let link = self.link.as_ref()?;

@@ -96,6 +96,17 @@ impl Link {
         self.stream.shutdown(Shutdown::Write)
     }
 
+    /// Whether both sides have ended, and the peer has acknowledged all. The error is why the connection broke.
+    pub(crate) fn has_ended(&self) -> io::Result<bool> {
+        if let Some(error) = self.stream.take_error()? {
+            return Err(error);
+        }
+        match self.stream.peer_addr() {
+            Err(error) if error.kind() == ErrorKind::NotConnected => Ok(true),
+            Ok(_) | Err(_) => Ok(false),
+        }
+    }
+
     /// How many bytes that were written the peer hasn't acknowledged, where the system tells. The end of the
     /// writing side counts as a byte.
     pub(crate) fn unacknowledged(

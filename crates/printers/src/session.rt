@@ -219,6 +219,18 @@ impl Session {
         self.backlog.waits()
     }
 
+    /// The printer has closed its side after all was written: the job is printed once nothing of it waits.
+    pub(crate) fn heed_end(&mut self, now: u64) -> Heard {
+        if !self.has_backlog() {
+            return Heard::Printed(None);
+        }
+        match self.caller.has_ended() {
+            Ok(true) => Heard::Printed(None),
+            Ok(false) => self.wait(now),
+            Err(_) => Heard::Failed(Breach::Broken),
+        }
+    }
+
     /// Nothing is to be sent or heard for now: the printer's time begins anew.
     pub(crate) fn rest(&mut self, now: u64) {
         self.last = now;
