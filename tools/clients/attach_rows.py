@@ -6,12 +6,14 @@ import subprocess
 import threading
 import time
 
-from printer import RATE_ONE, RATE_TWO, SETUP
+from printer import LATE, RATE_ONE, RATE_TWO, SETUP
 from running import Adapter
 from scripted_server import Printer, ScriptedServer, attached, free_port
 
 DOCUMENT = bytes(n % 251 for n in range(20_000))
 PAGE = 4096
+# a job that the adapter's machine takes as a whole, whatever the printer does
+WAITING = DOCUMENT * 3
 # the first bytes of documents, the ending of their files, and their media types
 FRONTS = [
     (b"%PDF-1.7\n", "pdf", "application/pdf"),
@@ -43,6 +45,7 @@ WAITS = [
     ("ipp", "stall", ["--timeout", "4"], "FAIL 1", 4),
     ("ipp", "mute", ["--timeout", "4"], "FAIL 1", 4),
     ("ipp", "deaf", ["--timeout", "4"], "FAIL 1", 4),
+    ("socket", "full", ["--timeout", "4", "--linger", "1"], "FAIL 1", 4),
     ("socket", "open", ["--linger", "3"], "DONE 1", 3),
     ("socket", "open", [], "DONE 1", 30),
     ("socket", "stall", [], "FAIL 1", 300),
@@ -114,11 +117,26 @@ def play_wait(to, fault, words, says, seconds, folder):
     with Printer(to, folder / "kept", [fault]) as printer, attached(printer.address, folder, words) as (server, adapter):
         time.sleep(1)
         begun = time.time()
-        server.bring(1, DOCUMENT * (100 if fault == "stall" else 1))
+        server.bring(1, {"stall": DOCUMENT * 100, "full": WAITING}.get(fault, DOCUMENT))
         ended = server.moment_of("(DONE|FAIL) 1", seconds + 20)
         peak = adapter.peak_kib()
     took = (ended or 0) - begun
     return answers(server) == [says] and seconds <= took + 0.1 and took < seconds + 2, f"{', '.join(answers(server)) or 'nothing'} after {took:.1f} s", peak
+
+
+def play_late(folder):
+    """When a job is done that waits in the adapter's machine until its printer reads on, which doesn't close."""
+    linger = LATE - 3
+    with Printer("socket", folder / "kept", ["late"]) as printer:
+        with attached(printer.address, folder, ["--linger", str(linger), "--timeout", "60"]) as (server, adapter):
+            begun = time.time()
+            server.bring(1, WAITING)
+            done = server.moment_of("(DONE|FAIL) 1", LATE + linger + 20) or begun
+            said, peak = answers(server), adapter.peak_kib()
+    taken = (folder / "kept/1").stat().st_mtime
+    good = said == ["DONE 1"] and (folder / "kept/1").read_bytes() == WAITING and taken - begun > LATE - 0.1
+    good = good and linger - 0.1 < done - taken < linger + 2
+    return good, f"{', '.join(said)}; taken after {taken - begun:.1f} s, done {done - taken:.1f} s later", peak
 
 
 def play_server_away(folder):
@@ -246,6 +264,7 @@ def rows():
         yield f"{to} pages", lambda folder, to=to: play_pages(to, folder)
     for wait in WAITS:
         yield f"wait {wait[4]} s, {wait[0]} {wait[1]} {' '.join(wait[2])}", lambda folder, wait=wait: play_wait(*wait, folder)
+    yield f"wait {2 * LATE - 3} s, socket late", play_late
     yield "away, the server", play_server_away
     for to in ("socket", "pjl", "lpd", "ipp"):
         yield f"away, a printer by {to}", lambda folder, to=to: play_printer_away(to, folder)

@@ -10,6 +10,10 @@ closes. FAULT N of the list is what it does at connection N instead, and after t
     early        it closes after 1,000 bytes, without reading on
     reset        it resets the connection after 1,000 bytes
     stall        it reads 1,000 bytes and then nothing more, and keeps the connection
+    full         the same, and its machine takes little beyond what it reads
+    late         its machine takes as little; it reads 1,000 bytes, nothing for LATE seconds, and then all, and doesn't
+                 close by itself
+    shut         its machine takes as little; it reads 1,000 bytes, ends its side a second later, and then closes
     open         it reads all, and doesn't close by itself
     slow         it reads 10,000 bytes a second
     talk         it writes 100,000 bytes of nonsense and then reads all
@@ -34,6 +38,10 @@ import time
 
 FIRST = 1000
 PAGE = 4096
+# how long a late printer reads nothing, in seconds
+LATE = 6
+# the faults of a printer whose machine takes little, and how many bytes it takes then; Linux takes twice as many
+LITTLE, LITTLE_BYTES = ("full", "late", "shut"), 4096
 JOB_ENDS = b"@PJL EOJ"
 # how long a rated printer takes before a job, for a page on one side and for one on two, in seconds
 SETUP, RATE_ONE, RATE_TWO = 0.5, 0.2, 0.15
@@ -125,15 +133,22 @@ def serve(connection, fault, taken):
     if fault in TELLING or fault.startswith("code-"):
         serve_telling(connection, fault, taken)
         return
-    if fault in ("early", "reset", "stall"):
+    if fault in ("early", "reset", "stall", *LITTLE):
         while len(taken) < FIRST and (part := connection.recv(FIRST - len(taken))):
             taken.extend(part)
     if fault == "reset":
         connection.setsockopt(socket.SOL_SOCKET, socket.SO_LINGER, struct.pack("ii", 1, 0))
     if fault in ("early", "reset"):
         return
-    if fault == "stall":
+    if fault == "shut":
+        time.sleep(1)
+        connection.shutdown(socket.SHUT_WR)
+        time.sleep(0.5)
+        return
+    if fault in ("stall", "full"):
         time.sleep(3600)
+    if fault == "late":
+        time.sleep(LATE)
     if fault == "slow":
         serve_slowly(connection, taken)
         return
@@ -149,7 +164,7 @@ def keep(connection, fault, path):
         with connection:
             serve(connection, fault, taken)
             path.write_bytes(taken)
-            if fault == "open":
+            if fault in ("open", "late"):
                 time.sleep(3600)
     except OSError as error:
         print(path.name, error, flush=True)
@@ -160,7 +175,12 @@ def keep(connection, fault, path):
 def main():
     port, folder, faults = int(sys.argv[1]), pathlib.Path(sys.argv[2]), sys.argv[3:]
     folder.mkdir(parents=True, exist_ok=True)
-    with socket.create_server(("127.0.0.1", port)) as listener:
+    with socket.socket() as listener:
+        listener.setsockopt(socket.SOL_SOCKET, socket.SO_REUSEADDR, 1)
+        if any(fault in LITTLE for fault in faults):
+            listener.setsockopt(socket.SOL_SOCKET, socket.SO_RCVBUF, LITTLE_BYTES)
+        listener.bind(("127.0.0.1", port))
+        listener.listen()
         for number in range(1, 1_000_000):
             connection, _ = listener.accept()
             fault = faults[number - 1] if number <= len(faults) else "well"

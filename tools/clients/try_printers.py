@@ -39,6 +39,8 @@ from scripted_server import A4, Printer, Tap, attached  # noqa: E402
 URI = 0x45
 NAME = 0x42
 LARGE = 8 << 20
+# a job that the adapter's machine takes as a whole, whatever the printer does
+WAITING = 60_000
 # the largest job that there is, and the most KiB that an adapter may have with it
 LARGEST = 16 << 20
 MOST_KIB = 24 << 10
@@ -68,6 +70,8 @@ ROWS = [
     Row("socket", "reset", ["fail 1 broken"], LARGE),
     Row("socket", "stall", ["fail 1 silent"], LARGE),
     Row("socket", "stall", ["fail 1 canceled"], LARGE, cancels=True),
+    Row("socket", "full", ["fail 1 silent"], WAITING),
+    Row("socket", "shut", ["fail 1 broken"], WAITING),
     Row("socket", "open", ["done 1"]),
     Row("socket", "slow", ["done 1"]),
     Row("socket", "talk", ["done 1"]),
