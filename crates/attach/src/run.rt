@@ -159,7 +159,7 @@ fn take_turns<P: Printer, R: Net + Files + Clock, L: Write, F: Write>(
         let _written = figures.write_all(&desk.take_figures());
         poll.poll(&mut events, Some(Duration::from_millis(desk.pause(now))))?;
         if tell(desk, &events) {
-            desk.give_up(rt, now);
+            desk.give_up(rt, millis_since(rt, &start)?);
             let left = leave(desk, poll, &mut events);
             let _last_logged = log.write_all(&desk.take_log());
             return left;
