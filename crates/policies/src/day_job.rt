@@ -23,14 +23,29 @@ pub struct DayJob {
 }
 
 impl DayJob {
+    /// The place of a device among those of its printer.
+    pub fn place_of(&self, device: usize) -> Option<usize> {
+        for (place, member) in self.members.iter().enumerate() {
+            if member.device == device {
+                return Some(place);
+            }
+        }
+        None
+    }
+
     /// How long it takes on the device at a place of the settings, if that can print it.
     pub fn time_on(&self, device: usize) -> Option<u64> {
-        let member = self.members.iter().find(|member| member.device == device)?;
-        member.time
+        let place = self.place_of(device)?;
+        self.members.get(place)?.time
     }
 
     /// Whether some device can print it.
     pub fn is_printable(&self) -> bool {
-        self.members.iter().any(|member| member.time.is_some())
+        for member in &self.members {
+            if member.time.is_some() {
+                return true;
+            }
+        }
+        false
     }
 }

@@ -97,11 +97,12 @@ impl<'a> Queue<'a> {
 
     /// The place behind the last job that waits with at least this priority.
     fn place_behind(&self, priority: u8) -> usize {
-        let lower = self
-            .waiting
-            .iter()
-            .position(|waiting| waiting.priority < priority);
-        lower.unwrap_or(self.waiting.len())
+        for (place, waiting) in self.waiting.iter().enumerate() {
+            if waiting.priority < priority {
+                return place;
+            }
+        }
+        self.waiting.len()
     }
 
     /// Takes the job at a place of the day, which comes now.
@@ -147,7 +148,10 @@ impl<'a> Queue<'a> {
 
     /// The place among a printer's devices of the one that a job was given last.
     fn last_of(&self, printer: usize) -> usize {
-        self.last.get(printer).copied().unwrap_or(0)
+        match self.last.get(printer) {
+            Some(place) => *place,
+            None => 0,
+        }
     }
 
     /// The first device of a printer that can begin a job, from the one behind the last one round to the
@@ -167,14 +171,18 @@ impl<'a> Queue<'a> {
 
     /// The first device of a printer that can begin a job.
     fn first_free(&self, job: &DayJob) -> Option<usize> {
-        let member = job.members.iter().find(|member| self.can_begin(**member))?;
-        Some(member.device)
+        for member in &job.members {
+            if self.can_begin(*member) {
+                return Some(member.device);
+            }
+        }
+        None
     }
 
     /// The device that a job waits for alone, if it can begin.
     fn own_free(&self, waiting: Waiting, job: &DayJob) -> Option<usize> {
         let device = waiting.device?;
-        let member = job.members.iter().find(|member| member.device == device)?;
+        let member = job.members.get(job.place_of(device)?)?;
         if self.can_begin(*member) {
             Some(device)
         } else {
@@ -197,12 +205,8 @@ impl<'a> Queue<'a> {
         let Some(job) = self.jobs.get(start.job) else {
             return;
         };
-        let place = job
-            .members
-            .iter()
-            .position(|member| member.device == start.device);
         if let Some(last) = self.last.get_mut(job.printer) {
-            *last = place.unwrap_or(0);
+            *last = job.place_of(start.device).unwrap_or(0);
         }
     }
 
@@ -228,9 +232,19 @@ impl<'a> Queue<'a> {
         None
     }
 
+    /// Whether any device is free.
+    fn has_free(&self) -> bool {
+        for device in &self.devices {
+            if device.is_free {
+                return true;
+            }
+        }
+        false
+    }
+
     /// Begins a job, if a free device can: from then on it waits no more, and the device isn't free.
     pub fn start(&mut self) -> Option<Start> {
-        if !self.devices.iter().any(|device| device.is_free) {
+        if !self.has_free() {
             return None;
         }
         let (place, start) = self.first_start()?;
