@@ -83,6 +83,10 @@ impl Bar {
         matches!(self.mark, Mark::Wait)
     }
 
+    fn is_arrival(&self) -> bool {
+        matches!(self.mark, Mark::Came(_))
+    }
+
     /// Whether a job ends so.
     pub(crate) fn ends_as(&self, ending: Ending) -> bool {
         match self.job() {
@@ -95,12 +99,24 @@ impl Bar {
 impl Lane {
     /// How many jobs it has, or how many came.
     pub(crate) fn jobs(&self) -> usize {
-        self.bars.iter().filter(|bar| !bar.is_wait()).count()
+        let mut jobs = 0usize;
+        for bar in &self.bars {
+            if !bar.is_wait() {
+                jobs = jobs.saturating_add(1);
+            }
+        }
+        jobs
     }
 
     /// How many jobs end so.
-    fn count_ending(&self, ending: Ending) -> usize {
-        self.bars.iter().filter(|bar| bar.ends_as(ending)).count()
+    fn count_ending(&self, ending: Ending) -> u64 {
+        let mut jobs = 0u64;
+        for bar in &self.bars {
+            if bar.ends_as(ending) {
+                jobs = jobs.saturating_add(1);
+            }
+        }
+        jobs
     }
 
     /// When its last job ended, or came; 0 where it has none.
@@ -121,30 +137,48 @@ impl Lane {
 
     /// Whether it is the lane of the jobs that came.
     pub(crate) fn has_arrivals(&self) -> bool {
-        self.bars
-            .iter()
-            .any(|bar| matches!(bar.mark, Mark::Came(_)))
+        for bar in &self.bars {
+            if bar.is_arrival() {
+                return true;
+            }
+        }
+        false
     }
 }
 
 impl Chart {
-    /// How many jobs are printed.
-    fn printed(&self) -> u64 {
+    /// How many jobs end so.
+    fn count_ending(&self, ending: Ending) -> u64 {
         let mut jobs = 0u64;
         for lane in &self.lanes {
-            jobs = jobs.saturating_add(lane.count_ending(Ending::Printed) as u64);
+            jobs = jobs.saturating_add(lane.count_ending(ending));
         }
         jobs
     }
 
     /// Whether a job ends so.
     pub(crate) fn has_ending(&self, ending: Ending) -> bool {
-        self.lanes.iter().any(|lane| lane.count_ending(ending) > 0)
+        self.count_ending(ending) > 0
     }
 
     /// Whether a device waits at any time.
     pub(crate) fn waits(&self) -> bool {
-        self.lanes.iter().any(|lane| lane.waits())
+        for lane in &self.lanes {
+            if lane.waits() {
+                return true;
+            }
+        }
+        false
+    }
+
+    /// Whether a lane is that of the jobs that came.
+    pub(crate) fn has_arrivals(&self) -> bool {
+        for lane in &self.lanes {
+            if lane.has_arrivals() {
+                return true;
+            }
+        }
+        false
     }
 
     /// When the last job ended, or came, in ms; where there is none, a minute.
@@ -159,7 +193,16 @@ impl Chart {
     /// The mean time to paper, in ms, cut off; 0 where no job is printed.
     pub(crate) fn mean(&self) -> u128 {
         self.total
-            .checked_div(u128::from(self.printed()))
+            .checked_div(u128::from(self.count_ending(Ending::Printed)))
             .unwrap_or(0)
     }
+}
+
+/// How long the longest of charts is, in ms; 1 where there is none.
+pub(crate) fn longest_span(charts: &[Chart]) -> u64 {
+    let mut longest = 1;
+    for chart in charts {
+        longest = chart.span().max(longest);
+    }
+    longest
 }

@@ -68,7 +68,7 @@ fn classes_of(alloc: Global, arrivals: &[Arrival]) -> Result<Vec<u8>, AllocError
 
 /// The lane of the jobs that came.
 fn came_lane(alloc: Global, arrivals: &[Arrival]) -> Result<Lane, AllocError> {
-    let mut bars = Vec::with_capacity(alloc, arrivals.len())?;
+    let mut bars = Vec::new(alloc);
     for job in arrivals {
         bars.push(Bar {
             mark: Mark::Came(job.number),

@@ -1,6 +1,6 @@
 //! Where things stand in a picture.
 
-use crate::chart::{Chart, Lane};
+use crate::chart::{Chart, Lane, longest_span};
 use crate::scale::Scale;
 use std::num::nearest_usize_to_f64;
 
@@ -82,7 +82,7 @@ impl Frame {
 
     /// The frame of these charts: from the moment 0 until the last job of all ends.
     pub(crate) fn of(charts: &[Chart]) -> Frame {
-        let mut frame = Frame::empty(charts.iter().map(Chart::span).max().unwrap_or(1));
+        let mut frame = Frame::empty(longest_span(charts));
         for chart in charts {
             frame.fit(chart);
         }

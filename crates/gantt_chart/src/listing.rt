@@ -152,7 +152,7 @@ pub(crate) fn put_fillings<W: fmt::Write>(
     };
     let line = put_classes(output, chart, begun)?;
     let line = put_endings(output, chart, line)?;
-    if chart.lanes.iter().any(|lane| lane.has_arrivals()) {
+    if chart.has_arrivals() {
         line.with_entry(output, "1-9 jobs came, + more")?;
     }
     if chart.waits() {

@@ -127,9 +127,24 @@ fn put_charts<W: fmt::Write>(
 const STRIPS: &str =
     "<defs><pattern id=\"canceled\" width=\"8\" height=\"4\" patternUnits=\"userSpaceOnUse\"><rect width=\"8\" height=\"4\" fill=\"#fff\"/><rect width=\"5\" height=\"4\" fill=\"#d00000\"/></pattern><pattern id=\"open\" width=\"4\" height=\"4\" patternUnits=\"userSpaceOnUse\"><rect width=\"4\" height=\"4\" fill=\"#fff\"/><rect width=\"2\" height=\"4\" fill=\"#444\"/></pattern></defs>\n";
 
+/// Whether a strip shows what became of a job of a chart.
+fn has_strips(chart: &Chart) -> bool {
+    for ending in SHOWN {
+        if chart.has_ending(ending) {
+            return true;
+        }
+    }
+    false
+}
+
 /// Whether a strip shows somewhere what became of a job.
 fn have_strips(charts: &[Chart]) -> bool {
-    SHOWN.iter().any(|ending| charts.iter().any(|chart| chart.has_ending(*ending)))
+    for chart in charts {
+        if has_strips(chart) {
+            return true;
+        }
+    }
+    false
 }
 
 /// Appends the begin of a picture of this size: a white ground, and the hatching of waits.

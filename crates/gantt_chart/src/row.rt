@@ -21,7 +21,11 @@ pub(crate) fn filling_of(class: usize) -> u8 {
 
 /// A row without anything, of so many columns and one for the last edge.
 fn empty_row(alloc: Global, columns: u16) -> Result<Vec<u8>, AllocError> {
-    vec![in alloc; b' '; usize::from(columns) + 1]
+    let mut cells = Vec::new(alloc);
+    for _ in 0..=columns {
+        cells.push(b' ')?;
+    }
+    Ok(cells)
 }
 
 fn put_cell(cells: &mut [u8], place: usize, byte: u8) {
@@ -44,7 +48,12 @@ fn put_word(cells: &mut [u8], from: usize, word: &[u8]) {
 
 /// Whether a cell shows that a job ended there that wasn't printed.
 fn is_ending(byte: u8) -> bool {
-    SHOWN.iter().any(|ending| edge_of(*ending) == byte)
+    for ending in SHOWN {
+        if edge_of(ending) == byte {
+            return true;
+        }
+    }
+    false
 }
 
 /// Puts the edge at which a bar begins, unless the one before shows there how it ended.

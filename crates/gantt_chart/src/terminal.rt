@@ -1,6 +1,6 @@
 //! A chart for a terminal of 80 columns.
 
-use crate::chart::{Chart, Lane};
+use crate::chart::{Chart, Lane, longest_span};
 use crate::legend::put_times;
 use crate::listing::{put_fillings, put_jobs};
 use crate::row::{lane_row, scale_row};
@@ -29,8 +29,11 @@ fn longest_name(chart: &Chart) -> usize {
 
 /// How many columns names take.
 fn name_columns(charts: &[Chart]) -> usize {
-    let longest = charts.iter().map(longest_name).max();
-    longest.unwrap_or(SHORTEST_NAME).min(LONGEST_NAME)
+    let mut longest = SHORTEST_NAME;
+    for chart in charts {
+        longest = longest_name(chart).max(longest);
+    }
+    longest.min(LONGEST_NAME)
 }
 
 /// Appends a name, cut off or filled up with spaces to so many columns.
@@ -122,7 +125,7 @@ fn put_chart<W: fmt::Write>(
 /// Appends charts, with an empty line between two.
 fn put_charts<W: fmt::Write>(alloc: Global, output: &mut W, charts: &[Chart]) -> fmt::Result {
     let names = name_columns(charts);
-    let scale = Scale::new(charts.iter().map(Chart::span).max().unwrap_or(1));
+    let scale = Scale::new(longest_span(charts));
     for (place, chart) in charts.iter().enumerate() {
         if place > 0 {
             output.write_char('\n')?;
