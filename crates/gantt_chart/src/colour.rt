@@ -82,7 +82,7 @@ impl Colour {
     }
 }
 
-/// What an area is filled with. Shown, it is as SVG writes it.
+/// What an area is filled with.
 #[derive(Clone, Copy)]
 pub(crate) enum Fill {
     Plain(Colour),
@@ -90,11 +90,12 @@ pub(crate) enum Fill {
     Named(&'static str),
 }
 
-impl fmt::Display for Fill {
-    fn fmt<W: fmt::Write>(&self, f: &mut fmt::Formatter<W>) -> fmt::Result {
+impl Fill {
+    /// Appends it as SVG writes it.
+    pub(crate) fn put<W: fmt::Write>(self, output: &mut W) -> fmt::Result {
         match self {
-            Fill::Plain(colour) => write!(f, "{colour}"),
-            Fill::Named(name) => f.write_str(name),
+            Fill::Plain(colour) => write!(output, "{colour}"),
+            Fill::Named(name) => output.write_str(name),
         }
     }
 }

@@ -8,12 +8,12 @@ use crate::label::{Label, Tag, tags_height, tags_of};
 use crate::legend::WAIT;
 use crate::length::ShortTime;
 use crate::scale::MOST_MARKS;
-use crate::svg::{end_text, put_text};
+use crate::svg::{begin_path, end_text, place_text, put_length, put_number, put_text};
 use std::alloc::Global;
 use std::fmt;
 
 /// The height of a bar.
-const BAR_HEIGHT: f64 = 32.0;
+const BAR_HEIGHT: u8 = 32;
 
 /// The room above a bar.
 const ABOVE: f64 = 8.0;
@@ -22,7 +22,7 @@ const ABOVE: f64 = 8.0;
 const LEADER: f64 = 12.0;
 
 /// The height of the strip that shows what became of a job.
-const STRIP_HEIGHT: f64 = 4.0;
+const STRIP_HEIGHT: u8 = 4;
 
 /// The least width of a bar, so that it is seen.
 const THINNEST: f64 = 0.6;
@@ -51,11 +51,9 @@ fn put_grid<W: fmt::Write>(output: &mut W, frame: Frame, top: f64, bottom: f64) 
         let Some(mark) = frame.scale.mark(place) else {
             return Ok(());
         };
-        let x = frame.x(mark.moment);
-        write!(
-            output,
-            "<path d=\"M{x:.1} {top:.1}V{bottom:.1}\" stroke=\"#ddd\"/>\n"
-        )?;
+        begin_path(output, frame.x(mark.moment), top)?;
+        put_length(output, "V", bottom)?;
+        output.write_str("\" stroke=\"#ddd\"/>\n")?;
     }
     Ok(())
 }
@@ -79,51 +77,66 @@ fn put_label<W: fmt::Write>(
     number: u32,
     length: u64,
 ) -> fmt::Result {
-    let x = extent.x + extent.width / 2.0;
-    let (upper, lower, length) = (extent.y + 14.0, extent.y + 27.0, ShortTime(length));
-    write!(
-        output,
-        "<text x=\"{x:.1}\" y=\"{upper:.1}\" text-anchor=\"middle\" font-weight=\"bold\" fill=\"{ink}\">{number}</text>\n"
-    )?;
-    write!(
-        output,
-        "<text x=\"{x:.1}\" y=\"{lower:.1}\" text-anchor=\"middle\" font-size=\"11\" fill=\"{ink}\">{length}</text>\n"
-    )
+    let (x, length) = (extent.x + extent.width / 2.0, ShortTime(length));
+    place_text(output, x, extent.y + 14.0)?;
+    output.write_str(" text-anchor=\"middle\" font-weight=\"bold\" fill=\"")?;
+    output.write_str(ink)?;
+    put_number(output, "\">", u64::from(number))?;
+    end_text(output)?;
+    place_text(output, x, extent.y + 27.0)?;
+    output.write_str(" text-anchor=\"middle\" font-size=\"11\" fill=\"")?;
+    output.write_str(ink)?;
+    write!(output, "\">{length}")?;
+    end_text(output)
 }
 
-/// Appends a rectangle, up to what it says where it is pointed at.
-fn begin_rectangle<W: fmt::Write>(output: &mut W, extent: Extent, fill: Fill) -> fmt::Result {
-    let Extent { x, y, width } = extent;
-    write!(
-        output,
-        "<rect x=\"{x:.1}\" y=\"{y:.1}\" width=\"{width:.1}\" height=\"{BAR_HEIGHT}\" fill=\"{fill}\" stroke=\"#fff\" stroke-width=\"0.5\"><title>"
-    )
+/// Appends a rectangle of this height, up to its filling.
+fn begin_rectangle<W: fmt::Write>(
+    output: &mut W,
+    extent: Extent,
+    height: u8,
+    fill: Fill,
+) -> fmt::Result {
+    put_length(output, "<rect x=\"", extent.x)?;
+    put_length(output, "\" y=\"", extent.y)?;
+    put_length(output, "\" width=\"", extent.width)?;
+    put_number(output, "\" height=\"", u64::from(height))?;
+    output.write_str("\" fill=\"")?;
+    fill.put(output)
+}
+
+/// Appends the rectangle of a bar, up to what it says where it is pointed at.
+fn begin_bar<W: fmt::Write>(output: &mut W, extent: Extent, fill: Fill) -> fmt::Result {
+    begin_rectangle(output, extent, BAR_HEIGHT, fill)?;
+    output.write_str("\" stroke=\"#fff\" stroke-width=\"0.5\"><title>")
 }
 
 /// Appends when a bar begins and ends, and the end of its rectangle.
-fn end_rectangle<W: fmt::Write>(output: &mut W, bar: &Bar) -> fmt::Result {
-    let (start, end) = (bar.start, bar.end);
-    write!(output, ": {start} to {end} ms</title></rect>\n")
+fn end_bar<W: fmt::Write>(output: &mut W, bar: &Bar) -> fmt::Result {
+    put_number(output, ": ", bar.start)?;
+    put_number(output, " to ", bar.end)?;
+    output.write_str(" ms</title></rect>\n")
 }
 
 /// Appends the bar of a wait.
 fn put_wait<W: fmt::Write>(output: &mut W, extent: Extent, bar: &Bar) -> fmt::Result {
-    begin_rectangle(output, extent, WAIT)?;
+    begin_bar(output, extent, WAIT)?;
     output.write_str("not free")?;
-    end_rectangle(output, bar)
+    end_bar(output, bar)
 }
 
 /// Appends what is told of a job.
 fn put_telling<W: fmt::Write>(output: &mut W, job: ChartJob, classes: &[u8]) -> fmt::Result {
-    let (number, words) = (job.number, words_of(job.ending));
-    write!(output, "job {number}")?;
+    let words = words_of(job.ending);
+    put_number(output, "job ", u64::from(job.number))?;
     if let Some(priority) = classes.get(job.class) {
-        write!(output, ", priority {priority}")?;
+        put_number(output, ", priority ", u64::from(*priority))?;
     }
-    if !words.is_empty() {
-        write!(output, ", {words}")?;
+    if words.is_empty() {
+        return Ok(());
     }
-    Ok(())
+    output.write_str(", ")?;
+    output.write_str(words)
 }
 
 /// Appends the strip below a bar that shows what became of a job that wasn't printed.
@@ -131,21 +144,22 @@ fn put_strip<W: fmt::Write>(output: &mut W, extent: Extent, ending: Ending) -> f
     let Some(fill) = strip_of(ending) else {
         return Ok(());
     };
-    let Extent { x, width, .. } = extent;
-    let y = extent.y + BAR_HEIGHT;
-    write!(
-        output,
-        "<rect x=\"{x:.1}\" y=\"{y:.1}\" width=\"{width:.1}\" height=\"{STRIP_HEIGHT}\" fill=\"{fill}\"/>\n"
-    )
+    let below = Extent {
+        y: extent.y + f64::from(BAR_HEIGHT),
+        ..extent
+    };
+    begin_rectangle(output, below, STRIP_HEIGHT, fill)?;
+    output.write_str("\"/>\n")
 }
 
 /// Appends the pin of a job that came.
 fn put_pin<W: fmt::Write>(output: &mut W, extent: Extent, number: u32, moment: u64) -> fmt::Result {
-    let (x, top, bottom) = (extent.x, extent.y + 12.0, extent.y + BAR_HEIGHT);
-    write!(
-        output,
-        "<path d=\"M{x:.1} {bottom:.1}V{top:.1}h6v6h-6\" stroke=\"#444\" fill=\"#444\"><title>job {number} came at {moment} ms</title></path>\n"
-    )
+    begin_path(output, extent.x, extent.y + f64::from(BAR_HEIGHT))?;
+    put_length(output, "V", extent.y + 12.0)?;
+    output.write_str("h6v6h-6\" stroke=\"#444\" fill=\"#444\"><title>")?;
+    put_number(output, "job ", u64::from(number))?;
+    put_number(output, " came at ", moment)?;
+    output.write_str(" ms</title></path>\n")
 }
 
 /// Appends the bar of a job, with its label where it fits.
@@ -157,9 +171,9 @@ fn put_job<W: fmt::Write>(
     classes: &[u8],
 ) -> fmt::Result {
     let colour = class_colour(job.class, classes.len());
-    begin_rectangle(output, extent, Fill::Plain(colour))?;
+    begin_bar(output, extent, Fill::Plain(colour))?;
     put_telling(output, job, classes)?;
-    end_rectangle(output, bar)?;
+    end_bar(output, bar)?;
     put_strip(output, extent, job.ending)?;
     if Label::of(job.number, bar.length()).fits(extent.width) {
         put_label(output, extent, colour.ink(), job.number, bar.length())?;
@@ -181,19 +195,22 @@ fn put_bar<W: fmt::Write>(
     }
 }
 
+/// Appends the line from a bar to its label below.
+fn put_leader<W: fmt::Write>(output: &mut W, tag: &Tag, top: f64) -> fmt::Result {
+    begin_path(output, tag.middle, top)?;
+    put_length(output, "L", tag.x)?;
+    put_length(output, " ", top + LEADER - 3.0)?;
+    output.write_str("\" stroke=\"#888\" stroke-width=\"0.5\"/>\n")
+}
+
 /// Appends the label of a bar that stands below it, and a line to it.
 fn put_tag<W: fmt::Write>(output: &mut W, tag: &Tag, top: f64) -> fmt::Result {
-    let (middle, x) = (tag.middle, tag.x);
-    let (down, begin, text) = (top + LEADER - 3.0, top + LEADER, tag.x - 3.5);
-    let number = tag.label.number;
-    write!(
-        output,
-        "<path d=\"M{middle:.1} {top:.1}L{x:.1} {down:.1}\" stroke=\"#888\" stroke-width=\"0.5\"/>\n"
-    )?;
-    write!(
-        output,
-        "<text transform=\"translate({text:.1} {begin:.1}) rotate(90)\" font-size=\"10\"><tspan font-weight=\"bold\">{number}</tspan> "
-    )?;
+    put_leader(output, tag, top)?;
+    put_length(output, "<text transform=\"translate(", tag.x - 3.5)?;
+    put_length(output, " ", top + LEADER)?;
+    output.write_str(") rotate(90)\" font-size=\"10\"><tspan font-weight=\"bold\">")?;
+    put_number(output, "", u64::from(tag.label.number))?;
+    output.write_str("</tspan> ")?;
     if let Some(length) = tag.label.length {
         write!(output, "{length}")?;
     }
@@ -234,7 +251,7 @@ pub(crate) fn put_lane<W: fmt::Write>(
 ) -> Result<f64, fmt::Error> {
     let tags = tags_of(alloc, frame, lane)?;
     let bars = top + ABOVE;
-    let below = bars + BAR_HEIGHT;
+    let below = bars + f64::from(BAR_HEIGHT);
     let bottom = if tags.is_empty() {
         below
     } else {

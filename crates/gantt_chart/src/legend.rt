@@ -5,7 +5,7 @@ use crate::colour::{Fill, class_colour};
 use crate::ending::{SHOWN, strip_of, words_of};
 use crate::frame::{Frame, MARGIN};
 use crate::length::LongTime;
-use crate::svg::{begin_text, end_text, put_text};
+use crate::svg::{begin_text, end_text, put_length, put_number, put_text};
 use std::fmt;
 
 /// The hatching of waits.
@@ -45,11 +45,11 @@ impl Pen {
 
 /// Appends a filling, and the begin of what it means.
 fn begin_entry<W: fmt::Write>(output: &mut W, pen: Pen, fill: Fill) -> fmt::Result {
-    let (x, y) = (pen.x, pen.y - 11.0);
-    write!(
-        output,
-        "<rect x=\"{x:.1}\" y=\"{y:.1}\" width=\"14\" height=\"14\" fill=\"{fill}\" stroke=\"#888\" stroke-width=\"0.5\"/>\n"
-    )?;
+    put_length(output, "<rect x=\"", pen.x)?;
+    put_length(output, "\" y=\"", pen.y - 11.0)?;
+    output.write_str("\" width=\"14\" height=\"14\" fill=\"")?;
+    fill.put(output)?;
+    output.write_str("\" stroke=\"#888\" stroke-width=\"0.5\"/>\n")?;
     begin_text(output, pen.x + 20.0, pen.y, "")
 }
 
@@ -66,7 +66,7 @@ fn put_classes<W: fmt::Write>(output: &mut W, chart: &Chart, from: Pen) -> Resul
     for (place, priority) in chart.classes.iter().enumerate() {
         let colour = class_colour(place, chart.classes.len());
         begin_entry(output, pen, Fill::Plain(colour))?;
-        write!(output, "priority {priority}")?;
+        put_number(output, "priority ", u64::from(*priority))?;
         end_text(output)?;
         pen = pen.next();
     }

@@ -69,17 +69,17 @@ impl fmt::Display for ShortTime {
             seconds,
             tenths,
         } = parts_of(u128::from(millis));
-        if hours > 0 {
-            let (tens, ones) = (minutes / 10, minutes % 10);
-            write!(f, "{hours}h{tens}{ones}")
+        let (number, unit, rest) = if hours > 0 {
+            (hours, "h", minutes)
         } else if minutes > 0 {
-            let (tens, ones) = (seconds / 10, seconds % 10);
-            write!(f, "{minutes}m{tens}{ones}")
+            (minutes, "m", seconds)
         } else if seconds > 0 {
-            write!(f, "{seconds}.{tenths}s")
+            return write!(f, "{seconds}.{tenths}s");
         } else {
-            write!(f, "{millis}ms")
-        }
+            return write!(f, "{millis}ms");
+        };
+        let (tens, ones) = (rest / 10, rest % 10);
+        write!(f, "{number}{unit}{tens}{ones}")
     }
 }
 

@@ -7,7 +7,7 @@ use crate::lane::put_lane;
 use crate::legend::put_heading;
 use crate::scale::MOST_MARKS;
 use crate::stranded::put_sentence;
-use crate::svg::{begin_text, end_text, put_text};
+use crate::svg::{begin_path, begin_text, end_text, place_text, put_length, put_number, put_text};
 use base_types::Stranded;
 use std::alloc::{AllocError, Global};
 use std::fmt;
@@ -31,9 +31,9 @@ fn put_lanes<W: fmt::Write>(
 }
 
 /// Appends a number of the scale.
-fn put_number<W: fmt::Write>(output: &mut W, x: f64, y: f64, number: u64) -> fmt::Result {
-    begin_text(output, x, y, " text-anchor=\"middle\"")?;
-    write!(output, "{number}")?;
+fn put_mark<W: fmt::Write>(output: &mut W, x: f64, y: f64, number: u64) -> fmt::Result {
+    place_text(output, x, y)?;
+    put_number(output, " text-anchor=\"middle\">", number)?;
     end_text(output)
 }
 
@@ -43,18 +43,17 @@ fn put_numbers<W: fmt::Write>(output: &mut W, frame: Frame, y: f64) -> fmt::Resu
         let Some(mark) = frame.scale.mark(place) else {
             return Ok(());
         };
-        put_number(output, frame.x(mark.moment), y, mark.number)?;
+        put_mark(output, frame.x(mark.moment), y, mark.number)?;
     }
     Ok(())
 }
 
 /// Appends the scale from there down, and tells where it ends.
 fn put_scale<W: fmt::Write>(output: &mut W, frame: Frame, top: f64) -> Result<f64, fmt::Error> {
-    let (left, right, line) = (frame.left, frame.right(), top + 6.0);
-    write!(
-        output,
-        "<path d=\"M{left:.1} {line:.1}H{right:.1}\" stroke=\"#444\"/>\n"
-    )?;
+    let (right, line) = (frame.right(), top + 6.0);
+    begin_path(output, frame.left, line)?;
+    put_length(output, "H", right)?;
+    output.write_str("\" stroke=\"#444\"/>\n")?;
     put_numbers(output, frame, line + LINE)?;
     let unit = frame.scale.unit().name();
     put_text(
@@ -123,6 +122,14 @@ fn put_charts<W: fmt::Write>(
     Ok(bottom)
 }
 
+/// The font of a picture, which ends its first tag.
+const FONT: &str =
+    "\" font-family=\"Liberation Sans, Arial, Helvetica, sans-serif\" font-size=\"12\">\n";
+
+/// The hatching of waits, and a white ground.
+const GROUND: &str =
+    "<defs><pattern id=\"wait\" width=\"6\" height=\"6\" patternUnits=\"userSpaceOnUse\" patternTransform=\"rotate(45)\"><rect width=\"6\" height=\"6\" fill=\"#f4f4f4\"/><path d=\"M0 0V6\" stroke=\"#777\" stroke-width=\"3\"/></pattern></defs>\n<rect width=\"100%\" height=\"100%\" fill=\"#fff\"/>\n";
+
 /// The strips of jobs that were canceled, and of those that haven't ended.
 const STRIPS: &str =
     "<defs><pattern id=\"canceled\" width=\"8\" height=\"4\" patternUnits=\"userSpaceOnUse\"><rect width=\"8\" height=\"4\" fill=\"#fff\"/><rect width=\"5\" height=\"4\" fill=\"#d00000\"/></pattern><pattern id=\"open\" width=\"4\" height=\"4\" patternUnits=\"userSpaceOnUse\"><rect width=\"4\" height=\"4\" fill=\"#fff\"/><rect width=\"2\" height=\"4\" fill=\"#444\"/></pattern></defs>\n";
@@ -149,14 +156,12 @@ fn have_strips(charts: &[Chart]) -> bool {
 
 /// Appends the begin of a picture of this size: a white ground, and the hatching of waits.
 fn put_head<W: fmt::Write>(output: &mut W, width: f64, height: f64) -> fmt::Result {
-    write!(
-        output,
-        "<svg xmlns=\"http://www.w3.org/2000/svg\" width=\"{width:.0}\" height=\"{height:.0}\" font-family=\"Liberation Sans, Arial, Helvetica, sans-serif\" font-size=\"12\">\n"
-    )?;
-    output.write_str(
-        "<defs><pattern id=\"wait\" width=\"6\" height=\"6\" patternUnits=\"userSpaceOnUse\" patternTransform=\"rotate(45)\"><rect width=\"6\" height=\"6\" fill=\"#f4f4f4\"/><path d=\"M0 0V6\" stroke=\"#777\" stroke-width=\"3\"/></pattern></defs>\n",
-    )?;
-    output.write_str("<rect width=\"100%\" height=\"100%\" fill=\"#fff\"/>\n")
+    output.write_str("<svg xmlns=\"http://www.w3.org/2000/svg\" width=\"")?;
+    write!(output, "{width:.0}")?;
+    output.write_str("\" height=\"")?;
+    write!(output, "{height:.0}")?;
+    output.write_str(FONT)?;
+    output.write_str(GROUND)
 }
 
 /// Appends a picture whose lanes have this text and end there.
