@@ -161,22 +161,16 @@ fn jobs_in(classes: &[PlannedClass]) -> usize {
 
 /// A number of things, in words.
 fn counted(alloc: Global, count: usize, one: &str) -> Result<String, AllocError> {
-    if count == 1 {
-        format!(in alloc; "1 {one}")
-    } else {
-        format!(in alloc; "{count} {one}s")
-    }
+    let plural = if count == 1 { "" } else { "s" };
+    format!(in alloc; "{count} {one}{plural}")
 }
 
 /// What a chart is of, in a line.
 fn title_of(alloc: Global, named: &PlanText, is_proved: bool) -> Result<String, AllocError> {
     let jobs = counted(alloc, jobs_in(named.plan().classes()), "job")?;
     let devices = counted(alloc, named.devices().len(), "device")?;
-    if is_proved {
-        format!(in alloc; "{jobs} on {devices}, proved the best")
-    } else {
-        format!(in alloc; "{jobs} on {devices}, not proved the best")
-    }
+    let verdict = if is_proved { "" } else { "not " };
+    format!(in alloc; "{jobs} on {devices}, {verdict}proved the best")
 }
 
 /// The chart of a plan, from the moment on that its waits are counted from.
