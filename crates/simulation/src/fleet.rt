@@ -49,10 +49,12 @@ impl<T: Drop> From<AllocFailed<T>> for FleetFault {
 
 /// The place of the device of a name.
 fn device_named(settings: &Settings, name: &str) -> Option<usize> {
-    settings
-        .devices
-        .iter()
-        .position(|device| device.name.as_bytes() == name.as_bytes())
+    for (place, device) in settings.devices.iter().enumerate() {
+        if device.name.as_bytes() == name.as_bytes() {
+            return Some(place);
+        }
+    }
+    None
 }
 
 /// Appends a text as TOML writes it.
@@ -244,7 +246,7 @@ fn with_device(alloc: Global, settings: &Settings, added: Added<'_>) -> Result<S
 }
 
 /// Settings with some more devices.
-fn with_devices(
+pub(crate) fn with_devices(
     alloc: Global,
     settings: Settings,
     added: &[Added<'_>],
@@ -259,8 +261,8 @@ fn with_devices(
     Ok(all)
 }
 
-/// Has all devices of a core say that they are ready, but for those that are away.
-fn make_ready(core: &mut Core<AugmentingPaths>, away: &[usize]) -> Result<(), AllocError> {
+/// Has all devices of a core say that they are ready, but for those at some places.
+fn make_all_ready(core: &mut Core<AugmentingPaths>, away: &[usize]) -> Result<(), AllocError> {
     for place in 0..core.settings().devices.len() {
         if !away.contains(&place) {
             let report = Event::Report(DeviceId::new(place), Report::Ready);
@@ -279,19 +281,12 @@ fn places_of(alloc: Global, settings: &Settings, names: &[&str]) -> Result<Vec<u
     Ok(places)
 }
 
-/// A core whose devices are those of the settings and the added ones, all of them ready but for those that
-/// are away.
-pub(crate) fn core_of(
+/// Has all devices of a core say that they are ready, but for those of some names, which are away.
+pub(crate) fn make_ready(
     alloc: Global,
-    settings: Settings,
-    added: &[Added<'_>],
+    core: &mut Core<AugmentingPaths>,
     away: &[&str],
-) -> Result<Core<AugmentingPaths>, FleetFault>
-    requires { MeetsLimits settings }
-{
-    let settings = with_devices(alloc, settings, added)?;
-    let places = places_of(alloc, &settings, away)?;
-    let mut core = Core::new(alloc, settings, AugmentingPaths::new(alloc))?;
-    make_ready(&mut core, &places)?;
-    Ok(core)
+) -> Result<(), FleetFault> {
+    let places = places_of(alloc, core.settings(), away)?;
+    Ok(make_all_ready(core, &places)?)
 }

@@ -69,18 +69,16 @@ impl<'a> Floor<'a> {
 
     /// What happens next: where a job ends at the moment at which another comes, it ends first.
     fn next(&self) -> Option<Happening> {
-        let coming = self.day.jobs.get(self.come).map(|job| job.moment);
-        match (self.next_end(), coming) {
-            (Some(print), Some(moment)) if moment < print.end => Some(Happening::Comes {
+        let ends = self.next_end();
+        let Some(job) = self.day.jobs.get(self.come) else {
+            return Some(Happening::Ends(ends?));
+        };
+        match ends {
+            Some(print) if print.end <= job.moment => Some(Happening::Ends(print)),
+            _ => Some(Happening::Comes {
                 job: self.come,
-                moment,
+                moment: job.moment,
             }),
-            (Some(print), _) => Some(Happening::Ends(print)),
-            (None, Some(moment)) => Some(Happening::Comes {
-                job: self.come,
-                moment,
-            }),
-            (None, None) => None,
         }
     }
 

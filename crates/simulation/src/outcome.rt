@@ -23,17 +23,16 @@ pub(crate) struct Outcome {
 /// Plays a day with the real core.
 fn play_planned<W: Watch>(
     alloc: Global,
-    core: Core<AugmentingPaths>,
+    core: &mut Core<AugmentingPaths>,
     listed: &[ListedJob],
     day: &Day,
     watch: &mut W,
 ) -> Result<Outcome, AllocError> {
     let devices = core.settings().devices.len();
     let mut room = Planned::new(alloc, core, listed);
-    let played = play(alloc, day, devices, &mut room, PLANNED, watch);
-    played.map(|prints| Outcome {
+    Ok(Outcome {
         name: PLANNED,
-        prints,
+        prints: play(alloc, day, devices, &mut room, PLANNED, watch)?,
     })
 }
 
@@ -57,7 +56,7 @@ fn play_policy<W: Watch>(
 /// Plays a day with the real core, and then once for each policy.
 pub(crate) fn play_all<W: Watch>(
     alloc: Global,
-    core: Core<AugmentingPaths>,
+    core: &mut Core<AugmentingPaths>,
     listed: &[ListedJob],
     day: &Day,
     watch: &mut W,

@@ -26,7 +26,7 @@ pub(crate) enum Sent {
 #[derive(Drop)]
 pub(crate) struct Planned<'a> {
     alloc: Global,
-    core: Core<AugmentingPaths>,
+    core: &'a mut Core<AugmentingPaths>,
     listed: &'a [ListedJob],
     /// The places of the jobs that were taken, in the order of their ids, from 1 on, which is that of the list.
     taken: Vec<usize>,
@@ -67,7 +67,7 @@ impl<'a> Planned<'a> {
     /// A core whose devices are ready, but for those that are away, before the first job of a list.
     pub(crate) fn new(
         alloc: Global,
-        core: Core<AugmentingPaths>,
+        core: &'a mut Core<AugmentingPaths>,
         listed: &'a [ListedJob],
     ) -> Planned<'a> {
         Planned {
@@ -101,7 +101,7 @@ impl<'a> Planned<'a> {
     /// Sends the body of a request.
     fn send_body(&mut self, body: &[u8], now: u64) -> Result<Sent, AllocError> {
         match ipp_event(self.alloc, body)? {
-            ParsedRequest::Event(_, event) => apply_to(&mut self.core, event, moment_at(now)),
+            ParsedRequest::Event(_, event) => apply_to(self.core, event, moment_at(now)),
             _ => Ok(Sent::Refused),
         }
     }
@@ -170,7 +170,7 @@ impl Room for Planned<'_> {
         if let Some(job) = self.id_of(ended.job) {
             let device = DeviceId::new(ended.device);
             let report = Event::Report(device, Report::Done { job });
-            apply_to(&mut self.core, report, moment_at(now))?;
+            apply_to(self.core, report, moment_at(now))?;
         }
         self.dispatch(now)?;
         self.send_waiting(now)

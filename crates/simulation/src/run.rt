@@ -2,7 +2,7 @@
 ghost use Rattle.settings_file.specs.Settings.{MeetsLimits};
 
 use crate::day::{Day, Noise};
-use crate::fleet::{Added, FleetFault, core_of};
+use crate::fleet::{Added, FleetFault, make_ready, with_devices};
 use crate::floor::Watch;
 use crate::outcome::play_all;
 use crate::picture::{Drawn, picture_of};
@@ -44,10 +44,24 @@ fn stage_of(
     Ok(Stage { names, day })
 }
 
+/// Plays a day with a core whose devices say that they are ready, but for those that are away: the table of
+/// what came of it, or a picture.
+fn play_with<W: Watch>(
+    alloc: Global,
+    core: &mut Core<AugmentingPaths>,
+    listed: &[ListedJob],
+    question: Question<'_>,
+    watch: &mut W,
+) -> Result<String, FleetFault> {
+    make_ready(alloc, core, question.away)?;
+    let stage = stage_of(alloc, core, listed, question.noise)?;
+    Ok(play_on(alloc, core, listed, &stage, question.drawn, watch)?)
+}
+
 /// Plays a day: the table of what came of it, or a picture.
 fn play_on<W: Watch>(
     alloc: Global,
-    core: Core<AugmentingPaths>,
+    core: &mut Core<AugmentingPaths>,
     listed: &[ListedJob],
     stage: &Stage,
     drawn: Option<Drawn>,
@@ -76,9 +90,7 @@ pub fn run_simulation<W: Watch>(
 ) -> Result<String, FleetFault>
     requires { MeetsLimits settings }
 {
-    let core = core_of(alloc, settings, question.added, question.away)?;
-    match stage_of(alloc, &core, listed, question.noise) {
-        Ok(stage) => Ok(play_on(alloc, core, listed, &stage, question.drawn, watch)?),
-        Err(_) => Err(FleetFault::OutOfMemory),
-    }
+    let settings = with_devices(alloc, settings, question.added)?;
+    let mut core = Core::new(alloc, settings, AugmentingPaths::new(alloc))?;
+    play_with(alloc, &mut core, listed, question, watch)
 }
