@@ -3,7 +3,7 @@
 use crate::fault::DayFault;
 use crate::job::{RecordedJob, RecordedPrint};
 use crate::read::{RecordedDay, read_day};
-use base_types::Stranded;
+use base_types::{JobId, Stranded};
 use gantt_chart::{Arrival, Day, Ending, Form, Print, chart_of_day, draw_charts};
 use job_objects::JobState;
 use std::alloc::{AllocError, Global};
@@ -58,7 +58,14 @@ fn prints_of(alloc: Global, day: &RecordedDay) -> Result<Vec<Print>, AllocError>
 
 /// Whether a job waits, and the last plan found no device for it.
 fn is_stranded(stranded: &[Stranded], job: &RecordedJob) -> bool {
-    job.state.is_pending() && stranded.iter().any(|one| one.job == job.id)
+    if job.state.is_pending() {
+        for one in stranded {
+            if one.job == job.id {
+                return true;
+            }
+        }
+    }
+    false
 }
 
 /// What became of a job that no device had.
@@ -84,19 +91,36 @@ fn notes_of(alloc: Global, day: &RecordedDay) -> Result<Vec<String>, AllocError>
     Ok(notes)
 }
 
+/// Whether a job still waits.
+fn waits(jobs: &[RecordedJob], id: JobId) -> bool {
+    for job in jobs {
+        if job.id == id && job.state.is_pending() {
+            return true;
+        }
+    }
+    false
+}
+
 /// The jobs that no device can print, of those that still wait.
 fn stranded_of(alloc: Global, day: &RecordedDay) -> Result<Vec<Stranded>, AllocError> {
     let mut stranded = Vec::new(alloc);
     for one in &day.stranded {
-        let waits = day
-            .jobs
-            .iter()
-            .any(|job| job.id == one.job && job.state.is_pending());
-        if waits {
+        if waits(&day.jobs, one.job) {
             stranded.push(*one)?;
         }
     }
     Ok(stranded)
+}
+
+/// How many jobs were printed.
+fn printed_in(prints: &[Print]) -> usize {
+    let mut printed = 0usize;
+    for print in prints {
+        if print.ending == Ending::Printed {
+            printed = printed.saturating_add(1);
+        }
+    }
+    printed
 }
 
 /// A number of things, in words.
@@ -109,10 +133,7 @@ fn counted(alloc: Global, count: usize, one: &str) -> Result<String, AllocError>
 fn title_of(alloc: Global, day: &RecordedDay, prints: &[Print]) -> Result<String, AllocError> {
     let jobs = counted(alloc, day.jobs.len(), "job")?;
     let devices = counted(alloc, day.devices.len(), "device")?;
-    let printed = prints
-        .iter()
-        .filter(|print| print.ending == Ending::Printed)
-        .count();
+    let printed = printed_in(prints);
     format!(in alloc; "a day of {devices}: {jobs} came, {printed} printed")
 }
 

@@ -11,11 +11,12 @@ use std::alloc::{AllocError, Global};
 /// The printer of some settings that has the name of a printer of a day.
 fn printer_in(day: &RecordedDay, printer: PrinterId, settings: &Settings) -> Option<PrinterId> {
     let name = day.printers.get(printer.place())?;
-    let place = settings
-        .printers
-        .iter()
-        .position(|known| known.name.as_bytes() == name.as_bytes())?;
-    Some(PrinterId::new(place))
+    for (place, known) in settings.printers.iter().enumerate() {
+        if known.name.as_bytes() == name.as_bytes() {
+            return Some(PrinterId::new(place));
+        }
+    }
+    None
 }
 
 /// The fault that the settings lack the printer of a job.

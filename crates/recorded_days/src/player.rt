@@ -1,12 +1,10 @@
 //! A server that is told the lines of a trace, and is looked at.
-ghost use Rattle.settings_file.specs.Settings.{MeetsLimits};
 
 use crate::recorder::Recorder;
 use assignment::AugmentingPaths;
 use base_types::{Moment, Text};
 use replay::{LineFault, TraceWire, form_fault};
 use server::{Engine, NoteLog};
-use settings_file::Settings;
 use std::alloc::{AllocError, Global};
 use traces::{Input, Line, Opening, read_line};
 use transcripts::{Connection, end_at, numbered, put_connection, send_at};
@@ -17,9 +15,9 @@ const MOST_TURNS: usize = 16_777_216;
 
 /// A server, the wire of its connections, and what was seen of its jobs.
 #[derive(Drop)]
-pub(crate) struct Player {
+pub(crate) struct Player<'a> {
     alloc: Global,
-    engine: Engine<AugmentingPaths>,
+    engine: &'a mut Engine<AugmentingPaths>,
     wire: TraceWire,
     connections: Vec<Connection>,
     heard: NoteLog,
@@ -30,13 +28,10 @@ pub(crate) struct Player {
     recorder: Recorder,
 }
 
-impl Player {
-    /// A server that starts with these settings.
-    pub(crate) fn new(alloc: Global, settings: Settings) -> Result<Player, AllocError>
-        requires { MeetsLimits settings }
-    {
-        let engine = Engine::new(alloc, settings, AugmentingPaths::new(alloc))?;
-        Ok(Player {
+impl<'a> Player<'a> {
+    /// A server that has started, and no connection.
+    pub(crate) fn new(alloc: Global, engine: &'a mut Engine<AugmentingPaths>) -> Player<'a> {
+        Player {
             alloc,
             engine,
             wire: TraceWire {
@@ -49,7 +44,7 @@ impl Player {
             told: Moment::start(),
             now: Moment::start(),
             recorder: Recorder::new(alloc),
-        })
+        }
     }
 
     /// The moment of the last event, in ms.
@@ -138,7 +133,7 @@ impl Player {
     fn look(&mut self) -> Result<(), AllocError> {
         self.now = self.told.later(self.now);
         let heard = self.heard.take()?;
-        self.recorder.look(&self.engine, &heard, self.now.millis())
+        self.recorder.look(self.engine, &heard, self.now.millis())
     }
 
     /// A connection comes in.

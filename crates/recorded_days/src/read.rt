@@ -1,14 +1,17 @@
 //! A trace, read as a day.
+ghost use Rattle.std.specs.Prelude.{IfOk};
+ghost use Rattle.settings_file.specs.Settings.{MeetsLimits};
 
 use crate::fault::{DayFault, refused};
 use crate::job::{RecordedJob, RecordedPrint};
 use crate::player::Player;
-use crate::recorder::Recorder;
+use assignment::AugmentingPaths;
 use base_types::{Stranded, Text};
+use server::Engine;
 use settings_faults::explain;
 use settings_file::{Settings, SettingsFault, read_settings_bytes};
 use std::alloc::{AllocError, Global};
-use traces::{next_line, split_settings};
+use traces::{CutTrace, next_line, split_settings};
 
 /// What became of the jobs of a trace.
 #[derive(Drop)]
@@ -29,6 +32,13 @@ pub struct RecordedDay {
     pub end: u64,
 }
 
+/// The names of devices and of printers.
+#[derive(Drop)]
+struct Names {
+    devices: Vec<Text>,
+    printers: Vec<Text>,
+}
+
 /// The names of printers.
 fn printer_names(alloc: Global, settings: &Settings) -> Result<Vec<Text>, AllocError> {
     let mut names = Vec::new(alloc);
@@ -36,6 +46,13 @@ fn printer_names(alloc: Global, settings: &Settings) -> Result<Vec<Text>, AllocE
         names.push(printer.name.copied(alloc)?)?;
     }
     Ok(names)
+}
+
+/// The names of the devices and printers of some settings.
+fn names_of(alloc: Global, settings: &Settings) -> Result<Names, AllocError> {
+    let devices = settings.device_names(alloc)?;
+    let printers = printer_names(alloc, settings)?;
+    Ok(Names { devices, printers })
 }
 
 /// The fault of the settings of a file.
@@ -50,17 +67,16 @@ fn settings_refused(alloc: Global, file: &str, settings: &[u8], fault: &Settings
     }
 }
 
-/// Has a server play lines, which come behind so many others.
+/// Has a server play the lines of a trace.
 fn play_lines(
     alloc: Global,
     file: &str,
-    player: &mut Player,
+    player: &mut Player<'_>,
     names: &[Text],
-    lines: &[u8],
-    before: usize,
+    trace: CutTrace<'_>,
 ) -> Result<(), DayFault> {
-    let mut rest = lines;
-    let mut number = before;
+    let mut rest = trace.lines;
+    let mut number = trace.stop;
     while let Some(cut) = next_line(rest) {
         number = number.saturating_add(1);
         if let Err(fault) = player.act(cut.line, names)? {
@@ -71,17 +87,41 @@ fn play_lines(
     Ok(())
 }
 
-/// What was seen of jobs up to a moment.
-fn day_of(recorder: Recorder, end: u64, devices: Vec<Text>, printers: Vec<Text>) -> RecordedDay {
+/// The settings of a trace.
+fn settings_of(alloc: Global, file: &str, text: &[u8]) -> Result<Settings, DayFault>
+    ensures { IfOk result MeetsLimits }
+{
+    match read_settings_bytes(alloc, text) {
+        Ok(settings) => Ok(settings),
+        Err(fault) => Err(settings_refused(alloc, file, text, &fault)),
+    }
+}
+
+/// What a player saw of jobs, where devices and printers have these names. From then on it has seen nothing.
+fn day_of(player: &mut Player<'_>, names: Names) -> RecordedDay {
+    let recorder = player.take_recorder();
     RecordedDay {
-        devices,
-        printers,
+        devices: names.devices,
+        printers: names.printers,
         jobs: recorder.jobs,
         ready: recorder.ready,
         prints: recorder.prints,
         stranded: recorder.stranded,
-        end,
+        end: player.end(),
     }
+}
+
+/// What became of the jobs of a trace, as a server that has started plays it.
+fn play_trace(
+    alloc: Global,
+    file: &str,
+    engine: &mut Engine<AugmentingPaths>,
+    trace: CutTrace<'_>,
+    names: Names,
+) -> Result<RecordedDay, DayFault> {
+    let mut player = Player::new(alloc, engine);
+    play_lines(alloc, file, &mut player, &names.devices, trace)?;
+    Ok(day_of(&mut player, names))
 }
 
 /// What became of the jobs of a trace, which is the text of a file of this name (`docs/TRACES.md`).
@@ -91,20 +131,13 @@ fn day_of(recorder: Recorder, end: u64, devices: Vec<Text>, printers: Vec<Text>)
 /// The text is no trace, or a line of it is bad: a sentence that begins with the name says where. Or there
 /// is no memory.
 pub fn read_day(alloc: Global, file: &str, text: &[u8]) -> Result<RecordedDay, DayFault> {
-    let Some(cut) = split_settings(text) else {
+    let Some(trace) = split_settings(text) else {
         return Err(refused(format!(in alloc;
             "{file}: no line is \".\" alone, as the one behind the settings is"
         )));
     };
-    let settings = match read_settings_bytes(alloc, cut.settings) {
-        Ok(settings) => settings,
-        Err(fault) => return Err(settings_refused(alloc, file, cut.settings, &fault)),
-    };
-    let devices = settings.device_names(alloc)?;
-    let printers = printer_names(alloc, &settings)?;
-    let mut player = Player::new(alloc, settings)?;
-    match play_lines(alloc, file, &mut player, &devices, cut.lines, cut.stop) {
-        Ok(()) => Ok(day_of(player.take_recorder(), player.end(), devices, printers)),
-        Err(fault) => Err(fault),
-    }
+    let settings = settings_of(alloc, file, trace.settings)?;
+    let names = names_of(alloc, &settings)?;
+    let mut engine = Engine::new(alloc, settings, AugmentingPaths::new(alloc))?;
+    play_trace(alloc, file, &mut engine, trace, names)
 }
