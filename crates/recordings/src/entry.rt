@@ -37,7 +37,7 @@ pub enum Entry {
 }
 
 /// A connection that was accepted at a door.
-#[derive(Clone, Copy, Debug)]
+#[derive(Clone, Copy)]
 pub struct Accepted {
     pub door: Door,
     pub id: WireId,
@@ -51,7 +51,7 @@ pub struct Came {
 }
 
 /// So many bytes that were taken on a connection, by their sum, if it was noted.
-#[derive(Clone, Copy, Debug, PartialEq, Eq)]
+#[derive(Clone, Copy, PartialEq, Eq)]
 pub struct Sent {
     pub id: WireId,
     pub count: usize,
@@ -223,20 +223,22 @@ fn read_plain(line: &[u8]) -> Option<Entry> {
 
 /// The same of a line of a word and a number.
 fn read_about(line: &[u8]) -> Option<Entry> {
-    if let Some(digits) = line.strip_prefix(b"close ") {
-        return read_id(digits).map(|id| Entry::Closed(id));
+    let (word, digits) = cut_at(line, b' ')?;
+    let id = read_id(digits)?;
+    if word == b"close".as_slice() {
+        return Some(Entry::Closed(id));
     }
-    if let Some(digits) = line.strip_prefix(b"end ") {
-        return read_id(digits).map(|id| Entry::Ended(id));
+    if word == b"end".as_slice() {
+        return Some(Entry::Ended(id));
     }
-    if let Some(digits) = line.strip_prefix(b"fail ") {
-        return read_id(digits).map(|id| Entry::Failed(id));
+    if word == b"fail".as_slice() {
+        return Some(Entry::Failed(id));
     }
-    if let Some(digits) = line.strip_prefix(b"shut ") {
-        return read_id(digits).map(|id| Entry::Shut(id));
+    if word == b"shut".as_slice() {
+        return Some(Entry::Shut(id));
     }
-    if let Some(digits) = line.strip_prefix(b"break ") {
-        return read_id(digits).map(|id| Entry::Broken(id));
+    if word == b"break".as_slice() {
+        return Some(Entry::Broken(id));
     }
     None
 }

@@ -171,11 +171,11 @@ impl Script {
             self.strays(Deed::Unknown);
             return Progress::Waiting;
         };
-        let sent = Sent {
-            id,
-            count,
-            sum: wanted.sum.map(|_| sum_of(&bytes)),
+        let sum = match wanted.sum {
+            Some(_) => Some(sum_of(&bytes)),
+            None => None,
         };
+        let sent = Sent { id, count, sum };
         if sent != wanted || count == 0 {
             self.strays(Deed::Sends { sent, bytes });
             return Progress::Waiting;
