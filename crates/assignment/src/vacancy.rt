@@ -22,6 +22,9 @@ struct Ways {
 }
 
 /// Takes out the job of a column, and moves others so that prices stay fair.
+///
+/// All duals and prices fall by the least dual first, which leaves them as fair as they were. So a way may end
+/// where nothing is left to lower, and the search need not settle all that is no farther than that.
 pub(crate) fn vacate(
     alloc: Global,
     costs: &Costs,
@@ -29,6 +32,9 @@ pub(crate) fn vacate(
     hole: usize,
 ) -> Result<(), AllocError> {
     let columns = matching.columns.len();
+    let less = least(&matching.duals);
+    lower_all(&mut matching.duals, less);
+    lower_all(&mut matching.prices, less);
     let mut times = no_times(alloc, costs.waits.len())?;
     let mut ways = Ways {
         lengths: vec![in alloc; FAR; columns]?,
@@ -130,6 +136,22 @@ fn reach(matching: &Matching, ways: &mut Ways, other: usize, column: usize, leng
     if end < ways.least {
         ways.least = end;
         ways.end = other;
+    }
+}
+
+/// The least of the values; nothing, where there is none.
+fn least(values: &[u64]) -> u64 {
+    let mut least = values.first().copied().unwrap_or(0);
+    for value in values {
+        least = least.min(*value);
+    }
+    least
+}
+
+/// Lowers each value by the same.
+fn lower_all(values: &mut [u64], less: u64) {
+    for value in values.iter_mut() {
+        *value = (*value).saturating_sub(less);
     }
 }
 
