@@ -13,7 +13,7 @@ use send_queues::Offered;
 use wires::{Door, Progress, Wire, WireId};
 
 /// The bytes of a read, at most.
-const PIECE: usize = 4096;
+pub(crate) const PIECE: usize = 4096;
 
 /// One accept, one read or one write, with all that it brings.
 impl<P: Planner + Drop> Engine<P> {
@@ -51,11 +51,13 @@ impl<P: Planner + Drop> Engine<P> {
         wire.close(id);
     }
 
-    /// One read of the connection under a key, if it is read, and what it brings.
+    /// One read of the connection under a key, if it is read, and what it brings. A piece that is read stands
+    /// in the room that is lent for it.
     pub(crate) fn read_one<W: Wire, N: Listener>(
         &mut self,
         moment: Moment,
         key: usize,
+        piece: &mut [u8; PIECE],
         wire: &mut W,
         notes: &mut N,
     )
@@ -64,8 +66,7 @@ impl<P: Planner + Drop> Engine<P> {
         let Some(id) = to_read(&self.connections, key) else {
             return;
         };
-        let mut piece = [0; PIECE];
-        match wire.poll_read(id, &mut piece) {
+        match wire.poll_read(id, piece) {
             Progress::Done(count) => self.take(moment, key, &piece[..count], wire, notes),
             Progress::Waiting => {}
             Progress::End => end(&mut self.connections, key),

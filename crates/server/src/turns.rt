@@ -8,6 +8,7 @@ ghost use Rattle.server.specs.State.{slot_at};
 ghost use Rattle.server.specs.Refinement.{Refines};
 
 use crate::engine::Engine;
+use crate::polls::PIECE;
 use base_types::Moment;
 use dispatcher::Listener;
 use planners::Planner;
@@ -49,7 +50,7 @@ impl<P: Planner + Drop> Engine<P> {
         self.connections.capacity()
     }
 
-    /// Each connection is read.
+    /// Each connection is read, all into the same room.
     fn read_all<W: Wire, N: Listener>(
         &mut self,
         moment: Moment,
@@ -59,8 +60,9 @@ impl<P: Planner + Drop> Engine<P> {
     )
         ensures { Refines (both W.polled N.told) (Each keys (ReadsOne moment)) (wire.old, notes.old) self.old (wire.new, notes.new) self.new }
     {
+        let mut piece = [0; PIECE];
         for key in 0..keys {
-            self.read_one(moment, key, wire, notes);
+            self.read_one(moment, key, &mut piece, wire, notes);
         }
     }
 
