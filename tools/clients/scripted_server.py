@@ -166,3 +166,12 @@ class Tap:
     def lines(self):
         """What the adapter said, without HELLO and without PAGES."""
         return [line for line in self.said if not line.startswith(("HELLO", "PAGES"))]
+
+    def lines_until(self, job):
+        """What the adapter said up to the answer to a job, which it logs before it is passed on here."""
+        ends = {f"DONE {job}", f"FAIL {job}"}
+        for _ in range(100):
+            if ends & set(self.said):
+                break
+            time.sleep(0.05)
+        return self.lines()

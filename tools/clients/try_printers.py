@@ -248,8 +248,7 @@ def play(row, folder):
         tap = Tap(server.devices)
         with Adapter("window", tap.port, address, folder / "adapter.log", words) as adapter:
             notes = print_two(server, adapter, row, contents)
-            time.sleep(0.1)
-            peak, told = adapter.peak_kib(), tap.lines()
+            peak, told = adapter.peak_kib(), tap.lines_until(2)
     wanted = [*row.says, "done 2"]
     good = len(notes) == len(wanted) and all(re.fullmatch(one, note) for one, note in zip(wanted, notes))
     answers = [line for line in told if line.startswith(("DONE", "FAIL"))]
@@ -272,7 +271,7 @@ def play_media(folder):
                 time.sleep(3)
                 waited = "job 1" not in adapter.log.read_text()
                 printer.has({"media-ready": [A4, "custom_of-nobody_10x20in"]})
-                notes, peak, told = wait_for(adapter, "done 1"), adapter.peak_kib(), tap.lines()
+                notes, peak, told = wait_for(adapter, "done 1"), adapter.peak_kib(), tap.lines_until(1)
     return waited and notes == ["done 1"], f"{'waits' if waited else 'is begun'}, {', '.join(notes)}; told {', '.join(told)}", peak
 
 
