@@ -16,7 +16,7 @@ use Rattle.assignment.specs.Matching.{HasRoom, IsFair, IsTight}
 use Rattle.assignment.proofs.Laid.{laid_none, laid_now, shows_none, shows_now}
 use Rattle.assignment.proofs.ColumnGrowth.{by_device_more, by_device_none}
 
--- what is fair towards the next places of the by_device is so towards those that are free
+-- what is fair towards the next places of the devices is so towards those that are free
 pub fair_free_from : (costs : Costs) (b : Begun) → IsLaidOut costs b → ((q : ℕ) → q < vec_len b.matching.columns → IsFairBeside costs b.by_device.items b.matching q) → IsFair (cost_of costs) b.matching.jobs.items b.matching.prices.items b.free.items []
 fair_free_from costs b h next = record {
   at = λ q f lq lf.

@@ -24,7 +24,7 @@ by_device_none devices columns by_device e len empty = record {
   };
 }
 
--- the device_columns of a device that has one column more
+-- the columns of a device that has one more
 device_columns_more : (device : ℕ) (columns : List Place) (device_columns : List ℕ) → AreColumnsOf device columns device_columns → AreColumnsOf device (columns ++ place_on device (length device_columns) ∷ []) (device_columns ++ length columns ∷ [])
 device_columns_more device columns device_columns h =
     let p = place_on device (length device_columns) in

@@ -31,7 +31,7 @@ cost_is : (waits row : List ℕ) (place : Place) (device after charge : ℕ) →
 unfolding cost_at
 cost_is waits row place device after charge is e low = rw (is, ← add-one) (omega arith)
 
--- the place that a device_columns comes to, where it isn't too dear
+-- the place that the columns of a device come to, where it isn't too dear
 pub placed : (waits row : List ℕ) (columns : List Place) (device_columns : List ℕ) (device after n charge time next base price E : ℕ) → AreColumnsOf device columns device_columns → after < length device_columns → length columns ≡ n
     → charge ≡ get_or waits device UNABLE + after * get_or row device UNABLE → time ≡ get_or row device UNABLE → next ≡ min (charge + time) 18446744073709551615 → next < (E + price) - base → E + price ≤ base + UNABLE
     → (get_or device_columns after 0 < n) × (get_or columns (get_or device_columns after 0) nowhere ≡ place_on device after) × (next ≡ get_or waits device UNABLE + (after + 1) * get_or row device UNABLE) × (next ≤ UNABLE) × (cost_at waits row (get_or columns (get_or device_columns after 0) nowhere) ≡ next)

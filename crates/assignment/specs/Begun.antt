@@ -26,7 +26,7 @@ pub record IsLaidOut (costs : Costs) (b : Begun) : Type 0 where
 abbrev pub IsFairAt : Costs → Matching → ℕ → Type 0
 IsFairAt costs s q = (c : ℕ) → c < vec_len s.columns → slice_index s.prices.items q ≤ cost_of costs (slice_index s.jobs.items q) (slice_index_or s.columns.items c nowhere) + slice_index s.duals.items c
 
--- the job at q is charged at most what the next place of any device costs it, before those of the device's device_columns
+-- the job at q is charged at most what the next place of any device costs it, the one before that device's columns
 abbrev pub IsFairBeside : Costs → List (List ℕ) → Matching → ℕ → Type 0
 IsFairBeside costs by_device s q = (device : ℕ) → device < vec_len costs.waits → slice_index s.prices.items q ≤ cost_of costs (slice_index s.jobs.items q) (place_on device (length (slice_index_or by_device device [])))
 
