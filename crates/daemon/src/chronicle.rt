@@ -1,5 +1,6 @@
 //! What a log says of the turns of a server.
 use crate::ends::Begun;
+use crate::last_plan::LastPlan;
 use crate::log::Lines;
 use assignment::AugmentingPaths;
 use base_types::{Moment, Text};
@@ -7,22 +8,24 @@ use server::{Engine, LoggedNote};
 use sockets::ConnectionEvent;
 use std::alloc::{AllocError, Global};
 
-/// The names of a server's devices, and the jobs that they began: what the lines of a log are made of,
-/// beside what happened.
+/// The names of a server's devices, the jobs that they began, and the last plan: what the lines of a log are
+/// made of, beside what happened.
 #[derive(Drop)]
 pub struct Chronicle {
     alloc: Global,
     names: Vec<Text>,
     begun: Begun,
+    plan: LastPlan,
 }
 
 impl Chronicle {
-    /// No job was begun yet. The names are those of the devices.
+    /// No job was begun yet, and no plan made. The names are those of the devices.
     pub fn new(alloc: Global, names: Vec<Text>) -> Chronicle {
         Chronicle {
             alloc,
             names,
             begun: Begun::new(alloc),
+            plan: LastPlan::new(alloc),
         }
     }
 
@@ -37,18 +40,18 @@ impl Chronicle {
         self.begun.add(heard)?;
         let ended = self.begun.take_ended(self.alloc, engine)?;
         let mut lines = Lines::new(self.alloc, &self.names, moment);
-        lines.add_comings(visits)?;
-        lines.add_heard(heard)?;
-        lines.add_ended(&ended)?;
-        lines.add_goings(visits)?;
+        lines.add_comings(visits);
+        lines.add_heard(heard, &mut self.plan);
+        lines.add_ended(&ended);
+        lines.add_goings(visits);
         lines.text()
     }
 
     /// Who came and went in a turn, as comments of a recording.
     pub(crate) fn comments(&self, visits: &[ConnectionEvent]) -> Result<Vec<u8>, AllocError> {
         let mut lines = Lines::comments(self.alloc, &self.names);
-        lines.add_comings(visits)?;
-        lines.add_goings(visits)?;
+        lines.add_comings(visits);
+        lines.add_goings(visits);
         lines.text()
     }
 }

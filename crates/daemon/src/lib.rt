@@ -15,6 +15,7 @@
 mod chronicle;
 mod clock;
 mod ends;
+mod last_plan;
 mod log;
 mod log_writer;
 mod recorder;

@@ -1,9 +1,10 @@
 //! The lines of a log.
 use crate::ends::Ended;
+use crate::last_plan::LastPlan;
 use base_types::{DeviceId, JobId, Moment, Text};
 use dispatcher::{AllocationSite, DeviceRefusal};
 use job_objects::JobState;
-use plan_text::{cause_word, name_of};
+use plan_text::name_of;
 use server::LoggedNote;
 use sockets::{CloseReason, ConnectionEvent};
 use std::alloc::{AllocError, Global};
@@ -18,6 +19,8 @@ pub(crate) struct Lines<'a> {
     /// The ms since the start, which stand in front of each; none, where each is a comment of a recording.
     millis: Option<u64>,
     text: Vec<u8>,
+    /// Memory for some of it was refused.
+    is_cut: bool,
 }
 
 impl<'a> Lines<'a> {
@@ -28,6 +31,7 @@ impl<'a> Lines<'a> {
             names,
             millis: Some(moment.millis()),
             text: Vec::new(alloc),
+            is_cut: false,
         }
     }
 
@@ -38,12 +42,16 @@ impl<'a> Lines<'a> {
             names,
             millis: None,
             text: Vec::new(alloc),
+            is_cut: false,
         }
     }
 
-    /// The whole text, each line with its end.
+    /// The whole text, each line with its end. The error is out of memory, for any of it.
     pub(crate) fn text(self) -> Result<Vec<u8>, AllocError> {
         let mut text = self.text;
+        if self.is_cut {
+            return Err(AllocError);
+        }
         if !text.is_empty() {
             text.push(b'\n')?;
         }
@@ -51,74 +59,88 @@ impl<'a> Lines<'a> {
     }
 
     /// Adds what the engine was heard to do.
-    pub(crate) fn add_heard(&mut self, heard: &[LoggedNote]) -> Result<(), AllocError> {
+    pub(crate) fn add_heard(&mut self, heard: &[LoggedNote], plan: &mut LastPlan) {
         for one in heard {
-            self.add_one(one)?;
+            self.add_one(one, plan);
         }
-        Ok(())
+        self.add_plan(plan, false);
     }
 
     /// Adds the connections that came, or that none could come.
-    pub(crate) fn add_comings(&mut self, visits: &[ConnectionEvent]) -> Result<(), AllocError> {
+    pub(crate) fn add_comings(&mut self, visits: &[ConnectionEvent]) {
         for visit in visits {
             match *visit {
-                ConnectionEvent::Came { id, door, peer } => self.add_open(id, door, peer)?,
-                ConnectionEvent::Missed(door) => self.add_missed(door)?,
+                ConnectionEvent::Came { id, door, peer } => self.add_open(id, door, peer),
+                ConnectionEvent::Missed(door) => self.add_missed(door),
                 ConnectionEvent::Went { .. } => {}
             }
         }
-        Ok(())
     }
 
     /// Adds the connections that went.
-    pub(crate) fn add_goings(&mut self, visits: &[ConnectionEvent]) -> Result<(), AllocError> {
+    pub(crate) fn add_goings(&mut self, visits: &[ConnectionEvent]) {
         for visit in visits {
             if let ConnectionEvent::Went { id, leave } = *visit {
-                self.add_close(id, leave)?;
+                self.add_close(id, leave);
             }
         }
-        Ok(())
     }
 
     /// Adds the jobs that ended.
-    pub(crate) fn add_ended(&mut self, ended: &[Ended]) -> Result<(), AllocError> {
+    pub(crate) fn add_ended(&mut self, ended: &[Ended]) {
         for one in ended {
-            self.add_job(end_word(one.state), one.started.job, one.started.device)?;
+            self.add_job(end_word(one.state), one.started.job, one.started.device);
         }
-        Ok(())
     }
 
     /// Adds what is said of one thing that was heard: a line, or a word of the line of its plan.
-    fn add_one(&mut self, heard: &LoggedNote) -> Result<(), AllocError> {
+    fn add_one(&mut self, heard: &LoggedNote, plan: &mut LastPlan) {
         match heard {
-            LoggedNote::Planned => self.begin("plan"),
-            LoggedNote::Class { priority, total } => {
-                let level = priority.level();
-                self.append(format!(in self.alloc; " {level}:{total}")?)
+            LoggedNote::Class { priority, total } => self.heed(plan.add_class(*priority, *total)),
+            LoggedNote::Stranded(stranded) => self.heed(plan.add_stranded(*stranded)),
+            LoggedNote::Planned => {
+                self.add_plan(plan, false);
+                plan.begin();
             }
-            LoggedNote::Stranded(stranded) => {
-                let job = stranded.job.number();
-                let cause = cause_word(stranded.cause);
-                self.append(format!(in self.alloc; " -{job}:{cause}")?)
+            LoggedNote::Began(started) => {
+                self.add_plan(plan, true);
+                self.add_job("start", started.job, started.device);
             }
-            LoggedNote::Began(started) => self.add_job("start", started.job, started.device),
-            LoggedNote::Canceled(cancel) => self.add_job("cancel", cancel.job, cancel.device),
-            LoggedNote::DeviceRefused(_, why) => self.add_device_refused(why),
-            LoggedNote::Refused(place, id) => self.add_refused(*place, *id),
+            LoggedNote::Canceled(cancel) => {
+                self.add_plan(plan, false);
+                self.add_job("cancel", cancel.job, cancel.device);
+            }
+            LoggedNote::DeviceRefused(_, why) => {
+                self.add_plan(plan, false);
+                self.add_device_refused(why);
+            }
+            LoggedNote::Refused(place, id) => {
+                self.add_plan(plan, false);
+                self.add_refused(*place, *id);
+            }
+        }
+    }
+
+    /// Adds the line of the last plan where it is due, before what follows.
+    fn add_plan(&mut self, plan: &mut LastPlan, begins: bool) {
+        if plan.take_due(begins) {
+            self.begin("plan");
+            self.put(plan.totals());
+            self.put(plan.stranded());
         }
     }
 
     /// Adds a line of a job and its device.
-    fn add_job(&mut self, word: &str, job: JobId, device: DeviceId) -> Result<(), AllocError> {
+    fn add_job(&mut self, word: &str, job: JobId, device: DeviceId) {
         let job = job.number();
-        self.begin(word)?;
-        self.append(format!(in self.alloc; " {job} ")?)?;
-        self.text.extend_from_slice(name_of(self.names, device))
+        self.begin(word);
+        self.append(format!(in self.alloc; " {job} "));
+        self.put(name_of(self.names, device));
     }
 
     /// Adds the line of a device's connection that is refused, with the name that was said on it, if one
     /// was.
-    fn add_device_refused(&mut self, why: &DeviceRefusal) -> Result<(), AllocError> {
+    fn add_device_refused(&mut self, why: &DeviceRefusal) {
         match why {
             DeviceRefusal::UnknownName(name) => self.add_reason(name.as_bytes(), "unknown"),
             DeviceRefusal::Connected(device) => {
@@ -132,57 +154,72 @@ impl<'a> Lines<'a> {
     }
 
     /// Adds a line of the name of a device and why it is refused.
-    fn add_reason(&mut self, name: &[u8], reason: &str) -> Result<(), AllocError> {
-        self.begin("refused device ")?;
-        self.text.extend_from_slice(name)?;
-        self.append(format!(in self.alloc; " {reason}")?)
+    fn add_reason(&mut self, name: &[u8], reason: &str) {
+        self.begin("refused device ");
+        self.put(name);
+        self.append(format!(in self.alloc; " {reason}"));
     }
 
     /// Adds the line of a growth that was refused.
-    fn add_refused(&mut self, place: AllocationSite, id: Option<WireId>) -> Result<(), AllocError> {
+    fn add_refused(&mut self, place: AllocationSite, id: Option<WireId>) {
         let word = place_word(place);
-        self.begin("no memory")?;
-        self.append(format!(in self.alloc; " {word}")?)?;
-        match id {
-            Some(id) => self.append(format!(in self.alloc; " of connection {id}")?),
-            None => Ok(()),
+        self.begin("no memory");
+        self.append(format!(in self.alloc; " {word}"));
+        if let Some(id) = id {
+            self.append(format!(in self.alloc; " of connection {id}"));
         }
     }
 
     /// Adds the line of a connection that came.
-    fn add_open(&mut self, id: WireId, door: Door, peer: SocketAddr) -> Result<(), AllocError> {
+    fn add_open(&mut self, id: WireId, door: Door, peer: SocketAddr) {
         let door = door_word(door);
-        self.begin("open")?;
-        self.append(format!(in self.alloc; " {id} {door} {peer}")?)
+        self.begin("open");
+        self.append(format!(in self.alloc; " {id} {door} {peer}"));
     }
 
     /// Adds the line of a door at which a connection was missed.
-    fn add_missed(&mut self, door: Door) -> Result<(), AllocError> {
+    fn add_missed(&mut self, door: Door) {
         let door = door_word(door);
-        self.begin("no connection")?;
-        self.append(format!(in self.alloc; " {door}")?)
+        self.begin("no connection");
+        self.append(format!(in self.alloc; " {door}"));
     }
 
     /// Adds the line of a connection that went.
-    fn add_close(&mut self, id: WireId, leave: CloseReason) -> Result<(), AllocError> {
+    fn add_close(&mut self, id: WireId, leave: CloseReason) {
         let leave = leave_word(leave);
-        self.begin("close")?;
-        self.append(format!(in self.alloc; " {id} {leave}")?)
+        self.begin("close");
+        self.append(format!(in self.alloc; " {id} {leave}"));
     }
 
     /// Ends the line before, if there is one, and begins another.
-    fn begin(&mut self, word: &str) -> Result<(), AllocError> {
+    fn begin(&mut self, word: &str) {
         if !self.text.is_empty() {
-            self.text.push(b'\n')?;
+            self.put(b"\n");
         }
         match self.millis {
-            Some(millis) => self.append(format!(in self.alloc; "{millis} {word}")?),
-            None => self.append(format!(in self.alloc; "# {word}")?),
+            Some(millis) => self.append(format!(in self.alloc; "{millis} {word}")),
+            None => self.append(format!(in self.alloc; "# {word}")),
         }
     }
 
-    fn append(&mut self, words: String) -> Result<(), AllocError> {
-        self.text.extend_from_slice(words.as_bytes())
+    /// Appends words, if memory was there to make them.
+    fn append(&mut self, words: Result<String, AllocError>) {
+        match words {
+            Ok(words) => self.put(words.as_bytes()),
+            Err(_) => self.is_cut = true,
+        }
+    }
+
+    fn put(&mut self, bytes: &[u8]) {
+        let done = self.text.extend_from_slice(bytes);
+        self.heed(done);
+    }
+
+    /// Remembers that memory was refused, if it was.
+    fn heed(&mut self, done: Result<(), AllocError>) {
+        if done.is_err() {
+            self.is_cut = true;
+        }
     }
 }
 
