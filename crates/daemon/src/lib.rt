@@ -26,5 +26,5 @@ mod witness;
 
 pub use chronicle::Chronicle;
 pub use recorder::Tape;
-pub use run::{serve, serve_recorded};
+pub use run::{Recording, serve};
 pub use serving::Server;

@@ -17,130 +17,114 @@ use std::time::{Clock, Instant};
 /// late by no more.
 const PAUSE: u64 = 100;
 
-/// Serves with these settings over sockets that listen: so many turns, each at the ms since the first,
-/// with a log of what happens where one is given. A log that can't be written stops nothing: the output is
-/// to answer a write that would wait with an error, and the lines are dropped and counted. The error is the
-/// clock's or the system's, or out of memory.
-pub fn serve<W: Write>(
-    alloc: Global,
-    clock: &impl Clock,
-    sockets: Sockets,
-    settings: Settings,
-    turns: u64,
-    log: Option<&mut W>,
-) -> io::Result<()>
-    requires { MeetsLimits settings }
-{
-    let mut server = Server::new(alloc, sockets, settings)?;
-    match log {
-        Some(log) => {
-            take_logged_turns(clock, &mut server, turns, &mut LogWriter::new(alloc, log))
-        }
-        None => take_turns(clock, &mut server, turns),
-    }
+/// A recording of the day: where it goes, and whether it has of documents their heads alone.
+#[derive(Drop)]
+pub struct Recording<'a, T: Tape> {
+    pub tape: &'a mut T,
+    pub heads: bool,
 }
 
-/// The same, and each turn is recorded to a tape, of documents their heads alone where that is asked for. A
-/// tape that fails stops nothing: it gets nothing more.
-pub fn serve_recorded<W: Write, T: Tape>(
+/// Serves with these settings over sockets that listen: so many turns, each at the ms since the first,
+/// with a log of what happens where one is given, and with a recording where one is. A log that can't be
+/// written stops nothing: the output is to answer a write that would wait with an error, and the lines are
+/// dropped and counted. A tape that fails stops nothing either: it gets nothing more. The error is the
+/// clock's or the system's, or out of memory.
+pub fn serve<W: Write, T: Tape>(
     alloc: Global,
     clock: &impl Clock,
     sockets: Sockets,
     settings: Settings,
     turns: u64,
     log: Option<&mut W>,
-    tape: &mut T,
-    heads: bool,
+    recording: Option<Recording<'_, T>>,
 ) -> io::Result<()>
     requires { MeetsLimits settings }
 {
     let mut server = Server::new(alloc, sockets, settings)?;
-    server.record(heads);
-    match log {
-        Some(log) => take_all_turns(
-            clock,
-            &mut server,
-            turns,
-            &mut LogWriter::new(alloc, log),
-            &mut Recorder::new(tape),
-        ),
-        None => take_recorded_turns(clock, &mut server, turns, &mut Recorder::new(tape)),
-    }
+    run(alloc, clock, &mut server, turns, log, recording)
+}
+
+/// Takes so many turns, with a log and a recording where they are given.
+fn run<W: Write, T: Tape>(
+    alloc: Global,
+    clock: &impl Clock,
+    server: &mut Server,
+    turns: u64,
+    log: Option<&mut W>,
+    recording: Option<Recording<'_, T>>,
+) -> io::Result<()> {
+    let mut log = writer_of(alloc, log);
+    let mut recorder = recorder_of(server, recording);
+    take_turns(clock, server, turns, &mut log, &mut recorder)
+}
+
+/// What writes the log, where one is wanted.
+fn writer_of<'a, W: Write>(alloc: Global, log: Option<&'a mut W>) -> Option<LogWriter<'a, W>> {
+    let Some(output) = log else {
+        return None;
+    };
+    Some(LogWriter::new(alloc, output))
+}
+
+/// What records the turns of a server that has taken none yet, where a recording is wanted.
+fn recorder_of<'a, T: Tape>(
+    server: &mut Server,
+    recording: Option<Recording<'a, T>>,
+) -> Option<Recorder<'a, T>> {
+    let Some(recording) = recording else {
+        return None;
+    };
+    server.record(recording.heads);
+    Some(Recorder::new(recording.tape))
 }
 
 /// Takes so many turns.
-fn take_turns(clock: &impl Clock, server: &mut Server, turns: u64) -> io::Result<()> {
-    let start = Instant::now(clock)?;
-    for _ in 0..turns {
-        server.turn(moment_since(clock, &start)?);
-        server.rest(PAUSE)?;
-    }
-    Ok(())
-}
-
-/// The same, with a log of what happens.
-fn take_logged_turns<W: Write>(
+fn take_turns<W: Write, T: Tape>(
     clock: &impl Clock,
     server: &mut Server,
     turns: u64,
-    log: &mut LogWriter<'_, W>,
-) -> io::Result<()> {
-    let start = Instant::now(clock)?;
-    for _ in 0..turns {
-        put_lines(server.turn_logged(moment_since(clock, &start)?), log);
-        server.rest(PAUSE)?;
-    }
-    Ok(())
-}
-
-/// The same, with a recording.
-fn take_recorded_turns<T: Tape>(
-    clock: &impl Clock,
-    server: &mut Server,
-    turns: u64,
-    recorder: &mut Recorder<'_, T>,
+    log: &mut Option<LogWriter<'_, W>>,
+    recorder: &mut Option<Recorder<'_, T>>,
 ) -> io::Result<()> {
     let start = Instant::now(clock)?;
     for _ in 0..turns {
         let moment = moment_since(clock, &start)?;
-        server.turn(moment);
+        take_turn(server, moment, log);
         let pause = heed(server, recorder, moment);
         server.rest(pause)?;
     }
-    recorder.finish(server.notes());
+    if let Some(recorder) = recorder {
+        recorder.finish(server.notes());
+    }
     Ok(())
 }
 
-/// The same, with a log of what happens and a recording.
-fn take_all_turns<W: Write, T: Tape>(
-    clock: &impl Clock,
-    server: &mut Server,
-    turns: u64,
-    log: &mut LogWriter<'_, W>,
-    recorder: &mut Recorder<'_, T>,
-) -> io::Result<()> {
-    let start = Instant::now(clock)?;
-    for _ in 0..turns {
-        let moment = moment_since(clock, &start)?;
-        put_lines(server.turn_logged(moment), log);
-        let pause = heed(server, recorder, moment);
-        server.rest(pause)?;
+/// Takes a turn of this moment, and writes the lines of the log.
+fn take_turn<W: Write>(server: &mut Server, moment: Moment, log: &mut Option<LogWriter<'_, W>>) {
+    match log {
+        Some(log) => put_lines(server.turn_logged(moment), log),
+        None => server.turn(moment),
     }
-    recorder.finish(server.notes());
-    Ok(())
 }
 
 /// Has what was noted of a turn of this moment recorded, once it is due: for how many ms the server may wait
 /// then, at most.
-fn heed<T: Tape>(server: &mut Server, recorder: &mut Recorder<'_, T>, moment: Moment) -> u64 {
+fn heed<T: Tape>(
+    server: &mut Server,
+    recorder: &mut Option<Recorder<'_, T>>,
+    moment: Moment,
+) -> u64 {
+    let Some(recorder) = recorder else {
+        return PAUSE;
+    };
     let notes = server.notes();
     recorder.heed(notes, moment);
     recorder.time_left(notes, moment, PAUSE)
 }
 
 /// Writes the lines of a turn, or says that there was no memory for them.
-fn put_lines<W: Write>(heard: Result<Vec<u8>, AllocError>, log: &mut LogWriter<'_, W>) {
-    match heard {
+fn put_lines<W: Write>(lines: Result<Vec<u8>, AllocError>, log: &mut LogWriter<'_, W>) {
+    match lines {
         Ok(lines) => log.put(&lines),
         Err(AllocError) => log.put(b"no memory for the log\n"),
     }

@@ -6,7 +6,7 @@ use crate::log_output::{LogFile, LogOutput};
 use crate::settings::{built_in_text, read_file, settings_in};
 use crate::tape::TapeFiles;
 use command_line::{Log, Serving};
-use daemon::{serve, serve_recorded};
+use daemon::{Recording, serve};
 use settings_file::Settings;
 use sockets::{Listening, Sockets};
 use std::io;
@@ -104,63 +104,71 @@ fn log_of<'a>(
     }
 }
 
-/// Serves with these settings over these sockets, and records the day to a tape.
-fn serve_taped(
+/// Where the day is recorded, if it is. The error is the status of what was said.
+fn tape_of<'a>(
+    rt: &'a HostRuntime,
+    serving: &Serving<'a>,
+    settings: &'a [u8],
+) -> Result<Option<TapeFiles<'a>>, ExitStatus> {
+    let Some(path) = serving.record else {
+        return Ok(None);
+    };
+    let mut tape = TapeFiles::new(rt, path, settings, serving.record_heads);
+    tape.begin()?;
+    Ok(Some(tape))
+}
+
+/// A recording to a tape, where there is one.
+fn recording_of<'a, 'b>(
+    tape: Option<&'a mut TapeFiles<'b>>,
+    heads: bool,
+) -> Option<Recording<'a, TapeFiles<'b>>> {
+    let Some(tape) = tape else {
+        return None;
+    };
+    Some(Recording { tape, heads })
+}
+
+/// Serves with these settings over these sockets, with the log and the recording that are asked for.
+fn serve_over(
     rt: &HostRuntime,
     settings: Settings,
     serving: &Serving<'_>,
     sockets: Sockets,
     log: Option<&mut LogOutput<'_>>,
-    tape: &mut TapeFiles<'_>,
+    tape: Option<&mut TapeFiles<'_>>,
 ) -> Result<ExitStatus, ExitStatus>
     requires { MeetsLimits settings }
 {
-    let (turns, heads) = (serving.turns, serving.record_heads);
-    match serve_recorded(rt.alloc(), rt, sockets, settings, turns, log, tape, heads) {
-        Ok(()) => Ok(ExitStatus::Done),
-        Err(error) => Err(cannot(rt, "go on serving", error)),
-    }
-}
-
-/// Serves with the settings of a text, and records the day to the files of a name.
-fn serve_and_record(
-    rt: &HostRuntime,
-    settings: Settings,
-    text: &[u8],
-    serving: &Serving<'_>,
-    path: &str,
-) -> Result<ExitStatus, ExitStatus>
-    requires { MeetsLimits settings }
-{
-    let mut log = log_of(rt, serving)?;
-    let mut tape = TapeFiles::new(rt, path, text, serving.record_heads);
-    let sockets = open(rt, serving)?;
-    match tape.begin() {
-        Ok(()) => serve_taped(rt, settings, serving, sockets, log.as_mut(), &mut tape),
-        Err(status) => Err(status),
-    }
-}
-
-/// Serves with these settings.
-fn serve_settings(
-    rt: &HostRuntime,
-    settings: Settings,
-    serving: &Serving<'_>,
-) -> Result<ExitStatus, ExitStatus>
-    requires { MeetsLimits settings }
-{
-    let mut log = log_of(rt, serving)?;
-    let sockets = open(rt, serving)?;
+    let recording = recording_of(tape, serving.record_heads);
     match serve(
         rt.alloc(),
         rt,
         sockets,
         settings,
         serving.turns,
-        log.as_mut(),
+        log,
+        recording,
     ) {
         Ok(()) => Ok(ExitStatus::Done),
         Err(error) => Err(cannot(rt, "go on serving", error)),
+    }
+}
+
+/// Serves with the settings of a text.
+fn serve_settings(
+    rt: &HostRuntime,
+    settings: Settings,
+    text: &[u8],
+    serving: &Serving<'_>,
+) -> Result<ExitStatus, ExitStatus>
+    requires { MeetsLimits settings }
+{
+    let mut log = log_of(rt, serving)?;
+    let sockets = open(rt, serving)?;
+    match tape_of(rt, serving, text) {
+        Ok(mut tape) => serve_over(rt, settings, serving, sockets, log.as_mut(), tape.as_mut()),
+        Err(status) => Err(status),
     }
 }
 
@@ -181,8 +189,5 @@ fn text_of(rt: &HostRuntime, file: Option<&str>) -> Result<Vec<u8>, ExitStatus> 
 pub(crate) fn run_serve(rt: &HostRuntime, serving: Serving<'_>) -> Result<ExitStatus, ExitStatus> {
     let text = text_of(rt, serving.settings)?;
     let settings = settings_in(rt, file_of(&serving), &text)?;
-    match serving.record {
-        Some(path) => serve_and_record(rt, settings, &text, &serving, path),
-        None => serve_settings(rt, settings, &serving),
-    }
+    serve_settings(rt, settings, &text, &serving)
 }
