@@ -18,3 +18,4 @@ pub mod Linking
 pub mod Sparing
 pub mod Carrying
 pub mod Hearing
+pub mod Dropping

@@ -5,3 +5,4 @@ pub mod Orders
 pub mod Answers
 pub mod Others
 pub mod Carried
+pub mod Dropped

@@ -1,0 +1,798 @@
+-- Of each event of a trace the listener is told, of one that was dropped too.
+use Rattle.std.proofs.Common.{◌≡◌, ℕ, zero, suc, Bool, true, false, List, [], ◌∷◌, ◌++◌, map, refl, sym, ◌∙◌, ap, subst, Option, Some, None, inl, inr}
+use Rattle.std.specs.Prelude.{◌||◌, All, nat_lt, length, take}
+use Rattle.std.proofs.lemmas.List.{append-nil, append_assoc, map-append}
+use Rattle.std.proofs.lemmas.List.Elements.{All-append, All-cons, All-nil}
+use Rattle.base_types.specs.declared.limits.TheConstants.Limits.{CONNECTIONS}
+use Rattle.base_types.specs.declared.report.Report.{Report}
+use Rattle.base_types.specs.declared.report.Report.TheVariants as reported
+use Rattle.base_types.specs.Report.{ReportRecord}
+use Rattle.device_link.specs.Orders.{cancel_line}
+use Rattle.print_room.specs.declared.started.Started.{Started}
+use Rattle.print_room.specs.State.{State}
+use Rattle.events.specs.declared.event.Event.{Event}
+use Rattle.events.specs.declared.event.Event.TheVariants as Is
+use Rattle.events.specs.declared.effects.Effects.{Effects}
+use Rattle.events.specs.declared.effects.Cancel.{Cancel}
+use Rattle.events.specs.declared.effects.Response.{Response}
+use Rattle.events.specs.declared.effects.Response.TheVariants as answered
+use Rattle.events.specs.declared.effects.LpdResponse.{LpdResponse}
+use Rattle.events.specs.declared.effects.LpdResponse.TheVariants as shown
+use Rattle.events.specs.declared.status.Status.{Status}
+use Rattle.events.specs.declared.status.Status.TheVariants.{TemporaryError}
+use Rattle.events.specs.Event.{is_query}
+use Rattle.dispatcher.specs.declared.outcome.Outcome.{Outcome}
+use Rattle.dispatcher.specs.declared.outcome.Outcome.TheVariants.{Dropped, Queried, Undispatched, Idle, Dispatched}
+use Rattle.dispatcher.specs.declared.listener.DeviceRefusal.{DeviceRefusal}
+use Rattle.dispatcher.specs.declared.listener.DeviceRefusal.TheVariants as why
+use Rattle.dispatcher.specs.declared.listener.AllocationSite.{AllocationSite}
+use Rattle.dispatcher.specs.declared.listener.AllocationSite.TheVariants as At
+use Rattle.dispatcher.specs.declared.run.Timed.{Timed}
+use Rattle.dispatcher.specs.Notes.{Note, Planned, Canceled, DeviceRefused, Refused, Tells as Leads}
+use Rattle.dispatcher.specs.Run.{reply_of, cancels_told, Handles, Run}
+use Rattle.dispatcher.specs.Step.{TakesNoMemory}
+use Rattle.requests.specs.declared.parsed_request.ParsedRequest.{ParsedRequest}
+use Rattle.requests.specs.declared.parsed_request.ParsedRequest.TheVariants as asks
+use Rattle.responses.specs.QueueText.{ack_of, text_of}
+use Rattle.send_queues.specs.Reply.{http_reply}
+use Rattle.wires.specs.Poll.{Poll, Accepts, Reads, Writes}
+use Rattle.wires.specs.declared.wire.Progress.TheVariants as wire
+use Rattle.wires.specs.declared.wire.Progress.{Progress}
+use Rattle.wires.specs.declared.wire.Door.{Door}
+use Rattle.wires.specs.declared.wire.Door.TheVariants.{Ipp, Lpd, Devices}
+use Rattle.connections.specs.declared.ask.Ask.{Ask}
+use Rattle.connections.specs.declared.ask.Ask.TheVariants as ask
+use Rattle.connections.specs.declared.ask.Client.{Client}
+use Rattle.connections.specs.declared.ask.Client.TheVariants as client
+use Rattle.connections.specs.declared.ask.Growth.{Growth}
+use Rattle.connections.specs.declared.ask.Growth.TheVariants as growth
+use Rattle.connections.specs.declared.ask.Part.{Part}
+use Rattle.connections.specs.declared.ask.Part.TheVariants as part
+use Rattle.connections.specs.Entry.{Entry, device_of, closes_of, given_up, broken, owing, needs_memory, reading, waiting}
+use Rattle.connections.specs.Steps.{http_status}
+use Rattle.connections.specs.Choice.{part_of, lost_of}
+use Rattle.server.specs.Polls.{Happening, Polled, Told, Choice, Found, On, Asked, Rested, Looked, Chosen}
+use Rattle.server.specs.Ledger.{Ledger, Fate, Drained, Broken, with_entry, job_bytes}
+use Rattle.server.specs.Rel.{Rel, Nothing, Polls, Tells, Chooses, Then, If, Or, Times, Many, Each, EachOf}
+use Rattle.server.specs.Enqueuing.{Sets, BreaksAt, Breaks, Drops, EnqueuesOpen, EnqueuesAt, EnqueuesWhere, Enqueues, EnqueuesOn, EnqueuesReplyAt, EnqueuesResponse, EnqueuesStatus}
+use Rattle.server.specs.Happening.{found_by, Sends, SendsAll, Starts, StartsAll, Orders, Happens, Unanswered}
+use Rattle.server.specs.Closing as Closing
+use Rattle.server.specs.Closing.{Leaves, ClosesAs, ClosesFirst, Settles}
+use Rattle.server.specs.Answering as Answering
+use Rattle.server.specs.Greeting as Greeting
+use Rattle.server.specs.Acting as Acting
+use Rattle.server.specs.Polling.{Opens, AcceptsAs, AcceptsOne, AcceptsAt, Acts, Serves, FedWhole, FedOpen, FeedsAt, FeedsOne, Fails, ReadsAs, ReadsOpen, ReadsAt, is_read, ReadsOne, WritesAs, WritesOpen, WritesAt, WritesOne, is_done, EndsAt, EndsOne}
+use Rattle.server.specs.Turn as Between
+use Rattle.server.specs.Turn.{Ticks, is_tick_due, TicksIfDue, Covers, Round, Turn, has_refusal, Action, Turned, Served_body, Reported, Ticked, DoesDeed, Trace, Runs}
+use Rattle.server.specs.Law.{core_note, core_notes, Collects, moment_of, happenings_of, happenings_in, AreAt, AreEventsOf, IsWhole}
+use Rattle.server.proofs.Steps.{refusals_append}
+use Rattle.server.proofs.Happening.{refused_of}
+use Rattle.server.proofs.Speaking.{notes_append, never, none_before, none_after}
+use Rattle.promises.specs.Dropped.{brings_event, event_note, event_notes, begins_event, events_told, IsToldOf, AreToldOf, TellsDropped}
+
+-- ---- what is told of events
+
+-- whether an event may come behind these, where it may or may not before
+abbrev after : Bool → List Happening → Bool
+after came [] = came
+after came (h ∷ hs) = after (brings_event h) hs
+
+notes_then : (came : Bool) (hs ks : List Happening) → event_notes came (hs ++ ks) ≡ event_notes came hs ++ event_notes (after came hs) ks
+notes_then came [] ks = refl
+notes_then came (h ∷ hs) ks =
+    ap (λ (ns : List Note). event_note came h ++ ns) (notes_then (brings_event h) hs ks) ∙ sym (append_assoc (event_note came h) (event_notes (brings_event h) hs) (event_notes (after (brings_event h) hs) ks))
+
+-- nothing is told of events, whatever came before
+abbrev Silent : List Happening → Type 0
+Silent hs = (came : Bool) → event_notes came hs ≡ []
+
+silent_then : (hs ks : List Happening) → Silent hs → Silent ks → Silent (hs ++ ks)
+silent_then hs ks p q came = notes_then came hs ks ∙ (ap (λ (ns : List Note). ns ++ event_notes (after came hs) ks) (p came) ∙ q (after came hs))
+
+-- nothing more is told
+notes_before : (came : Bool) (hs ks : List Happening) (notes : List Note) → event_notes came hs ≡ notes → Silent ks → event_notes came (hs ++ ks) ≡ notes
+notes_before came hs ks notes is silent =
+    notes_then came hs ks ∙ (ap (λ (ns : List Note). event_notes came hs ++ ns) (silent (after came hs)) ∙ (append-nil (event_notes came hs) ∙ is))
+
+-- ---- what leaves the core as it is
+
+record Quiet (l : Ledger) (hs : List Happening) (l' : Ledger) : Type 0 where
+  core : l'.core ≡ l.core
+  silent : Silent hs
+
+abbrev Quietly : Rel → Type 0
+Quietly R = (l : Ledger) (hs : List Happening) (l' : Ledger) → R l hs l' → Quiet l hs l'
+
+quiet_by : (ks : List Happening) (m l : Ledger) (hs : List Happening) (l' : Ledger) → Silent ks → m.core ≡ l.core → (hs ≡ ks) × (l' ≡ m) → Quiet l hs l'
+quiet_by ks m l hs l' silent core (is, same) = record { core = ap (λ (x : Ledger). x.core) same ∙ core; silent = subst Silent (sym is) silent }
+
+quiet_nothing : Quietly Nothing
+quiet_nothing l hs l' it = quiet_by [] l l hs l' (λ came. refl) refl it
+
+quiet_then : {R S : Rel} → Quietly R → Quietly S → Quietly (Then R S)
+quiet_then {R} {S} f g l hs l' it =
+    let p = f l it.front it.mid it.first in
+    let q = g it.mid it.back l' it.second in
+    record { core = q.core ∙ p.core; silent = subst Silent (sym it.whole) (silent_then it.front it.back p.silent q.silent) }
+
+quiet_or : {R S : Rel} → Quietly R → Quietly S → Quietly (Or R S)
+quiet_or f g l hs l' (inl it) = f l hs l' it
+quiet_or f g l hs l' (inr it) = g l hs l' it
+
+quiet_if : (test : Bool) (R S : Rel) → Quietly R → Quietly S → Quietly (If test R S)
+quiet_if true R S f g l hs l' it = f l hs l' it
+quiet_if false R S f g l hs l' it = g l hs l' it
+
+quiet_tells : (note : Note) → Silent (Told note ∷ []) → Quietly (Tells note)
+quiet_tells note silent l hs l' it = quiet_by (Told note ∷ []) l l hs l' silent refl it
+
+quiet_polls : (poll : Poll) → Quietly (Polls poll)
+quiet_polls poll l hs l' it = quiet_by (Polled poll ∷ []) l l hs l' (λ came. refl) refl it
+
+quiet_choice : (choice : Choice) → Quietly (Chooses choice)
+quiet_choice choice l hs l' it = quiet_by (Chosen choice ∷ []) l l hs l' (λ came. refl) refl it
+
+quiet_sets : (key : ℕ) (e : Entry) → Quietly (Sets key e)
+quiet_sets key e l hs l' it = quiet_by [] (with_entry key e l) l hs l' (λ came. refl) refl it
+
+quiet_drops : (place : AllocationSite) (key : ℕ) (e : Entry) → Silent (Told (Refused place (Some e.id)) ∷ []) → Quietly (Drops place key e)
+quiet_drops place key e silent l hs l' it = quiet_by (Told (Refused place (Some e.id)) ∷ []) (with_entry key (broken e) l) l hs l' silent refl it
+
+breaks_at : (key : ℕ) (o : Option Entry) → Quietly (BreaksAt key o)
+breaks_at key None = quiet_nothing
+breaks_at key (Some e) = quiet_sets key (broken e)
+
+quiet_breaks : (key : ℕ) → Quietly (Breaks key)
+quiet_breaks key l hs l' it = breaks_at key (l.entries key) l hs l' it
+
+enqueues_open : (grows : Bool) (key : ℕ) (bytes : List ℕ) (e : Entry) → Quietly (EnqueuesOpen grows key bytes e)
+enqueues_open grows key bytes e =
+    quiet_if grows (Or (Then (Chooses Found) (Sets key (owing bytes e))) (Drops At.Enqueue key e)) (Sets key (owing bytes e))
+    (quiet_or (quiet_then (quiet_choice Found) (quiet_sets key (owing bytes e))) (quiet_drops At.Enqueue key e (λ came. refl))) (quiet_sets key (owing bytes e))
+
+enqueues_at : (grows : Entry → Bool) (key : ℕ) (bytes : List ℕ) (o : Option Entry) → Quietly (EnqueuesAt grows key bytes o)
+enqueues_at grows key bytes None = quiet_nothing
+enqueues_at grows key bytes (Some e) = quiet_if e.broken Nothing (EnqueuesOpen (grows e) key bytes e) quiet_nothing (enqueues_open (grows e) key bytes e)
+
+quiet_where : (grows : Entry → Bool) (key : ℕ) (bytes : List ℕ) → Quietly (EnqueuesWhere grows key bytes)
+quiet_where grows key bytes l hs l' it = enqueues_at grows key bytes (l.entries key) l hs l' it
+
+quiet_enqueues : (key : ℕ) (bytes : List ℕ) → Quietly (Enqueues key bytes)
+quiet_enqueues key bytes = quiet_where (needs_memory bytes) key bytes
+
+enqueues_on : (grows : Entry → Bool) (device : ℕ) (bytes : List ℕ) → Quietly (EnqueuesOn grows device bytes)
+enqueues_on grows device bytes l hs l' (inl (key, is, it)) = quiet_then (quiet_choice (On key)) (quiet_where grows key bytes) l hs l' it
+enqueues_on grows device bytes l hs l' (inr (none, it)) = quiet_nothing l hs l' it
+
+reply_at : (bytes : Bool → List ℕ) (key : ℕ) (o : Option Entry) → Quietly (EnqueuesReplyAt bytes key o)
+reply_at bytes key None = quiet_nothing
+reply_at bytes key (Some e) = quiet_enqueues key (bytes (closes_of e.talk))
+
+quiet_reply : (key : ℕ) (bytes : List ℕ) → Quietly (EnqueuesResponse key bytes)
+quiet_reply key bytes l hs l' it = reply_at (λ closes. http_reply closes bytes) key (l.entries key) l hs l' it
+
+quiet_status : (key : ℕ) (status : Status) (request : ℕ) → Quietly (EnqueuesStatus key status request)
+quiet_status key status request l hs l' it = reply_at (λ closes. http_status closes status request) key (l.entries key) l hs l' it
+
+-- ---- what devices are told
+
+each_sent : (cancels : List Cancel) → Quietly (EachOf cancels Sends)
+each_sent [] = quiet_nothing
+each_sent (cancel ∷ cancels) = quiet_then (enqueues_on (needs_memory (cancel_line cancel.job)) cancel.device (cancel_line cancel.job)) (each_sent cancels)
+
+starts : (start : Started) → Quietly (Starts start)
+starts start l hs l' it = enqueues_on (λ e. true) start.device (job_bytes l.core start.job) l hs l' it
+
+each_started : (started : List Started) → Quietly (EachOf started Starts)
+each_started [] = quiet_nothing
+each_started (start ∷ started) = quiet_then (starts start) (each_started started)
+
+all_started : Quietly StartsAll
+all_started l hs l' it = each_started l.core.begun l hs l' it
+
+quiet_orders : (outcome : Outcome) → Quietly (Orders outcome)
+quiet_orders Dropped = quiet_nothing
+quiet_orders (Queried reply) = each_sent reply.cancels.items
+quiet_orders (Undispatched reply) = each_sent reply.cancels.items
+quiet_orders (Idle reply) = each_sent reply.cancels.items
+quiet_orders (Dispatched reply) = quiet_then {R = SendsAll reply} {S = StartsAll} (each_sent reply.cancels.items) all_started
+
+-- ---- answers to events that weren't dropped
+
+loses_reply : (key id request : ℕ) (query : Bool) → Quietly (Answering.LosesReply key id request query)
+loses_reply key id request query =
+    quiet_then (quiet_tells (Refused At.Reply (Some id)) (λ came. refl)) (quiet_if query (EnqueuesStatus key TemporaryError request) (Breaks key) (quiet_status key TemporaryError request) (quiet_breaks key))
+
+replies_with : (key id request : ℕ) (query : Bool) (answer : Response) → Quietly (Answering.RepliesWith key id request query answer)
+replies_with key id request query (answered.Ipp answer) l hs l' (inl (bytes, are, it)) = quiet_then (quiet_choice Found) (quiet_reply key bytes) l hs l' it
+replies_with key id request query (answered.Ipp answer) l hs l' (inr it) = loses_reply key id request query l hs l' it
+replies_with key id request query (answered.Lpd answer) l hs l' it = quiet_nothing l hs l' it
+replies_with key id request query answered.Nothing l hs l' it = quiet_nothing l hs l' it
+
+quiet_shows : (key id : ℕ) (text : List ℕ) → Quietly (Answering.Shows key id text)
+quiet_shows key id text = quiet_or (quiet_then (quiet_choice Found) (quiet_enqueues key text)) (quiet_then (quiet_tells (Refused At.Reply (Some id)) (λ came. refl)) (quiet_breaks key))
+
+is_told : (key id : ℕ) (answer : LpdResponse) → Quietly (Answering.IsTold key id answer)
+is_told key id (shown.Taken taken) = quiet_enqueues key (ack_of (shown.Taken taken) ∷ [])
+is_told key id (shown.Queue listing) = quiet_shows key id (text_of (shown.Queue listing))
+is_told key id shown.NoQueue = quiet_shows key id (text_of shown.NoQueue)
+
+is_shown : (key id : ℕ) (answer : Response) → Quietly (Answering.IsShown key id answer)
+is_shown key id (answered.Lpd answer) = is_told key id answer
+is_shown key id (answered.Ipp answer) = quiet_nothing
+is_shown key id answered.Nothing = quiet_nothing
+
+client_told : (key id : ℕ) (who : Client) (query : Bool) (reply : Effects) → Quietly (Answering.Answers key id who query (Some reply))
+client_told key id (client.Ipp request) query reply = replies_with key id request query reply.answer
+client_told key id client.LpdJob query reply = is_shown key id reply.answer
+client_told key id client.LpdCommand query reply = is_shown key id reply.answer
+
+body_told : (request : ℕ) (bytes : List ℕ) (reply : Effects) → Quietly (Between.Answers request (Some reply) bytes)
+body_told request bytes reply l hs l' (inl (are, it)) = quiet_choice Found l hs l' it
+body_told request bytes reply l hs l' (inr it) = quiet_tells (Refused At.Reply None) (λ came. refl) l hs l' it
+
+-- ---- memory for an event is refused
+
+-- that is told first, and nothing more of events
+record Refuses (l : Ledger) (hs : List Happening) (l' : Ledger) : Type 0 where
+  core : l'.core ≡ l.core
+  id : Option ℕ
+  later : List Happening
+  whole : hs ≡ Told (Refused At.Event id) ∷ later
+  silent : Silent later
+
+refuses_then : (id : Option ℕ) (Q : Rel) → Quietly Q → (l : Ledger) (hs : List Happening) (l' : Ledger) → Then (Tells (Refused At.Event id)) Q l hs l' → Refuses l hs l'
+refuses_then id Q quiet l hs l' it =
+    let rest = quiet it.mid it.back l' it.second in
+    record {
+      core = rest.core ∙ ap (λ (x : Ledger). x.core) it.first.1;
+      id = id;
+      later = it.back;
+      whole = it.whole ∙ ap (λ (ks : List Happening). ks ++ it.back) it.first.0;
+      silent = rest.silent;
+    }
+
+refuses_alone : (id : Option ℕ) (l : Ledger) (hs : List Happening) (l' : Ledger) → Tells (Refused At.Event id) l hs l' → Refuses l hs l'
+refuses_alone id l hs l' it = record { core = ap (λ (x : Ledger). x.core) it.1; id = id; later = []; whole = it.0; silent = λ came. refl }
+
+-- a client's event was dropped
+client_refused : (key id : ℕ) (who : Client) (query : Bool) (l : Ledger) (hs : List Happening) (l' : Ledger) → Answering.Answers key id who query None l hs l' → Refuses l hs l'
+client_refused key id (client.Ipp request) query = refuses_then (Some id) (EnqueuesStatus key TemporaryError request) (quiet_status key TemporaryError request)
+client_refused key id client.LpdJob query = refuses_then (Some id) (Enqueues key (1 ∷ [])) (quiet_enqueues key (1 ∷ []))
+client_refused key id client.LpdCommand query = refuses_then (Some id) (Breaks key) (quiet_breaks key)
+
+-- ---- runs
+
+-- one after the other
+run_then : (old mid new : State) (events later : List Timed) (outcomes others : List Outcome) (told more : List Note) → AreToldOf old events outcomes told mid → AreToldOf mid later others more new → AreToldOf old (events ++ later) (outcomes ++ others) (told ++ more) new
+run_then old mid new [] later [] others told more (same, none) q =
+    subst (λ (ns : List Note). AreToldOf old later others (ns ++ more) new) (sym none) (subst (λ (s : State). AreToldOf s later others more new) same q)
+run_then old mid new (timed ∷ events) later (outcome ∷ outcomes) others told more (next, first, behind, is, comes, rest) q =
+    (next, first, behind ++ more, ap (λ (ns : List Note). ns ++ more) is ∙ append_assoc first behind more, comes, run_then next mid new events later outcomes others behind more rest q)
+run_then old mid new [] later (outcome ∷ outcomes) others told more none q = absurd none
+run_then old mid new (timed ∷ events) later [] others told more none q = absurd none
+
+one_told : (timed : Timed) (outcome : Outcome) (told : List Note) (old new : State) → IsToldOf timed old outcome told new → AreToldOf old (timed ∷ []) (outcome ∷ []) told new
+one_told timed outcome told old new it = (new, told, [], sym (append-nil told), it, (refl, refl))
+
+-- what happens is a run of events at one moment, of which this is told where an event may come before or not
+record ToldFrom (came : Bool) (moment : ℕ) (l : Ledger) (hs : List Happening) (l' : Ledger) : Type 0 where
+  events : List Timed
+  outcomes : List Outcome
+  timed : AreAt moment events
+  told : AreToldOf l.core events outcomes (event_notes came hs) l'.core
+
+no_event : (came : Bool) (moment : ℕ) (l : Ledger) (hs : List Happening) (l' : Ledger) → l'.core ≡ l.core → event_notes came hs ≡ [] → ToldFrom came moment l hs l'
+no_event came moment l hs l' same none = record { events = []; outcomes = []; timed = All-nil (λ (timed : Timed). timed.moment ≡ moment); told = (same, none) }
+
+one_event : (came : Bool) (moment : ℕ) (event : Event) (outcome : Outcome) (l : Ledger) (hs : List Happening) (l' : Ledger)
+    → (told : List Note) → event_notes came hs ≡ told → IsToldOf (record { event = event; moment = moment }) l.core outcome told l'.core → ToldFrom came moment l hs l'
+one_event came moment event outcome l hs l' told is it =
+    let timed : Timed = record { event = event; moment = moment } in
+    record {
+      events = timed ∷ [];
+      outcomes = outcome ∷ [];
+      timed = All-cons (λ (t : Timed). t.moment ≡ moment) timed [] refl (All-nil (λ (t : Timed). t.moment ≡ moment));
+      told = subst (λ (ns : List Note). AreToldOf l.core (timed ∷ []) (outcome ∷ []) ns l'.core) (sym is) (one_told timed outcome told l.core l'.core it);
+    }
+
+from_then : (came : Bool) (moment : ℕ) (l : Ledger) (front : List Happening) (mid : Ledger) (back : List Happening) (l' : Ledger) → ToldFrom came moment l front mid → ToldFrom (after came front) moment mid back l' → ToldFrom came moment l (front ++ back) l'
+from_then came moment l front mid back l' p q = record {
+  events = p.events ++ q.events;
+  outcomes = p.outcomes ++ q.outcomes;
+  timed = All-append (λ (timed : Timed). timed.moment ≡ moment) p.events q.events p.timed q.timed;
+  told = subst (λ (ns : List Note). AreToldOf l.core (p.events ++ q.events) (p.outcomes ++ q.outcomes) ns l'.core) (sym (notes_then came front back))
+      (run_then l.core mid.core l'.core p.events q.events p.outcomes q.outcomes (event_notes came front) (event_notes (after came front) back) p.told q.told);
+}
+
+-- ---- an event
+
+abbrev IsRead : List Note → Type 0
+IsRead notes = (came : Bool) → event_notes came (map Told notes) ≡ notes
+
+told_last : (cancels : List Cancel) (last : List Note) → IsRead last → IsRead (map Canceled cancels ++ last)
+told_last [] last is came = is came
+told_last (cancel ∷ cancels) last is came = ap (λ (ns : List Note). Canceled cancel ∷ ns) (told_last cancels last is true)
+
+told_by : (notes : List Note) (reply : Effects) (last : List Note) → notes ≡ cancels_told reply ++ last → IsRead last → IsRead notes
+told_by notes reply last is told = subst IsRead (sym is) (told_last reply.cancels.items last told)
+
+-- all that the core tells is told of its event
+told_back : (moment : ℕ) (event : Event) (old : State) (outcome : Outcome) (notes : List Note) (new : State) → Handles moment event old outcome notes new → IsRead notes
+told_back moment event old Dropped notes new (same, none, heavy) = subst IsRead (sym none) (λ came. refl)
+told_back moment event old (Queried reply) notes new (query, step, is) = told_by notes reply [] (is ∙ sym (append-nil (cancels_told reply))) (λ came. refl)
+told_back moment event old (Undispatched reply) notes new (query, step, ready, is) = told_by notes reply (Refused At.Dispatch None ∷ []) is (λ came. refl)
+told_back moment event old (Idle reply) notes new (query, mid, step, made, is) = told_by notes reply (Planned None [] ∷ []) is (λ came. refl)
+told_back moment event old (Dispatched reply) notes new (query, mid, step, plan, made, is) = told_by notes reply (Planned (Some plan) new.begun ∷ []) is (λ came. refl)
+
+-- it wasn't dropped
+abbrev IsKept : Outcome → Type 0
+IsKept Dropped = ⊥
+IsKept (Queried reply) = Unit {0}
+IsKept (Undispatched reply) = Unit {0}
+IsKept (Idle reply) = Unit {0}
+IsKept (Dispatched reply) = Unit {0}
+
+found_notes : (outcome : Outcome) (came : Bool) (notes : List Note) → IsKept outcome → IsRead notes → event_notes came (found_by outcome ++ map Told notes) ≡ notes
+found_notes Dropped came notes kept is = absurd kept
+found_notes (Queried reply) came notes kept is = is true
+found_notes (Undispatched reply) came notes kept is = is true
+found_notes (Idle reply) came notes kept is = is true
+found_notes (Dispatched reply) came notes kept is = is true
+
+kept_told : (timed : Timed) (old : State) (outcome : Outcome) (notes : List Note) (new : State) → IsKept outcome → Handles timed.moment timed.event old outcome notes new → IsToldOf timed old outcome notes new
+kept_told timed old Dropped notes new kept it = absurd kept
+kept_told timed old (Queried reply) notes new kept it = it
+kept_told timed old (Undispatched reply) notes new kept it = it
+kept_told timed old (Idle reply) notes new kept it = it
+kept_told timed old (Dispatched reply) notes new kept it = it
+
+-- one that wasn't dropped, with what comes behind it
+kept_then : (came : Bool) (moment : ℕ) (event : Event) (outcome : Outcome) (Q : Rel) → IsKept outcome → Quietly Q → (l : Ledger) (hs : List Happening) (l' : Ledger) → Then (Happens moment event outcome) Q l hs l' → ToldFrom came moment l hs l'
+kept_then came moment event outcome Q kept quiet l hs l' it =
+    let made = it.first.first in
+    let sent = quiet_orders outcome it.first.mid it.first.back it.mid it.first.second in
+    let rest = quiet it.mid it.back l' it.second in
+    let core : l'.core ≡ made.state = rest.core ∙ (sent.core ∙ ap (λ (x : Ledger). x.core) made.after) in
+    let first : event_notes came it.first.front ≡ made.notes =
+    ap (event_notes came) made.told ∙ found_notes outcome came made.notes kept (told_back moment event l.core outcome made.notes made.state made.handles) in
+    let happened : event_notes came it.front ≡ made.notes = ap (event_notes came) it.first.whole ∙ notes_before came it.first.front it.first.back made.notes first sent.silent in
+    one_event came moment event outcome l hs l' made.notes
+    (ap (event_notes came) it.whole ∙ notes_before came it.front it.back made.notes happened rest.silent)
+    (kept_told (record { event = event; moment = moment }) l.core outcome made.notes l'.core kept
+    (subst (λ (s : State). Handles moment event l.core outcome made.notes s) (sym core) made.handles))
+
+-- one that was dropped did nothing
+dropped_nothing : (moment : ℕ) (event : Event) (l : Ledger) (hs : List Happening) (l' : Ledger) → Happens moment event Dropped l hs l' → (hs ≡ []) × (l'.core ≡ l.core)
+dropped_nothing moment event l hs l' it =
+    let none : it.front ≡ [] = it.first.told ∙ ap (λ (ns : List Note). map Told ns) it.first.handles.1 in (
+      it.whole ∙ (ap (λ (ks : List Happening). ks ++ it.back) none ∙ it.second.0),
+      ap (λ (x : Ledger). x.core) it.second.1 ∙ (ap (λ (x : Ledger). x.core) it.first.after ∙ it.first.handles.0),
+    )
+
+-- one that was dropped is told behind it
+dropped_then : (moment : ℕ) (event : Event) (Q : Rel) → ((l : Ledger) (hs : List Happening) (l' : Ledger) → Q l hs l' → Refuses l hs l')
+    → (l : Ledger) (hs : List Happening) (l' : Ledger) → Then (Happens moment event Dropped) Q l hs l' → ToldFrom true moment l hs l'
+dropped_then moment event Q refuses l hs l' it =
+    let none = dropped_nothing moment event l it.front it.mid it.first in
+    let rest = refuses it.mid it.back l' it.second in
+    let whole : hs ≡ Told (Refused At.Event rest.id) ∷ rest.later = it.whole ∙ (ap (λ (ks : List Happening). ks ++ it.back) none.0 ∙ rest.whole) in
+    one_event true moment event Dropped l hs l' (Refused At.Event rest.id ∷ [])
+    (ap (event_notes true) whole ∙ ap (λ (ns : List Note). Refused At.Event rest.id ∷ ns) (rest.silent true))
+    (rest.id, refl, (rest.core ∙ none.1, refl, it.first.first.handles.2))
+
+answered_then : (moment : ℕ) (event : Event) (Q : Option Effects → Rel) → ((reply : Effects) → Quietly (Q (Some reply))) → ((l : Ledger) (hs : List Happening) (l' : Ledger) → Q None l hs l' → Refuses l hs l')
+    → (outcome : Outcome) (l : Ledger) (hs : List Happening) (l' : Ledger) → Then (Happens moment event outcome) (Q (reply_of outcome)) l hs l' → ToldFrom true moment l hs l'
+answered_then moment event Q quiet refuses Dropped l hs l' it = dropped_then moment event (Q None) refuses l hs l' it
+answered_then moment event Q quiet refuses (Queried reply) l hs l' it = kept_then true moment event (Queried reply) (Q (Some reply)) tt (quiet reply) l hs l' it
+answered_then moment event Q quiet refuses (Undispatched reply) l hs l' it = kept_then true moment event (Undispatched reply) (Q (Some reply)) tt (quiet reply) l hs l' it
+answered_then moment event Q quiet refuses (Idle reply) l hs l' it = kept_then true moment event (Idle reply) (Q (Some reply)) tt (quiet reply) l hs l' it
+answered_then moment event Q quiet refuses (Dispatched reply) l hs l' it = kept_then true moment event (Dispatched reply) (Q (Some reply)) tt (quiet reply) l hs l' it
+
+-- one that takes no memory isn't dropped
+light_kept : (moment : ℕ) (event : Event) (outcome : Outcome) (l : Ledger) (hs : List Happening) (l' : Ledger) → TakesNoMemory event moment l.core → Happens moment event outcome l hs l' → IsKept outcome
+light_kept moment event Dropped l hs l' light it = it.first.handles.2 light
+light_kept moment event (Queried reply) l hs l' light it = tt
+light_kept moment event (Undispatched reply) l hs l' light it = tt
+light_kept moment event (Idle reply) l hs l' light it = tt
+light_kept moment event (Dispatched reply) l hs l' light it = tt
+
+nothing_behind : (R : Rel) (l : Ledger) (hs : List Happening) (l' : Ledger) → R l hs l' → Then R Nothing l hs l'
+nothing_behind R l hs l' it = record { mid = l'; front = hs; back = []; whole = sym (append-nil hs); first = it; second = (refl, refl) }
+
+light_from : (came : Bool) (moment : ℕ) (event : Event) → ((s : State) → TakesNoMemory event moment s) → (l : Ledger) (hs : List Happening) (l' : Ledger) → Unanswered moment event l hs l' → ToldFrom came moment l hs l'
+light_from came moment event light l hs l' (outcome, it) =
+    kept_then came moment event outcome Nothing (light_kept moment event outcome l hs l' (light l.core) it) quiet_nothing l hs l' (nothing_behind (Happens moment event outcome) l hs l' it)
+
+-- ---- parts of a deed
+
+module _ (moment : ℕ) where
+  -- whatever came before
+  abbrev Within : Rel → Type 0
+  Within R = (l : Ledger) (hs : List Happening) (l' : Ledger) → R l hs l' → (came : Bool) → ToldFrom came moment l hs l'
+
+  quietly_in : {R : Rel} → Quietly R → Within R
+  quietly_in quiet l hs l' it came = let stays = quiet l hs l' it in no_event came moment l hs l' stays.core (stays.silent came)
+
+  then_in : {R S : Rel} → Within R → Within S → Within (Then R S)
+  then_in f g l hs l' it came =
+      subst (λ (ks : List Happening). ToldFrom came moment l ks l') (sym it.whole) (from_then came moment l it.front it.mid it.back l' (f l it.front it.mid it.first came) (g it.mid it.back l' it.second (after came it.front)))
+
+  or_in : {R S : Rel} → Within R → Within S → Within (Or R S)
+  or_in f g l hs l' (inl it) = f l hs l' it
+  or_in f g l hs l' (inr it) = g l hs l' it
+
+  if_in : (test : Bool) (R S : Rel) → Within R → Within S → Within (If test R S)
+  if_in true R S f g l hs l' it = f l hs l' it
+  if_in false R S f g l hs l' it = g l hs l' it
+
+  nothing_in : Within Nothing
+  nothing_in = quietly_in quiet_nothing
+
+  times_in : (n : ℕ) (R : Rel) → Within R → Within (Times n R)
+  times_in zero R f = nothing_in
+  times_in (suc n) R f = then_in (times_in n R f) f
+
+  many_in : (R : Rel) → Within R → Within (Many R)
+  many_in R f l hs l' (n, it) = times_in n R f l hs l' it
+
+  each_in : (n : ℕ) (R : ℕ → Rel) → ((i : ℕ) → Within (R i)) → Within (Each n R)
+  each_in zero R f = nothing_in
+  each_in (suc n) R f = then_in (each_in n R f) (f n)
+
+  polls_in : (poll : Poll) → Within (Polls poll)
+  polls_in poll = quietly_in (quiet_polls poll)
+
+  chooses_in : (choice : Choice) → Within (Chooses choice)
+  chooses_in choice = quietly_in (quiet_choice choice)
+
+  sets_in : (key : ℕ) (e : Entry) → Within (Sets key e)
+  sets_in key e = quietly_in (quiet_sets key e)
+
+  -- ---- events that take no memory
+
+  reported_in : (device : ℕ) (report : Report) → Within (Unanswered moment (Is.Report device report))
+  reported_in device report l hs l' it came = light_from came moment (Is.Report device report) (λ s. tt) l hs l' it
+
+  tick_in : Within (Unanswered moment Is.Tick)
+  tick_in l hs l' it came = light_from came moment Is.Tick (λ s. tt) l hs l' it
+
+  notes_in : (now : ℕ) → Within (Between.Notes now)
+  notes_in now l hs l' it = quietly_in {R = Between.Notes now} (λ a ks b is. quiet_by [] (record a { ticked = Some now }) a ks b (λ came. refl) refl is) l hs l' it
+
+  ticks_in : Within (Ticks moment)
+  ticks_in l hs l' it = then_in (notes_in _) tick_in l hs l' it
+
+  -- ---- closings
+
+  gone_in : (device : Option ℕ) → Within (Closing.IsGone moment device)
+  gone_in None = nothing_in
+  gone_in (Some device) = reported_in device reported.Gone
+
+  leaves_in : (fate : Fate) (key : ℕ) (e : Entry) → Within (Leaves fate key e)
+  leaves_in fate key e l hs l' it came = no_event came moment l hs l' (ap (λ (x : Ledger). x.core) it.2) (ap (event_notes came) it.0)
+
+  closes_in : (fate : Fate) (key : ℕ) (e : Entry) → Within (ClosesAs moment fate key e)
+  closes_in fate key e = then_in (leaves_in fate key e) (gone_in (device_of e.talk))
+
+  closes_first_in : Within (ClosesFirst moment)
+  closes_first_in l hs l' it = closes_in Broken it.key it.entry l hs l' it.closes
+
+  settles_in : Within (Settles moment)
+  settles_in l hs l' it = many_in (ClosesFirst moment) closes_first_in l hs l' it.0
+
+  fails_in : (key : ℕ) → Within (Fails moment key)
+  fails_in key = then_in (quietly_in (quiet_breaks key)) settles_in
+
+  -- ---- devices that say their names
+
+  tells_in : (device : ℕ) (said : ReportRecord) → Within (Greeting.Tells moment device said)
+  tells_in device said l hs l' (report, is, it) = reported_in device report l hs l' it
+
+  gives_way_at_in : (key : ℕ) (o : Option Entry) → Within (Greeting.GivesWayAt key o)
+  gives_way_at_in key None = nothing_in
+  gives_way_at_in key (Some e) = sets_in key (given_up e)
+
+  gives_way_in : (key : ℕ) → Within (Greeting.GivesWay key)
+  gives_way_in key l hs l' it = gives_way_at_in key (l.entries key) l hs l' it
+
+  turned_away_in : (id : ℕ) (reason : DeviceRefusal) → Within (Tells (DeviceRefused id reason))
+  turned_away_in id reason = quietly_in (quiet_tells (DeviceRefused id reason) (λ came. refl))
+
+  greets_in : (key id device : ℕ) (name : List ℕ) → Within (Greeting.Greets moment key id device name)
+  greets_in key id device name l hs l' (inl (absent, it)) = reported_in device (reported.Hello name) l hs l' it
+  greets_in key id device name l hs l' (inr (inl (other, ended, it))) = then_in (chooses_in (On other)) (then_in (gives_way_in other) (then_in (gone_in (Some device)) (reported_in device (reported.Hello name)))) l hs l' it
+  greets_in key id device name l hs l' (inr (inr (other, is, it))) = then_in (gives_way_in key) (turned_away_in id (why.Connected device)) l hs l' it
+
+  -- ---- what a connection asks
+
+  -- no event came of what could not be read, though its refusal is told as an event's is
+  unread_from : (l : Ledger) (hs : List Happening) (l' : Ledger) → Refuses l hs l' → ToldFrom false moment l hs l'
+  unread_from l hs l' it = no_event false moment l hs l' it.core (ap (event_notes false) it.whole ∙ it.silent true)
+
+  lost_from : (part : Part) (key id : ℕ) (taken : Option ℕ) (l : Ledger) (hs : List Happening) (l' : Ledger) → Answering.Declines (Acting.place_of_part part) key id l hs l' → ToldFrom (brings_event (Chosen (Asked taken (lost_of (ask.Lost part))))) moment l hs l'
+  lost_from part.File key id taken l hs l' it = quietly_in (quiet_then (quiet_tells (Refused At.File (Some id)) (λ came. refl)) (quiet_enqueues key (1 ∷ []))) l hs l' it true
+  lost_from part.Job key id taken l hs l' it = unread_from l hs l' (refuses_then (Some id) (Enqueues key (1 ∷ [])) (quiet_enqueues key (1 ∷ [])) l hs l' it)
+
+  broke_in : (growth : Growth) (id : ℕ) → Within (Tells (Refused (Acting.place_of growth) (Some id)))
+  broke_in growth.Input id = quietly_in (quiet_tells (Refused At.Feed (Some id)) (λ came. refl))
+  broke_in growth.Output id = quietly_in (quiet_tells (Refused At.Enqueue (Some id)) (λ came. refl))
+
+  client_from : (key id : ℕ) (who : Client) (event : Event) (l : Ledger) (hs : List Happening) (l' : Ledger) → Answering.IsAnswered moment key id who event l hs l' → ToldFrom true moment l hs l'
+  client_from key id who event l hs l' (outcome, it) = answered_then moment event (Answering.Answers key id who (is_query event)) (client_told key id who (is_query event)) (client_refused key id who (is_query event)) outcome l hs l' it
+
+  -- its mark says whether an event may come of it
+  acts_from : (key id : ℕ) (what : Ask) (taken : Option ℕ) (l : Ledger) (hs : List Happening) (l' : Ledger) → Acting.ActsOn moment key id what l hs l' → ToldFrom (brings_event (Chosen (Asked taken (lost_of what)))) moment l hs l'
+  acts_from key id ask.Nothing taken l hs l' it = nothing_in l hs l' it true
+  acts_from key id (ask.Broke growth) taken l hs l' it = broke_in growth id l hs l' it true
+  acts_from key id (ask.Event who event) taken l hs l' it = client_from key id who event l hs l' it
+  acts_from key id (ask.Unread request) taken l hs l' it = unread_from l hs l' (refuses_then (Some id) (EnqueuesStatus key TemporaryError request) (quiet_status key TemporaryError request) l hs l' it)
+  acts_from key id (ask.Lost part) taken l hs l' it = lost_from part key id taken l hs l' it
+  acts_from key id (ask.Hello device name) taken l hs l' it = greets_in key id device name l hs l' it true
+  acts_from key id (ask.Report device report) taken l hs l' it = reported_in device report l hs l' it true
+  acts_from key id (ask.Stranger name) taken l hs l' it = turned_away_in id (why.UnknownName name) l hs l' it true
+  acts_from key id (ask.Fault device) taken l hs l' it = turned_away_in id (why.Fault device) l hs l' it true
+
+  acts_next_in : (key : ℕ) → Within (Acting.ActsNext moment key)
+  acts_next_in key l hs l' (id, what, it) came =
+      let mark : Happening = Chosen (Asked (part_of it.first.asks) (lost_of what)) in
+      let whole : hs ≡ (mark ∷ []) ++ it.back = it.whole ∙ ap (λ (ks : List Happening). ks ++ it.back) it.first.chosen in
+      let asked : ToldFrom came moment l (mark ∷ []) it.mid = no_event came moment l (mark ∷ []) it.mid (ap (λ (x : Ledger). x.core) it.first.after) refl in
+      subst (λ (ks : List Happening). ToldFrom came moment l ks l') (sym whole)
+      (from_then came moment l (mark ∷ []) it.mid it.back l' asked (acts_from key id what (part_of it.first.asks) it.mid it.back l' it.second))
+
+  -- ---- reads
+
+  serves_in : (key : ℕ) → Within (Serves moment key)
+  serves_in key l hs l' it = then_in (many_in (Acts moment key) (then_in (acts_next_in key) settles_in)) (chooses_in Rested) l hs l' it.0
+
+  fed_whole_in : (key : ℕ) (e : Entry) (bytes : List ℕ) → Within (FedWhole moment key e bytes)
+  fed_whole_in key e bytes = or_in (then_in (sets_in key (reading bytes e)) (serves_in key)) (then_in (quietly_in (quiet_drops At.Feed key e (λ came. refl))) settles_in)
+
+  fed_in : (key : ℕ) (e : Entry) (bytes : List ℕ) → Within (FedOpen moment key e bytes)
+  fed_in key e bytes = if_in e.draining (Sets key e) (FedWhole moment key e bytes) (sets_in key e) (fed_whole_in key e bytes)
+
+  feeds_at_in : (key : ℕ) (bytes : List ℕ) (o : Option Entry) → Within (FeedsAt moment key bytes o)
+  feeds_at_in key bytes None = nothing_in
+  feeds_at_in key bytes (Some e) = fed_in key e bytes
+
+  feeds_one_in : (key : ℕ) (bytes : List ℕ) → Within (FeedsOne moment key bytes)
+  feeds_one_in key bytes l hs l' it = feeds_at_in key bytes (l.entries key) l hs l' it
+
+  reads_as_in : (key : ℕ) (e : Entry) (answer : Progress (List ℕ)) → Within (ReadsAs moment key e answer)
+  reads_as_in key e (wire.Done bytes) = then_in (polls_in (Reads e.id (wire.Done bytes))) (feeds_one_in key bytes)
+  reads_as_in key e wire.Waiting = polls_in (Reads e.id wire.Waiting)
+  reads_as_in key e wire.End = then_in (polls_in (Reads e.id wire.End)) (sets_in key (record e { ended = true }))
+  reads_as_in key e wire.Fault = then_in (polls_in (Reads e.id wire.Fault)) (fails_in key)
+
+  reads_at_in : (key : ℕ) (o : Option Entry) → Within (ReadsAt moment key o)
+  reads_at_in key None = nothing_in
+  reads_at_in key (Some e) = if_in (is_read e) (ReadsOpen moment key e) Nothing (λ l hs l' it. reads_as_in key e it.0 l hs l' it.2) nothing_in
+
+  reads_one_in : (key : ℕ) → Within (ReadsOne moment key)
+  reads_one_in key l hs l' it = reads_at_in key (l.entries key) l hs l' it
+
+  -- ---- writes
+
+  writes_as_in : (key : ℕ) (e : Entry) (offered : List ℕ) (answer : Progress ℕ) → Within (WritesAs moment key e offered answer)
+  writes_as_in key e offered (wire.Done n) = then_in (polls_in (Writes e.id offered (wire.Done n))) (sets_in key (record e { taken = e.taken ++ take n offered }))
+  writes_as_in key e offered wire.Waiting = polls_in (Writes e.id offered wire.Waiting)
+  writes_as_in key e offered wire.End = then_in (polls_in (Writes e.id offered wire.End)) (fails_in key)
+  writes_as_in key e offered wire.Fault = then_in (polls_in (Writes e.id offered wire.Fault)) (fails_in key)
+
+  writes_at_in : (key : ℕ) (o : Option Entry) → Within (WritesAt moment key o)
+  writes_at_in key None = nothing_in
+  writes_at_in key (Some e) = if_in (nat_lt 0 (length (waiting e))) (WritesOpen moment key e) Nothing (λ l hs l' (offered, is, answer, it). writes_as_in key e offered answer l hs l' it) nothing_in
+
+  writes_one_in : (key : ℕ) → Within (WritesOne moment key)
+  writes_one_in key l hs l' it = writes_at_in key (l.entries key) l hs l' it
+
+  -- ---- the other parts of a turn
+
+  ends_at_in : (key : ℕ) (o : Option Entry) → Within (EndsAt moment key o)
+  ends_at_in key None = nothing_in
+  ends_at_in key (Some e) = if_in (is_done e) (Then (ClosesAs moment Drained key e) (Settles moment)) Nothing (then_in (closes_in Drained key e) settles_in) nothing_in
+
+  ends_one_in : (key : ℕ) → Within (EndsOne moment key)
+  ends_one_in key l hs l' it = ends_at_in key (l.entries key) l hs l' it
+
+  opens_in : (door : Door) (id : ℕ) → Within (Opens door id)
+  opens_in door id l hs l' (inl (key, free, none, same)) came = no_event came moment l hs l' (ap (λ (x : Ledger). x.core) same) (ap (event_notes came) none)
+  opens_in door id l hs l' (inr it) came = no_event came moment l hs l' (ap (λ (x : Ledger). x.core) it.1) (ap (event_notes came) it.0)
+
+  accepts_as_in : (door : Door) (answer : Progress ℕ) → Within (AcceptsAs door answer)
+  accepts_as_in door (wire.Done id) = then_in (polls_in (Accepts door (wire.Done id))) (opens_in door id)
+  accepts_as_in door wire.Waiting = polls_in (Accepts door wire.Waiting)
+  accepts_as_in door wire.End = polls_in (Accepts door wire.End)
+  accepts_as_in door wire.Fault = polls_in (Accepts door wire.Fault)
+
+  accepts_in : (door : Door) → Within (AcceptsAt door)
+  accepts_in door l hs l' it = if_in (nat_lt l.count CONNECTIONS) (AcceptsOne door) Nothing (λ a ks b (answer, is). accepts_as_in door answer a ks b is) nothing_in l hs l' it
+
+  tick_due_in : Within (TicksIfDue moment)
+  tick_due_in l hs l' it = if_in (is_tick_due moment l) (Then (Ticks moment) (Settles moment)) Nothing (then_in ticks_in settles_in) nothing_in l hs l' it
+
+  round_in : Within (Round moment)
+  round_in l hs l' (n, it) =
+      then_in {R = Covers n} (λ a ks b is. chooses_in (Looked n) a ks b is.1)
+      (then_in (each_in n (ReadsOne moment) reads_one_in) (then_in (each_in n (WritesOne moment) writes_one_in) (each_in n (EndsOne moment) ends_one_in)))
+      l hs l' it
+
+  turn_in : Within (Turn moment)
+  turn_in = then_in settles_in (then_in tick_due_in (then_in (accepts_in Ipp) (then_in (accepts_in Lpd) (then_in (accepts_in Devices) round_in))))
+
+  -- ---- calls between turns
+
+  body_from : (asked : ParsedRequest) (served : Between.Outcome) (l : Ledger) (hs : List Happening) (l' : Ledger) → Between.BodyAsks moment asked served l hs l' → ToldFrom true moment l hs l'
+  body_from asks.TooShort served l hs l' (is, it) = nothing_in l hs l' it true
+  body_from (asks.Refused status request) served l hs l' (is, it) = or_in (chooses_in Found) (quietly_in (quiet_tells (Refused At.Reply None) (λ came. refl))) l hs l' it true
+  body_from (asks.Event request event) served l hs l' (bytes, is, (outcome, it)) =
+      answered_then moment event (λ reply. Between.Answers request reply bytes) (body_told request bytes) (λ a ks b told. refuses_alone None a ks b told) outcome l hs l' it
+
+  body_comes : (body : List ℕ) (served : Between.Outcome) (l : Ledger) (hs : List Happening) (l' : Ledger) → Between.BodyComes moment body served l hs l' → ToldFrom false moment l hs l'
+  body_comes body served l hs l' (inl (asked, is, it)) =
+      let mark : Happening = Chosen Found in
+      let whole : hs ≡ (mark ∷ []) ++ it.back = it.whole ∙ ap (λ (ks : List Happening). ks ++ it.back) it.first.0 in
+      let found : ToldFrom false moment l (mark ∷ []) it.mid = no_event false moment l (mark ∷ []) it.mid (ap (λ (x : Ledger). x.core) it.first.1) refl in
+      subst (λ (ks : List Happening). ToldFrom false moment l ks l') (sym whole)
+      (from_then false moment l (mark ∷ []) it.mid it.back l' found (body_from asked served it.mid it.back l' it.second))
+  body_comes body served l hs l' (inr it) = unread_from l hs l' (refuses_alone None l hs l' it)
+
+-- a deed is a run of events, of which it tells
+deed_told : (deed : Action) (l l' : Ledger) → DoesDeed deed l l' → ToldFrom (begins_event deed) (moment_of deed) l (happenings_of deed) l'
+deed_told (Turned moment hs) l l' it = turn_in moment l hs l' it true
+deed_told (Served_body moment body answer hs) l l' (served, is, it) = body_comes moment body served l hs l' it
+deed_told (Reported moment device said hs) l l' it = tells_in moment device said l hs l' it true
+deed_told (Ticked moment hs) l l' it = ticks_in moment l hs l' it true
+
+-- ---- a trace
+
+record TraceTold (trace : Trace) (old new : State) : Type 0 where
+  events : List Timed
+  outcomes : List Outcome
+  timed : AreEventsOf trace events
+  told : AreToldOf old events outcomes (events_told trace) new
+
+trace_told : (trace : Trace) (old new : Ledger) → Runs trace old new → TraceTold trace old.core new.core
+trace_told [] old new same = record { events = []; outcomes = []; timed = refl; told = (ap (λ (x : Ledger). x.core) same, refl) }
+trace_told (deed ∷ deeds) old new (mid, does, runs) =
+    let first = deed_told deed old mid does in
+    let later = trace_told deeds mid new runs in
+    record {
+      events = first.events ++ later.events;
+      outcomes = first.outcomes ++ later.outcomes;
+      timed = (first.events, later.events, refl, first.timed, later.timed);
+      told = run_then old.core mid.core new.core first.events later.events first.outcomes later.outcomes (event_notes (begins_event deed) (happenings_of deed)) (events_told deeds) first.told later.told;
+    }
+
+-- ---- that is the one run of the core
+
+-- what the core tells of a happening is told of events
+note_core : (came : Bool) (h : Happening) → core_notes (map Told (event_note came h)) ≡ core_note h
+note_core came (Told (Planned plan started)) = refl
+note_core came (Told (Canceled cancel)) = refl
+note_core came (Told (DeviceRefused id reason)) = refl
+note_core true (Told (Refused At.Event id)) = refl
+note_core false (Told (Refused At.Event id)) = refl
+note_core came (Told (Refused At.Accept id)) = refl
+note_core came (Told (Refused At.Feed id)) = refl
+note_core came (Told (Refused At.File id)) = refl
+note_core came (Told (Refused At.Dispatch id)) = refl
+note_core came (Told (Refused At.Reply id)) = refl
+note_core came (Told (Refused At.Enqueue id)) = refl
+note_core came (Polled poll) = refl
+note_core came (Chosen choice) = refl
+
+told_append : (ms ns : List Note) → core_notes (map Told (ms ++ ns)) ≡ core_notes (map Told ms) ++ core_notes (map Told ns)
+told_append ms ns = ap core_notes (map-append Told ms ns) ∙ notes_append (map Told ms) (map Told ns)
+
+both_parts : (a b c d : List Note) → a ≡ c → b ≡ d → a ++ b ≡ c ++ d
+both_parts a b c d p q = ap (λ (ns : List Note). ns ++ b) p ∙ ap (λ (ns : List Note). c ++ ns) q
+
+notes_core : (came : Bool) (hs : List Happening) → core_notes (map Told (event_notes came hs)) ≡ core_notes hs
+notes_core came [] = refl
+notes_core came (h ∷ hs) =
+    told_append (event_note came h) (event_notes (brings_event h) hs)
+    ∙ both_parts (core_notes (map Told (event_note came h))) (core_notes (map Told (event_notes (brings_event h) hs))) (core_note h) (core_notes hs) (note_core came h) (notes_core (brings_event h) hs)
+
+trace_core : (trace : Trace) → core_notes (map Told (events_told trace)) ≡ core_notes (happenings_in trace)
+trace_core [] = refl
+trace_core (deed ∷ deeds) =
+    told_append (event_notes (begins_event deed) (happenings_of deed)) (events_told deeds)
+    ∙ (both_parts (core_notes (map Told (event_notes (begins_event deed) (happenings_of deed)))) (core_notes (map Told (events_told deeds))) (core_notes (happenings_of deed)) (core_notes (happenings_in deeds)) (notes_core (begins_event deed) (happenings_of deed)) (trace_core deeds)
+    ∙ sym (notes_append (happenings_of deed) (happenings_in deeds)))
+
+-- of one event
+core_last : (cancels : List Cancel) (last : List Note) → core_notes (map Told last) ≡ last → core_notes (map Told (map Canceled cancels ++ last)) ≡ map Canceled cancels ++ last
+core_last [] last is = is
+core_last (cancel ∷ cancels) last is = ap (λ (ns : List Note). Canceled cancel ∷ ns) (core_last cancels last is)
+
+core_by : (notes : List Note) (reply : Effects) (last : List Note) → notes ≡ cancels_told reply ++ last → core_notes (map Told last) ≡ last → core_notes (map Told notes) ≡ notes
+core_by notes reply last is told = subst (λ (ns : List Note). core_notes (map Told ns) ≡ ns) (sym is) (core_last reply.cancels.items last told)
+
+handled_core : (timed : Timed) (old : State) (outcome : Outcome) (told : List Note) (new : State) → IsToldOf timed old outcome told new → Handles timed.moment timed.event old outcome (core_notes (map Told told)) new
+handled_core timed old Dropped told new (id, is, it) = subst (λ (ns : List Note). Handles timed.moment timed.event old Dropped ns new) (sym (ap (λ (ns : List Note). core_notes (map Told ns)) is)) it
+handled_core timed old (Queried reply) told new it =
+    subst (λ (ns : List Note). Handles timed.moment timed.event old (Queried reply) ns new) (sym (core_by told reply [] (it.2 ∙ sym (append-nil (cancels_told reply))) refl)) it
+handled_core timed old (Undispatched reply) told new it =
+    subst (λ (ns : List Note). Handles timed.moment timed.event old (Undispatched reply) ns new) (sym (core_by told reply (Refused At.Dispatch None ∷ []) it.3 refl)) it
+handled_core timed old (Idle reply) told new it =
+    subst (λ (ns : List Note). Handles timed.moment timed.event old (Idle reply) ns new) (sym (core_by told reply (Planned None [] ∷ []) it.4 refl)) it
+handled_core timed old (Dispatched reply) told new it =
+    subst (λ (ns : List Note). Handles timed.moment timed.event old (Dispatched reply) ns new) (sym (core_by told reply (Planned (Some it.3) new.begun ∷ []) it.5 refl)) it
+
+collected : (before notes : List Note) → Leads Collects before notes (before ++ notes)
+collected before [] = append-nil before
+collected before (note ∷ notes) = (before ++ note ∷ [], refl, subst (λ (ns : List Note). Leads Collects (before ++ note ∷ []) notes ns) (append_assoc before (note ∷ []) notes) (collected (before ++ note ∷ []) notes))
+
+runs_core : (before : List Note) (old : State) (events : List Timed) (outcomes : List Outcome) (told : List Note) (new : State) → AreToldOf old events outcomes told new → Run Collects old before events outcomes new (before ++ core_notes (map Told told))
+runs_core before old [] [] told new (same, none) = (same, ap (λ (ns : List Note). before ++ core_notes (map Told ns)) none ∙ append-nil before)
+runs_core before old (timed ∷ events) (outcome ∷ outcomes) told new (mid, first, later, is, comes, rest) =
+    let here : List Note = core_notes (map Told first) in
+    let there : List Note = core_notes (map Told later) in
+    let whole : (before ++ here) ++ there ≡ before ++ core_notes (map Told told) =
+    append_assoc before here there ∙ ap (λ (ns : List Note). before ++ ns) (sym (ap (λ (ns : List Note). core_notes (map Told ns)) is ∙ told_append first later)) in (
+      mid,
+      before ++ here,
+      (here, handled_core timed old outcome first mid comes, collected before here),
+      subst (λ (ns : List Note). Run Collects mid (before ++ here) events outcomes new ns) whole (runs_core (before ++ here) mid events outcomes later new rest),
+    )
+runs_core before old [] (outcome ∷ outcomes) told new none = absurd none
+runs_core before old (timed ∷ events) [] told new none = absurd none
+
+-- ---- where no growth was refused
+
+one_refusal : (came : Bool) (h : Happening) (hs : List Happening) (rest : List Note) → has_refusal (h ∷ hs) ≡ false → has_refusal (map Told rest) ≡ false → has_refusal (map Told (event_note came h ++ rest)) ≡ false
+one_refusal came (Told (Planned plan started)) hs rest none is = is
+one_refusal came (Told (Canceled cancel)) hs rest none is = is
+one_refusal came (Told (DeviceRefused id reason)) hs rest none is = is
+one_refusal came (Told (Refused place id)) hs rest none is = let both : true ≡ false = none in absurd (cc)
+one_refusal came (Polled poll) hs rest none is = is
+one_refusal came (Chosen choice) hs rest none is = is
+
+notes_free : (came : Bool) (hs : List Happening) → has_refusal hs ≡ false → has_refusal (map Told (event_notes came hs)) ≡ false
+notes_free came [] none = refl
+notes_free came (h ∷ hs) none = one_refusal came h hs (event_notes (brings_event h) hs) none (notes_free (brings_event h) hs (none_after (h ∷ hs) (h ∷ []) hs refl none))
+
+free_append : (ms ns : List Note) → has_refusal (map Told ms) ≡ false → has_refusal (map Told ns) ≡ false → has_refusal (map Told (ms ++ ns)) ≡ false
+free_append ms ns p q =
+    ap has_refusal (map-append Told ms ns) ∙ (refusals_append (map Told ms) (map Told ns) ∙ (ap (λ (t : Bool). t || has_refusal (map Told ns)) p ∙ q))
+
+trace_free : (trace : Trace) → has_refusal (happenings_in trace) ≡ false → has_refusal (map Told (events_told trace)) ≡ false
+trace_free [] none = refl
+trace_free (deed ∷ deeds) none =
+    free_append (event_notes (begins_event deed) (happenings_of deed)) (events_told deeds)
+    (notes_free (begins_event deed) (happenings_of deed) (none_before (happenings_of deed ++ happenings_in deeds) (happenings_of deed) (happenings_in deeds) refl none))
+    (trace_free deeds (none_after (happenings_of deed ++ happenings_in deeds) (happenings_of deed) (happenings_in deeds) refl none))
+
+event_whole : (timed : Timed) (old : State) (outcome : Outcome) (told : List Note) (new : State) → IsToldOf timed old outcome told new → has_refusal (map Told told) ≡ false → IsWhole outcome
+event_whole timed old Dropped told new (id, is, it) none = never (has_refusal (map Told told)) (ap (λ (ns : List Note). has_refusal (map Told ns)) is) none
+event_whole timed old (Queried reply) told new it none = tt
+event_whole timed old (Undispatched reply) told new it none = never (has_refusal (map Told told)) (refused_of timed.moment timed.event old (Undispatched reply) told new it) none
+event_whole timed old (Idle reply) told new it none = tt
+event_whole timed old (Dispatched reply) told new it none = tt
+
+runs_whole : (old : State) (events : List Timed) (outcomes : List Outcome) (told : List Note) (new : State) → AreToldOf old events outcomes told new → has_refusal (map Told told) ≡ false → All IsWhole outcomes
+runs_whole old [] [] told new it none = All-nil IsWhole
+runs_whole old (timed ∷ events) (outcome ∷ outcomes) told new (mid, first, later, is, comes, rest) none =
+    let whole : map Told told ≡ map Told first ++ map Told later = ap (λ (ns : List Note). map Told ns) is ∙ map-append Told first later in
+    All-cons IsWhole outcome outcomes (event_whole timed old outcome first mid comes (none_before (map Told told) (map Told first) (map Told later) whole none))
+    (runs_whole mid events outcomes later new rest (none_after (map Told told) (map Told first) (map Told later) whole none))
+runs_whole old [] (outcome ∷ outcomes) told new it none = absurd it
+runs_whole old (timed ∷ events) [] told new it none = absurd it
+
+-- ---- the law
+
+pub tells_dropped : (trace : Trace) (old new : Ledger) → Runs trace old new → TellsDropped trace old.core new.core
+tells_dropped trace old new runs =
+    let it = trace_told trace old new runs in
+    record {
+      one = record {
+        events = it.events;
+        outcomes = it.outcomes;
+        timed = it.timed;
+        run = subst (λ (ns : List Note). Run Collects old.core [] it.events it.outcomes new.core ns) (trace_core trace) (runs_core [] old.core it.events it.outcomes (events_told trace) new.core it.told);
+        whole = λ none. runs_whole old.core it.events it.outcomes (events_told trace) new.core it.told (trace_free trace none);
+      };
+      told = it.told;
+    }
