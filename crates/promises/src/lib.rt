@@ -12,7 +12,8 @@ mod plans;
 mod run;
 
 pub use bytes::{
-    devices_are_sent_their_orders, due_after_calls, due_was_carried, one_ledger, others_are_spared,
+    clients_are_answered, devices_are_sent_their_orders, due_after_calls, due_was_carried,
+    one_ledger, others_are_spared,
 };
 pub use plans::plan_is_its_text;
 pub use run::dropped_events_are_told;
