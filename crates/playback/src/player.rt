@@ -1,5 +1,4 @@
 //! A server that takes recorded turns.
-ghost use Rattle.settings_file.specs.Settings.{MeetsLimits};
 
 use crate::difference::put_difference;
 use crate::listener::Told;
@@ -25,16 +24,21 @@ pub(crate) enum Step {
     Differs(Vec<u8>),
 }
 
-/// A server that starts, and is told recorded lines.
+/// What hears of a server: what is printed of what it tells, and what the lines of a log are made of.
 #[derive(Drop)]
-pub(crate) struct Player {
+pub(crate) struct Audience {
+    told: Told,
+    chronicle: Chronicle,
+}
+
+/// A server that has started, and is told recorded lines.
+#[derive(Drop)]
+pub(crate) struct Player<'a> {
     alloc: Global,
-    engine: Engine<AugmentingPaths>,
+    engine: &'a mut Engine<AugmentingPaths>,
     script: Script,
     shows: Shows,
-    told: Told,
-    /// What the lines of a log are made of.
-    chronicle: Chronicle,
+    audience: Audience,
     /// The comments of a turn, each a line: of who came, or what else they say, and of who went.
     comings: Vec<u8>,
     goings: Vec<u8>,
@@ -86,25 +90,37 @@ fn put_dated(
     Ok(())
 }
 
-impl Player {
-    /// A server that starts with these settings.
-    pub(crate) fn new(alloc: Global, settings: Settings, shows: Shows) -> Result<Player, AllocError>
-        requires { MeetsLimits settings }
-    {
-        let names = settings.device_names(alloc)?;
+impl Audience {
+    /// Nothing was heard yet of a server with these settings.
+    pub(crate) fn new(
+        alloc: Global,
+        settings: &Settings,
+        shows: Shows,
+    ) -> Result<Audience, AllocError> {
+        let told = Told::new(alloc, shows, settings.device_names(alloc)?);
         let chronicle = Chronicle::new(alloc, settings.device_names(alloc)?);
-        let engine = Engine::new(alloc, settings, AugmentingPaths::new(alloc))?;
-        Ok(Player {
+        Ok(Audience { told, chronicle })
+    }
+}
+
+impl<'a> Player<'a> {
+    /// A server that was told nothing yet, of which this is shown.
+    pub(crate) fn new(
+        alloc: Global,
+        engine: &'a mut Engine<AugmentingPaths>,
+        shows: Shows,
+        audience: Audience,
+    ) -> Player<'a> {
+        Player {
             alloc,
             engine,
             script: Script::new(alloc),
             shows,
-            told: Told::new(alloc, shows, names),
-            chronicle,
+            audience,
             comings: Vec::new(alloc),
             goings: Vec::new(alloc),
             printed: None,
-        })
+        }
     }
 
     /// Plays the line of this number, and appends what it gives.
@@ -167,7 +183,8 @@ impl Player {
         if let Some(refused) = self.script.refusal() {
             return Ok(Step::Refused(refused));
         }
-        self.engine.turn(&mut self.script, &mut self.told, moment);
+        self.engine
+            .turn(&mut self.script, &mut self.audience.told, moment);
         self.put_turn(moment, output)?;
         match self.script.end_turn() {
             None => Ok(Step::Played),
@@ -181,7 +198,7 @@ impl Player {
 
     /// Appends what is shown of a turn.
     fn put_turn(&mut self, moment: Moment, output: &mut Vec<u8>) -> Result<(), AllocError> {
-        if self.told.is_lost() {
+        if self.audience.told.is_lost() {
             return Err(AllocError);
         }
         let moved = self.script.take_moved();
@@ -200,7 +217,7 @@ impl Player {
         moved: &[Moved],
         output: &mut Vec<u8>,
     ) -> Result<(), AllocError> {
-        let text = self.told.take();
+        let text = self.audience.told.take();
         if text.is_empty() && moved.is_empty() {
             return Ok(());
         }
@@ -216,8 +233,11 @@ impl Player {
 
     /// Appends the lines of a log: who came, what was heard, which jobs ended, and who went.
     fn put_log(&mut self, moment: Moment, output: &mut Vec<u8>) -> Result<(), AllocError> {
-        let heard = self.told.take_heard()?;
-        let lines = self.chronicle.lines(moment, &[], &heard, &self.engine)?;
+        let heard = self.audience.told.take_heard()?;
+        let lines = self
+            .audience
+            .chronicle
+            .lines(moment, &[], &heard, self.engine)?;
         put_dated(self.alloc, output, moment, &self.comings)?;
         output.extend_from_slice(&lines)?;
         put_dated(self.alloc, output, moment, &self.goings)?;

@@ -1,11 +1,15 @@
 //! A recorded day, read and played.
+ghost use Rattle.std.specs.Prelude.{IfOk};
+ghost use Rattle.settings_file.specs.Settings.{MeetsLimits};
 
 use crate::input::Lines;
-use crate::player::{Player, Step};
+use crate::player::{Audience, Player, Step};
+use assignment::AugmentingPaths;
 use base_types::Limits;
 use recordings::GOES_ON;
+use server::Engine;
 use settings_faults::explain;
-use settings_file::{SettingsFault, read_settings_bytes};
+use settings_file::{Settings, SettingsFault, read_settings_bytes};
 use std::alloc::{AllocError, Global};
 use std::io;
 use std::io::{ErrorKind, Read, Write};
@@ -105,21 +109,6 @@ fn is_start<R: Read>(alloc: Global, lines: &mut Lines<'_, R>) -> io::Result<bool
     Ok(lines.read(&mut line)? && line.starts_with(b"recorded "))
 }
 
-/// The fault of the settings of a file.
-fn settings_refused(alloc: Global, file: &str, settings: &[u8], fault: &SettingsFault) -> Fault {
-    if matches!(fault, SettingsFault::OutOfMemory) {
-        return Fault::OutOfMemory;
-    }
-    match explain(alloc, file, settings) {
-        Ok(Some(sentence)) => Fault::Said(ExitStatus::Refused, sentence),
-        Ok(None) => said(
-            ExitStatus::Refused,
-            format!(in alloc; "{file}: the settings are refused"),
-        ),
-        Err(_) => Fault::OutOfMemory,
-    }
-}
-
 /// The text of the settings in front of the turns.
 fn read_start<R: Read>(
     alloc: Global,
@@ -141,83 +130,173 @@ fn read_start<R: Read>(
     Err(said(ExitStatus::Refused, sentence))
 }
 
-/// A server that starts with the settings of this text.
-fn start(alloc: Global, file: &str, text: &[u8], shows: Shows) -> Result<Player, Fault> {
+/// The fault of the settings of a file.
+fn settings_refused(alloc: Global, file: &str, settings: &[u8], fault: &SettingsFault) -> Fault {
+    if matches!(fault, SettingsFault::OutOfMemory) {
+        return Fault::OutOfMemory;
+    }
+    match explain(alloc, file, settings) {
+        Ok(Some(sentence)) => Fault::Said(ExitStatus::Refused, sentence),
+        Ok(None) => said(
+            ExitStatus::Refused,
+            format!(in alloc; "{file}: the settings are refused"),
+        ),
+        Err(_) => Fault::OutOfMemory,
+    }
+}
+
+/// The settings of a file.
+fn settings_of(alloc: Global, file: &str, text: &[u8]) -> Result<Settings, Fault>
+    ensures { IfOk result MeetsLimits }
+{
     match read_settings_bytes(alloc, text) {
-        Ok(settings) => Ok(Player::new(alloc, settings, shows)?),
+        Ok(settings) => Ok(settings),
         Err(fault) => Err(settings_refused(alloc, file, text, &fault)),
     }
 }
 
-/// The fault of a line that isn't just played, and what is printed of it.
-fn heed(
+/// A recorded day that is played, and what is printed of it.
+#[derive(Drop)]
+struct Day<'file, 'output, W: Write> {
     alloc: Global,
-    file: &str,
-    number: u64,
-    step: Step,
+    /// The name of its file.
+    file: &'file str,
+    writer: &'output mut W,
+    /// What is printed and not written yet.
+    output: Vec<u8>,
     shows: Shows,
-    output: &mut Vec<u8>,
-) -> Result<(), Fault> {
-    match step {
-        Step::Played => Ok(()),
-        Step::Bad => Err(said(
-            ExitStatus::Refused,
-            format!(in alloc; "{file}: line {number}: this is no line of a recorded day"),
-        )),
-        Step::Refused(line) => Err(said(
-            ExitStatus::No,
-            format!(in alloc;
-                "{file}: line {line}: memory was refused to the server here, and what follows isn't played"
-            ),
-        )),
-        Step::Differs(lines) if shows == Shows::Verdict => {
-            output.extend_from_slice(&lines)?;
-            Err(Fault::Differs)
+}
+
+impl<'file, 'output, W: Write> Day<'file, 'output, W> {
+    /// A day of which nothing was read yet.
+    fn new(
+        alloc: Global,
+        file: &'file str,
+        writer: &'output mut W,
+        shows: Shows,
+    ) -> Day<'file, 'output, W> {
+        Day {
+            alloc,
+            file,
+            writer,
+            output: Vec::new(alloc),
+            shows,
         }
-        Step::Differs(_) => Err(said(
-            ExitStatus::No,
-            format!(in alloc;
-                "{file}: line {number}: in this turn the server does something else than was recorded"
-            ),
-        )),
     }
-}
 
-/// Writes what is printed, if that is much or all.
-fn put_out<W: Write>(writer: &mut W, output: &mut Vec<u8>, most: usize) -> Result<(), Fault> {
-    if output.len() > most {
-        writer.write_all(output)?;
-        output.clear();
-    }
-    Ok(())
-}
-
-/// Plays the lines of turns, which come behind the settings.
-fn play_lines<R: Read, W: Write>(
-    alloc: Global,
-    file: &str,
-    lines: &mut Lines<'_, R>,
-    writer: &mut W,
-    output: &mut Vec<u8>,
-    shows: Shows,
-) -> Result<(), Fault> {
-    let text = read_start(alloc, file, lines)?;
-    let mut player = start(alloc, file, &text, shows)?;
-    let mut line = Vec::new(alloc);
-    for _ in 0..u64::MAX {
-        let number = lines.passed().saturating_add(1);
-        if !lines.read_whole(&mut line)? {
-            return Ok(());
+    /// The fault of a line that isn't just played, and what is printed of it.
+    fn heed(&mut self, number: u64, step: Step) -> Result<(), Fault> {
+        let (alloc, file) = (self.alloc, self.file);
+        match step {
+            Step::Played => Ok(()),
+            Step::Bad => Err(said(
+                ExitStatus::Refused,
+                format!(in alloc; "{file}: line {number}: this is no line of a recorded day"),
+            )),
+            Step::Refused(line) => Err(said(
+                ExitStatus::No,
+                format!(in alloc;
+                    "{file}: line {line}: memory was refused to the server here, and what follows isn't played"
+                ),
+            )),
+            Step::Differs(lines) if self.shows == Shows::Verdict => {
+                self.output.extend_from_slice(&lines)?;
+                Err(Fault::Differs)
+            }
+            Step::Differs(_) => Err(said(
+                ExitStatus::No,
+                format!(in alloc;
+                    "{file}: line {number}: in this turn the server does something else than was recorded"
+                ),
+            )),
         }
-        let step = player.play(number, &line, output)?;
-        heed(alloc, file, number, step, shows, output)?;
-        put_out(writer, output, PRINTED)?;
     }
-    Ok(())
+
+    /// Writes what is printed, if that is much or all.
+    fn put_out(&mut self, most: usize) -> Result<(), Fault> {
+        if self.output.len() > most {
+            self.writer.write_all(&self.output)?;
+            self.output.clear();
+        }
+        Ok(())
+    }
+
+    /// Plays the line of this number.
+    fn play_line(
+        &mut self,
+        player: &mut Player<'_>,
+        number: u64,
+        line: &[u8],
+    ) -> Result<(), Fault> {
+        let step = player.play(number, line, &mut self.output)?;
+        self.heed(number, step)?;
+        self.put_out(PRINTED)
+    }
+
+    /// Plays the lines of turns, which come behind the settings.
+    fn play_turns<R: Read>(
+        &mut self,
+        lines: &mut Lines<'_, R>,
+        player: &mut Player<'_>,
+    ) -> Result<(), Fault> {
+        let mut line = Vec::new(self.alloc);
+        for _ in 0..u64::MAX {
+            let number = lines.passed().saturating_add(1);
+            if !lines.read_whole(&mut line)? {
+                return Ok(());
+            }
+            self.play_line(player, number, &line)?;
+        }
+        Ok(())
+    }
+
+    /// The same, on a server that has started, of which this is shown.
+    fn play_on<R: Read>(
+        &mut self,
+        lines: &mut Lines<'_, R>,
+        engine: &mut Engine<AugmentingPaths>,
+        audience: Audience,
+    ) -> Result<(), Fault> {
+        let mut player = Player::new(self.alloc, engine, self.shows, audience);
+        self.play_turns(lines, &mut player)
+    }
+
+    /// The same, on a server that starts with these settings.
+    fn play_with<R: Read>(
+        &mut self,
+        lines: &mut Lines<'_, R>,
+        settings: Settings,
+    ) -> Result<(), Fault>
+        requires { MeetsLimits settings }
+    {
+        let audience = Audience::new(self.alloc, &settings, self.shows)?;
+        let planner = AugmentingPaths::new(self.alloc);
+        let Ok(mut engine) = Engine::new(self.alloc, settings, planner) else {
+            return Err(Fault::OutOfMemory);
+        };
+        self.play_on(lines, &mut engine, audience)
+    }
+
+    /// Plays all of it.
+    fn play_all<R: Read>(&mut self, lines: &mut Lines<'_, R>) -> Result<(), Fault> {
+        let text = read_start(self.alloc, self.file, lines)?;
+        let settings = settings_of(self.alloc, self.file, &text)?;
+        self.play_with(lines, settings)
+    }
+
+    /// The same, and writes what is printed of it up to where it ends.
+    fn play<R: Read>(&mut self, lines: &mut Lines<'_, R>) -> Result<(), Fault> {
+        let played = self.play_all(lines);
+        if played.is_ok() && self.shows == Shows::Verdict {
+            self.output.extend_from_slice(b"same\n")?;
+        }
+        self.put_out(0)?;
+        played
+    }
 }
 
-/// Plays all, and writes what is printed of it up to where it ends.
-fn play_all<R: Read, W: Write>(
+/// Plays the recorded day of a file of this name, and writes what is printed of it.
+fn play_day<R: Read, W: Write>(
     alloc: Global,
     file: &str,
     reader: &mut R,
@@ -225,13 +304,8 @@ fn play_all<R: Read, W: Write>(
     shows: Shows,
 ) -> Result<(), Fault> {
     let mut lines = Lines::new(alloc, reader)?;
-    let mut output = Vec::new(alloc);
-    let played = play_lines(alloc, file, &mut lines, writer, &mut output, shows);
-    if played.is_ok() && shows == Shows::Verdict {
-        output.extend_from_slice(b"same\n")?;
-    }
-    put_out(writer, &mut output, 0)?;
-    played
+    let mut day = Day::new(alloc, file, writer, shows);
+    day.play(&mut lines)
 }
 
 /// Plays the recorded day of a file of this name, and writes what it gives: `docs/TRACES.md`.
@@ -242,7 +316,7 @@ pub fn play<R: Read, W: Write>(
     writer: &mut W,
     shows: Shows,
 ) -> Played {
-    let (status, objection) = match play_all(alloc, file, reader, writer, shows) {
+    let (status, objection) = match play_day(alloc, file, reader, writer, shows) {
         Ok(()) => (ExitStatus::Done, None),
         Err(Fault::Said(status, sentence)) => (status, Some(sentence)),
         Err(Fault::Differs) => (ExitStatus::No, None),
