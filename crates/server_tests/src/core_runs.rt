@@ -63,20 +63,32 @@ fn day(alloc: Global) -> Result<Vec<Timed>, Fail> {
     Ok(Vec::from_array(alloc, events)?)
 }
 
-/// How many events of the day were dispatched, and how many plans and starts were heard of.
-fn heard(alloc: Global) -> Result<(usize, u64, u64), Fail> {
-    let settings = read_settings(alloc, ONE_DEVICE)?;
-    let mut core = Core::new(alloc, settings, AugmentingPaths::new(alloc))?;
+/// How many of these events a core dispatches, and how many plans and starts are heard of.
+fn heard_of(
+    alloc: Global,
+    core: &mut Core<AugmentingPaths>,
+    events: Vec<Timed>,
+) -> Result<(usize, u64, u64), Fail> {
     let mut counts = Counts {
         plans: 0,
         starts: 0,
     };
-    let outcomes = core.run(alloc, day(alloc)?, &mut counts)?;
+    let outcomes = core.run(alloc, events, &mut counts)?;
     let dispatched = outcomes
         .iter()
         .filter(|outcome| matches!(outcome, Outcome::Idle(_) | Outcome::Dispatched(_)))
         .count();
     Ok((dispatched, counts.plans, counts.starts))
+}
+
+/// The same of the day and a core that has just started.
+fn heard(alloc: Global) -> Result<(usize, u64, u64), Fail> {
+    let events = day(alloc)?;
+    let settings = read_settings(alloc, ONE_DEVICE)?;
+    let Ok(mut core) = Core::new(alloc, settings, AugmentingPaths::new(alloc)) else {
+        return Err(Fail::from("out of memory"));
+    };
+    heard_of(alloc, &mut core, events)
 }
 
 /// One job comes to a device that runs: one plan, and one start.

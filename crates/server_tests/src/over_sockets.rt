@@ -1,9 +1,13 @@
 //! Clients over the system's sockets, in one process: they connect and write, then turns are taken,
 //! then the replies are read.
+ghost use Rattle.std.specs.Prelude.{IfOk};
+ghost use Rattle.settings_file.specs.Settings.{MeetsLimits};
+
 use crate::exchanges::{BOTH_FRAMINGS, CHUNKED, Exchange, LAST, NOT_POST, PLAIN, SETTINGS, TWO};
 use crate::lpd_sessions::ONE_JOB;
 use base_types::Moment;
 use daemon::Server;
+use settings_file::Settings;
 use sockets::{Listening, Sockets};
 use startup::read_or_refuse;
 use std::io;
@@ -23,18 +27,24 @@ const DOORS: [Door; 3] = [Door::Ipp, Door::Lpd, Door::Devices];
 /// Turns that serve any of the exchanges.
 const TURNS: usize = 30;
 
-/// A server that has just started.
-fn start(rt: &HostRuntime) -> io::Result<Server> {
+/// Sockets that listen at each door.
+fn listening(rt: &HostRuntime) -> io::Result<Sockets> {
     let mut sockets = Sockets::new(rt.alloc(), rt)?;
     let address = SocketAddr::new(local(), 0);
     for door in DOORS {
         sockets.listen(rt, Listening { door, address })?;
     }
-    let settings = match read_or_refuse(rt.alloc(), SETTINGS.as_bytes(), &mut rt.stderr()) {
-        Ok(settings) => settings,
-        Err(_) => return Err(io::Error::from(io::ErrorKind::InvalidData)),
-    };
-    Ok(Server::new(rt.alloc(), sockets, settings)?)
+    Ok(sockets)
+}
+
+/// The settings of a server.
+fn settings(rt: &HostRuntime) -> io::Result<Settings>
+    ensures { IfOk result MeetsLimits }
+{
+    match read_or_refuse(rt.alloc(), SETTINGS.as_bytes(), &mut rt.stderr()) {
+        Ok(settings) => Ok(settings),
+        Err(_) => Err(io::Error::from(io::ErrorKind::InvalidData)),
+    }
 }
 
 /// Where a server's door listens.
@@ -251,17 +261,37 @@ enum Scene {
     LoggedJob,
 }
 
-/// Whether it goes as it should.
-fn plays(rt: &HostRuntime, scene: Scene) -> io::Result<bool> {
-    let mut server = start(rt)?;
+/// Whether it goes as it should, on this server.
+fn goes(rt: &HostRuntime, server: &mut Server, scene: Scene) -> io::Result<bool> {
     match scene {
-        Scene::Exchange(exchange) => is_answered(rt, &mut server, exchange),
-        Scene::ClientGoesAway => goes_on_after_one_gone(rt, &mut server),
-        Scene::OneClientTooMany => one_waits_for_a_place(rt, &mut server),
-        Scene::UnfinishedHead => head_has_a_minute(rt, &mut server),
-        Scene::LpdJob => lpd_job(rt, &mut server),
-        Scene::LoggedJob => logs_job(rt, &mut server),
+        Scene::Exchange(exchange) => is_answered(rt, server, exchange),
+        Scene::ClientGoesAway => goes_on_after_one_gone(rt, server),
+        Scene::OneClientTooMany => one_waits_for_a_place(rt, server),
+        Scene::UnfinishedHead => head_has_a_minute(rt, server),
+        Scene::LpdJob => lpd_job(rt, server),
+        Scene::LoggedJob => logs_job(rt, server),
     }
+}
+
+/// The same, on a server that starts with these settings over these sockets.
+fn goes_over(
+    rt: &HostRuntime,
+    sockets: Sockets,
+    settings: Settings,
+    scene: Scene,
+) -> io::Result<bool>
+    requires { MeetsLimits settings }
+{
+    let Ok(mut server) = Server::new(rt.alloc(), sockets, settings) else {
+        return Err(io::Error::from(io::ErrorKind::OutOfMemory));
+    };
+    goes(rt, &mut server, scene)
+}
+
+/// The same, on a server that has just started.
+fn plays(rt: &HostRuntime, scene: Scene) -> io::Result<bool> {
+    let sockets = listening(rt)?;
+    goes_over(rt, sockets, settings(rt)?, scene)
 }
 
 #[test]
