@@ -1,5 +1,6 @@
 //! The colours of classes, from dark to light, so that they differ in grey too.
 
+use crate::page::Page;
 use std::fmt;
 use std::num::{nearest_usize_to_f64, saturating_f64_to_u8, saturating_f64_to_usize};
 
@@ -90,19 +91,19 @@ pub(crate) enum Fill {
     Named(&'static str),
 }
 
-impl Fill {
-    /// Appends it as SVG writes it.
-    pub(crate) fn put<W: fmt::Write>(self, output: &mut W) -> fmt::Result {
-        match self {
-            Fill::Plain(colour) => write!(output, "{colour}"),
-            Fill::Named(name) => output.write_str(name),
+impl Page {
+    /// Appends what an area is filled with, as SVG writes it.
+    pub(crate) fn put_fill(self, fill: Fill) -> Page {
+        match fill {
+            Fill::Plain(colour) => self.put_shown(colour),
+            Fill::Named(name) => self.put(name),
         }
     }
 }
 
 impl fmt::Display for Colour {
     fn fmt<W: fmt::Write>(&self, f: &mut fmt::Formatter<W>) -> fmt::Result {
-        let (red, green, blue) = (self.red, self.green, self.blue);
-        write!(f, "#{red:02x}{green:02x}{blue:02x}")
+        let digits = u32::from_be_bytes([0, self.red, self.green, self.blue]);
+        write!(f, "#{digits:06x}")
     }
 }

@@ -66,8 +66,8 @@ fn classes_of(alloc: Global, arrivals: &[Arrival]) -> Result<Vec<u8>, AllocError
     Ok(classes)
 }
 
-/// The lane of the jobs that came.
-fn came_lane(alloc: Global, arrivals: &[Arrival]) -> Result<Lane, AllocError> {
+/// The bars of the jobs that came.
+fn came_bars(alloc: Global, arrivals: &[Arrival]) -> Result<Vec<Bar>, AllocError> {
     let mut bars = Vec::new(alloc);
     for job in arrivals {
         bars.push(Bar {
@@ -76,8 +76,7 @@ fn came_lane(alloc: Global, arrivals: &[Arrival]) -> Result<Lane, AllocError> {
             end: job.moment,
         })?;
     }
-    let name = Text::copy_of(alloc, CAME)?;
-    Ok(Lane { name, bars })
+    Ok(bars)
 }
 
 /// The place of a priority among the classes; the first one where it isn't there.
@@ -103,8 +102,13 @@ fn bar_of(job: Arrival, classes: &[u8], print: Print) -> Bar {
     }
 }
 
-/// The lane of the device at a place.
-fn lane_of(alloc: Global, day: &Day<'_>, classes: &[u8], place: usize) -> Result<Lane, AllocError> {
+/// The bars of the device at a place.
+fn bars_of(
+    alloc: Global,
+    day: &Day<'_>,
+    classes: &[u8],
+    place: usize,
+) -> Result<Vec<Bar>, AllocError> {
     let mut bars = Vec::new(alloc);
     for print in day.prints {
         if print.device == place
@@ -113,19 +117,31 @@ fn lane_of(alloc: Global, day: &Day<'_>, classes: &[u8], place: usize) -> Result
             bars.push(bar_of(*job, classes, *print))?;
         }
     }
-    let name = match day.devices.get(place) {
-        Some(name) => name.copied(alloc)?,
-        None => Text::copy_of(alloc, b"")?,
-    };
+    Ok(bars)
+}
+
+/// The name of the device at a place; an empty one where there is none.
+fn name_of(devices: &[Text], place: usize) -> &[u8] {
+    match devices.get(place) {
+        Some(name) => name.as_bytes(),
+        None => b"",
+    }
+}
+
+/// A lane of some bars.
+fn lane_of(alloc: Global, name: &[u8], bars: Vec<Bar>) -> Result<Lane, AllocError> {
+    let name = Text::copy_of(alloc, name)?;
     Ok(Lane { name, bars })
 }
 
 /// The lane of the jobs that came, and below it those of the devices.
 fn lanes_of(alloc: Global, day: &Day<'_>, classes: &[u8]) -> Result<Vec<Lane>, AllocError> {
     let mut lanes = Vec::new(alloc);
-    lanes.push(came_lane(alloc, day.arrivals)?)?;
+    let bars = came_bars(alloc, day.arrivals)?;
+    lanes.push(lane_of(alloc, CAME, bars)?)?;
     for place in 0..day.devices.len() {
-        lanes.push(lane_of(alloc, day, classes, place)?)?;
+        let bars = bars_of(alloc, day, classes, place)?;
+        lanes.push(lane_of(alloc, name_of(day.devices, place), bars)?)?;
     }
     Ok(lanes)
 }

@@ -7,10 +7,10 @@ use crate::frame::{Frame, MARGIN};
 use crate::label::{Label, Tag, tags_height, tags_of};
 use crate::legend::WAIT;
 use crate::length::ShortTime;
+use crate::page::Page;
 use crate::scale::MOST_MARKS;
-use crate::svg::{begin_path, end_text, place_text, put_length, put_number, put_text};
+use crate::svg::Drawing;
 use std::alloc::Global;
-use std::fmt;
 
 /// The height of a bar.
 const BAR_HEIGHT: u8 = 32;
@@ -46,22 +46,23 @@ fn extent_of(frame: Frame, bar: &Bar, y: f64) -> Extent {
 }
 
 /// Appends the lines of the scale behind a lane.
-fn put_grid<W: fmt::Write>(output: &mut W, frame: Frame, top: f64, bottom: f64) -> fmt::Result {
+fn put_grid(page: Page, frame: Frame, top: f64, bottom: f64) -> Page {
+    let mut page = page;
     for place in 0..=MOST_MARKS {
         let Some(mark) = frame.scale.mark(place) else {
-            return Ok(());
+            return page;
         };
-        begin_path(output, frame.x(mark.moment), top)?;
-        put_length(output, "V", bottom)?;
-        output.write_str("\" stroke=\"#ddd\"/>\n")?;
+        page = page
+            .begin_path(frame.x(mark.moment), top)
+            .put_length("V", bottom)
+            .put("\" stroke=\"#ddd\"/>\n");
     }
-    Ok(())
+    page
 }
 
 /// Appends the name of a lane, which ends before the bars begin.
-fn put_name<W: fmt::Write>(output: &mut W, frame: Frame, lane: &Lane, y: f64) -> fmt::Result {
-    put_text(
-        output,
+fn put_name(page: Page, frame: Frame, lane: &Lane, y: f64) -> Page {
+    page.put_text(
         frame.left - MARGIN / 2.0,
         y + 20.0,
         " text-anchor=\"end\" font-weight=\"bold\"",
@@ -70,196 +71,183 @@ fn put_name<W: fmt::Write>(output: &mut W, frame: Frame, lane: &Lane, y: f64) ->
 }
 
 /// Appends the two lines of a label in its bar: the number of the job, and how long it is.
-fn put_label<W: fmt::Write>(
-    output: &mut W,
-    extent: Extent,
-    ink: &str,
-    number: u32,
-    length: u64,
-) -> fmt::Result {
-    let (x, length) = (extent.x + extent.width / 2.0, ShortTime(length));
-    place_text(output, x, extent.y + 14.0)?;
-    output.write_str(" text-anchor=\"middle\" font-weight=\"bold\" fill=\"")?;
-    output.write_str(ink)?;
-    put_number(output, "\">", u64::from(number))?;
-    end_text(output)?;
-    place_text(output, x, extent.y + 27.0)?;
-    output.write_str(" text-anchor=\"middle\" font-size=\"11\" fill=\"")?;
-    output.write_str(ink)?;
-    write!(output, "\">{length}")?;
-    end_text(output)
+fn put_label(page: Page, extent: Extent, ink: &str, number: u32, length: u64) -> Page {
+    let middle = extent.x + extent.width / 2.0;
+    page.place_text(middle, extent.y + 14.0)
+        .put(" text-anchor=\"middle\" font-weight=\"bold\" fill=\"")
+        .put(ink)
+        .put_number("\">", u64::from(number))
+        .end_text()
+        .place_text(middle, extent.y + 27.0)
+        .put(" text-anchor=\"middle\" font-size=\"11\" fill=\"")
+        .put(ink)
+        .put("\">")
+        .put_shown(ShortTime(length))
+        .end_text()
 }
 
 /// Appends a rectangle of this height, up to its filling.
-fn begin_rectangle<W: fmt::Write>(
-    output: &mut W,
-    extent: Extent,
-    height: u8,
-    fill: Fill,
-) -> fmt::Result {
-    put_length(output, "<rect x=\"", extent.x)?;
-    put_length(output, "\" y=\"", extent.y)?;
-    put_length(output, "\" width=\"", extent.width)?;
-    put_number(output, "\" height=\"", u64::from(height))?;
-    output.write_str("\" fill=\"")?;
-    fill.put(output)
+fn begin_rectangle(page: Page, extent: Extent, height: u8, fill: Fill) -> Page {
+    page.put_length("<rect x=\"", extent.x)
+        .put_length("\" y=\"", extent.y)
+        .put_length("\" width=\"", extent.width)
+        .put_number("\" height=\"", u64::from(height))
+        .put("\" fill=\"")
+        .put_fill(fill)
 }
 
 /// Appends the rectangle of a bar, up to what it says where it is pointed at.
-fn begin_bar<W: fmt::Write>(output: &mut W, extent: Extent, fill: Fill) -> fmt::Result {
-    begin_rectangle(output, extent, BAR_HEIGHT, fill)?;
-    output.write_str("\" stroke=\"#fff\" stroke-width=\"0.5\"><title>")
+fn begin_bar(page: Page, extent: Extent, fill: Fill) -> Page {
+    begin_rectangle(page, extent, BAR_HEIGHT, fill).put(
+        "\" stroke=\"#fff\" stroke-width=\"0.5\"><title>",
+    )
 }
 
 /// Appends when a bar begins and ends, and the end of its rectangle.
-fn end_bar<W: fmt::Write>(output: &mut W, bar: &Bar) -> fmt::Result {
-    put_number(output, ": ", bar.start)?;
-    put_number(output, " to ", bar.end)?;
-    output.write_str(" ms</title></rect>\n")
+fn end_bar(page: Page, bar: &Bar) -> Page {
+    page.put_number(": ", bar.start)
+        .put_number(" to ", bar.end)
+        .put(" ms</title></rect>\n")
 }
 
 /// Appends the bar of a wait.
-fn put_wait<W: fmt::Write>(output: &mut W, extent: Extent, bar: &Bar) -> fmt::Result {
-    begin_bar(output, extent, WAIT)?;
-    output.write_str("not free")?;
-    end_bar(output, bar)
+fn put_wait(page: Page, extent: Extent, bar: &Bar) -> Page {
+    end_bar(begin_bar(page, extent, WAIT).put("not free"), bar)
+}
+
+/// Appends the priority of a class.
+fn put_priority(page: Page, classes: &[u8], class: usize) -> Page {
+    match classes.get(class) {
+        Some(priority) => page.put_number(", priority ", u64::from(*priority)),
+        None => page,
+    }
 }
 
 /// Appends what is told of a job.
-fn put_telling<W: fmt::Write>(output: &mut W, job: ChartJob, classes: &[u8]) -> fmt::Result {
+fn put_telling(page: Page, job: ChartJob, classes: &[u8]) -> Page {
     let words = words_of(job.ending);
-    put_number(output, "job ", u64::from(job.number))?;
-    if let Some(priority) = classes.get(job.class) {
-        put_number(output, ", priority ", u64::from(*priority))?;
-    }
+    let page = page.put_number("job ", u64::from(job.number));
+    let page = put_priority(page, classes, job.class);
     if words.is_empty() {
-        return Ok(());
+        return page;
     }
-    output.write_str(", ")?;
-    output.write_str(words)
+    page.put(", ").put(words)
 }
 
 /// Appends the strip below a bar that shows what became of a job that wasn't printed.
-fn put_strip<W: fmt::Write>(output: &mut W, extent: Extent, ending: Ending) -> fmt::Result {
+fn put_strip(page: Page, extent: Extent, ending: Ending) -> Page {
     let Some(fill) = strip_of(ending) else {
-        return Ok(());
+        return page;
     };
     let below = Extent {
         y: extent.y + f64::from(BAR_HEIGHT),
         ..extent
     };
-    begin_rectangle(output, below, STRIP_HEIGHT, fill)?;
-    output.write_str("\"/>\n")
+    begin_rectangle(page, below, STRIP_HEIGHT, fill).put("\"/>\n")
 }
 
 /// Appends the pin of a job that came.
-fn put_pin<W: fmt::Write>(output: &mut W, extent: Extent, number: u32, moment: u64) -> fmt::Result {
-    begin_path(output, extent.x, extent.y + f64::from(BAR_HEIGHT))?;
-    put_length(output, "V", extent.y + 12.0)?;
-    output.write_str("h6v6h-6\" stroke=\"#444\" fill=\"#444\"><title>")?;
-    put_number(output, "job ", u64::from(number))?;
-    put_number(output, " came at ", moment)?;
-    output.write_str(" ms</title></path>\n")
+fn put_pin(page: Page, extent: Extent, number: u32, moment: u64) -> Page {
+    page.begin_path(extent.x, extent.y + f64::from(BAR_HEIGHT))
+        .put_length("V", extent.y + 12.0)
+        .put("h6v6h-6\" stroke=\"#444\" fill=\"#444\"><title>")
+        .put_number("job ", u64::from(number))
+        .put_number(" came at ", moment)
+        .put(" ms</title></path>\n")
 }
 
 /// Appends the bar of a job, with its label where it fits.
-fn put_job<W: fmt::Write>(
-    output: &mut W,
-    extent: Extent,
-    bar: &Bar,
-    job: ChartJob,
-    classes: &[u8],
-) -> fmt::Result {
+fn put_job(page: Page, extent: Extent, bar: &Bar, job: ChartJob, classes: &[u8]) -> Page {
     let colour = class_colour(job.class, classes.len());
-    begin_bar(output, extent, Fill::Plain(colour))?;
-    put_telling(output, job, classes)?;
-    end_bar(output, bar)?;
-    put_strip(output, extent, job.ending)?;
+    let begun = begin_bar(page, extent, Fill::Plain(colour));
+    let page = end_bar(put_telling(begun, job, classes), bar);
+    let page = put_strip(page, extent, job.ending);
     if Label::of(job.number, bar.length()).fits(extent.width) {
-        put_label(output, extent, colour.ink(), job.number, bar.length())?;
+        return put_label(page, extent, colour.ink(), job.number, bar.length());
     }
-    Ok(())
+    page
 }
 
 /// Appends a bar.
-fn put_bar<W: fmt::Write>(
-    output: &mut W,
-    extent: Extent,
-    bar: &Bar,
-    classes: &[u8],
-) -> fmt::Result {
+fn put_bar(page: Page, extent: Extent, bar: &Bar, classes: &[u8]) -> Page {
     match bar.mark {
-        Mark::Wait => put_wait(output, extent, bar),
-        Mark::Job(job) => put_job(output, extent, bar, job, classes),
-        Mark::Came(number) => put_pin(output, extent, number, bar.start),
+        Mark::Wait => put_wait(page, extent, bar),
+        Mark::Job(job) => put_job(page, extent, bar, job, classes),
+        Mark::Came(number) => put_pin(page, extent, number, bar.start),
     }
 }
 
 /// Appends the line from a bar to its label below.
-fn put_leader<W: fmt::Write>(output: &mut W, tag: &Tag, top: f64) -> fmt::Result {
-    begin_path(output, tag.middle, top)?;
-    put_length(output, "L", tag.x)?;
-    put_length(output, " ", top + LEADER - 3.0)?;
-    output.write_str("\" stroke=\"#888\" stroke-width=\"0.5\"/>\n")
+fn put_leader(page: Page, tag: &Tag, top: f64) -> Page {
+    page.begin_path(tag.middle, top)
+        .put_length("L", tag.x)
+        .put_length(" ", top + LEADER - 3.0)
+        .put("\" stroke=\"#888\" stroke-width=\"0.5\"/>\n")
 }
 
 /// Appends the label of a bar that stands below it, and a line to it.
-fn put_tag<W: fmt::Write>(output: &mut W, tag: &Tag, top: f64) -> fmt::Result {
-    put_leader(output, tag, top)?;
-    put_length(output, "<text transform=\"translate(", tag.x - 3.5)?;
-    put_length(output, " ", top + LEADER)?;
-    output.write_str(") rotate(90)\" font-size=\"10\"><tspan font-weight=\"bold\">")?;
-    put_number(output, "", u64::from(tag.label.number))?;
-    output.write_str("</tspan> ")?;
-    if let Some(length) = tag.label.length {
-        write!(output, "{length}")?;
-    }
-    end_text(output)
+fn put_tag(page: Page, tag: &Tag, top: f64) -> Page {
+    let page = put_leader(page, tag, top)
+        .put_length("<text transform=\"translate(", tag.x - 3.5)
+        .put_length(" ", top + LEADER)
+        .put(") rotate(90)\" font-size=\"10\"><tspan font-weight=\"bold\">")
+        .put_shown(tag.label.number)
+        .put("</tspan> ");
+    let page = match tag.label.length {
+        Some(length) => page.put_shown(length),
+        None => page,
+    };
+    page.end_text()
 }
 
 /// Appends the bars of a lane, whose top is there.
-fn put_bars<W: fmt::Write>(
-    output: &mut W,
-    frame: Frame,
-    chart: &Chart,
-    lane: &Lane,
-    y: f64,
-) -> fmt::Result {
+fn put_bars(page: Page, frame: Frame, chart: &Chart, lane: &Lane, y: f64) -> Page {
+    let mut page = page;
     for bar in &lane.bars {
-        let extent = extent_of(frame, bar, y);
-        put_bar(output, extent, bar, &chart.classes)?;
+        page = put_bar(page, extent_of(frame, bar, y), bar, &chart.classes);
     }
-    Ok(())
+    page
 }
 
 /// Appends the labels below a lane.
-fn put_tags<W: fmt::Write>(output: &mut W, tags: &[Tag], top: f64) -> fmt::Result {
+fn put_tags(page: Page, tags: &[Tag], top: f64) -> Page {
+    let mut page = page;
     for tag in tags {
-        put_tag(output, tag, top)?;
+        page = put_tag(page, tag, top);
     }
-    Ok(())
+    page
 }
 
-/// Appends a lane from there down, and tells where it ends.
-pub(crate) fn put_lane<W: fmt::Write>(
+/// Where a lane ends, of whose bars the lower edge is there.
+fn bottom_of(tags: &[Tag], below: f64) -> f64 {
+    if tags.is_empty() {
+        below
+    } else {
+        below + LEADER + tags_height(tags)
+    }
+}
+
+/// Draws a lane.
+pub(crate) fn put_lane(
     alloc: Global,
-    output: &mut W,
+    drawing: Drawing,
     frame: Frame,
     chart: &Chart,
     lane: &Lane,
-    top: f64,
-) -> Result<f64, fmt::Error> {
-    let tags = tags_of(alloc, frame, lane)?;
+) -> Drawing {
+    let Drawing { page, bottom: top } = drawing;
+    let Ok(tags) = tags_of(alloc, frame, lane) else {
+        return Drawing {
+            page: page.refused(),
+            bottom: top,
+        };
+    };
     let bars = top + ABOVE;
     let below = bars + f64::from(BAR_HEIGHT);
-    let bottom = if tags.is_empty() {
-        below
-    } else {
-        below + LEADER + tags_height(&tags)
-    };
-    put_grid(output, frame, top, bottom)?;
-    put_name(output, frame, lane, bars)?;
-    put_bars(output, frame, chart, lane, bars)?;
-    put_tags(output, &tags, below)?;
-    Ok(bottom)
+    let bottom = bottom_of(&tags, below);
+    let page = put_grid(page, frame, top, bottom);
+    let page = put_name(page, frame, lane, bars);
+    let page = put_bars(page, frame, chart, lane, bars);
+    let page = put_tags(page, &tags, below);
+    Drawing { page, bottom }
 }

@@ -1,12 +1,11 @@
 //! What stands above the lanes of a chart in a picture: its title, its times, and what its colours mean.
 
-use crate::chart::Chart;
-use crate::colour::{Fill, class_colour};
+use crate::chart::{Chart, Ending};
+use crate::colour::{Colour, Fill, class_colour};
 use crate::ending::{SHOWN, strip_of, words_of};
 use crate::frame::{Frame, MARGIN};
-use crate::length::LongTime;
-use crate::svg::{begin_text, end_text, put_length, put_number, put_text};
-use std::fmt;
+use crate::page::Page;
+use crate::svg::Drawing;
 
 /// The hatching of waits.
 pub(crate) const WAIT: Fill = Fill::Named("url(#wait)");
@@ -43,83 +42,113 @@ impl Pen {
     }
 }
 
+/// Entries under way, and where the next one is put.
+#[derive(Drop)]
+struct Legend {
+    page: Page,
+    pen: Pen,
+}
+
 /// Appends a filling, and the begin of what it means.
-fn begin_entry<W: fmt::Write>(output: &mut W, pen: Pen, fill: Fill) -> fmt::Result {
-    put_length(output, "<rect x=\"", pen.x)?;
-    put_length(output, "\" y=\"", pen.y - 11.0)?;
-    output.write_str("\" width=\"14\" height=\"14\" fill=\"")?;
-    fill.put(output)?;
-    output.write_str("\" stroke=\"#888\" stroke-width=\"0.5\"/>\n")?;
-    begin_text(output, pen.x + 20.0, pen.y, "")
+fn begin_entry(page: Page, pen: Pen, fill: Fill) -> Page {
+    page.put_length("<rect x=\"", pen.x)
+        .put_length("\" y=\"", pen.y - 11.0)
+        .put("\" width=\"14\" height=\"14\" fill=\"")
+        .put_fill(fill)
+        .put("\" stroke=\"#888\" stroke-width=\"0.5\"/>\n")
+        .begin_text(pen.x + 20.0, pen.y, "")
 }
 
 /// Appends what a filling means.
-fn put_entry<W: fmt::Write>(output: &mut W, pen: Pen, fill: Fill, meaning: &str) -> fmt::Result {
-    begin_entry(output, pen, fill)?;
-    output.write_str(meaning)?;
-    end_text(output)
+fn put_entry(page: Page, pen: Pen, fill: Fill, meaning: &str) -> Page {
+    begin_entry(page, pen, fill).put(meaning).end_text()
 }
 
-/// Appends what the colours of the classes mean, and gives the place behind.
-fn put_classes<W: fmt::Write>(output: &mut W, chart: &Chart, from: Pen) -> Result<Pen, fmt::Error> {
-    let mut pen = from;
-    for (place, priority) in chart.classes.iter().enumerate() {
-        let colour = class_colour(place, chart.classes.len());
-        begin_entry(output, pen, Fill::Plain(colour))?;
-        put_number(output, "priority ", u64::from(*priority))?;
-        end_text(output)?;
-        pen = pen.next();
+/// Appends what the colour of a class means.
+fn put_class(legend: Legend, colour: Colour, priority: u8) -> Legend {
+    let Legend { page, pen } = legend;
+    let page = begin_entry(page, pen, Fill::Plain(colour))
+        .put_number("priority ", u64::from(priority))
+        .end_text();
+    Legend {
+        page,
+        pen: pen.next(),
     }
-    Ok(pen)
 }
 
-/// Appends what the strips below bars mean, of those that there are, and gives the place behind.
-fn put_endings<W: fmt::Write>(output: &mut W, chart: &Chart, from: Pen) -> Result<Pen, fmt::Error> {
-    let mut pen = from;
+/// Appends what the colours of the classes mean.
+fn put_classes(legend: Legend, classes: &[u8]) -> Legend {
+    let mut legend = legend;
+    for (place, priority) in classes.iter().enumerate() {
+        legend = put_class(legend, class_colour(place, classes.len()), *priority);
+    }
+    legend
+}
+
+/// Appends what the strip below a bar means that shows an ending, if there is one.
+fn put_ending(legend: Legend, ending: Ending) -> Legend {
+    let Some(fill) = strip_of(ending) else {
+        return legend;
+    };
+    let Legend { page, pen } = legend;
+    Legend {
+        page: put_entry(page, pen, fill, words_of(ending)),
+        pen: pen.next(),
+    }
+}
+
+/// Appends what the strips below bars mean, of those that there are.
+fn put_endings(legend: Legend, chart: &Chart) -> Legend {
+    let mut legend = legend;
     for ending in SHOWN {
-        if let Some(fill) = strip_of(ending)
-            && chart.has_ending(ending)
-        {
-            put_entry(output, pen, fill, words_of(ending))?;
-            pen = pen.next();
+        if chart.has_ending(ending) {
+            legend = put_ending(legend, ending);
         }
     }
-    Ok(pen)
+    legend
 }
 
 /// Appends the times of a chart, in a sentence.
-pub(crate) fn put_times<W: fmt::Write>(output: &mut W, chart: &Chart) -> fmt::Result {
-    let (total, mean) = (LongTime(chart.total), LongTime(chart.mean()));
-    write!(output, "time to paper: {total} in all, {mean} in the mean")
+pub(crate) fn put_times(page: Page, chart: &Chart) -> Page {
+    page.put("time to paper: ")
+        .put_long_time(chart.total)
+        .put(" in all, ")
+        .put_long_time(chart.mean())
+        .put(" in the mean")
 }
 
-/// Appends what stands above the lanes, from there down, and tells where it ends.
-pub(crate) fn put_heading<W: fmt::Write>(
-    output: &mut W,
-    frame: Frame,
-    chart: &Chart,
-    top: f64,
-) -> Result<f64, fmt::Error> {
-    let title = chart.title.as_bytes();
-    put_text(
-        output,
-        MARGIN,
-        top + 16.0,
-        " font-size=\"16\" font-weight=\"bold\"",
-        title,
-    )?;
-    begin_text(output, MARGIN, top + 36.0, "")?;
-    put_times(output, chart)?;
-    end_text(output)?;
-    let pen = Pen {
-        x: MARGIN,
-        y: top + 58.0,
-        right: frame.right(),
+/// Appends the title of a chart, and its times.
+fn put_title(page: Page, chart: &Chart, top: f64) -> Page {
+    let page = page
+        .put_text(
+            MARGIN,
+            top + 16.0,
+            " font-size=\"16\" font-weight=\"bold\"",
+            chart.title.as_bytes(),
+        )
+        .begin_text(MARGIN, top + 36.0, "");
+    put_times(page, chart).end_text()
+}
+
+/// Draws what stands above the lanes.
+pub(crate) fn put_heading(drawing: Drawing, frame: Frame, chart: &Chart) -> Drawing {
+    let Drawing { page, bottom: top } = drawing;
+    let begun = Legend {
+        page: put_title(page, chart, top),
+        pen: Pen {
+            x: MARGIN,
+            y: top + 58.0,
+            right: frame.right(),
+        },
     };
-    let pen = put_classes(output, chart, pen)?;
-    let pen = put_endings(output, chart, pen)?;
-    if chart.waits() {
-        put_entry(output, pen, WAIT, "not free")?;
+    let Legend { page, pen } = put_endings(put_classes(begun, &chart.classes), chart);
+    let page = if chart.waits() {
+        put_entry(page, pen, WAIT, "not free")
+    } else {
+        page
+    };
+    Drawing {
+        page,
+        bottom: pen.y + MARGIN,
     }
-    Ok(pen.y + MARGIN)
 }

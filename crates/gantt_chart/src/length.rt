@@ -1,5 +1,6 @@
 //! Lengths of time, written.
 
+use crate::page::Page;
 use std::fmt;
 
 const SECOND: u128 = 1_000;
@@ -11,10 +12,6 @@ const HOUR: u128 = 60 * MINUTE;
 /// A time in ms, in few characters: `15ms`, `12.5s`, `2m30`, `1h05`. What is left over is cut off.
 #[derive(Clone, Copy)]
 pub struct ShortTime(pub u64);
-
-/// A time in ms, in words: `15 ms`, `12.5 s`, `2 min 30 s`, `1 h 5 min`. What is left over is cut off.
-#[derive(Clone, Copy)]
-pub(crate) struct LongTime(pub(crate) u128);
 
 /// A time by its hours, and what is left of it then by its minutes, seconds and tenths of a second.
 #[derive(Clone, Copy)]
@@ -60,6 +57,17 @@ impl ShortTime {
     }
 }
 
+/// Writes a number, its unit, and the two digits of what is left.
+fn write_two<W: fmt::Write>(
+    f: &mut fmt::Formatter<W>,
+    number: u128,
+    unit: char,
+    rest: u128,
+) -> fmt::Result {
+    let (tens, ones) = (rest / 10, rest % 10);
+    write!(f, "{number}{unit}{tens}{ones}")
+}
+
 impl fmt::Display for ShortTime {
     fn fmt<W: fmt::Write>(&self, f: &mut fmt::Formatter<W>) -> fmt::Result {
         let millis = self.0;
@@ -69,23 +77,30 @@ impl fmt::Display for ShortTime {
             seconds,
             tenths,
         } = parts_of(u128::from(millis));
-        let (number, unit, rest) = if hours > 0 {
-            (hours, "h", minutes)
+        if hours > 0 {
+            write_two(f, hours, 'h', minutes)
         } else if minutes > 0 {
-            (minutes, "m", seconds)
+            write_two(f, minutes, 'm', seconds)
         } else if seconds > 0 {
-            return write!(f, "{seconds}.{tenths}s");
+            write!(f, "{seconds}.{tenths}s")
         } else {
-            return write!(f, "{millis}ms");
-        };
-        let (tens, ones) = (rest / 10, rest % 10);
-        write!(f, "{number}{unit}{tens}{ones}")
+            write!(f, "{millis}ms")
+        }
     }
 }
 
-impl fmt::Display for LongTime {
-    fn fmt<W: fmt::Write>(&self, f: &mut fmt::Formatter<W>) -> fmt::Result {
-        let millis = self.0;
+impl Page {
+    /// Appends two numbers, each with what stands behind it.
+    fn put_two(self, one: u128, behind_one: &str, other: u128, behind_other: &str) -> Page {
+        self.put_shown(one)
+            .put(behind_one)
+            .put_shown(other)
+            .put(behind_other)
+    }
+
+    /// Appends a time in ms, in words: `15 ms`, `12.5 s`, `2 min 30 s`, `1 h 5 min`. What is left over is
+    /// cut off.
+    pub(crate) fn put_long_time(self, millis: u128) -> Page {
         let Parts {
             hours,
             minutes,
@@ -93,13 +108,13 @@ impl fmt::Display for LongTime {
             tenths,
         } = parts_of(millis);
         if hours > 0 {
-            write!(f, "{hours} h {minutes} min")
+            self.put_two(hours, " h ", minutes, " min")
         } else if minutes > 0 {
-            write!(f, "{minutes} min {seconds} s")
+            self.put_two(minutes, " min ", seconds, " s")
         } else if seconds > 0 {
-            write!(f, "{seconds}.{tenths} s")
+            self.put_two(seconds, ".", tenths, " s")
         } else {
-            write!(f, "{millis} ms")
+            self.put_shown(millis).put(" ms")
         }
     }
 }

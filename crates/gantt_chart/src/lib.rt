@@ -18,6 +18,7 @@ mod lane;
 mod legend;
 mod length;
 mod listing;
+mod page;
 mod picture;
 mod row;
 mod scale;

@@ -1,162 +1,169 @@
 //! The jobs of each lane in words, for a terminal, and what its fillings mean.
 
-use crate::chart::{Bar, Chart, Lane, Mark};
+use crate::chart::{Bar, Chart, Ending, Lane, Mark};
 use crate::ending::{SHOWN, edge_of, words_of};
 use crate::length::{ShortTime, digits_of};
+use crate::page::Page;
 use crate::row::filling_of;
 use crate::terminal::{WIDTH, put_name};
 use std::fmt;
 
-/// A line under way: where it ends, and how far its continuation is indented.
-#[derive(Clone, Copy)]
+/// A line under way: the page it is on, where it ends, and how far its continuation is indented.
+#[derive(Drop)]
 struct Line {
+    page: Page,
     end: usize,
     indent: usize,
 }
 
 impl Line {
-    /// The line of which so many columns more are taken.
-    fn longer(self, columns: usize) -> Line {
+    /// A line that begins with a name of so many columns.
+    fn new(page: Page, name: &[u8], columns: usize) -> Line {
         Line {
-            end: self.end.saturating_add(columns),
-            indent: self.indent,
+            page: put_name(page, name, columns),
+            end: columns,
+            indent: columns,
         }
     }
 
-    /// Makes room for so many columns: in a new line where this one has none. It gives the line under way.
-    fn with_room<W: fmt::Write>(self, output: &mut W, columns: usize) -> Result<Line, fmt::Error> {
-        if self.longer(columns).end <= WIDTH {
-            return Ok(self);
+    /// Makes room for so many columns: in a new line where this one has none.
+    fn with_room(self, columns: usize) -> Line {
+        if self.end.saturating_add(columns) <= WIDTH {
+            return self;
         }
-        output.write_char('\n')?;
-        put_name(output, b"", self.indent)?;
-        Ok(Line {
-            end: self.indent,
-            indent: self.indent,
-        })
+        Line::new(self.page.put_letter('\n'), b"", self.indent)
     }
 
     /// Appends the two spaces in front of an entry of so many letters, in a new line where this one has no
-    /// room for it, and gives the line under way then.
-    fn begin_entry<W: fmt::Write>(
-        self,
-        output: &mut W,
-        letters: usize,
-    ) -> Result<Line, fmt::Error> {
+    /// room for it. The letters are to be appended next.
+    fn begin_entry(self, letters: usize) -> Line {
         let columns = letters.saturating_add(2);
-        let line = self.with_room(output, columns)?;
-        output.write_str("  ")?;
-        Ok(line.longer(columns))
+        let line = self.with_room(columns);
+        Line {
+            page: line.page.put("  "),
+            end: line.end.saturating_add(columns),
+            indent: line.indent,
+        }
     }
 
-    /// Appends an entry.
-    fn with_entry<W: fmt::Write>(self, output: &mut W, entry: &str) -> Result<Line, fmt::Error> {
-        let line = self.begin_entry(output, entry.len())?;
-        output.write_str(entry)?;
-        Ok(line)
+    /// Appends a text of the entry that was begun.
+    fn put(self, text: &str) -> Line {
+        Line {
+            page: self.page.put(text),
+            end: self.end,
+            indent: self.indent,
+        }
     }
+
+    /// Appends a value of the entry that was begun.
+    fn put_shown<T: fmt::Display + Drop>(self, value: T) -> Line {
+        Line {
+            page: self.page.put_shown(value),
+            end: self.end,
+            indent: self.indent,
+        }
+    }
+
+    /// Appends an entry, if it is wanted.
+    fn put_entry_if(self, is_wanted: bool, entry: &str) -> Line {
+        if is_wanted {
+            return self.begin_entry(entry.len()).put(entry);
+        }
+        self
+    }
+
+    /// Ends it, and gives the page.
+    fn ended(self) -> Page {
+        self.page.put_letter('\n')
+    }
+}
+
+/// How many letters an entry of a job has.
+fn letters_of(number: u32, time: ShortTime, words: &str) -> usize {
+    let letters = digits_of(u64::from(number))
+        .saturating_add(1)
+        .saturating_add(time.letters());
+    if words.is_empty() {
+        return letters;
+    }
+    letters.saturating_add(1).saturating_add(words.len())
 }
 
 /// Appends the number of a job, a time in ms and, behind a space, words, if there are any.
-fn put_entry<W: fmt::Write>(
-    output: &mut W,
-    line: Line,
-    number: u32,
-    millis: u64,
-    words: &str,
-) -> Result<Line, fmt::Error> {
+fn put_entry(line: Line, number: u32, millis: u64, words: &str) -> Line {
     let time = ShortTime(millis);
-    let space = if words.is_empty() { "" } else { " " };
-    let letters = digits_of(u64::from(number))
-        .saturating_add(1)
-        .saturating_add(time.letters())
-        .saturating_add(space.len())
-        .saturating_add(words.len());
-    let line = line.begin_entry(output, letters)?;
-    write!(output, "{number} {time}{space}{words}")?;
-    Ok(line)
+    let line = line
+        .begin_entry(letters_of(number, time, words))
+        .put_shown(number)
+        .put(" ")
+        .put_shown(time);
+    if words.is_empty() {
+        return line;
+    }
+    line.put(" ").put(words)
 }
 
 /// Appends what a bar says of a job: how long it is and what became of it, or when it came.
-fn put_job<W: fmt::Write>(output: &mut W, line: Line, bar: &Bar) -> Result<Line, fmt::Error> {
+fn put_job(line: Line, bar: &Bar) -> Line {
     match bar.mark {
-        Mark::Wait => Ok(line),
-        Mark::Job(job) => {
-            put_entry(output, line, job.number, bar.length(), words_of(job.ending))
-        }
-        Mark::Came(number) => put_entry(output, line, number, bar.start, ""),
+        Mark::Wait => line,
+        Mark::Job(job) => put_entry(line, job.number, bar.length(), words_of(job.ending)),
+        Mark::Came(number) => put_entry(line, number, bar.start, ""),
     }
 }
 
 /// Appends the jobs of a lane, from the first to be printed on.
-pub(crate) fn put_jobs<W: fmt::Write>(output: &mut W, lane: &Lane, indent: usize) -> fmt::Result {
-    put_name(output, lane.name.as_bytes(), indent)?;
-    let mut line = Line {
-        end: indent,
-        indent,
-    };
+pub(crate) fn put_jobs(page: Page, lane: &Lane, indent: usize) -> Page {
+    let mut line = Line::new(page, lane.name.as_bytes(), indent);
     for bar in &lane.bars {
-        line = put_job(output, line, bar)?;
+        line = put_job(line, bar);
     }
-    if lane.jobs() == 0 {
-        line.with_entry(output, "no job")?;
-    }
-    output.write_char('\n')
+    line.put_entry_if(lane.jobs() == 0, "no job").ended()
+}
+
+/// Appends what the filling of the class at a place means.
+fn put_class(line: Line, place: usize, priority: u8) -> Line {
+    let letters = digits_of(u64::from(priority)).saturating_add("# priority ".len());
+    line.begin_entry(letters)
+        .put_shown(char::from(filling_of(place)))
+        .put(" priority ")
+        .put_shown(priority)
 }
 
 /// Appends what the fillings of classes mean.
-fn put_classes<W: fmt::Write>(
-    output: &mut W,
-    chart: &Chart,
-    from: Line,
-) -> Result<Line, fmt::Error> {
-    let mut line = from;
-    for (place, priority) in chart.classes.iter().enumerate() {
-        let letters = digits_of(u64::from(*priority)).saturating_add("# priority ".len());
-        line = line.begin_entry(output, letters)?;
-        let filling = char::from(filling_of(place));
-        write!(output, "{filling} priority {priority}")?;
+fn put_classes(line: Line, classes: &[u8]) -> Line {
+    let mut line = line;
+    for (place, priority) in classes.iter().enumerate() {
+        line = put_class(line, place, *priority);
     }
-    Ok(line)
+    line
+}
+
+/// Appends what the end of a bar means that shows an ending.
+fn put_ending(line: Line, ending: Ending) -> Line {
+    let words = words_of(ending);
+    line.begin_entry(words.len().saturating_add(2))
+        .put_shown(char::from(edge_of(ending)))
+        .put(" ")
+        .put(words)
 }
 
 /// Appends what the ends of bars mean, of those that there are.
-fn put_endings<W: fmt::Write>(
-    output: &mut W,
-    chart: &Chart,
-    from: Line,
-) -> Result<Line, fmt::Error> {
-    let mut line = from;
+fn put_endings(line: Line, chart: &Chart) -> Line {
+    let mut line = line;
     for ending in SHOWN {
         if chart.has_ending(ending) {
-            let words = words_of(ending);
-            line = line.begin_entry(output, words.len().saturating_add(2))?;
-            output.write_char(char::from(edge_of(ending)))?;
-            output.write_char(' ')?;
-            output.write_str(words)?;
+            line = put_ending(line, ending);
         }
     }
-    Ok(line)
+    line
 }
 
 /// Appends what the characters of a chart mean.
-pub(crate) fn put_fillings<W: fmt::Write>(
-    output: &mut W,
-    chart: &Chart,
-    indent: usize,
-) -> fmt::Result {
-    put_name(output, b"", indent)?;
-    let begun = Line {
-        end: indent,
-        indent,
-    };
-    let line = put_classes(output, chart, begun)?;
-    let line = put_endings(output, chart, line)?;
-    if chart.has_arrivals() {
-        line.with_entry(output, "1-9 jobs came, + more")?;
-    }
-    if chart.waits() {
-        line.with_entry(output, "/ not free")?;
-    }
-    output.write_char('\n')
+pub(crate) fn put_fillings(page: Page, chart: &Chart, indent: usize) -> Page {
+    let line = put_classes(Line::new(page, b"", indent), &chart.classes);
+    put_endings(line, chart)
+        .put_entry_if(chart.has_arrivals(), "1-9 jobs came, + more")
+        .put_entry_if(chart.waits(), "/ not free")
+        .ended()
 }

@@ -5,121 +5,120 @@ use crate::ending::SHOWN;
 use crate::frame::{Frame, MARGIN};
 use crate::lane::put_lane;
 use crate::legend::put_heading;
+use crate::page::Page;
 use crate::scale::MOST_MARKS;
 use crate::stranded::put_sentence;
-use crate::svg::{begin_path, begin_text, end_text, place_text, put_length, put_number, put_text};
+use crate::svg::Drawing;
 use base_types::Stranded;
 use std::alloc::{AllocError, Global};
-use std::fmt;
 
 /// The height of a line of text.
 const LINE: f64 = 18.0;
 
-/// Appends the lanes of a chart from there down, and tells where they end.
-fn put_lanes<W: fmt::Write>(
-    alloc: Global,
-    output: &mut W,
-    frame: Frame,
-    chart: &Chart,
-    top: f64,
-) -> Result<f64, fmt::Error> {
-    let mut bottom = top;
+/// Draws the lanes of a chart.
+fn put_lanes(alloc: Global, drawing: Drawing, frame: Frame, chart: &Chart) -> Drawing {
+    let mut drawing = drawing;
     for lane in &chart.lanes {
-        bottom = put_lane(alloc, output, frame, chart, lane, bottom)?;
+        drawing = put_lane(alloc, drawing, frame, chart, lane);
     }
-    Ok(bottom)
+    drawing
 }
 
 /// Appends a number of the scale.
-fn put_mark<W: fmt::Write>(output: &mut W, x: f64, y: f64, number: u64) -> fmt::Result {
-    place_text(output, x, y)?;
-    put_number(output, " text-anchor=\"middle\">", number)?;
-    end_text(output)
+fn put_mark(page: Page, x: f64, y: f64, number: u64) -> Page {
+    page.place_text(x, y)
+        .put_number(" text-anchor=\"middle\">", number)
+        .end_text()
 }
 
 /// Appends the numbers of the scale.
-fn put_numbers<W: fmt::Write>(output: &mut W, frame: Frame, y: f64) -> fmt::Result {
+fn put_numbers(page: Page, frame: Frame, y: f64) -> Page {
+    let mut page = page;
     for place in 0..=MOST_MARKS {
         let Some(mark) = frame.scale.mark(place) else {
-            return Ok(());
+            return page;
         };
-        put_mark(output, frame.x(mark.moment), y, mark.number)?;
+        page = put_mark(page, frame.x(mark.moment), y, mark.number);
     }
-    Ok(())
+    page
 }
 
-/// Appends the scale from there down, and tells where it ends.
-fn put_scale<W: fmt::Write>(output: &mut W, frame: Frame, top: f64) -> Result<f64, fmt::Error> {
-    let (right, line) = (frame.right(), top + 6.0);
-    begin_path(output, frame.left, line)?;
-    put_length(output, "H", right)?;
-    output.write_str("\" stroke=\"#444\"/>\n")?;
-    put_numbers(output, frame, line + LINE)?;
+/// Draws the scale.
+fn put_scale(drawing: Drawing, frame: Frame) -> Drawing {
+    let (right, line) = (frame.right(), drawing.bottom + 6.0);
+    let bottom = line + 2.0 * LINE;
+    let page = drawing
+        .page
+        .begin_path(frame.left, line)
+        .put_length("H", right)
+        .put("\" stroke=\"#444\"/>\n");
     let unit = frame.scale.unit().name();
-    put_text(
-        output,
+    let page = put_numbers(page, frame, line + LINE).put_text(
         right,
-        line + 2.0 * LINE,
+        bottom,
         " text-anchor=\"end\"",
         unit.as_bytes(),
-    )?;
-    Ok(line + 2.0 * LINE)
+    );
+    Drawing { page, bottom }
 }
 
-/// Appends the jobs that no device can print, a line each, and tells where they end.
-fn put_stranded<W: fmt::Write>(
-    output: &mut W,
-    stranded: &[Stranded],
-    top: f64,
-) -> Result<f64, fmt::Error> {
-    let mut bottom = top;
+/// Draws a sentence about a job that no device can print.
+fn put_stranded_job(drawing: Drawing, stranded: &Stranded) -> Drawing {
+    let bottom = drawing.bottom + LINE;
+    let page = drawing.page.begin_text(MARGIN, bottom, "");
+    Drawing {
+        page: put_sentence(page, stranded).end_text(),
+        bottom,
+    }
+}
+
+/// Draws the jobs that no device can print, a line each.
+fn put_stranded(drawing: Drawing, stranded: &[Stranded]) -> Drawing {
+    let mut drawing = drawing;
     for one in stranded {
-        bottom = bottom + LINE;
-        begin_text(output, MARGIN, bottom, "")?;
-        put_sentence(output, one)?;
-        end_text(output)?;
+        drawing = put_stranded_job(drawing, one);
     }
-    Ok(bottom)
+    drawing
 }
 
-/// Appends what else is said of jobs, a line each, and tells where they end.
-fn put_notes<W: fmt::Write>(output: &mut W, notes: &[String], top: f64) -> Result<f64, fmt::Error> {
-    let mut bottom = top;
+/// Draws what else is said of a job.
+fn put_note(drawing: Drawing, note: &str) -> Drawing {
+    let bottom = drawing.bottom + LINE;
+    Drawing {
+        page: drawing.page.put_text(MARGIN, bottom, "", note.as_bytes()),
+        bottom,
+    }
+}
+
+/// Draws what else is said of jobs, a line each.
+fn put_notes(drawing: Drawing, notes: &[String]) -> Drawing {
+    let mut drawing = drawing;
     for note in notes {
-        bottom = bottom + LINE;
-        put_text(output, MARGIN, bottom, "", note.as_bytes())?;
+        drawing = put_note(drawing, note);
     }
-    Ok(bottom)
+    drawing
 }
 
-/// Appends a chart from there down, and tells where it ends.
-fn put_chart<W: fmt::Write>(
-    alloc: Global,
-    output: &mut W,
-    frame: Frame,
-    chart: &Chart,
-    top: f64,
-) -> Result<f64, fmt::Error> {
-    let lanes = put_heading(output, frame, chart, top)?;
-    let scale = put_lanes(alloc, output, frame, chart, lanes)?;
-    let below = put_scale(output, frame, scale)?;
-    let stranded = put_stranded(output, &chart.stranded, below)?;
-    let bottom = put_notes(output, &chart.notes, stranded)?;
-    Ok(bottom + MARGIN)
+/// Draws a chart.
+fn put_chart(alloc: Global, drawing: Drawing, frame: Frame, chart: &Chart) -> Drawing {
+    let drawing = put_heading(drawing, frame, chart);
+    let drawing = put_lanes(alloc, drawing, frame, chart);
+    let drawing = put_scale(drawing, frame);
+    let drawing = put_stranded(drawing, &chart.stranded);
+    let Drawing { page, bottom } = put_notes(drawing, &chart.notes);
+    Drawing {
+        page,
+        bottom: bottom + MARGIN,
+    }
 }
 
-/// Appends charts below one another, and tells where they end.
-fn put_charts<W: fmt::Write>(
-    alloc: Global,
-    output: &mut W,
-    frame: Frame,
-    charts: &[Chart],
-) -> Result<f64, fmt::Error> {
-    let mut bottom = MARGIN;
+/// Draws charts below one another.
+fn put_charts(alloc: Global, drawing: Drawing, frame: Frame, charts: &[Chart]) -> Drawing {
+    let mut drawing = drawing;
     for chart in charts {
-        bottom = put_chart(alloc, output, frame, chart, bottom)?;
+        drawing = put_chart(alloc, drawing, frame, chart);
     }
-    Ok(bottom)
+    drawing
 }
 
 /// The font of a picture, which ends its first tag.
@@ -155,29 +154,19 @@ fn have_strips(charts: &[Chart]) -> bool {
 }
 
 /// Appends the begin of a picture of this size: a white ground, and the hatching of waits.
-fn put_head<W: fmt::Write>(output: &mut W, width: f64, height: f64) -> fmt::Result {
-    output.write_str("<svg xmlns=\"http://www.w3.org/2000/svg\" width=\"")?;
-    write!(output, "{width:.0}")?;
-    output.write_str("\" height=\"")?;
-    write!(output, "{height:.0}")?;
-    output.write_str(FONT)?;
-    output.write_str(GROUND)
+fn put_head(page: Page, width: f64, height: f64) -> Page {
+    page.put_whole_length("<svg xmlns=\"http://www.w3.org/2000/svg\" width=\"", width)
+        .put_whole_length("\" height=\"", height)
+        .put(FONT)
+        .put(GROUND)
 }
 
-/// Appends a picture whose lanes have this text and end there.
-fn put_picture<W: fmt::Write>(
-    output: &mut W,
-    frame: Frame,
-    charts: &[Chart],
-    bottom: f64,
-    body: &str,
-) -> fmt::Result {
-    put_head(output, frame.right() + 2.0 * MARGIN, bottom)?;
+/// Appends the strips that the bars of charts need.
+fn put_strips(page: Page, charts: &[Chart]) -> Page {
     if have_strips(charts) {
-        output.write_str(STRIPS)?;
+        return page.put(STRIPS);
     }
-    output.write_str(body)?;
-    output.write_str("</svg>\n")
+    page
 }
 
 /// A picture of charts, below one another and over one scale: whole lines, as they are to be written.
@@ -185,13 +174,12 @@ fn put_picture<W: fmt::Write>(
 /// A bar tells its exact start and end where it is pointed at. The only error is out of memory.
 pub(crate) fn write_svg(alloc: Global, charts: &[Chart]) -> Result<String, AllocError> {
     let frame = Frame::of(charts);
-    let mut body = String::new(alloc);
-    let Ok(bottom) = put_charts(alloc, &mut body, frame, charts) else {
-        return Err(AllocError);
+    let begun = Drawing {
+        page: Page::new(alloc),
+        bottom: MARGIN,
     };
-    let mut picture = String::new(alloc);
-    match put_picture(&mut picture, frame, charts, bottom, &body) {
-        Ok(()) => Ok(picture),
-        Err(_) => Err(AllocError),
-    }
+    let Drawing { page, bottom } = put_charts(alloc, begun, frame, charts);
+    let body = page.finish()?;
+    let page = put_head(Page::new(alloc), frame.right() + 2.0 * MARGIN, bottom);
+    put_strips(page, charts).put(&body).put("</svg>\n").finish()
 }

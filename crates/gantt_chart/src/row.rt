@@ -2,8 +2,9 @@
 
 use crate::chart::{Bar, ChartJob, Lane, Mark};
 use crate::ending::{SHOWN, edge_of};
+use crate::length::digits_of;
 use crate::scale::{MOST_MARKS, Scale};
-use std::alloc::{AllocError, Global};
+use crate::terminal::WIDTH;
 
 /// The fillings of classes, from the highest on, and then again.
 const FILLINGS: [u8; 6] = [b'#', b'=', b'+', b'-', b':', b'.'];
@@ -19,14 +20,11 @@ pub(crate) fn filling_of(class: usize) -> u8 {
     FILLINGS[class % FILLINGS.len()]
 }
 
-/// A row without anything, of so many columns and one for the last edge.
-fn empty_row(alloc: Global, columns: u16) -> Result<Vec<u8>, AllocError> {
-    let mut cells = Vec::new(alloc);
-    for _ in 0..=columns {
-        cells.push(b' ')?;
-    }
-    Ok(cells)
-}
+/// A row of a terminal's picture.
+pub(crate) type Row = [u8; WIDTH];
+
+/// A row without anything.
+const EMPTY: Row = [b' '; WIDTH];
 
 fn put_cell(cells: &mut [u8], place: usize, byte: u8) {
     if let Some(cell) = cells.get_mut(place) {
@@ -40,9 +38,17 @@ fn fill(cells: &mut [u8], from: usize, to: usize, byte: u8) {
     }
 }
 
-fn put_word(cells: &mut [u8], from: usize, word: &[u8]) {
-    for (place, byte) in word.iter().enumerate() {
-        put_cell(cells, from.saturating_add(place), *byte);
+/// The last digit of a number.
+fn digit_of(number: u64) -> u8 {
+    b'0'.saturating_add((number % 10) as u8)
+}
+
+/// Puts the digits of a number from a column on.
+fn put_number(cells: &mut [u8], from: usize, number: u64) {
+    let mut rest = number;
+    for place in (from..from.saturating_add(digits_of(number))).rev() {
+        put_cell(cells, place, digit_of(rest));
+        rest = rest / 10;
     }
 }
 
@@ -66,22 +72,14 @@ fn put_begin(cells: &mut [u8], from: usize) {
 }
 
 /// Puts the bar of a job between two columns.
-fn put_job(
-    alloc: Global,
-    cells: &mut [u8],
-    from: usize,
-    to: usize,
-    job: ChartJob,
-) -> Result<(), AllocError> {
-    let number = job.number;
-    let word = format!(in alloc; "{number}")?;
+fn put_job(cells: &mut [u8], from: usize, to: usize, job: ChartJob) {
+    let number = u64::from(job.number);
     fill(cells, from.saturating_add(1), to, filling_of(job.class));
-    if word.len() < to.saturating_sub(from) {
-        put_word(cells, from.saturating_add(1), word.as_bytes());
+    if digits_of(number) < to.saturating_sub(from) {
+        put_number(cells, from.saturating_add(1), number);
     }
     put_begin(cells, from);
     put_cell(cells, to, edge_of(job.ending));
-    Ok(())
 }
 
 /// Puts the wait of a device between two columns.
@@ -102,52 +100,39 @@ fn put_arrival(cells: &mut [u8], place: usize) {
     }
 }
 
-fn put_lane_bar(
-    alloc: Global,
-    cells: &mut [u8],
-    scale: Scale,
-    columns: u16,
-    bar: &Bar,
-) -> Result<(), AllocError> {
+fn put_lane_bar(cells: &mut [u8], scale: Scale, columns: u16, bar: &Bar) {
     let from = usize::from(scale.column(bar.start, columns));
     let to = usize::from(scale.column(bar.end, columns));
     match bar.mark {
         Mark::Wait => put_wait(cells, from, to),
-        Mark::Job(job) => put_job(alloc, cells, from, to, job)?,
+        Mark::Job(job) => put_job(cells, from, to, job),
         Mark::Came(_) => put_arrival(cells, from),
     }
-    Ok(())
 }
 
 /// The row of a lane, of so many columns and one.
-pub(crate) fn lane_row(
-    alloc: Global,
-    scale: Scale,
-    columns: u16,
-    lane: &Lane,
-) -> Result<Vec<u8>, AllocError> {
-    let mut cells = empty_row(alloc, columns)?;
+pub(crate) fn lane_row(scale: Scale, columns: u16, lane: &Lane) -> Row {
+    let mut cells = EMPTY;
     for bar in &lane.bars {
-        put_lane_bar(alloc, &mut cells, scale, columns, bar)?;
+        put_lane_bar(&mut cells, scale, columns, bar);
     }
-    Ok(cells)
+    cells
+}
+
+/// Puts the number of a mark, which ends in a column; where it has no room there, it begins with the row.
+fn put_mark(cells: &mut [u8], column: u16, number: u64) {
+    let behind = usize::from(column).saturating_add(1);
+    put_number(cells, behind.saturating_sub(digits_of(number)), number);
 }
 
 /// The row of the scale's numbers, each of which ends below its moment; the first begins there.
-pub(crate) fn scale_row(alloc: Global, scale: Scale, columns: u16) -> Result<Vec<u8>, AllocError> {
-    let mut cells = empty_row(alloc, columns)?;
+pub(crate) fn scale_row(scale: Scale, columns: u16) -> Row {
+    let mut cells = EMPTY;
     for place in 0..=MOST_MARKS {
         let Some(mark) = scale.mark(place) else {
-            return Ok(cells);
+            return cells;
         };
-        let number = mark.number;
-        let word = format!(in alloc; "{number}")?;
-        let behind = usize::from(scale.column(mark.moment, columns)).saturating_add(1);
-        put_word(
-            &mut cells,
-            behind.saturating_sub(word.len()),
-            word.as_bytes(),
-        );
+        put_mark(&mut cells, scale.column(mark.moment, columns), mark.number);
     }
-    Ok(cells)
+    cells
 }

@@ -1,7 +1,7 @@
 //! The jobs that no device can print, in sentences.
 
+use crate::page::Page;
 use base_types::{Cause, Stranded};
-use std::fmt;
 
 /// What a cause means, behind its word in the text of a plan.
 fn meaning(cause: Cause) -> &'static str {
@@ -16,7 +16,9 @@ fn meaning(cause: Cause) -> &'static str {
 }
 
 /// Appends a sentence about a job that no device can print.
-pub(crate) fn put_sentence<W: fmt::Write>(output: &mut W, stranded: &Stranded) -> fmt::Result {
-    let (number, cause) = (stranded.job.number(), meaning(stranded.cause));
-    write!(output, "No device prints job {number}: {cause}.")
+pub(crate) fn put_sentence(page: Page, stranded: &Stranded) -> Page {
+    page.put_number("No device prints job ", u64::from(stranded.job.number()))
+        .put(": ")
+        .put(meaning(stranded.cause))
+        .put(".")
 }

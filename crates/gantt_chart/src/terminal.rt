@@ -3,12 +3,12 @@
 use crate::chart::{Chart, Lane, longest_span};
 use crate::legend::put_times;
 use crate::listing::{put_fillings, put_jobs};
+use crate::page::Page;
 use crate::row::{lane_row, scale_row};
 use crate::scale::Scale;
 use crate::stranded::put_sentence;
 use base_types::Stranded;
 use std::alloc::{AllocError, Global};
-use std::fmt;
 
 /// The columns of a line.
 pub(crate) const WIDTH: usize = 80;
@@ -37,110 +37,90 @@ fn name_columns(charts: &[Chart]) -> usize {
 }
 
 /// Appends a name, cut off or filled up with spaces to so many columns.
-pub(crate) fn put_name<W: fmt::Write>(output: &mut W, name: &[u8], columns: usize) -> fmt::Result {
+pub(crate) fn put_name(page: Page, name: &[u8], columns: usize) -> Page {
+    let mut page = page;
     for place in 0..columns {
         let byte = name.get(place).copied().unwrap_or(b' ');
-        output.write_char(char::from(byte))?;
+        page = page.put_letter(char::from(byte));
     }
-    Ok(())
+    page
 }
 
 /// Appends a row behind its name, without the spaces at its end.
-fn put_row<W: fmt::Write>(
-    output: &mut W,
-    name: &[u8],
-    columns: usize,
-    cells: &[u8],
-) -> fmt::Result {
-    put_name(output, name, columns)?;
+fn put_row(page: Page, name: &[u8], columns: usize, cells: &[u8]) -> Page {
+    let mut page = put_name(page, name, columns);
     for byte in cells.trim_ascii_end() {
-        output.write_char(char::from(*byte))?;
+        page = page.put_letter(char::from(*byte));
     }
-    output.write_char('\n')
+    page.put_letter('\n')
 }
 
 /// Appends the rows of lanes, and that of the scale.
-fn put_rows<W: fmt::Write>(
-    alloc: Global,
-    output: &mut W,
-    chart: &Chart,
-    scale: Scale,
-    names: usize,
-) -> fmt::Result {
+fn put_rows(page: Page, chart: &Chart, scale: Scale, names: usize) -> Page {
     let columns = u16::try_from(WIDTH.saturating_sub(names.saturating_add(1))).unwrap_or(0);
+    let mut page = page;
     for lane in &chart.lanes {
-        let cells = lane_row(alloc, scale, columns, lane)?;
-        put_row(output, lane.name.as_bytes(), names, &cells)?;
+        let cells = lane_row(scale, columns, lane);
+        page = put_row(page, lane.name.as_bytes(), names, &cells);
     }
-    let cells = scale_row(alloc, scale, columns)?;
-    put_row(output, scale.unit().name().as_bytes(), names, &cells)
+    let cells = scale_row(scale, columns);
+    put_row(page, scale.unit().name().as_bytes(), names, &cells)
 }
 
 /// Appends the jobs of all lanes.
-fn put_lists<W: fmt::Write>(output: &mut W, lanes: &[Lane], names: usize) -> fmt::Result {
+fn put_lists(page: Page, lanes: &[Lane], names: usize) -> Page {
+    let mut page = page;
     for lane in lanes {
-        put_jobs(output, lane, names)?;
+        page = put_jobs(page, lane, names);
     }
-    Ok(())
+    page
 }
 
 /// Appends the jobs that no device can print, a line each.
-fn put_stranded<W: fmt::Write>(output: &mut W, stranded: &[Stranded]) -> fmt::Result {
+fn put_stranded(page: Page, stranded: &[Stranded]) -> Page {
+    let mut page = page;
     for one in stranded {
-        put_sentence(output, one)?;
-        output.write_char('\n')?;
+        page = put_sentence(page, one).put_letter('\n');
     }
-    Ok(())
+    page
 }
 
 /// Appends what else is said of jobs, a line each.
-fn put_notes<W: fmt::Write>(output: &mut W, notes: &[String]) -> fmt::Result {
+fn put_notes(page: Page, notes: &[String]) -> Page {
+    let mut page = page;
     for note in notes {
-        output.write_str(note)?;
-        output.write_char('\n')?;
+        page = page.put(note).put_letter('\n');
     }
-    Ok(())
+    page
 }
 
 /// Appends a chart, with the numbers and lengths of all its jobs below.
-fn put_chart<W: fmt::Write>(
-    alloc: Global,
-    output: &mut W,
-    chart: &Chart,
-    scale: Scale,
-    names: usize,
-) -> fmt::Result {
-    output.write_str(&chart.title)?;
-    output.write_char('\n')?;
-    put_times(output, chart)?;
-    output.write_str("\n\n")?;
-    put_rows(alloc, output, chart, scale, names)?;
-    put_fillings(output, chart, names)?;
-    output.write_char('\n')?;
-    put_lists(output, &chart.lanes, names)?;
-    put_stranded(output, &chart.stranded)?;
-    put_notes(output, &chart.notes)
+fn put_chart(page: Page, chart: &Chart, scale: Scale, names: usize) -> Page {
+    let page = page.put(&chart.title).put_letter('\n');
+    let page = put_times(page, chart).put("\n\n");
+    let page = put_rows(page, chart, scale, names);
+    let page = put_fillings(page, chart, names).put_letter('\n');
+    let page = put_lists(page, &chart.lanes, names);
+    let page = put_stranded(page, &chart.stranded);
+    put_notes(page, &chart.notes)
 }
 
 /// Appends charts, with an empty line between two.
-fn put_charts<W: fmt::Write>(alloc: Global, output: &mut W, charts: &[Chart]) -> fmt::Result {
+fn put_charts(page: Page, charts: &[Chart]) -> Page {
     let names = name_columns(charts);
     let scale = Scale::new(longest_span(charts));
+    let mut page = page;
     for (place, chart) in charts.iter().enumerate() {
         if place > 0 {
-            output.write_char('\n')?;
+            page = page.put_letter('\n');
         }
-        put_chart(alloc, output, chart, scale, names)?;
+        page = put_chart(page, chart, scale, names);
     }
-    Ok(())
+    page
 }
 
 /// A picture of charts in 80 columns, below one another and over one scale: whole lines, as they are to be
 /// written. The only error is out of memory.
 pub(crate) fn write_text(alloc: Global, charts: &[Chart]) -> Result<String, AllocError> {
-    let mut picture = String::new(alloc);
-    match put_charts(alloc, &mut picture, charts) {
-        Ok(()) => Ok(picture),
-        Err(_) => Err(AllocError),
-    }
+    put_charts(Page::new(alloc), charts).finish()
 }
