@@ -17,7 +17,7 @@ pub(crate) fn form_of(text: bool) -> Form {
 }
 
 /// Draws the plan of a text from standard input.
-pub(crate) fn draw(rt: &HostRuntime, form: Form) -> ExitStatus {
+fn draw_plan(rt: &HostRuntime, form: Form) -> ExitStatus {
     let mut input = NotedInput::new(rt.reader());
     let mut output = NotedOutput::new(io::writer(rt));
     let audit = run_draw(rt.alloc(), &mut input, &mut output, form);
@@ -58,13 +58,21 @@ pub(crate) fn written_trace(
 }
 
 /// Draws the day of a trace; the error is one of what was said.
-pub(crate) fn draw_trace(
-    rt: &HostRuntime,
-    file: &str,
-    form: Form,
-) -> Result<ExitStatus, ExitStatus> {
+fn draw_trace(rt: &HostRuntime, file: &str, form: Form) -> Result<ExitStatus, ExitStatus> {
     let text = written_trace(rt, file, read_file(rt, file)?)?;
     let drawn = draw_day(rt.alloc(), file, &text, form);
     let picture = drawn.map_err(|fault| refuse_day(rt, "draw the day", &fault))?;
     write_text(rt, &picture)
+}
+
+/// Draws the day of a trace, or, where there is none, a plan; the error is one of what was said.
+pub(crate) fn draw(
+    rt: &HostRuntime,
+    trace: Option<&str>,
+    form: Form,
+) -> Result<ExitStatus, ExitStatus> {
+    match trace {
+        Some(file) => draw_trace(rt, file, form),
+        None => Ok(draw_plan(rt, form)),
+    }
 }

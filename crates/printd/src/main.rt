@@ -18,7 +18,7 @@ mod simulating;
 mod tape;
 
 use crate::attaching::run_attach;
-use crate::drawing::{draw, draw_trace, form_of};
+use crate::drawing::{draw, form_of};
 use crate::failure::{cannot, out_of_memory};
 use crate::judging::check;
 use crate::replaying::{log, replay};
@@ -78,20 +78,16 @@ fn tell(rt: &HostRuntime, error: &WordsError) -> ExitStatus {
 }
 
 /// Does what the words ask for, and gives the status; the error is one of what was said already.
-fn run(rt: &HostRuntime, asked: Subcommand<'_>) -> Result<ExitStatus, ExitStatus> {
+fn run(rt: &HostRuntime, asked: &Subcommand<'_>) -> Result<ExitStatus, ExitStatus> {
     match asked {
         Subcommand::Serve(serving) => run_serve(rt, serving),
-        Subcommand::Settings(about) => run_settings(rt, about),
-        Subcommand::Replay(replaying) => replay(rt, replaying),
-        Subcommand::Log { file } => log(rt, file),
-        Subcommand::Check { starts } => Ok(check(rt, starts)),
-        Subcommand::Draw { text, trace: None } => Ok(draw(rt, form_of(text))),
-        Subcommand::Draw {
-            text,
-            trace: Some(file),
-        } => draw_trace(rt, file, form_of(text)),
+        Subcommand::Settings(about) => run_settings(rt, *about),
+        Subcommand::Replay(replaying) => replay(rt, *replaying),
+        Subcommand::Log { file } => log(rt, *file),
+        Subcommand::Check { starts } => Ok(check(rt, *starts)),
+        Subcommand::Draw { text, trace } => draw(rt, *trace, form_of(*text)),
         Subcommand::Simulate(simulating) => run_simulate(rt, simulating),
-        Subcommand::Attach(attaching) => run_attach(rt, attaching),
+        Subcommand::Attach(attaching) => run_attach(rt, *attaching),
     }
 }
 
@@ -105,7 +101,7 @@ fn run_words(rt: &HostRuntime) -> Result<ExitStatus, ExitStatus> {
         io::Error::from(error),
     ))?;
     match read_words(rt.alloc(), &texts) {
-        Ok(asked) => run(rt, asked),
+        Ok(asked) => run(rt, &asked),
         Err(error) => Ok(tell(rt, &error)),
     }
 }

@@ -186,8 +186,8 @@ fn text_of(rt: &HostRuntime, file: Option<&str>) -> Result<Vec<u8>, ExitStatus> 
 }
 
 /// Serves, and says where; the error is the status of what was said already.
-pub(crate) fn run_serve(rt: &HostRuntime, serving: Serving<'_>) -> Result<ExitStatus, ExitStatus> {
+pub(crate) fn run_serve(rt: &HostRuntime, serving: &Serving<'_>) -> Result<ExitStatus, ExitStatus> {
     let text = text_of(rt, serving.settings)?;
-    let settings = settings_in(rt, file_of(&serving), &text)?;
-    serve_settings(rt, settings, &text, &serving)
+    let settings = settings_in(rt, file_of(serving), &text)?;
+    serve_settings(rt, settings, &text, serving)
 }

@@ -1,4 +1,5 @@
 //! `printd simulate`.
+ghost use Rattle.settings_file.specs.Settings.{MeetsLimits};
 
 use crate::drawing::{form_of, refuse_day, written_trace};
 use crate::failure::{cannot, out_of_memory, say, write_text};
@@ -137,14 +138,16 @@ fn jobs_of(
     }
 }
 
-/// Plays the jobs of a list; the error is one of what was said.
-pub(crate) fn run_simulate(
+/// Plays jobs with these settings: the text that tells of it. The error is one of what was said.
+fn played(
     rt: &HostRuntime,
-    simulating: Simulating<'_>,
-) -> Result<ExitStatus, ExitStatus> {
-    let settings = settings_of(rt, simulating.settings)?;
-    let jobs = jobs_of(rt, simulating.jobs, &settings)?;
-    let added = added_of(rt, &simulating).map_err(|_| cannot(rt, PLAY, out_of_memory()))?;
+    simulating: &Simulating<'_>,
+    settings: Settings,
+    jobs: &[ListedJob],
+) -> Result<String, ExitStatus>
+    requires { MeetsLimits settings }
+{
+    let added = added_of(rt, simulating).map_err(|_| cannot(rt, PLAY, out_of_memory()))?;
     let question = Question {
         noise: Noise {
             percent: simulating.noise,
@@ -152,11 +155,21 @@ pub(crate) fn run_simulate(
         },
         away: &simulating.without,
         added: &added,
-        drawn: drawn_of(&simulating),
+        drawn: drawn_of(simulating),
     };
     let mut progress = Progress::new(rt);
-    let played = run_simulation(rt.alloc(), settings, &jobs, question, &mut progress);
+    let played = run_simulation(rt.alloc(), settings, jobs, question, &mut progress);
     progress.end();
-    let text = played.map_err(|fault| refuse(rt, &fault))?;
+    played.map_err(|fault| refuse(rt, &fault))
+}
+
+/// Plays the jobs of a list; the error is one of what was said.
+pub(crate) fn run_simulate(
+    rt: &HostRuntime,
+    simulating: &Simulating<'_>,
+) -> Result<ExitStatus, ExitStatus> {
+    let settings = settings_of(rt, simulating.settings)?;
+    let jobs = jobs_of(rt, simulating.jobs, &settings)?;
+    let text = played(rt, simulating, settings, &jobs)?;
     write_text(rt, &text)
 }
