@@ -6,12 +6,13 @@
 //! Tests stand in `reader_tests`.
 #![tactic(auto)]
 
-mod adding;
 mod attach_words;
+mod command;
 mod doors;
 mod read;
 mod simulate_words;
 mod subcommand;
+mod words;
 mod words_error;
 
 pub use attach_words::Attaching;

@@ -1,15 +1,9 @@
 //! The words of `printd simulate`.
 
-use crate::adding::with_option;
-use crate::attach_words::word;
 use crate::doors::invalid;
 use crate::words_error::WordsError;
-use clap::builder::ValueParser;
-use clap::{Arg, ArgAction, ArgMatches, Command};
+use clap::ArgMatches;
 use std::alloc::{AllocError, Global};
-
-/// The names of the policies, by which a day may be drawn.
-const POLICIES: &[&str] = &["round-robin", "first-free", "shortest-queue"];
 
 /// How to play a day.
 #[derive(Debug, Drop)]
@@ -31,91 +25,6 @@ pub struct Simulating<'a> {
     pub draw: Option<&'a str>,
     /// Whether it is to be drawn for a terminal.
     pub text: bool,
-}
-
-fn settings<'a>(alloc: Global) -> Arg<'a> {
-    word(
-        alloc,
-        "settings",
-        "FILE",
-        "The settings: devices and printers",
-    )
-    .required(true)
-}
-
-fn jobs<'a>(alloc: Global) -> Arg<'a> {
-    word(
-        alloc,
-        "jobs",
-        "FILE",
-        "The jobs, as comma-separated values or a trace",
-    )
-    .required(true)
-}
-
-fn noise<'a>(alloc: Global) -> Arg<'a> {
-    word(
-        alloc,
-        "noise",
-        "PERCENT",
-        "By how much devices miss their estimates at most, up to 90",
-    )
-    .value_parser(clap::value_parser!(u8).range(0..91))
-    .default_value("0")
-}
-
-fn seed<'a>(alloc: Global) -> Arg<'a> {
-    word(alloc, "seed", "N", "The seed of chance, for --noise")
-        .value_parser(clap::value_parser!(u64))
-        .default_value("1")
-}
-
-fn without<'a>(alloc: Global) -> Arg<'a> {
-    word(alloc, "without", "NAME", "A device that is away all day").action(ArgAction::Append)
-}
-
-fn with<'a>(alloc: Global) -> Arg<'a> {
-    word(
-        alloc,
-        "with",
-        "NAME=LIKE",
-        "One device more, of this name, like one of the settings",
-    )
-    .action(ArgAction::Append)
-}
-
-fn draw<'a>(alloc: Global) -> Arg<'a> {
-    word(
-        alloc,
-        "draw",
-        "POLICY",
-        "Draw the planned day and that of a policy",
-    )
-    .num_args(0..=1)
-    .default_missing_value("round-robin")
-    .value_parser(ValueParser::Names(POLICIES))
-}
-
-fn text<'a>(alloc: Global) -> Result<Arg<'a>, AllocError> {
-    Arg::new(alloc, "text")
-        .long("text")
-        .action(ArgAction::SetTrue)
-        .help("Draw for a terminal of 80 columns, in place of SVG")
-        .requires_arg("draw")
-}
-
-/// The command that plays a day.
-pub(crate) fn simulate_command<'a>(alloc: Global) -> Result<Command<'a>, AllocError> {
-    let command = Command::new(alloc, "simulate")
-        .about("Play a day of jobs as the server plans it, and as simpler rules would print it")
-        .arg(settings(alloc))?
-        .arg(jobs(alloc))?
-        .arg(noise(alloc))?
-        .arg(seed(alloc))?
-        .arg(without(alloc))?
-        .arg(with(alloc))?
-        .arg(draw(alloc))?;
-    with_option(command, text(alloc))
 }
 
 /// The values of a word that may be given several times.

@@ -1,0 +1,85 @@
+//! The commands of the program as `clap` wants them, made of the tables in `words`.
+
+use crate::read::VERSION;
+use crate::words::{ArgumentWords, CommandWords, command_words};
+use clap::{Arg, Command};
+use std::alloc::{AllocError, Global};
+
+/// An argument by its name, and an option with two dashes before it.
+fn named<'a>(alloc: Global, words: &ArgumentWords<'a>) -> Arg<'a> {
+    let argument = Arg::new(alloc, words.name)
+        .help(words.help)
+        .required(words.is_required);
+    if words.is_positional {
+        argument
+    } else {
+        argument.long(words.name)
+    }
+}
+
+/// An argument with what is known of its values.
+fn with_values<'a>(argument: Arg<'a>, words: &ArgumentWords<'a>) -> Arg<'a> {
+    let most = words.value_name.len();
+    let least = if words.default_if_bare.is_empty() {
+        most
+    } else {
+        0
+    };
+    argument
+        .action(words.action)
+        .value_names(words.value_name)
+        .num_args(least..=most)
+        .value_parser(words.parser)
+        .default_values(words.default)
+        .default_missing_values(words.default_if_bare)
+}
+
+fn argument_of<'a>(alloc: Global, words: &ArgumentWords<'a>) -> Result<Arg<'a>, AllocError> {
+    with_values(named(alloc, words), words).requires_all(words.needs)
+}
+
+fn arguments<'a>(
+    alloc: Global,
+    words: &'a [ArgumentWords<'a>],
+) -> Result<Vec<Arg<'a>>, AllocError> {
+    let mut arguments = Vec::with_capacity(alloc, words.len())?;
+    for argument in words {
+        arguments.push(argument_of(alloc, argument)?)?;
+    }
+    Ok(arguments)
+}
+
+fn command_of<'a>(alloc: Global, words: &CommandWords<'a>) -> Result<Command<'a>, AllocError> {
+    match arguments(alloc, words.arguments) {
+        Ok(arguments) => Command::new(alloc, words.name)
+            .about(words.about)
+            .args(arguments),
+        Err(error) => Err(error),
+    }
+}
+
+fn commands<'a>(alloc: Global) -> Result<Vec<Command<'a>>, AllocError> {
+    let words = command_words();
+    let mut commands = Vec::with_capacity(alloc, words.len())?;
+    for command in words {
+        commands.push(command_of(alloc, command)?)?;
+    }
+    Ok(commands)
+}
+
+/// The program, which has no command yet.
+fn bare_program<'a>(alloc: Global) -> Command<'a> {
+    Command::new(alloc, "printd")
+        .about("A print server that proves its plans are the best")
+        .version(VERSION)
+        .arg_required_else_help(true)
+        .subcommand_required(true)
+}
+
+/// The program with its commands.
+pub(crate) fn program<'a>(alloc: Global) -> Result<Command<'a>, AllocError> {
+    match commands(alloc) {
+        Ok(commands) => bare_program(alloc).subcommands(commands),
+        Err(error) => Err(error),
+    }
+}

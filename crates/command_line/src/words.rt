@@ -1,0 +1,406 @@
+//! The program's commands and their arguments, as data. `command` makes of it what `clap` reads.
+
+use clap::ArgAction;
+use clap::builder::ValueParser;
+
+/// What stands for standard error in the place of a file.
+pub(crate) const STANDARD_ERROR: &str = "-";
+
+/// Turns without an end: at ten a second, three thousand years.
+pub(crate) const MOST_TURNS: u64 = 1_000_000_000_000;
+
+/// The names of the policies, by which a day may be drawn.
+const POLICIES: &[&str] = &["round-robin", "first-free", "shortest-queue"];
+
+/// A command.
+pub(crate) struct CommandWords<'a> {
+    pub(crate) name: &'a str,
+    /// What it does, as help says it.
+    pub(crate) about: &'a str,
+    /// Its arguments, in the order of help.
+    pub(crate) arguments: &'a [ArgumentWords<'a>],
+}
+
+/// An argument of a command. A slice among its fields has one text or none.
+pub(crate) struct ArgumentWords<'a> {
+    pub(crate) name: &'a str,
+    /// Whether it is known by its place, and not by its name behind two dashes.
+    pub(crate) is_positional: bool,
+    /// Whether it is a flag, has one value, or may be given several times.
+    pub(crate) action: ArgAction,
+    /// What help calls its value. A flag has none.
+    pub(crate) value_name: &'a [&'a str],
+    /// Which values it takes.
+    pub(crate) parser: ValueParser<'a>,
+    /// Its value where it isn't given.
+    pub(crate) default: &'a [&'a str],
+    /// Its value where it is given without one. With no text here, that is refused.
+    pub(crate) default_if_bare: &'a [&'a str],
+    pub(crate) is_required: bool,
+    /// The argument without which it is refused.
+    pub(crate) needs: &'a [&'a str],
+    /// What help says of it.
+    pub(crate) help: &'a str,
+}
+
+/// A flag.
+const FLAG: ArgumentWords<'static> = ArgumentWords {
+    name: "",
+    is_positional: false,
+    action: ArgAction::SetTrue,
+    value_name: &[],
+    parser: ValueParser::Bool,
+    default: &[],
+    default_if_bare: &[],
+    is_required: false,
+    needs: &[],
+    help: "",
+};
+
+/// An option with one value, which is any text.
+const TEXT: ArgumentWords<'static> = ArgumentWords {
+    action: ArgAction::Set,
+    parser: ValueParser::String,
+    ..FLAG
+};
+
+/// An option with the name of a file.
+const FILE: ArgumentWords<'static> = ArgumentWords {
+    value_name: &["FILE"],
+    ..TEXT
+};
+
+/// The file that a command reads, known by its place.
+const FILE_READ: ArgumentWords<'static> = ArgumentWords {
+    name: "file",
+    is_positional: true,
+    ..FILE
+};
+
+/// The trace that a command reads.
+const TRACE_READ: ArgumentWords<'static> = ArgumentWords {
+    help: "The trace; without it, that of standard input",
+    ..FILE_READ
+};
+
+/// An option with a number of 32 bits.
+const NUMBER: ArgumentWords<'static> = ArgumentWords {
+    value_name: &["N"],
+    parser: ValueParser::Signed(0, u32::MAX as i64),
+    ..TEXT
+};
+
+/// An option with a number of 64 bits.
+const LONG_NUMBER: ArgumentWords<'static> = ArgumentWords {
+    value_name: &["N"],
+    parser: ValueParser::Unsigned(0, u64::MAX),
+    ..TEXT
+};
+
+/// Where clients of a door come in.
+const DOOR: ArgumentWords<'static> = ArgumentWords {
+    action: ArgAction::Append,
+    value_name: &["[ADDRESS:]PORT"],
+    ..TEXT
+};
+
+const SERVE: &[ArgumentWords<'static>] = &[
+    ArgumentWords {
+        name: "settings",
+        help: "The settings: devices, printers, operators; without it, those of `printd settings`",
+        ..FILE
+    },
+    ArgumentWords {
+        name: "ipp",
+        default: &["8631"],
+        help: "Where IPP clients come in; port 0 is any that is free",
+        ..DOOR
+    },
+    ArgumentWords {
+        name: "lpd",
+        default: &["8515"],
+        help: "Where LPD clients come in",
+        ..DOOR
+    },
+    ArgumentWords {
+        name: "devices",
+        default: &["8632"],
+        help: "Where devices come in",
+        ..DOOR
+    },
+    ArgumentWords {
+        name: "address",
+        value_name: &["ADDRESS"],
+        default: &["127.0.0.1"],
+        help: "The address of each door that names none",
+        ..TEXT
+    },
+    ArgumentWords {
+        name: "turns",
+        parser: ValueParser::Unsigned(1, MOST_TURNS),
+        help: "End after so many turns; without it, serve until told to stop",
+        ..LONG_NUMBER
+    },
+    ArgumentWords {
+        name: "log",
+        default_if_bare: &[STANDARD_ERROR],
+        help: "Append what happens to a file; without its name, or with -, write it to standard error",
+        ..FILE
+    },
+    ArgumentWords {
+        name: "record",
+        help: "Record the day to this file, which is made, or, where it is there, to the next: day.1.trace behind day.trace",
+        ..FILE
+    },
+    ArgumentWords {
+        name: "record-heads",
+        needs: &["record"],
+        help: "Record each octet of a document as a zero",
+        ..FLAG
+    },
+];
+
+const SETTINGS: &[ArgumentWords<'static>] = &[
+    ArgumentWords {
+        help: "The settings: devices, printers, operators",
+        ..FILE_READ
+    },
+    ArgumentWords {
+        name: "avahi",
+        needs: &["file"],
+        help: "Print the service file with which Avahi announces a printer of the file",
+        ..FLAG
+    },
+    ArgumentWords {
+        name: "printer",
+        value_name: &["NAME"],
+        needs: &["avahi"],
+        help: "Which printer, where the file has several",
+        ..TEXT
+    },
+    ArgumentWords {
+        name: "lpd",
+        value_name: &["PORT"],
+        parser: ValueParser::Signed(0, u16::MAX as i64),
+        needs: &["avahi"],
+        help: "Where LPD clients come in, where it isn't 515",
+        ..NUMBER
+    },
+];
+
+const REPLAY: &[ArgumentWords<'static>] = &[
+    TRACE_READ,
+    ArgumentWords {
+        name: "plans",
+        help: "Write the text of each plan too, as `check` reads it",
+        ..FLAG
+    },
+    ArgumentWords {
+        name: "verify",
+        help: "Of a recorded day, write only whether all is the same: same, or where it first differs",
+        ..FLAG
+    },
+];
+
+const LOG: &[ArgumentWords<'static>] = &[TRACE_READ];
+
+const CHECK: &[ArgumentWords<'static>] = &[ArgumentWords {
+    name: "starts",
+    help: "With a yes, write when each job starts and ends",
+    ..FLAG
+}];
+
+const DRAW: &[ArgumentWords<'static>] = &[
+    ArgumentWords {
+        name: "text",
+        help: "Draw it for a terminal of 80 columns",
+        ..FLAG
+    },
+    ArgumentWords {
+        name: "trace",
+        help: "Draw the day of this trace: which device printed what, and when",
+        ..FILE
+    },
+];
+
+const SIMULATE: &[ArgumentWords<'static>] = &[
+    ArgumentWords {
+        name: "settings",
+        is_required: true,
+        help: "The settings: devices and printers",
+        ..FILE
+    },
+    ArgumentWords {
+        name: "jobs",
+        is_required: true,
+        help: "The jobs, as comma-separated values or a trace",
+        ..FILE
+    },
+    ArgumentWords {
+        name: "noise",
+        value_name: &["PERCENT"],
+        parser: ValueParser::Signed(0, 90),
+        default: &["0"],
+        help: "By how much devices miss their estimates at most, up to 90",
+        ..NUMBER
+    },
+    ArgumentWords {
+        name: "seed",
+        default: &["1"],
+        help: "The seed of chance, for --noise",
+        ..LONG_NUMBER
+    },
+    ArgumentWords {
+        name: "without",
+        action: ArgAction::Append,
+        value_name: &["NAME"],
+        help: "A device that is away all day",
+        ..TEXT
+    },
+    ArgumentWords {
+        name: "with",
+        action: ArgAction::Append,
+        value_name: &["NAME=LIKE"],
+        help: "One device more, of this name, like one of the settings",
+        ..TEXT
+    },
+    ArgumentWords {
+        name: "draw",
+        value_name: &["POLICY"],
+        parser: ValueParser::Names(POLICIES),
+        default_if_bare: &["round-robin"],
+        help: "Draw the planned day and that of a policy",
+        ..TEXT
+    },
+    ArgumentWords {
+        name: "text",
+        needs: &["draw"],
+        help: "Draw for a terminal of 80 columns, in place of SVG",
+        ..FLAG
+    },
+];
+
+const ATTACH: &[ArgumentWords<'static>] = &[
+    ArgumentWords {
+        name: "name",
+        value_name: &["NAME"],
+        is_required: true,
+        help: "The device of the settings that the printer is",
+        ..TEXT
+    },
+    ArgumentWords {
+        name: "server",
+        value_name: &["HOST:PORT"],
+        default: &["127.0.0.1:8632"],
+        help: "Where the server's devices come in",
+        ..TEXT
+    },
+    ArgumentWords {
+        name: "to",
+        value_name: &["ADDRESS"],
+        is_required: true,
+        help: "What prints: file:DIR, socket://HOST[:PORT], lpd://HOST[:PORT]/QUEUE or ipp://HOST[:PORT]/PATH",
+        ..TEXT
+    },
+    ArgumentWords {
+        name: "format",
+        value_name: &["MIME"],
+        help: "What every document is; without it, the first bytes tell",
+        ..TEXT
+    },
+    ArgumentWords {
+        name: "ms-per-page",
+        default: &["0"],
+        help: "How long a folder takes for a page, in ms",
+        ..NUMBER
+    },
+    ArgumentWords {
+        name: "linger",
+        value_name: &["SECONDS"],
+        default: &["30"],
+        help: "How long a printer that has taken all may be silent before the job is done",
+        ..NUMBER
+    },
+    ArgumentWords {
+        name: "timeout",
+        value_name: &["SECONDS"],
+        default: &["300"],
+        help: "How long a printer may neither take nor say anything",
+        ..NUMBER
+    },
+    ArgumentWords {
+        name: "pjl",
+        help: "Wrap each job in PJL, and hear of its pages and its end",
+        ..FLAG
+    },
+    ArgumentWords {
+        name: "turns",
+        help: "End after so many turns; without it, run until told to stop",
+        ..LONG_NUMBER
+    },
+    ArgumentWords {
+        name: "log",
+        help: "Write connections, jobs and faults to standard error",
+        ..FLAG
+    },
+    ArgumentWords {
+        name: "measure",
+        help: "Write the printer's rates and its setup for the settings, after each job",
+        ..FLAG
+    },
+    ArgumentWords {
+        name: "until-closed",
+        help: "Give the job in hand up and end once standard input, a pipe, is closed",
+        ..FLAG
+    },
+];
+
+/// The commands, in the order of help.
+const COMMANDS: &[CommandWords<'static>] = &[
+    CommandWords {
+        name: "serve",
+        about: "Serve print clients and devices over the network",
+        arguments: SERVE,
+    },
+    CommandWords {
+        name: "settings",
+        about: "Print the built-in settings; or judge those of a file, as `serve` does: ok, or their first fault",
+        arguments: SETTINGS,
+    },
+    CommandWords {
+        name: "replay",
+        about: "Play a trace, and write what the server does",
+        arguments: REPLAY,
+    },
+    CommandWords {
+        name: "log",
+        about: "Write the log's lines of a recorded day",
+        arguments: LOG,
+    },
+    CommandWords {
+        name: "check",
+        about: "Judge the text of a plan from standard input: yes, or its first fault",
+        arguments: CHECK,
+    },
+    CommandWords {
+        name: "draw",
+        about: "Draw the plan of a text from standard input, or the day of a trace, as SVG",
+        arguments: DRAW,
+    },
+    CommandWords {
+        name: "simulate",
+        about: "Play a day of jobs as the server plans it, and as simpler rules would print it",
+        arguments: SIMULATE,
+    },
+    CommandWords {
+        name: "attach",
+        about: "Be a device of a server, and have a printer print what it is given",
+        arguments: ATTACH,
+    },
+];
+
+/// The commands of the program, for words of any lifetime. A `Command` owns memory, and what it refers to
+/// can't be given a shorter lifetime later.
+pub(crate) fn command_words<'a>() -> &'a [CommandWords<'a>] {
+    COMMANDS
+}
