@@ -18,24 +18,24 @@ fn named<'a>(alloc: Global, words: &ArgumentWords<'a>) -> Arg<'a> {
 }
 
 /// An argument with what is known of its values.
-fn with_values<'a>(argument: Arg<'a>, words: &ArgumentWords<'a>) -> Arg<'a> {
-    let most = words.value_name.len();
-    let least = if words.default_if_bare.is_empty() {
-        most
-    } else {
+fn with_values<'a>(argument: Arg<'a>, words: &'a ArgumentWords<'a>) -> Arg<'a> {
+    let most = usize::from(words.value_name.is_some());
+    let least = if words.default_if_bare.is_some() {
         0
+    } else {
+        most
     };
     argument
         .action(words.action)
-        .value_names(words.value_name)
+        .value_names(words.value_name.as_slice())
         .num_args(least..=most)
         .value_parser(words.parser)
-        .default_values(words.default)
-        .default_missing_values(words.default_if_bare)
+        .default_values(words.default.as_slice())
+        .default_missing_values(words.default_if_bare.as_slice())
 }
 
-fn argument_of<'a>(alloc: Global, words: &ArgumentWords<'a>) -> Result<Arg<'a>, AllocError> {
-    with_values(named(alloc, words), words).requires_all(words.needs)
+fn argument_of<'a>(alloc: Global, words: &'a ArgumentWords<'a>) -> Result<Arg<'a>, AllocError> {
+    with_values(named(alloc, words), words).requires_all(words.needs.as_slice())
 }
 
 fn arguments<'a>(

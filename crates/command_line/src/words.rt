@@ -1,4 +1,4 @@
-//! The program's commands and their arguments, as data. `command` makes of it what `clap` reads.
+//! The program's commands and their arguments, as tables. `command` makes of them what `clap` reads.
 
 use clap::ArgAction;
 use clap::builder::ValueParser;
@@ -21,7 +21,7 @@ pub(crate) struct CommandWords<'a> {
     pub(crate) arguments: &'a [ArgumentWords<'a>],
 }
 
-/// An argument of a command. A slice among its fields has one text or none.
+/// An argument of a command.
 pub(crate) struct ArgumentWords<'a> {
     pub(crate) name: &'a str,
     /// Whether it is known by its place, and not by its name behind two dashes.
@@ -29,16 +29,16 @@ pub(crate) struct ArgumentWords<'a> {
     /// Whether it is a flag, has one value, or may be given several times.
     pub(crate) action: ArgAction,
     /// What help calls its value. A flag has none.
-    pub(crate) value_name: &'a [&'a str],
+    pub(crate) value_name: Option<&'a str>,
     /// Which values it takes.
     pub(crate) parser: ValueParser<'a>,
     /// Its value where it isn't given.
-    pub(crate) default: &'a [&'a str],
-    /// Its value where it is given without one. With no text here, that is refused.
-    pub(crate) default_if_bare: &'a [&'a str],
+    pub(crate) default: Option<&'a str>,
+    /// Its value where it is given without one. With none here, that is refused.
+    pub(crate) default_if_bare: Option<&'a str>,
     pub(crate) is_required: bool,
     /// The argument without which it is refused.
-    pub(crate) needs: &'a [&'a str],
+    pub(crate) needs: Option<&'a str>,
     /// What help says of it.
     pub(crate) help: &'a str,
 }
@@ -48,12 +48,12 @@ const FLAG: ArgumentWords<'static> = ArgumentWords {
     name: "",
     is_positional: false,
     action: ArgAction::SetTrue,
-    value_name: &[],
+    value_name: None,
     parser: ValueParser::Bool,
-    default: &[],
-    default_if_bare: &[],
+    default: None,
+    default_if_bare: None,
     is_required: false,
-    needs: &[],
+    needs: None,
     help: "",
 };
 
@@ -66,7 +66,7 @@ const TEXT: ArgumentWords<'static> = ArgumentWords {
 
 /// An option with the name of a file.
 const FILE: ArgumentWords<'static> = ArgumentWords {
-    value_name: &["FILE"],
+    value_name: Some("FILE"),
     ..TEXT
 };
 
@@ -85,14 +85,14 @@ const TRACE_READ: ArgumentWords<'static> = ArgumentWords {
 
 /// An option with a number of 32 bits.
 const NUMBER: ArgumentWords<'static> = ArgumentWords {
-    value_name: &["N"],
+    value_name: Some("N"),
     parser: ValueParser::Signed(0, u32::MAX as i64),
     ..TEXT
 };
 
 /// An option with a number of 64 bits.
 const LONG_NUMBER: ArgumentWords<'static> = ArgumentWords {
-    value_name: &["N"],
+    value_name: Some("N"),
     parser: ValueParser::Unsigned(0, u64::MAX),
     ..TEXT
 };
@@ -100,7 +100,7 @@ const LONG_NUMBER: ArgumentWords<'static> = ArgumentWords {
 /// Where clients of a door come in.
 const DOOR: ArgumentWords<'static> = ArgumentWords {
     action: ArgAction::Append,
-    value_name: &["[ADDRESS:]PORT"],
+    value_name: Some("[ADDRESS:]PORT"),
     ..TEXT
 };
 
@@ -112,26 +112,26 @@ const SERVE: &[ArgumentWords<'static>] = &[
     },
     ArgumentWords {
         name: "ipp",
-        default: &["8631"],
+        default: Some("8631"),
         help: "Where IPP clients come in; port 0 is any that is free",
         ..DOOR
     },
     ArgumentWords {
         name: "lpd",
-        default: &["8515"],
+        default: Some("8515"),
         help: "Where LPD clients come in",
         ..DOOR
     },
     ArgumentWords {
         name: "devices",
-        default: &["8632"],
+        default: Some("8632"),
         help: "Where devices come in",
         ..DOOR
     },
     ArgumentWords {
         name: "address",
-        value_name: &["ADDRESS"],
-        default: &["127.0.0.1"],
+        value_name: Some("ADDRESS"),
+        default: Some("127.0.0.1"),
         help: "The address of each door that names none",
         ..TEXT
     },
@@ -143,7 +143,7 @@ const SERVE: &[ArgumentWords<'static>] = &[
     },
     ArgumentWords {
         name: "log",
-        default_if_bare: &[STANDARD_ERROR],
+        default_if_bare: Some(STANDARD_ERROR),
         help: "Append what happens to a file; without its name, or with -, write it to standard error",
         ..FILE
     },
@@ -154,7 +154,7 @@ const SERVE: &[ArgumentWords<'static>] = &[
     },
     ArgumentWords {
         name: "record-heads",
-        needs: &["record"],
+        needs: Some("record"),
         help: "Record each octet of a document as a zero",
         ..FLAG
     },
@@ -167,22 +167,22 @@ const SETTINGS: &[ArgumentWords<'static>] = &[
     },
     ArgumentWords {
         name: "avahi",
-        needs: &["file"],
+        needs: Some("file"),
         help: "Print the service file with which Avahi announces a printer of the file",
         ..FLAG
     },
     ArgumentWords {
         name: "printer",
-        value_name: &["NAME"],
-        needs: &["avahi"],
+        value_name: Some("NAME"),
+        needs: Some("avahi"),
         help: "Which printer, where the file has several",
         ..TEXT
     },
     ArgumentWords {
         name: "lpd",
-        value_name: &["PORT"],
+        value_name: Some("PORT"),
         parser: ValueParser::Signed(0, u16::MAX as i64),
-        needs: &["avahi"],
+        needs: Some("avahi"),
         help: "Where LPD clients come in, where it isn't 515",
         ..NUMBER
     },
@@ -238,43 +238,43 @@ const SIMULATE: &[ArgumentWords<'static>] = &[
     },
     ArgumentWords {
         name: "noise",
-        value_name: &["PERCENT"],
+        value_name: Some("PERCENT"),
         parser: ValueParser::Signed(0, 90),
-        default: &["0"],
+        default: Some("0"),
         help: "By how much devices miss their estimates at most, up to 90",
         ..NUMBER
     },
     ArgumentWords {
         name: "seed",
-        default: &["1"],
+        default: Some("1"),
         help: "The seed of chance, for --noise",
         ..LONG_NUMBER
     },
     ArgumentWords {
         name: "without",
         action: ArgAction::Append,
-        value_name: &["NAME"],
+        value_name: Some("NAME"),
         help: "A device that is away all day",
         ..TEXT
     },
     ArgumentWords {
         name: "with",
         action: ArgAction::Append,
-        value_name: &["NAME=LIKE"],
+        value_name: Some("NAME=LIKE"),
         help: "One device more, of this name, like one of the settings",
         ..TEXT
     },
     ArgumentWords {
         name: "draw",
-        value_name: &["POLICY"],
+        value_name: Some("POLICY"),
         parser: ValueParser::Names(POLICIES),
-        default_if_bare: &["round-robin"],
+        default_if_bare: Some("round-robin"),
         help: "Draw the planned day and that of a policy",
         ..TEXT
     },
     ArgumentWords {
         name: "text",
-        needs: &["draw"],
+        needs: Some("draw"),
         help: "Draw for a terminal of 80 columns, in place of SVG",
         ..FLAG
     },
@@ -283,48 +283,48 @@ const SIMULATE: &[ArgumentWords<'static>] = &[
 const ATTACH: &[ArgumentWords<'static>] = &[
     ArgumentWords {
         name: "name",
-        value_name: &["NAME"],
+        value_name: Some("NAME"),
         is_required: true,
         help: "The device of the settings that the printer is",
         ..TEXT
     },
     ArgumentWords {
         name: "server",
-        value_name: &["HOST:PORT"],
-        default: &["127.0.0.1:8632"],
+        value_name: Some("HOST:PORT"),
+        default: Some("127.0.0.1:8632"),
         help: "Where the server's devices come in",
         ..TEXT
     },
     ArgumentWords {
         name: "to",
-        value_name: &["ADDRESS"],
+        value_name: Some("ADDRESS"),
         is_required: true,
         help: "What prints: file:DIR, socket://HOST[:PORT], lpd://HOST[:PORT]/QUEUE or ipp://HOST[:PORT]/PATH",
         ..TEXT
     },
     ArgumentWords {
         name: "format",
-        value_name: &["MIME"],
+        value_name: Some("MIME"),
         help: "What every document is; without it, the first bytes tell",
         ..TEXT
     },
     ArgumentWords {
         name: "ms-per-page",
-        default: &["0"],
+        default: Some("0"),
         help: "How long a folder takes for a page, in ms",
         ..NUMBER
     },
     ArgumentWords {
         name: "linger",
-        value_name: &["SECONDS"],
-        default: &["30"],
+        value_name: Some("SECONDS"),
+        default: Some("30"),
         help: "How long a printer that has taken all may be silent before the job is done",
         ..NUMBER
     },
     ArgumentWords {
         name: "timeout",
-        value_name: &["SECONDS"],
-        default: &["300"],
+        value_name: Some("SECONDS"),
+        default: Some("300"),
         help: "How long a printer may neither take nor say anything",
         ..NUMBER
     },
