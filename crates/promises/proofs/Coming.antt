@@ -174,7 +174,7 @@ acted_by moment key id (step.Breaks asked) m new what l hs l' fine (is, after) c
 
 -- the next of a client's stream, as an act has it
 pub next_of : (settings : ServerSettings) (talk : Talk) (e : Entry) (comes : Step) (mid : Entry) → ClientTalk talk → e.talk ≡ talk → IsClientStep comes → Hears settings talk e comes mid → (mid.due ≡ e.due) × (((comes ≡ no_memory) × (mid.talk ≡ talk)) ⊎ IsNext settings talk comes mid.talk)
-next_of settings (Http said closes body) e comes mid client is fine next = (ap (λ (x : Entry). x.due) next.after, inr (record { item = next.item; part = next.part; comes = next.comes; is = ap (λ (x : Entry). x.talk) next.after }))
+next_of settings (Http said closes body) e comes mid client is fine next = (ap (λ (x : Entry). x.due) next.after, inr (record { item = next.item; part = next.part; read = e.read; first = next.next; comes = next.comes; is = ap (λ (x : Entry). x.talk) next.after }))
 next_of settings (Queue items session) e comes mid client is fine (inl next) =
     (ap (λ (x : Entry). x.due) next.after, inr (inl (record { said = next.said; session_after = next.session_after; comes = next.comes; is = ap (λ (x : Entry). x.talk) next.after })))
 next_of settings (Queue items session) e comes mid client is fine (inr (inl next)) = (ap (λ (x : Entry). x.due) next.after, inr (inr (next.comes, ap (λ (x : Entry). x.talk) next.after ∙ is)))

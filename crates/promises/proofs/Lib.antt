@@ -18,4 +18,6 @@ pub mod Linking
 pub mod Sparing
 pub mod Carrying
 pub mod Hearing
+pub mod Saying
+pub mod Exchanging
 pub mod Dropping

@@ -3,7 +3,7 @@ use Rattle.std.specs.Prelude.{ℕ, ◌≡◌, ◌⊎◌, ◌==◌, Bool, true, f
 use Rattle.std.specs.List.{flat_map}
 use Rattle.settings_file.specs.Settings.{ServerSettings}
 use Rattle.http_front.specs.declared.item.HttpItem.{HttpItem}
-use Rattle.http_front.specs.Stream.{Said, said_by}
+use Rattle.http_front.specs.Stream.{Said, said_by, SaysFirst}
 use Rattle.lpd_reader.specs.Session.{ItemRecord}
 use Rattle.lpd_session.specs.Session.{SessionState}
 use Rattle.wires.specs.declared.wire.Door.{Door}
@@ -43,10 +43,12 @@ pub record Act : Type 0 where
   pub bytes : List ℕ
   pub state : State
 
--- the next item of an IPP client
+-- the next item of an IPP client, as what was read by then says it
 pub record NextIpp (said : List Said) (closes : Bool) (body : List ℕ) (what : Step) (after : Talk) : Type 0 where
   pub item : HttpItem
   pub part : List ℕ
+  pub read : List ℕ
+  pub first : SaysFirst read (said ++ said_by item part)
   pub comes : StepsIpp item closes body what
   pub is : after ≡ Http (said ++ said_by item part) (closes_after item closes) (body_after item what part body)
 

@@ -3,6 +3,7 @@ pub mod OneLedger
 pub mod Calls
 pub mod Orders
 pub mod Answers
+pub mod Exchanges
 pub mod Others
 pub mod Carried
 pub mod Dropped

@@ -8,6 +8,7 @@
 #![tactic(auto)]
 
 mod bytes;
+mod exchanges;
 mod plans;
 mod run;
 
@@ -15,5 +16,6 @@ pub use bytes::{
     clients_are_answered, devices_are_sent_their_orders, due_after_calls, due_was_carried,
     one_ledger, others_are_spared,
 };
+pub use exchanges::exchanges_are_answered;
 pub use plans::plan_is_its_text;
 pub use run::dropped_events_are_told;

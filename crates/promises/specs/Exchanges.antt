@@ -1,0 +1,161 @@
+-- What an IPP client is answered, exchange by exchange of what it sent: `100 Continue` where its head invites one, and behind its body one answer, which is the reply that the run gave to the event that the body asks, or a status alone.
+use Rattle.std.specs.Prelude.{ℕ, ◌≡◌, ◌⊎◌, Bool, true, false, if◌then◌else◌, List, [], ◌∷◌, ◌++◌, map, All, Option, Some, None}
+use Rattle.std.specs.List.{flat_map}
+use Rattle.print_room.specs.State.{State}
+use Rattle.http_front.specs.declared.refusal.HttpRejection.{HttpRejection}
+use Rattle.http_front.specs.declared.refusal.HttpRejection.TheVariants.{BadRequest}
+use Rattle.http_front.specs.declared.item.HttpItem.{HttpItem}
+use Rattle.http_front.specs.Reply.{continue_head}
+use Rattle.http_front.specs.Stream.{Said, HasHead, Invites, HasByte, EndsBody, IsRefused, said_by, SaysFirst}
+use Rattle.http_front.specs.Order.{Between, in_order}
+use Rattle.events.specs.declared.status.Status.TheVariants.{TemporaryError}
+use Rattle.dispatcher.specs.Run.{reply_of}
+use Rattle.requests.specs.declared.parsed_request.ParsedRequest.{ParsedRequest}
+use Rattle.requests.specs.declared.parsed_request.ParsedRequest.TheVariants as asks
+use Rattle.requests.specs.ParsedRequest.{Asks, request_id_of}
+use Rattle.send_queues.specs.Reply.{refusal_head}
+use Rattle.connections.specs.declared.ask.Client.TheVariants as client
+use Rattle.connections.specs.Steps.{http_status}
+use Rattle.connections.specs.Entry.{Talk, Http, Entry, opening_talk}
+use Rattle.connections.specs.Asking.{IsHeard}
+use Rattle.server.specs.Ledger.{Ledger, Fate}
+use Rattle.server.specs.Turn.{Trace}
+use Rattle.wires.specs.declared.wire.Door.TheVariants.{Ipp}
+use Rattle.promises.specs.Orders.{Handled, AreHandled, AreOf}
+use Rattle.promises.specs.Answers.{Act, AreActs, Given, asked_by, IsOneAtMost}
+
+-- ---- one exchange
+
+-- a request, from its head to the end of its body (RFC 9112, section 2.1); the event of it that the core handled, and its answer
+pub record Exchange : Type 0 where
+  -- the connection closes behind it (RFC 9112, section 9.3)
+  pub closes : Bool
+  -- its head expects `100-continue` (RFC 9110, section 10.1.1)
+  pub invites : Bool
+  pub body : List ℕ
+  pub asked : List Handled
+  pub answer : List ℕ
+
+-- a head, the invitation that it waits for, and so much of a body
+abbrev pub says_begun : Bool → Bool → List ℕ → List Said
+says_begun closes invites body = HasHead closes ∷ ((if invites then Invites ∷ [] else []) ++ map HasByte body)
+
+abbrev pub says_exchange : Exchange → List Said
+says_exchange x = says_begun x.closes x.invites x.body ++ EndsBody ∷ []
+
+-- A body without a whole header (RFC 8010, section 3.1.1) is answered by the head of a refusal, one that is refused by
+-- its status, and no event is asked. Of a body that asks an event the core handles just that one, and the answer is
+-- the reply that it gave, or the status that memory was refused (RFC 8011, section 4.1).
+abbrev pub IsAnswerTo : Bool → ParsedRequest → List Handled → List ℕ → Type 0
+IsAnswerTo closes asks.TooShort asked answer = (asked ≡ []) × (answer ≡ refusal_head BadRequest)
+IsAnswerTo closes (asks.Refused status request) asked answer = (asked ≡ []) × (answer ≡ http_status closes status request)
+IsAnswerTo closes (asks.Event request event) asked answer = (it : Handled) × (asked ≡ it ∷ []) × (it.event ≡ event) × Given closes (client.Ipp request) (reply_of it.outcome) answer
+
+-- where memory to read a body was refused no event is asked, and the status says so
+abbrev pub IsUnread : Bool → List ℕ → List Handled → List ℕ → Type 0
+IsUnread closes body asked answer = (request : ℕ) × (request_id_of body ≡ Some request) × (asked ≡ []) × (answer ≡ http_status closes TemporaryError request)
+
+abbrev pub IsExchange : Exchange → Type 0
+IsExchange x = ((it : ParsedRequest) × Asks x.body it × IsAnswerTo x.closes it x.asked x.answer) ⊎ IsUnread x.closes x.body x.asked x.answer
+
+-- what is due by it: the interim response where its head invites one (RFC 9110, section 15.2.1), and the answer
+abbrev pub invitation : Bool → List ℕ
+invitation invites = if invites then continue_head else []
+
+abbrev pub due_in : Exchange → List ℕ
+due_in x = invitation x.invites ++ x.answer
+
+-- ---- what follows the whole ones
+
+-- nothing, or the front of one more
+pub data Front : Type 0 where
+  Nothing : Front
+  Begun : (closes invites : Bool) (body : List ℕ) → Front
+
+abbrev pub says_front : Front → List Said
+says_front Nothing = []
+says_front (Begun closes invites body) = says_begun closes invites body
+
+abbrev pub due_front : Front → List ℕ
+due_front Nothing = []
+due_front (Begun closes invites body) = invitation invites
+
+-- what it sends may be refused there
+abbrev pub says_refusal : Option HttpRejection → List Said
+says_refusal None = []
+says_refusal (Some refusal) = IsRefused refusal ∷ []
+
+abbrev pub due_refusal : Option HttpRejection → List ℕ
+due_refusal None = []
+due_refusal (Some refusal) = refusal_head refusal
+
+-- ---- the law
+
+-- What a client said is whole exchanges, one after the other, and at most the front of one more, or a refusal.
+-- Nothing follows an exchange that closes, one with too short a body, or a refusal. What is due is what
+-- they come to, and the events that are asked are just theirs, in order.
+pub record AreExchanges (heard : List Said) (handled : List Handled) (bytes : List ℕ) : Type 0 where
+  pub order : in_order Between heard ≡ true
+  pub exchanges : List Exchange
+  pub each : All (λ (x : Exchange). IsExchange x) exchanges
+  pub front : Front
+  pub refusal : Option HttpRejection
+  pub said : heard ≡ flat_map says_exchange exchanges ++ (says_front front ++ says_refusal refusal)
+  pub asked : handled ≡ flat_map (λ (x : Exchange). x.asked) exchanges
+  pub due : bytes ≡ flat_map due_in exchanges ++ (due_front front ++ due_refusal refusal)
+
+-- so it is with all acts of an IPP client
+abbrev pub ActsAreExchanges : Type 0
+ActsAreExchanges =
+    (acts : List Act) (said : List Said) (closes : Bool) (body : List ℕ) → AreActs (opening_talk Ipp) acts (Http said closes body)
+    → AreExchanges said (flat_map (λ (a : Act). a.asked) acts) (flat_map (λ (a : Act). a.bytes) acts)
+
+-- what was asked on a connection since it was accepted, and is due on it
+pub record ByExchanges (key : ℕ) (handled : List Handled) (said : List Said) (e : Entry) : Type 0 where
+  pub earlier : List Handled
+  pub since : List Handled
+  pub whole : handled ≡ earlier ++ since
+  pub are : AreExchanges said (asked_by key since) e.due
+
+-- at most one item more was acted on
+abbrev pub IsOneMore : List Said → List Said → Type 0
+IsOneMore until said = (said ≡ until) ⊎ ((item : HttpItem) × (part : List ℕ) × (said ≡ until ++ said_by item part))
+
+-- A connection broke: what is due is what the exchanges came to until then, and at most one event more was asked, and isn't answered.
+pub record UntilBroken (key : ℕ) (handled : List Handled) (said : List Said) (e : Entry) : Type 0 where
+  pub earlier : List Handled
+  pub since : List Handled
+  pub whole : handled ≡ earlier ++ since
+  pub until : List Said
+  pub last : IsOneMore until said
+  pub answered : List Handled
+  pub unanswered : List Handled
+  pub asked : asked_by key since ≡ answered ++ unanswered
+  pub one : IsOneAtMost unanswered
+  pub are : AreExchanges until answered e.due
+
+abbrev pub IsByExchanges : ℕ → List Handled → Talk → Entry → Type 0
+IsByExchanges key handled (Http said closes body) e = (e.broken ≡ false → ByExchanges key handled said e) × (e.broken ≡ true → UntilBroken key handled said e)
+IsByExchanges key handled talk e = Unit {0}
+
+-- of a connection that was closed, by the events until then
+abbrev pub WasByExchanges : List Handled → Entry → Type 0
+WasByExchanges handled e = (key : ℕ) × (before : List Handled) × (behind : List Handled) × (handled ≡ before ++ behind) × IsByExchanges key before e.talk e
+
+-- what was acted on is what the bytes that were read say first, as HTTP has it
+abbrev pub IsFirst : List ℕ → Talk → Type 0
+IsFirst read (Http said closes body) = SaysFirst read said
+IsFirst read talk = Unit {0}
+
+-- The events of a trace are one run of the core, by which each IPP client, also one whose connection was closed, is
+-- answered exchange by exchange. On each connection the exchanges are what its bytes say first, and on an open one
+-- all that they say, unless nothing counts any more.
+pub record AreByExchanges (opening : State) (trace : Trace) (l : Ledger) : Type 0 where
+  pub handled : List Handled
+  pub timed : AreOf trace handled
+  pub run : AreHandled opening handled l.core
+  pub each : (key : ℕ) (e : Entry) → l.entries key ≡ Some e → IsByExchanges key handled e.talk e
+  pub closed : All (λ (it : Entry × Fate). WasByExchanges handled it.0) l.closed
+  pub first : (key : ℕ) (e : Entry) → l.entries key ≡ Some e → IsFirst e.read e.talk
+  pub closed_first : All (λ (it : Entry × Fate). IsFirst it.0.read it.0.talk) l.closed
+  pub heard : (key : ℕ) (e : Entry) → l.entries key ≡ Some e → IsHeard e
