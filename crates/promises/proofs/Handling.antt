@@ -32,7 +32,7 @@ use Rattle.server.specs.Happening.{Happens, found_by}
 use Rattle.server.specs.Law.{core_notes}
 use Rattle.promises.specs.Answers.{Act, ClientTalk, AreActs, IsStateOf, is_asked, asked_by, IsAnswered, IsLast, BrokeAfter, IsCutOff}
 use Rattle.promises.specs.Orders.{Handled, AreHandled, AreAt, cancel_for, start_for, orders_of, names, due_by}
-use Rattle.promises.proofs.Sending.{Counts, due_at, IsFresh, counts_device, same_key, not_key, Ordered, Calm, Good, good_sent, notes_append, sent_by, orders, Stays, IsLost, BreaksAs, no_bytes, lost_device}
+use Rattle.promises.proofs.Sending.{Counts, due_at, IsFresh, counts_device, same_key, not_key, Ordered, Calm, Good, good_sent, notes_append, sent_by, orders, Stays, IsLost, BreaksAs, lost_device}
 
 -- ---- what is told of an event
 
@@ -51,7 +51,7 @@ told_then cancels last is =
 told_as : (notes said : List Note) → notes ≡ said → core_notes (map Told said) ≡ said → core_notes (map Told notes) ≡ notes
 told_as notes said same is = subst (λ (ns : List Note). core_notes (map Told ns) ≡ ns) (sym same) is
 
-told_notes : (moment : ℕ) (event : Event) (old : State) (outcome : Outcome) (notes : List Note) (new : State) → Handles moment event old outcome notes new → core_notes (map Told notes) ≡ notes
+pub told_notes : (moment : ℕ) (event : Event) (old : State) (outcome : Outcome) (notes : List Note) (new : State) → Handles moment event old outcome notes new → core_notes (map Told notes) ≡ notes
 told_notes moment event old Dropped notes new it = told_as notes [] it.1 refl
 told_notes moment event old (Queried reply) notes new it = told_as notes (cancels_told reply) it.2 (told_cancels reply.cancels.items)
 told_notes moment event old (Undispatched reply) notes new it = told_as notes (cancels_told reply ++ Refused At.Dispatch None ∷ []) it.3 (told_then reply.cancels.items (Refused At.Dispatch None ∷ []) refl)
@@ -59,7 +59,7 @@ told_notes moment event old (Idle reply) notes new (asks, mid, step, rest, same)
 told_notes moment event old (Dispatched reply) notes new (asks, mid, step, plan, rest, same) =
     told_as notes (cancels_told reply ++ Planned (Some plan) new.begun ∷ []) same (told_then reply.cancels.items (Planned (Some plan) new.begun ∷ []) refl)
 
-found_silent : (outcome : Outcome) → core_notes (found_by outcome) ≡ []
+pub found_silent : (outcome : Outcome) → core_notes (found_by outcome) ≡ []
 found_silent Dropped = refl
 found_silent (Queried reply) = refl
 found_silent (Undispatched reply) = refl

@@ -30,14 +30,14 @@ use Rattle.promises.proofs.Sending.{same_key, other_key}
 use Rattle.promises.proofs.Sparing.{IsOut, Left, Leaves_it, left_unanswered, left_settles, left_happens, left_reads, left_writes}
 
 -- on each open connection
-abbrev AllHeard : Ledger → Type 0
+abbrev pub AllHeard : Ledger → Type 0
 AllHeard l = (key : ℕ) → IsHeardAt (l.entries key)
 
 or_true : (x y : Bool) → y ≡ true → (x || y) ≡ true
 or_true true y is = refl
 or_true false y is = is
 
-broken_heard : (e : Entry) → e.broken ≡ true → IsHeard e
+pub broken_heard : (e : Entry) → e.broken ≡ true → IsHeard e
 broken_heard e is = inl (or_true e.draining e.broken is)
 
 -- a part that doesn't concern it leaves it so
@@ -65,7 +65,7 @@ Hears R = (l : Ledger) (hs : List Happening) (l' : Ledger) → AllHeard l → R 
 hears_left : (R : Rel) → ((other : ℕ) → Leaves_it other R) → Hears R
 hears_left R left l hs l' heard it key = heard_left (l.entries key) (l'.entries key) (left key l hs l' it) (heard key)
 
-hears_same : (l l' : Ledger) → l'.entries ≡ l.entries → AllHeard l → AllHeard l'
+pub hears_same : (l l' : Ledger) → l'.entries ≡ l.entries → AllHeard l → AllHeard l'
 hears_same l l' same heard key = subst (λ (entries : ℕ → Option Entry). IsHeardAt (entries key)) (sym same) (heard key)
 
 hears_nothing : Hears Nothing
@@ -78,11 +78,11 @@ hears_if : (t : Bool) (R S : Rel) → Hears R → Hears S → Hears (If t R S)
 hears_if true R S r s l hs l' heard it = r l hs l' heard it
 hears_if false R S r s l hs l' heard it = s l hs l' heard it
 
-hears_each : (n : ℕ) (R : ℕ → Rel) → ((key : ℕ) → Hears (R key)) → Hears (Each n R)
+pub hears_each : (n : ℕ) (R : ℕ → Rel) → ((key : ℕ) → Hears (R key)) → Hears (Each n R)
 hears_each zero R r = hears_nothing
 hears_each (suc n) R r = hears_then (Each n R) (R n) (hears_each n R r) (r n)
 
-hears_settles : (moment : ℕ) → Hears (Settles moment)
+pub hears_settles : (moment : ℕ) → Hears (Settles moment)
 hears_settles moment = hears_left (Settles moment) (λ other. left_settles other moment)
 
 at_if : (t : Bool) (x y : Option Entry) → (t ≡ true → IsHeardAt x) → (t ≡ false → IsHeardAt y) → IsHeardAt (if t then x else y)
@@ -93,7 +93,7 @@ at_if false x y p q = q refl
 hears_at : (key : ℕ) (o : Option Entry) (l l' : Ledger) → AllHeard l → IsHeardAt o → l'.entries ≡ at_key key o l.entries → AllHeard l'
 hears_at key o l l' heard is after other = subst (λ (entries : ℕ → Option Entry). IsHeardAt (entries other)) (sym after) (at_if (other == key) o (l.entries other) (λ same. is) (λ same. heard other))
 
-there : (l : Ledger) (key : ℕ) (e : Entry) → AllHeard l → l.entries key ≡ Some e → IsHeard e
+pub there : (l : Ledger) (key : ℕ) (e : Entry) → AllHeard l → l.entries key ≡ Some e → IsHeard e
 there l key e heard is = subst IsHeardAt is (heard key)
 
 -- ---- reads, writes and closings
@@ -151,7 +151,7 @@ own_reads : (moment key : ℕ) (o : Option Entry) (l : Ledger) (hs : List Happen
 own_reads moment key None l hs l' heard is it = hears_nothing l hs l' heard it key
 own_reads moment key (Some e) l hs l' heard is it = own_reads_if (is_read e) moment key e l hs l' heard is it
 
-hears_reads : (moment key : ℕ) → Hears (ReadsOne moment key)
+pub hears_reads : (moment key : ℕ) → Hears (ReadsOne moment key)
 hears_reads moment key = by_key (ReadsOne moment key) key (λ other apart. left_reads other moment key apart) (λ l hs l' heard it. own_reads moment key (l.entries key) l hs l' heard (heard key) it)
 
 own_writes_as : (moment key : ℕ) (e : Entry) (offered : List ℕ) (answer : WireAnswer ℕ) (l : Ledger) (hs : List Happening) (l' : Ledger) → AllHeard l → IsHeard e → WritesAs moment key e offered answer l hs l' → IsHeardAt (l'.entries key)
@@ -169,7 +169,7 @@ own_writes : (moment key : ℕ) (o : Option Entry) (l : Ledger) (hs : List Happe
 own_writes moment key None l hs l' heard is it = hears_nothing l hs l' heard it key
 own_writes moment key (Some e) l hs l' heard is it = own_writes_if (nat_lt 0 (length (waiting e))) moment key e l hs l' heard is it
 
-hears_writes : (moment key : ℕ) → Hears (WritesOne moment key)
+pub hears_writes : (moment key : ℕ) → Hears (WritesOne moment key)
 hears_writes moment key = by_key (WritesOne moment key) key (λ other apart. left_writes other moment key apart) (λ l hs l' heard it. own_writes moment key (l.entries key) l hs l' heard (heard key) it)
 
 hears_gone : (moment : ℕ) (device : Option ℕ) → Hears (IsGone moment device)
@@ -184,7 +184,7 @@ ends_at : (moment key : ℕ) (o : Option Entry) → Hears (EndsAt moment key o)
 ends_at moment key None = hears_nothing
 ends_at moment key (Some e) = hears_if (is_done e) (Then (ClosesAs moment Drained key e) (Settles moment)) Nothing (hears_then (ClosesAs moment Drained key e) (Settles moment) (hears_closes moment key e) (hears_settles moment)) hears_nothing
 
-hears_ends : (moment key : ℕ) → Hears (EndsOne moment key)
+pub hears_ends : (moment key : ℕ) → Hears (EndsOne moment key)
 hears_ends moment key l hs l' heard it = ends_at moment key (l.entries key) l hs l' heard it
 
 -- ---- accepts
@@ -204,7 +204,7 @@ accepts_as door wire.Waiting = polled (Accepts door wire.Waiting)
 accepts_as door wire.End = polled (Accepts door wire.End)
 accepts_as door wire.Fault = polled (Accepts door wire.Fault)
 
-hears_accepts : (door : Door) → Hears (AcceptsAt door)
+pub hears_accepts : (door : Door) → Hears (AcceptsAt door)
 hears_accepts door l hs l' heard it = hears_if (nat_lt l.count CONNECTIONS) (AcceptsOne door) Nothing (λ a ks b all one. accepts_as door one.0 a ks b all one.1) hears_nothing l hs l' heard it
 
 -- ---- turns, and calls between them
@@ -216,7 +216,7 @@ hears_ticks : (moment : ℕ) → Hears (Ticks moment)
 hears_ticks moment l hs l' heard it =
     hears_then (Notes (now_at moment l)) (Unanswered moment Is.Tick) (λ a ks b all is. hears_same a b (ap (λ (x : Ledger). x.entries) is.1) all) (hears_unanswered moment Is.Tick) l hs l' heard it
 
-hears_tick : (moment : ℕ) → Hears (TicksIfDue moment)
+pub hears_tick : (moment : ℕ) → Hears (TicksIfDue moment)
 hears_tick moment l hs l' heard it =
     hears_if (is_tick_due moment l) (Then (Ticks moment) (Settles moment)) Nothing (hears_then (Ticks moment) (Settles moment) (hears_ticks moment) (hears_settles moment)) hears_nothing l hs l' heard it
 
@@ -250,7 +250,7 @@ body_comes moment body served l hs l' heard (inl (it, asks, comes)) =
     hears_then (Chooses Found) (BodyAsks moment it served) (λ a ks b all is. hears_same a b (ap (λ (x : Ledger). x.entries) is.1) all) (body_asks moment it served) l hs l' heard comes
 body_comes moment body served l hs l' heard (inr it) = hears_same l l' (ap (λ (x : Ledger). x.entries) it.1) heard
 
-hears_deed : (deed : Action) (l l' : Ledger) → AllHeard l → DoesDeed deed l l' → AllHeard l'
+pub hears_deed : (deed : Action) (l l' : Ledger) → AllHeard l → DoesDeed deed l l' → AllHeard l'
 hears_deed (Turned moment hs) l l' heard it = hears_turn moment l hs l' heard it
 hears_deed (Served_body moment body answer hs) l l' heard (served, same, it) = body_comes moment body served l hs l' heard it
 hears_deed (Reported moment device said hs) l l' heard (what, same, it) = hears_unanswered moment (Is.Report device what) l hs l' heard it

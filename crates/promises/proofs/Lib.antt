@@ -21,3 +21,8 @@ pub mod Hearing
 pub mod Saying
 pub mod Exchanging
 pub mod Dropping
+pub mod Speaking
+pub mod Calms
+pub mod Devices
+pub mod Reporting
+pub mod Ending

@@ -7,3 +7,4 @@ pub mod Exchanges
 pub mod Others
 pub mod Carried
 pub mod Dropped
+pub mod Heard

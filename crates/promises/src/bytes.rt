@@ -6,6 +6,7 @@ ghost use Rattle.server.specs.Refinement.{StandsAt};
 ghost use Rattle.promises.specs.Answers.{AreAnswered};
 ghost use Rattle.promises.specs.Calls.{Call, AreMade, IsAccounted};
 ghost use Rattle.promises.specs.Carried.{NumbersDiffer, IsCarried};
+ghost use Rattle.promises.specs.Heard.{AreHeard};
 ghost use Rattle.promises.specs.OneLedger.{LeadsToOne};
 ghost use Rattle.promises.specs.Orders.{AreSent};
 ghost use Rattle.promises.specs.Others.{SparesAll};
@@ -33,6 +34,17 @@ pub fn one_ledger()
 /// were when it began. On one that broke, a front of that is due.
 pub fn devices_are_sent_their_orders()
     ensures { (opening : State) (trace : Trace) (ledger : Ledger) → Runs trace (opening_ledger opening) ledger → AreSent opening trace ledger }
+{}
+
+/// Of a trace the core's events are one run. Of each device the reports among those that came in turns are what
+/// it said on its connections, one connection after another: its name, each further report in order, and that it
+/// is gone, as the connection was closed or the device came again on another one; then what it has said on the
+/// connection that is open. The connections that ended are just the closed ones that bear its name, in the order
+/// of their ends, and those that it gave up as it came again. The name is the one that the settings give the
+/// device. What was said on a connection are the first reports that what was read on it says: all of them, unless
+/// nothing counts any more.
+pub fn devices_are_heard()
+    ensures { (opening : State) (trace : Trace) (ledger : Ledger) → Runs trace (opening_ledger opening) ledger → AreHeard opening trace ledger }
 {}
 
 /// Of a trace the core's events are one run. On each open connection of a client that isn't broken what is due

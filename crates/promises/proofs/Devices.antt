@@ -1,0 +1,186 @@
+-- What the next of a stream comes to, for the core: a device says its name, or reports; or neither.
+use Rattle.std.proofs.Common.{◌≡◌, ℕ, false, List, [], ◌∷◌, ◌++◌, refl, sym, ◌∙◌, ap, subst, Option, Some, None, ◌⊎◌, inl, inr}
+use Rattle.base_types.specs.declared.report.Report.{Report}
+use Rattle.base_types.specs.Report.{ReportRecord, SaysHello, SaysMedia, SaysReady, SaysStop, SaysBusy, SaysPages, SaysDone, SaysFail, IsGone as SaysGone, report_of}
+use Rattle.std.specs.Prelude.{slice_get, position, map, get_or, ◌<◌}
+use Rattle.std.specs.Str.{bytes_eq}
+use Rattle.std.proofs.lemmas.Option.{slice_get-get_or}
+use Rattle.std.proofs.lemmas.List.{length-map, get_or-map}
+use Rattle.std.proofs.lemmas.List.Quantifiers.{position-Some}
+use Rattle.std.proofs.lemmas.Slice.Eq.{bytes_eq-Decides}
+use Rattle.settings_file.specs.Settings.{ServerSettings, DeviceEntry, device_names}
+use Rattle.device_link.specs.Stream.{SaysFirst}
+use Rattle.connections.specs.declared.ask.Ask.{Ask}
+use Rattle.connections.specs.declared.ask.Ask.TheVariants as ask
+use Rattle.connections.specs.declared.ask.Growth.TheVariants as growth
+use Rattle.connections.specs.declared.step.Step.{Step}
+use Rattle.connections.specs.declared.step.Step.TheVariants as step
+use Rattle.connections.specs.Entry.{Talk, Http, Queue, Link, Entry, device_of, talking, finishing, broken}
+use Rattle.connections.specs.Asking.{Hears, StepsTo}
+use Rattle.connections.specs.Steps.{StepsHello, StepsDevice, place_of as named_place}
+use Rattle.promises.specs.Answers.{ClientTalk}
+use Rattle.promises.specs.Heard.{said_on, IsRead}
+use Rattle.promises.proofs.Typing.{EventOf}
+use Rattle.promises.proofs.Sending.{no_true}
+use Rattle.promises.proofs.Stepping.{IsClientAsk, IsClientStep}
+use Rattle.promises.proofs.Speaking.{Grows, grows_as, first_read, none_read, no_both}
+
+-- ---- what a connection asks
+
+-- it isn't that a device says its name, or reports
+abbrev pub IsFine : Ask → Type 0
+IsFine ask.Nothing = Unit {0}
+IsFine (ask.Broke growth) = Unit {0}
+IsFine (ask.Event who event) = EventOf who event
+IsFine (ask.Unread request) = Unit {0}
+IsFine (ask.Lost part) = Unit {0}
+IsFine (ask.Hello device name) = ⊥
+IsFine (ask.Report device report) = ⊥
+IsFine (ask.Stranger name) = Unit {0}
+IsFine (ask.Fault device) = Unit {0}
+
+-- ---- steps of a client
+
+pub client_fine : (what : Ask) → IsClientAsk what → IsFine what
+client_fine ask.Nothing is = absurd is
+client_fine (ask.Broke growth) is = absurd is
+client_fine (ask.Event who event) is = is
+client_fine (ask.Unread request) is = tt
+client_fine (ask.Lost part) is = tt
+client_fine (ask.Hello device name) is = absurd is
+client_fine (ask.Report device it) is = absurd is
+client_fine (ask.Stranger name) is = absurd is
+client_fine (ask.Fault device) is = absurd is
+
+pub step_fine : (comes : Step) (mid : Entry) (what : Ask) (new : Entry) → IsClientStep comes → StepsTo comes mid what new → IsFine what
+step_fine (step.Due due last) mid what new is (inl it) = subst IsFine (sym it.0) tt
+step_fine (step.Due due last) mid what new is (inr it) = subst IsFine (sym it.0) tt
+step_fine (step.Asks it last) mid what new is steps = subst IsFine (sym steps.0) (client_fine it is)
+step_fine (step.Breaks it) mid what new is steps = subst IsFine (sym (steps.0 ∙ is)) tt
+
+pub step_talk : (comes : Step) (mid : Entry) (what : Ask) (new : Entry) → StepsTo comes mid what new → new.talk ≡ mid.talk
+step_talk (step.Due due last) mid what new (inl it) = ap (λ (x : Entry). x.talk) it.1
+step_talk (step.Due due last) mid what new (inr it) = ap (λ (x : Entry). x.talk) it.2
+step_talk (step.Asks it last) mid what new steps = ap (λ (x : Entry). x.talk) steps.1
+step_talk (step.Breaks it) mid what new steps = ap (λ (x : Entry). x.talk) steps.1
+
+pub client_nameless : (talk : Talk) → ClientTalk talk → device_of talk ≡ None
+client_nameless (Http said closes body) client = refl
+client_nameless (Queue items session) client = refl
+client_nameless (Link reports device) client = absurd client
+
+pub client_said : (talk : Talk) → ClientTalk talk → said_on talk ≡ []
+client_said (Http said closes body) client = refl
+client_said (Queue items session) client = refl
+client_said (Link reports device) client = absurd client
+
+pub client_grows : (d e : Entry) → d.broken ≡ false → ClientTalk d.talk → ClientTalk e.talk → Grows d e
+client_grows d e sound before after = record {
+  talk = inr (record { sound = sound; before = client_nameless d.talk before; after = client_nameless e.talk after; fresh = λ reports talk unbroken. absurd (subst ClientTalk talk after) });
+  broken = λ is. absurd (no_true d.broken is sound);
+  reads = λ is. none_read e (client_said e.talk after);
+}
+
+-- ---- steps of a device
+
+-- the device of a name bears it in the settings
+pub place_named : (settings : ServerSettings) (name : List ℕ) (device : ℕ) → named_place settings name ≡ Some device → slice_get (device_names settings) device ≡ Some name
+place_named settings name device is = by settings.devices is
+  where
+    by : (entries : List DeviceEntry) → position (λ entry. bytes_eq name entry.name) entries ≡ Some device → slice_get (map (λ entry. entry.name) entries) device ≡ Some name
+    by [] found = let never : None ≡ Some device = found in absurd (no_both None device refl never)
+    by (first ∷ entries) found =
+        let it = position-Some (λ (entry : DeviceEntry). bytes_eq name entry.name) (first ∷ entries) device first found in
+        slice_get-get_or (map (λ (entry : DeviceEntry). entry.name) (first ∷ entries)) device [] (subst (λ (n : ℕ). device < n) (sym (length-map (first ∷ entries) (λ (entry : DeviceEntry). entry.name))) it.0)
+        ∙ ap (λ (x : List ℕ). Some x) (get_or-map (λ (entry : DeviceEntry). entry.name) (first ∷ entries) device first [] it.0 ∙ sym ((bytes_eq-Decides name (get_or (first ∷ entries) device first).name).0 it.1))
+
+-- a device says its name
+pub record SaysIt (settings : ServerSettings) (what : Ask) (e new : Entry) : Type 0 where
+  pub device : ℕ
+  pub name : List ℕ
+  pub place : slice_get (device_names settings) device ≡ Some name
+  pub asks : what ≡ ask.Hello device name
+  pub reports : List ReportRecord
+  pub before : e.talk ≡ Link reports None
+  pub after : new.talk ≡ Link (reports ++ SaysHello name ∷ []) (Some device)
+  pub read : IsRead new
+
+-- one that has said its name reports
+pub record ReportsIt (what : Ask) (e new : Entry) : Type 0 where
+  pub device : ℕ
+  pub it : Report
+  pub asks : what ≡ ask.Report device it
+  pub reports : List ReportRecord
+  pub before : e.talk ≡ Link reports (Some device)
+  pub after : new.talk ≡ Link (reports ++ report_of it ∷ []) (Some device)
+  pub read : IsRead new
+
+abbrev pub DeviceStep : ServerSettings → Ask → Entry → Entry → Type 0
+DeviceStep settings what e new = (IsFine what × Grows e new) ⊎ (SaysIt settings what e new ⊎ ReportsIt what e new)
+
+pub breaks_grows : (e mid new : Entry) → new ≡ broken mid → mid ≡ e → Grows e new
+breaks_grows e mid new after same = grows_as e new (ap (λ (x : Entry). x.talk) whole) (ap (λ (x : Entry). x.read) whole) (λ is. ap (λ (x : Entry). x.broken) whole)
+  where
+    whole : new ≡ broken e
+    whole = after ∙ ap broken same
+
+-- a stranger's connection breaks
+pub stranger_grows : (e new : Entry) (reports more : List ReportRecord) → e.talk ≡ Link reports None → e.broken ≡ false → SaysFirst e.read more → new ≡ broken (talking (Link more None) e) → Grows e new
+stranger_grows e new reports more talk sound says whole = record {
+  talk = inr (record { sound = sound; before = ap device_of talk; after = ap (λ (x : Entry). device_of x.talk) whole; fresh = λ its is unbroken. absurd (no_true new.broken (ap (λ (x : Entry). x.broken) whole) unbroken) });
+  broken = λ is. ap (λ (x : Entry). x.broken) whole;
+  reads = λ is. first_read new e.read more says (ap (λ (x : Entry). x.read) whole) (ap (λ (x : Entry). said_on x.talk) whole);
+}
+
+pub named_step : (settings : ServerSettings) (name : List ℕ) (place device_after : Option ℕ) (reports : List ReportRecord) (e : Entry) (comes : Step) (mid : Entry) (what : Ask) (new : Entry) → named_place settings name ≡ place → e.talk ≡ Link reports None → e.broken ≡ false → SaysFirst e.read (reports ++ SaysHello name ∷ [])
+    → StepsHello name place comes device_after → mid ≡ talking (Link (reports ++ SaysHello name ∷ []) device_after) e → StepsTo comes mid what new → DeviceStep settings what e new
+named_step settings name None device_after reports e comes mid what new placed talk sound says is after steps =
+    let breaks : (what ≡ ask.Stranger name) × (new ≡ broken mid) = subst (λ (s : Step). StepsTo s mid what new) is.0 steps in
+    let whole : new ≡ broken (talking (Link (reports ++ SaysHello name ∷ []) None) e) = breaks.1 ∙ ap broken (after ∙ ap (λ (d : Option ℕ). talking (Link (reports ++ SaysHello name ∷ []) d) e) is.1) in
+    inl (subst IsFine (sym breaks.0) tt, stranger_grows e new reports (reports ++ SaysHello name ∷ []) talk sound says whole)
+named_step settings name (Some device) device_after reports e comes mid what new placed talk sound says is after steps =
+    let asks : (what ≡ ask.Hello device name) × (new ≡ finishing false mid) = subst (λ (s : Step). StepsTo s mid what new) is.0 steps in
+    let whole : new ≡ finishing false (talking (Link (reports ++ SaysHello name ∷ []) (Some device)) e) = asks.1 ∙ ap (finishing false) (after ∙ ap (λ (d : Option ℕ). talking (Link (reports ++ SaysHello name ∷ []) d) e) is.1) in
+    inr (inl (record {
+      device = device;
+      name = name;
+      place = place_named settings name device placed;
+      asks = asks.0;
+      reports = reports;
+      before = talk;
+      after = ap (λ (x : Entry). x.talk) whole;
+      read = first_read new e.read (reports ++ SaysHello name ∷ []) says (ap (λ (x : Entry). x.read) whole) (ap (λ (x : Entry). said_on x.talk) whole);
+    }))
+
+pub said_step : (settings : ServerSettings) (reports : List ReportRecord) (device : Option ℕ) (said : ReportRecord) (device_after : Option ℕ) (e : Entry) (comes : Step) (mid : Entry) (what : Ask) (new : Entry) → e.talk ≡ Link reports device → e.broken ≡ false → SaysFirst e.read (reports ++ said ∷ [])
+    → StepsDevice (named_place settings) device said comes device_after → mid ≡ talking (Link (reports ++ said ∷ []) device_after) e → StepsTo comes mid what new → DeviceStep settings what e new
+said_step settings reports None (SaysHello name) device_after e comes mid what new talk sound says is after steps = named_step settings name (named_place settings name) device_after reports e comes mid what new refl talk sound says is after steps
+said_step settings reports None (SaysMedia names) device_after e comes mid what new talk sound says is after steps = absurd is
+said_step settings reports None SaysReady device_after e comes mid what new talk sound says is after steps = absurd is
+said_step settings reports None SaysStop device_after e comes mid what new talk sound says is after steps = absurd is
+said_step settings reports None (SaysBusy time) device_after e comes mid what new talk sound says is after steps = absurd is
+said_step settings reports None (SaysPages job printed) device_after e comes mid what new talk sound says is after steps = absurd is
+said_step settings reports None (SaysDone job) device_after e comes mid what new talk sound says is after steps = absurd is
+said_step settings reports None (SaysFail job) device_after e comes mid what new talk sound says is after steps = absurd is
+said_step settings reports None SaysGone device_after e comes mid what new talk sound says is after steps = absurd is
+said_step settings reports (Some device) said device_after e comes mid what new talk sound says ((it, same, is), named) after steps =
+    let asks : (what ≡ ask.Report device it) × (new ≡ finishing false mid) = subst (λ (s : Step). StepsTo s mid what new) is steps in
+    let whole : new ≡ finishing false (talking (Link (reports ++ said ∷ []) (Some device)) e) = asks.1 ∙ ap (finishing false) (after ∙ ap (λ (d : Option ℕ). talking (Link (reports ++ said ∷ []) d) e) named) in
+    inr (inr (record {
+      device = device;
+      it = it;
+      asks = asks.0;
+      reports = reports;
+      before = talk;
+      after = ap (λ (x : Entry). x.talk) whole ∙ ap (λ (r : ReportRecord). Link (reports ++ r ∷ []) (Some device)) (sym same);
+      read = first_read new e.read (reports ++ said ∷ []) says (ap (λ (x : Entry). x.read) whole) (ap (λ (x : Entry). said_on x.talk) whole);
+    }))
+
+pub device_step : (settings : ServerSettings) (reports : List ReportRecord) (device : Option ℕ) (e : Entry) (comes : Step) (mid : Entry) (what : Ask) (new : Entry) → e.talk ≡ Link reports device → e.broken ≡ false → Hears settings (Link reports device) e comes mid → StepsTo comes mid what new → DeviceStep settings what e new
+device_step settings reports device e comes mid what new talk sound (inl next) steps = said_step settings reports device next.said next.device_after e comes mid what new talk sound next.next next.comes next.after steps
+device_step settings reports device e comes mid what new talk sound (inr (inl next)) steps =
+    let breaks : (what ≡ ask.Fault device) × (new ≡ broken mid) = subst (λ (s : Step). StepsTo s mid what new) next.comes steps in
+    inl (subst IsFine (sym breaks.0) tt, breaks_grows e mid new breaks.1 next.after)
+device_step settings reports device e comes mid what new talk sound (inr (inr next)) steps =
+    let breaks : (what ≡ ask.Broke growth.Input) × (new ≡ broken mid) = subst (λ (s : Step). StepsTo s mid what new) next.0 steps in
+    inl (subst IsFine (sym breaks.0) tt, breaks_grows e mid new breaks.1 next.1)

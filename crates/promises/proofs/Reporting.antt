@@ -1,0 +1,765 @@
+-- A trace is one run of the core, and tells it of each device what it said on its connections, and the end of each.
+use Rattle.std.proofs.Common.{◌≡◌, ◌≢◌, ℕ, zero, suc, Bool, true, false, List, [], ◌∷◌, ◌++◌, length, take, refl, sym, ◌∙◌, ap, subst, append_assoc, append-nil, Option, Some, None, inl, inr, All}
+use Rattle.std.specs.Prelude.{◌==◌, if◌then◌else◌, nat_lt, slice_get}
+use Rattle.std.specs.List.{flat_map}
+use Rattle.std.proofs.lemmas.Grind.{flat_map-append}
+use Rattle.std.proofs.lemmas.List.Elements.{All-append, All-cons, All-nil}
+use Rattle.base_types.specs.declared.limits.TheConstants.Limits.{CONNECTIONS}
+use Rattle.base_types.specs.declared.report.Report.{Report}
+use Rattle.base_types.specs.declared.report.Report.TheVariants as report
+use Rattle.base_types.specs.Report.{ReportRecord, SaysHello, IsGone as SaysGone, report_of}
+use Rattle.settings_file.specs.Settings.{device_names}
+use Rattle.print_room.specs.State.{State}
+use Rattle.events.specs.declared.event.Event.{Event}
+use Rattle.events.specs.declared.event.Event.TheVariants as Is
+use Rattle.events.specs.Event.{is_query}
+use Rattle.dispatcher.specs.declared.outcome.Outcome.{Outcome}
+use Rattle.dispatcher.specs.declared.listener.DeviceRefusal.TheVariants as why
+use Rattle.dispatcher.specs.declared.listener.AllocationSite.TheVariants as At
+use Rattle.dispatcher.specs.Notes.{Note, DeviceRefused, Refused}
+use Rattle.dispatcher.specs.Run.{reply_of, Handles}
+use Rattle.requests.specs.declared.parsed_request.ParsedRequest.{ParsedRequest}
+use Rattle.requests.specs.declared.parsed_request.ParsedRequest.TheVariants as asked
+use Rattle.wires.specs.Poll.{Poll, Accepts, Reads, Writes}
+use Rattle.wires.specs.declared.wire.Progress.{Progress as WireAnswer}
+use Rattle.wires.specs.declared.wire.Progress.TheVariants as wire
+use Rattle.wires.specs.declared.wire.Door.{Door}
+use Rattle.wires.specs.declared.wire.Door.TheVariants.{Ipp, Lpd, Devices}
+use Rattle.connections.specs.declared.ask.Ask.{Ask}
+use Rattle.connections.specs.declared.ask.Ask.TheVariants as ask
+use Rattle.connections.specs.declared.ask.Client.{Client}
+use Rattle.connections.specs.declared.ask.Client.TheVariants as client
+use Rattle.connections.specs.Entry.{Talk, Http, Queue, Link, Entry, opening_entry, device_of, given_up, broken, reading, unnamed, waiting}
+use Rattle.connections.specs.Asking.{Hears, IsHeard}
+use Rattle.server.specs.Polls.{Happening, Choice, Found, On, Rested, Looked}
+use Rattle.server.specs.Ledger.{Ledger, Fate, Drained, Broken, opening_ledger, at_key, with_entry, without}
+use Rattle.server.specs.Rel.{Rel, Nothing, Polls, Tells, Chooses, Then, If, Or, Times, Many, Each}
+use Rattle.server.specs.Enqueuing.{Sets, IsDevice}
+use Rattle.server.specs.Happening.{Happens, Unanswered}
+use Rattle.server.specs.Closing.{IsGone, ClosesAs, ClosesFirst, Settles}
+use Rattle.server.specs.Answering as Ans
+use Rattle.server.specs.Greeting.{IsDeviceAs, IsAlone, HasOther, GivesWayAt, GivesWay, SaysName, TakesOver, Greets}
+use Rattle.server.specs.Acting.{place_of, place_of_part, Asks, ActsOn, ActsNext}
+use Rattle.server.specs.Polling.{Opens, AcceptsAs, AcceptsOne, AcceptsAt, Acts, Serves, FedWhole, FeedsAt, FeedsOne, Fails, ReadsAs, ReadsOpen, ReadsAt, is_read, ReadsOne, WritesAs, WritesOpen, WritesAt, WritesOne, is_done, EndsAt, EndsOne}
+use Rattle.server.specs.Turn as Between
+use Rattle.server.specs.Turn.{Ticks, Notes, is_tick_due, TicksIfDue, Covers, Round, Turn, BodyAsks, BodyComes, Action, Turned, Served_body, Reported, Ticked, Trace, DoesDeed, Runs}
+use Rattle.server.specs.Law.{core_notes, moment_of, happenings_of, happenings_in}
+use Rattle.promises.specs.Answers.{ClientTalk}
+use Rattle.promises.specs.Heard.{Came, AreRun, is_turn, ComeAt, ComeOf, report_in, report_by, reports_by, said_on, IsReported, IsStateIn, IsNameIn, IsGreeted, IsRead, AreHeard}
+use Rattle.promises.proofs.Typing.{EventOf}
+use Rattle.promises.proofs.Sending.{notes_append, no_true, one_entry}
+use Rattle.promises.proofs.Stepping.{silent_growth, silent_part, client_hears}
+use Rattle.promises.proofs.Coming.{not_broken}
+use Rattle.promises.proofs.Speaking.{FreshOf, Grows, no_both, read_as, grows_as, grows_reading, broken_stays, named_stays, IsNew, Kept, kept_same, kept_open, here, aside, by_key, KeptAll, reported_kept, reported_as, gone_told, reported_left, told_if, More, reported_more, reported_named, reported_over, unnamed_nameless, SoundAt, kept_sound, Sound, sound_by, sound_kept, sound_left, none_read, AllGreeted, greeted_but, greeted_on, greeted_kept, greeted_left, greeted_first, greeted_more, greeted_nameless}
+use Rattle.promises.proofs.Calms.{Calm, Calms, kept_still, kept_next, no_notes, calm_still, calm_sets, calms_nothing, calms_tells, calms_polls, calms_choice, grows_broken, calms_breaks, calms_dropped, calms_declines, calms_answers, body_answers, OneEvent, happened, handles_behind}
+use Rattle.promises.proofs.Devices.{IsFine, step_fine, step_talk, client_grows, ReportsIt, DeviceStep, device_step}
+
+-- ---- from one ledger to the next
+
+-- the core handled these, and was told by them what devices said on their connections
+-- in each state of a run these names are the devices' by its settings
+abbrev AreNames : (List ℕ → ℕ → Type 0) → State → List Came → Type 0
+AreNames Name opening came = (state : State) (name : List ℕ) (device : ℕ) → IsStateIn state opening came → slice_get (device_names state.settings) device ≡ Some name → Name name device
+
+state_more : (state opening : State) (first later : List Came) → IsStateIn state opening first → IsStateIn state opening (first ++ later)
+state_more state opening [] [] is = is
+state_more state opening [] (it ∷ later) is = inl is
+state_more state opening (it ∷ first) later (inl is) = inl is
+state_more state opening (it ∷ first) later (inr is) = inr (state_more state it.state first later is)
+
+state_behind : (state opening mid : State) (first later : List Came) → AreRun opening first mid → IsStateIn state mid later → IsStateIn state opening (first ++ later)
+state_behind state opening mid [] later same is = subst (λ (s : State). IsStateIn state s later) same is
+state_behind state opening mid (it ∷ first) later (handles, run) is = inr (state_behind state it.state mid first later run is)
+
+record Goes (turn : Bool) (moment : ℕ) (l : Ledger) (hs : List Happening) (l' : Ledger) : Type 1 where
+  came : List Came
+  timed : ComeAt turn moment came
+  run : AreRun l.core came l'.core
+  told : core_notes hs ≡ flat_map (λ (it : Came). it.notes) came
+  sound : Sound l → Sound l'
+  reported : Sound l → (device : ℕ) (before : List ReportRecord) → IsReported device before l → IsReported device (before ++ reports_by device came) l'
+  greeted : (Name : List ℕ → ℕ → Type 0) → AreNames Name l.core came → Sound l → AllGreeted Name l → AllGreeted Name l'
+
+run_then : (old mid new : State) (first later : List Came) → AreRun old first mid → AreRun mid later new → AreRun old (first ++ later) new
+run_then old mid new [] later same rest = subst (λ (s : State). AreRun s later new) same rest
+run_then old mid new (it ∷ first) later (handles, more) rest = (handles, run_then it.state mid new first later more rest)
+
+told_then : (hs front back : List Happening) (first later : List Came) → hs ≡ front ++ back → core_notes front ≡ flat_map (λ (it : Came). it.notes) first → core_notes back ≡ flat_map (λ (it : Came). it.notes) later → core_notes hs ≡ flat_map (λ (it : Came). it.notes) (first ++ later)
+told_then hs front back first later whole p q =
+    ap core_notes whole ∙ (notes_append front back ∙ (ap (λ (ns : List Note). ns ++ core_notes back) p ∙ (ap (λ (ns : List Note). flat_map (λ (it : Came). it.notes) first ++ ns) q ∙ sym (flat_map-append (λ (it : Came). it.notes) first later))))
+
+reports_then : (device : ℕ) (before : List ReportRecord) (first later : List Came) → (before ++ reports_by device first) ++ reports_by device later ≡ before ++ reports_by device (first ++ later)
+reports_then device before first later =
+    append_assoc before (reports_by device first) (reports_by device later) ∙ ap (λ (reports : List ReportRecord). before ++ reports) (sym (flat_map-append (report_by device) first later))
+
+goes_then : (turn : Bool) (moment : ℕ) (l : Ledger) (front : List Happening) (m : Ledger) (back : List Happening) (l' : Ledger) (hs : List Happening) → hs ≡ front ++ back → Goes turn moment l front m → Goes turn moment m back l' → Goes turn moment l hs l'
+goes_then turn moment l front m back l' hs whole p q = record {
+  came = p.came ++ q.came;
+  timed = All-append (λ (it : Came). (it.moment ≡ moment) × (it.in_turn ≡ turn)) p.came q.came p.timed q.timed;
+  run = run_then l.core m.core l'.core p.came q.came p.run q.run;
+  told = told_then hs front back p.came q.came whole p.told q.told;
+  sound = λ s. q.sound (p.sound s);
+  reported = λ s device before r.
+      reported_as device ((before ++ reports_by device p.came) ++ reports_by device q.came) (before ++ reports_by device (p.came ++ q.came)) l' (reports_then device before p.came q.came)
+      (q.reported (p.sound s) device (before ++ reports_by device p.came) (p.reported s device before r));
+  greeted = λ Name names s all.
+      q.greeted Name (λ state name device is. names state name device (state_behind state l.core m.core p.came q.came p.run is)) (p.sound s)
+      (p.greeted Name (λ state name device is. names state name device (state_more state l.core p.came q.came is)) s all);
+}
+
+-- without an event
+goes_none : (turn : Bool) (moment : ℕ) (l : Ledger) (hs : List Happening) (l' : Ledger) → l'.core ≡ l.core → core_notes hs ≡ [] → (Sound l → Sound l') → (Sound l → (device : ℕ) (before : List ReportRecord) → IsReported device before l → IsReported device before l') → ((Name : List ℕ → ℕ → Type 0) → AllGreeted Name l → AllGreeted Name l') → Goes turn moment l hs l'
+goes_none turn moment l hs l' core silent sound reported greeted = record {
+  came = [];
+  timed = All-nil (λ (it : Came). (it.moment ≡ moment) × (it.in_turn ≡ turn));
+  run = core;
+  told = silent;
+  sound = sound;
+  reported = λ s device before r. reported_as device before (before ++ []) l' (sym (append-nil before)) (reported s device before r);
+  greeted = λ Name names s all. greeted Name all;
+}
+
+goes_calm : (turn : Bool) (moment : ℕ) (l : Ledger) (hs : List Happening) (l' : Ledger) → Calm l hs l' → Goes turn moment l hs l'
+goes_calm turn moment l hs l' calm = goes_none turn moment l hs l' calm.core calm.notes (sound_kept l l' calm.kept) (λ s device before r. reported_kept device before l l' calm.kept r) (λ Name all. greeted_kept Name l l' calm.kept all)
+
+-- by one event
+goes_one : (turn : Bool) (moment : ℕ) (event : Event) (outcome : Outcome) (l : Ledger) (hs : List Happening) (l' : Ledger) → Handles moment event l.core outcome (core_notes hs) l'.core → (Sound l → Sound l')
+    → (Sound l → (device : ℕ) (before : List ReportRecord) → IsReported device before l → IsReported device (before ++ (if turn then report_in device event else [])) l') → ((Name : List ℕ → ℕ → Type 0) → ((name : List ℕ) (device : ℕ) → slice_get (device_names l.core.settings) device ≡ Some name → Name name device) → Sound l → AllGreeted Name l → AllGreeted Name l') → Goes turn moment l hs l'
+goes_one turn moment event outcome l hs l' handles sound reported greeted = record {
+  came = it ∷ [];
+  timed = All-cons (λ (x : Came). (x.moment ≡ moment) × (x.in_turn ≡ turn)) it [] (refl, refl) (All-nil (λ (x : Came). (x.moment ≡ moment) × (x.in_turn ≡ turn)));
+  run = (handles, refl);
+  told = sym (append-nil (core_notes hs));
+  sound = sound;
+  reported = λ s device before r.
+      reported_as device (before ++ (if turn then report_in device event else [])) (before ++ reports_by device (it ∷ [])) l' (ap (λ (reports : List ReportRecord). before ++ reports) (sym (append-nil (if turn then report_in device event else []))))
+      (reported s device before r);
+  greeted = λ Name names s all. greeted Name (λ name device is. names l.core name device (inl refl) is) s all;
+}
+  where
+    it : Came
+    it = record { moment = moment; event = event; outcome = outcome; notes = core_notes hs; state = l'.core; in_turn = turn }
+
+-- no device reports by this event
+abbrev IsNoReport : Bool → Event → Type 0
+IsNoReport turn event = (device : ℕ) → (if turn then report_in device event else []) ≡ []
+
+silent_in : (turn : Bool) (reports : List ReportRecord) → reports ≡ [] → (if turn then reports else []) ≡ []
+silent_in true reports none = none
+silent_in false reports none = refl
+
+goes_event : (turn : Bool) (moment : ℕ) (event : Event) (outcome : Outcome) → IsNoReport turn event → (l : Ledger) (hs : List Happening) (l' : Ledger) → Happens moment event outcome l hs l' → Goes turn moment l hs l'
+goes_event turn moment event outcome none l hs l' it =
+    let one = happened moment event outcome l hs l' it in
+    goes_one turn moment event outcome l hs l' one.handles (sound_kept l l' one.kept)
+    (λ s device before r.
+    reported_as device before (before ++ (if turn then report_in device event else [])) l' (sym (ap (λ (reports : List ReportRecord). before ++ reports) (none device) ∙ append-nil before)) (reported_kept device before l l' one.kept r)) (λ Name names s all. greeted_kept Name l l' one.kept all)
+
+-- ---- parts of a deed
+
+module _ (turn : Bool) (moment : ℕ) where
+  abbrev Within : Rel → Type 1
+  Within R = (l : Ledger) (hs : List Happening) (l' : Ledger) → R l hs l' → Goes turn moment l hs l'
+
+  calmly_in : {R : Rel} → Calms R → Within R
+  calmly_in calms l hs l' it = goes_calm turn moment l hs l' (calms l hs l' it)
+
+  then_in : {R S : Rel} → Within R → Within S → Within (Then R S)
+  then_in f g l hs l' it = goes_then turn moment l it.front it.mid it.back l' hs it.whole (f l it.front it.mid it.first) (g it.mid it.back l' it.second)
+
+  or_in : {R S : Rel} → Within R → Within S → Within (Or R S)
+  or_in f g l hs l' (inl it) = f l hs l' it
+  or_in f g l hs l' (inr it) = g l hs l' it
+
+  if_in : (test : Bool) (R S : Rel) → Within R → Within S → Within (If test R S)
+  if_in true R S f g l hs l' it = f l hs l' it
+  if_in false R S f g l hs l' it = g l hs l' it
+
+  nothing_in : Within Nothing
+  nothing_in = calmly_in calms_nothing
+
+  times_in : (n : ℕ) (R : Rel) → Within R → Within (Times n R)
+  times_in zero R f = nothing_in
+  times_in (suc n) R f = then_in (times_in n R f) f
+
+  many_in : (R : Rel) → Within R → Within (Many R)
+  many_in R f l hs l' (n, it) = times_in n R f l hs l' it
+
+  each_in : (n : ℕ) (R : ℕ → Rel) → ((i : ℕ) → Within (R i)) → Within (Each n R)
+  each_in zero R f = nothing_in
+  each_in (suc n) R f = then_in (each_in n R f) (f n)
+
+  chooses_in : (choice : Choice) → Within (Chooses choice)
+  chooses_in choice = calmly_in (calms_choice choice)
+
+  polls_in : (poll : Poll) → Within (Polls poll)
+  polls_in poll = calmly_in (calms_polls poll)
+
+  tick_in : Within (Unanswered moment Is.Tick)
+  tick_in l hs l' (outcome, it) = goes_event turn moment Is.Tick outcome (λ device. silent_in turn [] refl) l hs l' it
+
+  notes_in : (now : ℕ) → Within (Notes now)
+  notes_in now l hs l' it =
+      goes_calm turn moment l hs l' (record { core = ap (λ (x : Ledger). x.core) it.1; notes = ap core_notes it.0; kept = kept_still l l' (ap (λ (x : Ledger). x.closed) it.1) (ap (λ (x : Ledger). x.entries) it.1) })
+
+  ticks_in : Within (Ticks moment)
+  ticks_in l hs l' it = then_in (notes_in _) tick_in l hs l' it
+
+-- ---- closings
+
+gone_event : (moment device key : ℕ) (fate : Fate) (e : Entry) (l : Ledger) (front : List Happening) (m : Ledger) (back : List Happening) (l' : Ledger) (hs : List Happening) → hs ≡ front ++ back → core_notes front ≡ [] → l.entries key ≡ Some e → device_of e.talk ≡ Some device → m ≡ without key e fate l
+    → Unanswered moment (Is.Report device report.Gone) m back l' → Goes true moment l hs l'
+gone_event moment device key fate e l front m back l' hs whole silent there named after (outcome, it) =
+    let one = happened moment (Is.Report device report.Gone) outcome m back l' it in
+    goes_one true moment (Is.Report device report.Gone) outcome l hs l'
+    (handles_behind moment (Is.Report device report.Gone) outcome l.core m.core l'.core (core_notes hs) (core_notes back) (ap (λ (x : Ledger). x.core) after) (no_notes hs front back whole silent) one.handles)
+    (λ s. sound_kept m l' one.kept (subst Sound (sym after) (sound_left key e fate l there s)))
+    (λ s of before r.
+    reported_kept of (before ++ gone_told of (Some device)) m l' one.kept
+    (subst (λ (x : Ledger). IsReported of (before ++ gone_told of (Some device)) x) (sym after) (reported_left of key (Some device) e fate before l there named r)))
+    (λ Name names s all. greeted_kept Name m l' one.kept (subst (AllGreeted Name) (sym after) (greeted_left Name key e fate l there all)))
+
+closes_at : (moment : ℕ) (fate : Fate) (key : ℕ) (e : Entry) (l : Ledger) (hs : List Happening) (l' : Ledger) → l.entries key ≡ Some e → ClosesAs moment fate key e l hs l' → Goes true moment l hs l'
+closes_at moment fate key e l hs l' there it = by (device_of e.talk) refl it.second
+  where
+    after : it.mid ≡ without key e fate l
+    after = it.first.2
+
+    silent : core_notes it.front ≡ []
+    silent = ap core_notes it.first.0
+
+    by : (o : Option ℕ) → device_of e.talk ≡ o → IsGone moment o it.mid it.back l' → Goes true moment l hs l'
+    by None is gone =
+        goes_none true moment l hs l' (ap (λ (x : Ledger). x.core) (gone.1 ∙ after)) (no_notes hs it.front it.back it.whole silent ∙ ap core_notes gone.0) (λ s. subst Sound (sym (gone.1 ∙ after)) (sound_left key e fate l there s))
+        (λ s of before r.
+        reported_as of (before ++ []) before l' (append-nil before)
+        (subst (λ (x : Ledger). IsReported of (before ++ []) x) (sym (gone.1 ∙ after)) (reported_left of key None e fate before l there is r)))
+        (λ Name all. subst (AllGreeted Name) (sym (gone.1 ∙ after)) (greeted_left Name key e fate l there all))
+    by (Some device) is gone = gone_event moment device key fate e l it.front it.mid it.back l' hs it.whole silent there is after gone
+
+closes_first : (moment : ℕ) → Within true moment (ClosesFirst moment)
+closes_first moment l hs l' it = closes_at moment Broken it.key it.entry l hs l' it.there it.closes
+
+settles_in : (moment : ℕ) → Within true moment (Settles moment)
+settles_in moment l hs l' it = many_in true moment (ClosesFirst moment) (closes_first moment) l hs l' it.0
+
+-- ---- what a connection asks
+
+not_reported : (who : Client) (device : ℕ) (it : Report) → EventOf who (Is.Report device it) → ⊥
+not_reported (client.Ipp request) device it own = own
+not_reported client.LpdJob device it own = own
+not_reported client.LpdCommand device it own = own
+
+-- a client's event reports of no device
+none_of : (who : Client) (event : Event) → EventOf who event → (device : ℕ) → report_in device event ≡ []
+none_of who (Is.PrintJob request) own device = refl
+none_of who (Is.ValidateJob request) own device = refl
+none_of who (Is.CreateJob request) own device = refl
+none_of who (Is.SendDocument request) own device = refl
+none_of who (Is.CancelJob request) own device = refl
+none_of who (Is.GetJobAttributes request) own device = refl
+none_of who (Is.GetJobs request) own device = refl
+none_of who (Is.GetPrinterAttributes request) own device = refl
+none_of who (Is.HoldJob request) own device = refl
+none_of who (Is.ReleaseJob request) own device = refl
+none_of who (Is.PausePrinter request) own device = refl
+none_of who (Is.ResumePrinter request) own device = refl
+none_of who (Is.SubmitFiles request) own device = refl
+none_of who (Is.ListQueue request) own device = refl
+none_of who (Is.RemoveJobs request) own device = refl
+none_of who (Is.Report other it) own device = absurd (not_reported who other it own)
+none_of who Is.Tick own device = refl
+
+client_event : (moment key id : ℕ) (who : Client) (event : Event) → EventOf who event → Within true moment (Ans.IsAnswered moment key id who event)
+client_event moment key id who event own l hs l' (outcome, it) =
+    then_in true moment {R = Happens moment event outcome} (goes_event true moment event outcome (none_of who event own)) (calmly_in true moment (calms_answers key id who (is_query event) (reply_of outcome))) l hs l' it
+
+fine_does : (moment key id : ℕ) (what : Ask) → IsFine what → Within true moment (ActsOn moment key id what)
+fine_does moment key id ask.Nothing fine = nothing_in true moment
+fine_does moment key id (ask.Broke growth) fine = calmly_in true moment (calms_tells (Refused (place_of growth) (Some id)) (silent_growth growth id))
+fine_does moment key id (ask.Event who event) fine = client_event moment key id who event fine
+fine_does moment key id (ask.Unread request) fine = calmly_in true moment (calms_dropped key id request)
+fine_does moment key id (ask.Lost part) fine = calmly_in true moment (calms_declines (place_of_part part) key id (silent_part part id))
+fine_does moment key id (ask.Hello device name) fine = absurd fine
+fine_does moment key id (ask.Report device it) fine = absurd fine
+fine_does moment key id (ask.Stranger name) fine = calmly_in true moment (calms_tells (DeviceRefused id (why.UnknownName name)) refl)
+fine_does moment key id (ask.Fault device) fine = calmly_in true moment (calms_tells (DeviceRefused id (why.Fault device)) refl)
+
+-- ---- a device reports
+
+fresh_named : (device : ℕ) (e : Entry) → device_of e.talk ≡ Some device → FreshOf e
+fresh_named device e named reports is unbroken = absurd (no_both (device_of e.talk) device (ap device_of is) named)
+
+-- what is under the keys once one was set
+set_here : (key : ℕ) (n : Entry) (l m : Ledger) → m ≡ with_entry key n l → m.entries key ≡ Some n
+set_here key n l m after = ap (λ (x : Ledger). x.entries key) after ∙ here key (Some n) l.entries key refl
+
+set_aside : (key : ℕ) (n : Entry) (l m : Ledger) → m ≡ with_entry key n l → (k : ℕ) → k ≢ key → m.entries k ≡ l.entries k
+set_aside key n l m after k apart = ap (λ (x : Ledger). x.entries k) after ∙ aside key (Some n) l.entries k apart
+
+-- of all but one key
+sound_but : (key : ℕ) (l l' : Ledger) → l'.closed ≡ l.closed → ((k : ℕ) → k ≢ key → Kept (l.entries k) (l'.entries k)) → Sound l → SoundAt (l'.entries key) → Sound l'
+sound_but key l l' closed others s at =
+    sound_by l l' closed s (λ k. by_key k key (λ same. subst (λ (j : ℕ). SoundAt (l'.entries j)) (sym same) at) (λ apart. kept_sound (l.entries k) (l'.entries k) (others k apart) (s.each k)))
+
+reports_on : (moment key : ℕ) (what : Ask) (d n : Entry) (l : Ledger) (front : List Happening) (m : Ledger) (back : List Happening) (l' : Ledger) (hs : List Happening) → hs ≡ front ++ back → core_notes front ≡ [] → l.entries key ≡ Some d → m ≡ with_entry key n l
+    → (s : ReportsIt what d n) → Unanswered moment (Is.Report s.device s.it) m back l' → Goes true moment l hs l'
+reports_on moment key what d n l front m back l' hs whole silent there after s (outcome, it) =
+    goes_one true moment (Is.Report s.device s.it) outcome l hs l'
+    (handles_behind moment (Is.Report s.device s.it) outcome l.core m.core l'.core (core_notes hs) (core_notes back) (ap (λ (x : Ledger). x.core) after) (no_notes hs front back whole silent) one.handles)
+    (λ sound. sound_but key l l' closed others sound (subst SoundAt (sym now.1) (fresh_named s.device now.0 (ap device_of talk), now.2.reads s.read)))
+    (λ sound device before r. reported_more device s.device key (report_of s.it) before l l' more r)
+    (λ Name names sound all. greeted_but Name key now.0 l l' closed (λ k apart e at. greeted_on Name l l' k (others k apart) all e at) now.1 (greeted_more Name s.device (report_of s.it) s.reports d now.0 s.before talk (all.each key d there)) all)
+  where
+    one : OneEvent moment (Is.Report s.device s.it) outcome m back l'
+    one = happened moment (Is.Report s.device s.it) outcome m back l' it
+
+    closed : l'.closed ≡ l.closed
+    closed = one.kept.closed ∙ ap (λ (x : Ledger). x.closed) after
+
+    others : (k : ℕ) → k ≢ key → Kept (l.entries k) (l'.entries k)
+    others k apart = subst (λ (o : Option Entry). Kept o (l'.entries k)) (set_aside key n l m after k apart) (one.kept.each k)
+
+    now : Kept (Some n) (l'.entries key)
+    now = kept_open n (m.entries key) (l'.entries key) (set_here key n l m after) (one.kept.each key)
+
+    talk : now.0.talk ≡ Link (s.reports ++ report_of s.it ∷ []) (Some s.device)
+    talk = named_stays s.device n now.0 (ap device_of s.after) now.2 ∙ s.after
+
+    more : More s.device key (report_of s.it) l l'
+    more = record { d = d; f = now.0; reports = s.reports; there = there; talk = s.before; now = now.1; after = talk; others = others; closed = closed }
+
+-- ---- a device says its name
+
+-- the connection on which it does
+record Saying (device : ℕ) (name : List ℕ) (key : ℕ) (d n : Entry) (l m : Ledger) : Type 0 where
+  there : l.entries key ≡ Some d
+  sound : d.broken ≡ false
+  after : m ≡ with_entry key n l
+  reports : List ReportRecord
+  before : d.talk ≡ Link reports None
+  place : slice_get (device_names l.core.settings) device ≡ Some name
+  talk : n.talk ≡ Link (reports ++ SaysHello name ∷ []) (Some device)
+  read : IsRead n
+
+first_said : (device : ℕ) (name : List ℕ) (key : ℕ) (d n : Entry) (l m : Ledger) (s : Saying device name key d n l m) → Sound l → n.talk ≡ Link (SaysHello name ∷ []) (Some device)
+first_said device name key d n l m s sound = s.talk ∙ ap (λ (reports : List ReportRecord). Link (reports ++ SaysHello name ∷ []) (Some device)) ((subst SoundAt s.there (sound.each key)).0 s.reports s.before s.sound)
+
+says_alone : (moment device : ℕ) (name : List ℕ) (key : ℕ) (d n : Entry) (l : Ledger) (front : List Happening) (m : Ledger) (back : List Happening) (l' : Ledger) (hs : List Happening) → hs ≡ front ++ back → core_notes front ≡ [] → Saying device name key d n l m → IsAlone device key m
+    → Unanswered moment (Is.Report device (report.Hello name)) m back l' → Goes true moment l hs l'
+says_alone moment device name key d n l front m back l' hs whole silent s alone (outcome, it) =
+    goes_one true moment (Is.Report device (report.Hello name)) outcome l hs l'
+    (handles_behind moment (Is.Report device (report.Hello name)) outcome l.core m.core l'.core (core_notes hs) (core_notes back) (ap (λ (x : Ledger). x.core) s.after) (no_notes hs front back whole silent) one.handles)
+    (λ sound. sound_but key l l' closed others sound (subst SoundAt (sym now.1) (fresh_named device now.0 (ap device_of (talk ∙ s.talk)), now.2.reads s.read)))
+    (λ sound of before r.
+    reported_named of device key name before l l'
+    (record { d = d; f = now.0; there = s.there; nameless = ap device_of s.before; sound = s.sound; now = now.1; after = talk ∙ first_said device name key d n l m s sound; closed = closed })
+    (λ k apart is. alone k apart (subst (IsDevice device) (sym (set_aside key n l m s.after k apart)) is)) others r)
+    (λ Name names sound all.
+    greeted_but Name key now.0 l l' closed (λ k apart e at. greeted_on Name l l' k (others k apart) all e at) now.1
+    (greeted_first Name device name now.0 (talk ∙ first_said device name key d n l m s sound) (names name device s.place)) all)
+  where
+    one : OneEvent moment (Is.Report device (report.Hello name)) outcome m back l'
+    one = happened moment (Is.Report device (report.Hello name)) outcome m back l' it
+
+    closed : l'.closed ≡ l.closed
+    closed = one.kept.closed ∙ ap (λ (x : Ledger). x.closed) s.after
+
+    others : (k : ℕ) → k ≢ key → Kept (l.entries k) (l'.entries k)
+    others k apart = subst (λ (o : Option Entry). Kept o (l'.entries k)) (set_aside key n l m s.after k apart) (one.kept.each k)
+
+    now : Kept (Some n) (l'.entries key)
+    now = kept_open n (m.entries key) (l'.entries key) (set_here key n l m s.after) (one.kept.each key)
+
+    talk : now.0.talk ≡ n.talk
+    talk = named_stays device n now.0 (ap device_of s.talk) now.2
+
+open_as : (ended : Bool) (device : ℕ) (o : Option Entry) → IsDeviceAs ended device o → (e : Entry) × (o ≡ Some e) × (device_of e.talk ≡ Some device)
+open_as ended device None is = absurd is
+open_as ended device (Some e) is = (e, refl, is.0)
+
+gives_way_at : (key : ℕ) (e : Entry) (o : Option Entry) (l : Ledger) (hs : List Happening) (l' : Ledger) → o ≡ Some e → GivesWayAt key o l hs l' → (hs ≡ []) × (l' ≡ with_entry key (given_up e) l)
+gives_way_at key e o l hs l' there it = subst (λ (x : Option Entry). GivesWayAt key x l hs l') there it
+
+unnamed_said : (talk : Talk) → said_on (unnamed talk) ≡ said_on talk
+unnamed_said (Http said closes body) = refl
+unnamed_said (Queue items session) = refl
+unnamed_said (Link reports device) = refl
+
+-- it is turned away: it has another connection
+says_again : (moment device : ℕ) (name : List ℕ) (key id : ℕ) (d n : Entry) (l : Ledger) (front : List Happening) (m : Ledger) (back : List Happening) (l' : Ledger) (hs : List Happening) → hs ≡ front ++ back → core_notes front ≡ [] → Saying device name key d n l m
+    → Then (GivesWay key) (Tells (DeviceRefused id (why.Connected device))) m back l' → Goes true moment l hs l'
+says_again moment device name key id d n l front m back l' hs whole silent s it =
+    goes_calm true moment l hs l' (record {
+      core = ap (λ (x : Ledger). x.core) (after ∙ ap (λ (x : Ledger). with_entry key (given_up n) x) s.after);
+      notes = no_notes hs front back whole silent ∙ (no_notes back it.front it.back it.whole (ap core_notes way.0) ∙ ap core_notes it.second.0);
+      kept = record { closed = ap (λ (x : Ledger). x.closed) (after ∙ ap (λ (x : Ledger). with_entry key (given_up n) x) s.after); each = each };
+    })
+  where
+    way : (it.front ≡ []) × (it.mid ≡ with_entry key (given_up n) m)
+    way = gives_way_at key n (m.entries key) m it.front it.mid (set_here key n l m s.after) it.first
+
+    after : l' ≡ with_entry key (given_up n) m
+    after = it.second.1 ∙ way.1
+
+    grows : Grows d (given_up n)
+    grows = record {
+      talk = inr (record { sound = s.sound; before = ap device_of s.before; after = unnamed_nameless n.talk; fresh = λ reports is unbroken. absurd (no_true true refl unbroken) });
+      broken = λ is. refl;
+      reads = λ is. read_as n (given_up n) (unnamed_said n.talk) refl s.read;
+    }
+
+    each : (k : ℕ) → Kept (l.entries k) (l'.entries k)
+    each k =
+        by_key k key
+        (λ same.
+        subst (λ (o : Option Entry). Kept (l.entries k) o) (sym (ap l'.entries same ∙ set_here key (given_up n) m l' after))
+        (subst (λ (o : Option Entry). Kept o (Some (given_up n))) (sym (ap l.entries same ∙ s.there)) (given_up n, refl, grows)))
+        (λ apart. subst (λ (o : Option Entry). Kept (l.entries k) o) (sym (set_aside key (given_up n) m l' after k apart ∙ set_aside key n l m s.after k apart)) (kept_same (l.entries k)))
+
+-- both reports at once, or one after the other
+both_told : (t : Bool) (one other : ReportRecord) → (if t then one ∷ other ∷ [] else []) ≡ (if t then one ∷ [] else []) ++ ((if t then other ∷ [] else []) ++ [])
+both_told true one other = refl
+both_told false one other = refl
+
+-- its old connection gives way, of which the core is told that it ended, and then its name
+says_over : (moment device : ℕ) (name : List ℕ) (key other : ℕ) (d n : Entry) (l : Ledger) (front : List Happening) (m : Ledger) (back : List Happening) (l' : Ledger) (hs : List Happening) → hs ≡ front ++ back → core_notes front ≡ [] → Saying device name key d n l m → HasOther true device key other m
+    → Then (Chooses (On other)) (TakesOver moment other device name) m back l' → Goes true moment l hs l'
+says_over moment device name key other d n l front m back l' hs whole silent s has it = record {
+  came = one ∷ two ∷ [];
+  timed = All-cons (λ (x : Came). (x.moment ≡ moment) × (x.in_turn ≡ true)) one (two ∷ []) (refl, refl) (All-cons (λ (x : Came). (x.moment ≡ moment) × (x.in_turn ≡ true)) two [] (refl, refl) (All-nil (λ (x : Came). (x.moment ≡ moment) × (x.in_turn ≡ true))));
+  run = (subst (λ (c : State). Handles moment (Is.Report device report.Gone) c gone.0 (core_notes last.front) last.mid.core) core first.handles, (second.handles, refl));
+  told = no_notes hs front back whole silent
+      ∙ (no_notes back it.front it.back it.whole (ap core_notes it.first.0)
+      ∙ (no_notes it.back over.front over.back over.whole (ap core_notes way.0)
+      ∙ (ap core_notes last.whole ∙ (notes_append last.front last.back ∙ ap (λ (ns : List Note). core_notes last.front ++ ns) (sym (append-nil (core_notes last.back)))))));
+  sound = λ sound. sound_by l l' closed sound (sounds sound);
+  reported = λ sound of before r.
+      reported_as of (before ++ told_if of device (SaysGone ∷ SaysHello name ∷ [])) (before ++ reports_by of (one ∷ two ∷ [])) l' (ap (λ (reports : List ReportRecord). before ++ reports) (both_told (device == of) SaysGone (SaysHello name)))
+      (reported_over of device key other name before l l'
+      (record { d = d; f = now.0; there = s.there; nameless = ap device_of s.before; sound = s.sound; now = now.1; after = talk ∙ first_said device name key d n l m s sound; closed = closed })
+      (record { o = old.0; g = up.0; apart = has.0; there = there; named = old.2; now = up.1; after = broken_stays (given_up old.0) up.0 refl up.2; broke = up.2.broken refl; others = others }) r);
+  greeted = λ Name names sound all.
+      greeted_but Name key now.0 l l' closed
+      (λ k apart e at.
+      by_key k other
+      (λ is. greeted_at_given Name e (ap l'.entries (sym is) ∙ at))
+      (λ away. greeted_on Name l l' k (others k apart away) all e at))
+      now.1 (greeted_first Name device name now.0 (talk ∙ first_said device name key d n l m s sound) (names l.core name device (inl refl) s.place)) all;
+}
+  where
+    over : TakesOver moment other device name it.mid it.back l'
+    over = it.second
+
+    last : Then (IsGone moment (Some device)) (SaysName moment device name) over.mid over.back l'
+    last = over.second
+
+    gone : Unanswered moment (Is.Report device report.Gone) over.mid last.front last.mid
+    gone = last.first
+
+    said : Unanswered moment (Is.Report device (report.Hello name)) last.mid last.back l'
+    said = last.second
+
+    old : (e : Entry) × (m.entries other ≡ Some e) × (device_of e.talk ≡ Some device)
+    old = open_as true device (m.entries other) has.1
+
+    way : (over.front ≡ []) × (over.mid ≡ with_entry other (given_up old.0) it.mid)
+    way = gives_way_at other old.0 (it.mid.entries other) it.mid over.front over.mid (ap (λ (x : Ledger). x.entries other) it.first.1 ∙ old.1) over.first
+
+    given : over.mid ≡ with_entry other (given_up old.0) m
+    given = way.1 ∙ ap (λ (x : Ledger). with_entry other (given_up old.0) x) it.first.1
+
+    core : over.mid.core ≡ l.core
+    core = ap (λ (x : Ledger). x.core) given ∙ ap (λ (x : Ledger). x.core) s.after
+
+    first : OneEvent moment (Is.Report device report.Gone) gone.0 over.mid last.front last.mid
+    first = happened moment (Is.Report device report.Gone) gone.0 over.mid last.front last.mid gone.1
+
+    second : OneEvent moment (Is.Report device (report.Hello name)) said.0 last.mid last.back l'
+    second = happened moment (Is.Report device (report.Hello name)) said.0 last.mid last.back l' said.1
+
+    one : Came
+    one = record { moment = moment; event = Is.Report device report.Gone; outcome = gone.0; notes = core_notes last.front; state = last.mid.core; in_turn = true }
+
+    two : Came
+    two = record { moment = moment; event = Is.Report device (report.Hello name); outcome = said.0; notes = core_notes last.back; state = l'.core; in_turn = true }
+
+    kept : KeptAll over.mid l'
+    kept = kept_next over.mid last.mid l' first.kept second.kept
+
+    closed : l'.closed ≡ l.closed
+    closed = kept.closed ∙ (ap (λ (x : Ledger). x.closed) given ∙ ap (λ (x : Ledger). x.closed) s.after)
+
+    there : l.entries other ≡ Some old.0
+    there = sym (set_aside key n l m s.after other has.0) ∙ old.1
+
+    now : Kept (Some n) (l'.entries key)
+    now = kept_open n (over.mid.entries key) (l'.entries key) (set_aside other (given_up old.0) m over.mid given key (λ same. has.0 (sym same)) ∙ set_here key n l m s.after) (kept.each key)
+
+    talk : now.0.talk ≡ n.talk
+    talk = named_stays device n now.0 (ap device_of s.talk) now.2
+
+    up : Kept (Some (given_up old.0)) (l'.entries other)
+    up = kept_open (given_up old.0) (over.mid.entries other) (l'.entries other) (set_here other (given_up old.0) m over.mid given) (kept.each other)
+
+    others : (k : ℕ) → k ≢ key → k ≢ other → Kept (l.entries k) (l'.entries k)
+    others k apart away = subst (λ (o : Option Entry). Kept o (l'.entries k)) (set_aside other (given_up old.0) m over.mid given k away ∙ set_aside key n l m s.after k apart) (kept.each k)
+
+    greeted_at_given : (Name : List ℕ → ℕ → Type 0) (e : Entry) → l'.entries other ≡ Some e → IsGreeted Name e
+    greeted_at_given Name e at =
+        subst (λ (z : Entry). IsGreeted Name z) (one_entry up.0 e (sym up.1 ∙ at)) (greeted_nameless Name up.0 (ap device_of (broken_stays (given_up old.0) up.0 refl up.2) ∙ unnamed_nameless old.0.talk))
+
+    sounds : Sound l → (k : ℕ) → SoundAt (l'.entries k)
+    sounds sound k =
+        by_key k key (λ same. subst SoundAt (sym (ap l'.entries same ∙ now.1)) (fresh_named device now.0 (ap device_of (talk ∙ s.talk)), now.2.reads s.read))
+        (λ apart.
+        by_key k other
+        (λ at.
+        subst SoundAt (sym (ap l'.entries at))
+        (kept_sound (Some (given_up old.0)) (l'.entries other) up ((λ reports is unbroken. absurd (no_true true refl unbroken)), read_as old.0 (given_up old.0) (unnamed_said old.0.talk) refl (subst SoundAt there (sound.each other)).1)))
+        (λ away. kept_sound (l.entries k) (l'.entries k) (others k apart away) (sound.each k)))
+
+greets_on : (moment device : ℕ) (name : List ℕ) (key id : ℕ) (d n : Entry) (l : Ledger) (front : List Happening) (m : Ledger) (back : List Happening) (l' : Ledger) (hs : List Happening) → hs ≡ front ++ back → core_notes front ≡ [] → Saying device name key d n l m → Greets moment key id device name m back l' → Goes true moment l hs l'
+greets_on moment device name key id d n l front m back l' hs whole silent s (inl (alone, it)) = says_alone moment device name key d n l front m back l' hs whole silent s alone it
+greets_on moment device name key id d n l front m back l' hs whole silent s (inr (inl (other, has, it))) = says_over moment device name key other d n l front m back l' hs whole silent s has it
+greets_on moment device name key id d n l front m back l' hs whole silent s (inr (inr (other, has, it))) = says_again moment device name key id d n l front m back l' hs whole silent s it
+
+-- ---- what is asked comes about
+
+fine_acts : (moment key id : ℕ) (what : Ask) (l : Ledger) (front : List Happening) (m : Ledger) (back : List Happening) (l' : Ledger) (hs : List Happening) → hs ≡ front ++ back → (a : Asks key id what l front m) → IsFine what → Grows a.entry a.new → ActsOn moment key id what m back l' → Goes true moment l hs l'
+fine_acts moment key id what l front m back l' hs whole a fine grows does =
+    goes_then true moment l front m back l' hs whole (goes_calm true moment l front m (calm_sets key a.entry a.new l front m a.there grows (ap core_notes a.chosen) a.after)) (fine_does moment key id what fine m back l' does)
+
+client_acts : (moment key id : ℕ) (what : Ask) (l : Ledger) (front : List Happening) (m : Ledger) (back : List Happening) (l' : Ledger) (hs : List Happening) → hs ≡ front ++ back → (a : Asks key id what l front m) → ClientTalk a.entry.talk → ActsOn moment key id what m back l' → Goes true moment l hs l'
+client_acts moment key id what l front m back l' hs whole a own does =
+    let next = client_hears l.core.settings a.entry.talk a.entry a.asks.comes a.asks.mid own own a.asks.hears in
+    fine_acts moment key id what l front m back l' hs whole a (step_fine a.asks.comes a.asks.mid what a.new next.0 a.asks.steps)
+    (client_grows a.entry a.new (not_broken a.entry.draining a.entry.broken a.asks.counts) own (subst ClientTalk (sym (step_talk a.asks.comes a.asks.mid what a.new a.asks.steps)) next.1)) does
+
+device_acts : (moment key id : ℕ) (what : Ask) (l : Ledger) (front : List Happening) (m : Ledger) (back : List Happening) (l' : Ledger) (hs : List Happening) → hs ≡ front ++ back → (a : Asks key id what l front m) → DeviceStep l.core.settings what a.entry a.new → ActsOn moment key id what m back l' → Goes true moment l hs l'
+device_acts moment key id what l front m back l' hs whole a (inl (fine, grows)) does = fine_acts moment key id what l front m back l' hs whole a fine grows does
+device_acts moment key id what l front m back l' hs whole a (inr (inl s)) does =
+    greets_on moment s.device s.name key id a.entry a.new l front m back l' hs whole (ap core_notes a.chosen)
+    (record { there = a.there; sound = not_broken a.entry.draining a.entry.broken a.asks.counts; after = a.after; reports = s.reports; before = s.before; place = s.place; talk = s.after; read = s.read })
+    (subst (λ (it : Ask). ActsOn moment key id it m back l') s.asks does)
+device_acts moment key id what l front m back l' hs whole a (inr (inr s)) does =
+    reports_on moment key what a.entry a.new l front m back l' hs whole (ap core_notes a.chosen) a.there a.after s (subst (λ (it : Ask). ActsOn moment key id it m back l') s.asks does)
+
+acts_by : (moment key id : ℕ) (what : Ask) (l : Ledger) (front : List Happening) (m : Ledger) (back : List Happening) (l' : Ledger) (hs : List Happening) → hs ≡ front ++ back → (a : Asks key id what l front m) → (talk : Talk) → a.entry.talk ≡ talk → ActsOn moment key id what m back l' → Goes true moment l hs l'
+acts_by moment key id what l front m back l' hs whole a (Http said closes body) is does = client_acts moment key id what l front m back l' hs whole a (subst ClientTalk (sym is) tt) does
+acts_by moment key id what l front m back l' hs whole a (Queue items session) is does = client_acts moment key id what l front m back l' hs whole a (subst ClientTalk (sym is) tt) does
+acts_by moment key id what l front m back l' hs whole a (Link reports device) is does =
+    device_acts moment key id what l front m back l' hs whole a
+    (device_step l.core.settings reports device a.entry a.asks.comes a.asks.mid what a.new is (not_broken a.entry.draining a.entry.broken a.asks.counts) (subst (λ (t : Talk). Hears l.core.settings t a.entry a.asks.comes a.asks.mid) is a.asks.hears) a.asks.steps) does
+
+acts_next_in : (moment key : ℕ) → Within true moment (ActsNext moment key)
+acts_next_in moment key l hs l' (id, what, it) = acts_by moment key id what l it.front it.mid it.back l' hs it.whole it.first it.first.entry.talk refl it.second
+
+-- ---- a turn
+
+module _ (moment : ℕ) where
+  serves_in : (key : ℕ) → Within true moment (Serves moment key)
+  serves_in key l hs l' it = then_in true moment (many_in true moment (Acts moment key) (then_in true moment (acts_next_in moment key) (settles_in moment))) (chooses_in true moment Rested) l hs l' it.0
+
+  sets_at : (key : ℕ) (d e : Entry) (l : Ledger) (hs : List Happening) (l' : Ledger) → l.entries key ≡ Some d → Grows d e → Sets key e l hs l' → Goes true moment l hs l'
+  sets_at key d e l hs l' there grows it = goes_calm true moment l hs l' (calm_sets key d e l hs l' there grows (ap core_notes it.0) it.1)
+
+  fed_whole : (key : ℕ) (e : Entry) (bytes : List ℕ) (l : Ledger) (hs : List Happening) (l' : Ledger) → l.entries key ≡ Some e → FedWhole moment key e bytes l hs l' → Goes true moment l hs l'
+  fed_whole key e bytes l hs l' there (inl it) =
+      goes_then true moment l it.front it.mid it.back l' hs it.whole (sets_at key e (reading bytes e) l it.front it.mid there (grows_reading e bytes) it.first) (serves_in key it.mid it.back l' it.second)
+  fed_whole key e bytes l hs l' there (inr it) =
+      goes_then true moment l it.front it.mid it.back l' hs it.whole (goes_calm true moment l it.front it.mid (calm_sets key e (broken e) l it.front it.mid there (grows_broken e) (ap core_notes it.first.0) it.first.1)) (settles_in moment it.mid it.back l' it.second)
+
+  fed_open : (t : Bool) (key : ℕ) (e : Entry) (bytes : List ℕ) (l : Ledger) (hs : List Happening) (l' : Ledger) → l.entries key ≡ Some e → If t (Sets key e) (FedWhole moment key e bytes) l hs l' → Goes true moment l hs l'
+  fed_open true key e bytes l hs l' there it = sets_at key e e l hs l' there (grows_as e e refl refl (λ is. is)) it
+  fed_open false key e bytes l hs l' there it = fed_whole key e bytes l hs l' there it
+
+  feeds_at : (key : ℕ) (bytes : List ℕ) (o : Option Entry) (l : Ledger) (hs : List Happening) (l' : Ledger) → l.entries key ≡ o → FeedsAt moment key bytes o l hs l' → Goes true moment l hs l'
+  feeds_at key bytes None l hs l' there it = nothing_in true moment l hs l' it
+  feeds_at key bytes (Some e) l hs l' there it = fed_open e.draining key e bytes l hs l' there it
+
+  feeds_in : (key : ℕ) (bytes : List ℕ) → Within true moment (FeedsOne moment key bytes)
+  feeds_in key bytes l hs l' it = feeds_at key bytes (l.entries key) l hs l' refl it
+
+  fails_in : (key : ℕ) → Within true moment (Fails moment key)
+  fails_in key = then_in true moment (calmly_in true moment (calms_breaks key)) (settles_in moment)
+
+  -- after a poll each connection is as it was
+  polled_sets : (poll : Poll) (key : ℕ) (d e : Entry) (l : Ledger) (hs : List Happening) (l' : Ledger) → l.entries key ≡ Some d → Grows d e → Then (Polls poll) (Sets key e) l hs l' → Goes true moment l hs l'
+  polled_sets poll key d e l hs l' there grows it =
+      goes_then true moment l it.front it.mid it.back l' hs it.whole (polls_in true moment poll l it.front it.mid it.first) (sets_at key d e it.mid it.back l' (ap (λ (x : Ledger). x.entries key) it.first.1 ∙ there) grows it.second)
+
+  reads_as : (key : ℕ) (e : Entry) (answer : WireAnswer (List ℕ)) (l : Ledger) (hs : List Happening) (l' : Ledger) → l.entries key ≡ Some e → ReadsAs moment key e answer l hs l' → Goes true moment l hs l'
+  reads_as key e (wire.Done bytes) l hs l' there it = then_in true moment (polls_in true moment (Reads e.id (wire.Done bytes))) (feeds_in key bytes) l hs l' it
+  reads_as key e wire.Waiting l hs l' there it = polls_in true moment (Reads e.id wire.Waiting) l hs l' it
+  reads_as key e wire.End l hs l' there it = polled_sets (Reads e.id wire.End) key e (record e { ended = true }) l hs l' there (grows_as e (record e { ended = true }) refl refl (λ is. is)) it
+  reads_as key e wire.Fault l hs l' there it = then_in true moment (polls_in true moment (Reads e.id wire.Fault)) (fails_in key) l hs l' it
+
+  reads_if : (t : Bool) (key : ℕ) (e : Entry) (l : Ledger) (hs : List Happening) (l' : Ledger) → l.entries key ≡ Some e → If t (ReadsOpen moment key e) Nothing l hs l' → Goes true moment l hs l'
+  reads_if true key e l hs l' there (answer, piece, it) = reads_as key e answer l hs l' there it
+  reads_if false key e l hs l' there it = nothing_in true moment l hs l' it
+
+  reads_at : (key : ℕ) (o : Option Entry) (l : Ledger) (hs : List Happening) (l' : Ledger) → l.entries key ≡ o → ReadsAt moment key o l hs l' → Goes true moment l hs l'
+  reads_at key None l hs l' there it = nothing_in true moment l hs l' it
+  reads_at key (Some e) l hs l' there it = reads_if (is_read e) key e l hs l' there it
+
+  reads_in : (key : ℕ) → Within true moment (ReadsOne moment key)
+  reads_in key l hs l' it = reads_at key (l.entries key) l hs l' refl it
+
+  writes_as : (key : ℕ) (e : Entry) (offered : List ℕ) (answer : WireAnswer ℕ) (l : Ledger) (hs : List Happening) (l' : Ledger) → l.entries key ≡ Some e → WritesAs moment key e offered answer l hs l' → Goes true moment l hs l'
+  writes_as key e offered (wire.Done n) l hs l' there it =
+      polled_sets (Writes e.id offered (wire.Done n)) key e (record e { taken = e.taken ++ take n offered }) l hs l' there (grows_as e (record e { taken = e.taken ++ take n offered }) refl refl (λ is. is)) it
+  writes_as key e offered wire.Waiting l hs l' there it = polls_in true moment (Writes e.id offered wire.Waiting) l hs l' it
+  writes_as key e offered wire.End l hs l' there it = then_in true moment (polls_in true moment (Writes e.id offered wire.End)) (fails_in key) l hs l' it
+  writes_as key e offered wire.Fault l hs l' there it = then_in true moment (polls_in true moment (Writes e.id offered wire.Fault)) (fails_in key) l hs l' it
+
+  writes_if : (t : Bool) (key : ℕ) (e : Entry) (l : Ledger) (hs : List Happening) (l' : Ledger) → l.entries key ≡ Some e → If t (WritesOpen moment key e) Nothing l hs l' → Goes true moment l hs l'
+  writes_if true key e l hs l' there (offered, is, answer, it) = writes_as key e offered answer l hs l' there it
+  writes_if false key e l hs l' there it = nothing_in true moment l hs l' it
+
+  writes_at : (key : ℕ) (o : Option Entry) (l : Ledger) (hs : List Happening) (l' : Ledger) → l.entries key ≡ o → WritesAt moment key o l hs l' → Goes true moment l hs l'
+  writes_at key None l hs l' there it = nothing_in true moment l hs l' it
+  writes_at key (Some e) l hs l' there it = writes_if (nat_lt 0 (length (waiting e))) key e l hs l' there it
+
+  writes_in : (key : ℕ) → Within true moment (WritesOne moment key)
+  writes_in key l hs l' it = writes_at key (l.entries key) l hs l' refl it
+
+  ends_if : (t : Bool) (key : ℕ) (e : Entry) (l : Ledger) (hs : List Happening) (l' : Ledger) → l.entries key ≡ Some e → If t (Then (ClosesAs moment Drained key e) (Settles moment)) Nothing l hs l' → Goes true moment l hs l'
+  ends_if true key e l hs l' there it = goes_then true moment l it.front it.mid it.back l' hs it.whole (closes_at moment Drained key e l it.front it.mid there it.first) (settles_in moment it.mid it.back l' it.second)
+  ends_if false key e l hs l' there it = nothing_in true moment l hs l' it
+
+  ends_at : (key : ℕ) (o : Option Entry) (l : Ledger) (hs : List Happening) (l' : Ledger) → l.entries key ≡ o → EndsAt moment key o l hs l' → Goes true moment l hs l'
+  ends_at key None l hs l' there it = nothing_in true moment l hs l' it
+  ends_at key (Some e) l hs l' there it = ends_if (is_done e) key e l hs l' there it
+
+  ends_in : (key : ℕ) → Within true moment (EndsOne moment key)
+  ends_in key l hs l' it = ends_at key (l.entries key) l hs l' refl it
+
+  opening_new : (door : Door) (id : ℕ) → IsNew (opening_entry door id)
+  opening_new Ipp id = record { nameless = refl; fresh = λ reports talk unbroken. cc; read = none_read (opening_entry Ipp id) refl }
+  opening_new Lpd id = record { nameless = refl; fresh = λ reports talk unbroken. cc; read = none_read (opening_entry Lpd id) refl }
+  opening_new Devices id = record { nameless = refl; fresh = λ reports talk unbroken. cc; read = none_read (opening_entry Devices id) refl }
+
+  opens_in : (door : Door) (id : ℕ) → Within true moment (Opens door id)
+  opens_in door id l hs l' (inl (key, free, is, after)) =
+      goes_calm true moment l hs l' (record {
+        core = ap (λ (x : Ledger). x.core) after;
+        notes = ap core_notes is;
+        kept = record {
+          closed = ap (λ (x : Ledger). x.closed) after;
+          each = λ k. subst (λ (entries : ℕ → Option Entry). Kept (l.entries k) (entries k)) (sym (ap (λ (x : Ledger). x.entries) after)) (at k);
+        };
+      })
+    where
+      at : (k : ℕ) → Kept (l.entries k) (at_key key (Some (opening_entry door id)) l.entries k)
+      at k =
+          by_key k key
+          (λ same.
+          subst (λ (o : Option Entry). Kept (l.entries k) o) (sym (here key (Some (opening_entry door id)) l.entries k same))
+          (subst (λ (o : Option Entry). Kept o (Some (opening_entry door id))) (sym (ap l.entries same ∙ free)) (inr (opening_entry door id, refl, opening_new door id))))
+          (λ apart. subst (λ (o : Option Entry). Kept (l.entries k) o) (sym (aside key (Some (opening_entry door id)) l.entries k apart)) (kept_same (l.entries k)))
+  opens_in door id l hs l' (inr it) = goes_calm true moment l hs l' (calm_still l hs l' (ap core_notes it.0) it.1)
+
+  accepts_as : (door : Door) (answer : WireAnswer ℕ) → Within true moment (AcceptsAs door answer)
+  accepts_as door (wire.Done id) = then_in true moment (polls_in true moment (Accepts door (wire.Done id))) (opens_in door id)
+  accepts_as door wire.Waiting = polls_in true moment (Accepts door wire.Waiting)
+  accepts_as door wire.End = polls_in true moment (Accepts door wire.End)
+  accepts_as door wire.Fault = polls_in true moment (Accepts door wire.Fault)
+
+  accepts_in : (door : Door) → Within true moment (AcceptsAt door)
+  accepts_in door l hs l' it = if_in true moment (nat_lt l.count CONNECTIONS) (AcceptsOne door) Nothing (λ a ks b (answer, is). accepts_as door answer a ks b is) (nothing_in true moment) l hs l' it
+
+  tick_due_in : Within true moment (TicksIfDue moment)
+  tick_due_in l hs l' it = if_in true moment (is_tick_due moment l) (Then (Ticks moment) (Settles moment)) Nothing (then_in true moment (ticks_in true moment) (settles_in moment)) (nothing_in true moment) l hs l' it
+
+  round_in : Within true moment (Round moment)
+  round_in l hs l' (n, it) =
+      then_in true moment {R = Covers n} (λ a ks b is. chooses_in true moment (Looked n) a ks b is.1)
+      (then_in true moment (each_in true moment n (ReadsOne moment) reads_in) (then_in true moment (each_in true moment n (WritesOne moment) writes_in) (each_in true moment n (EndsOne moment) ends_in)))
+      l hs l' it
+
+  turn_in : Within true moment (Turn moment)
+  turn_in = then_in true moment (settles_in moment) (then_in true moment tick_due_in (then_in true moment (accepts_in Ipp) (then_in true moment (accepts_in Lpd) (then_in true moment (accepts_in Devices) round_in))))
+
+  -- ---- calls between turns
+
+  body_in : (it : ParsedRequest) (served : Between.Outcome) → Within false moment (BodyAsks moment it served)
+  body_in asked.TooShort served l hs l' (is, it) = nothing_in false moment l hs l' it
+  body_in (asked.Refused status request) served l hs l' (is, it) = or_in false moment (chooses_in false moment Found) (calmly_in false moment (calms_tells (Refused At.Reply None) refl)) l hs l' it
+  body_in (asked.Event request event) served l hs l' (bytes, is, (outcome, it)) =
+      then_in false moment {R = Happens moment event outcome} (goes_event false moment event outcome (λ device. refl)) (calmly_in false moment (body_answers request (reply_of outcome) bytes)) l hs l' it
+
+  body_comes_in : (body : List ℕ) (served : Between.Outcome) → Within false moment (BodyComes moment body served)
+  body_comes_in body served l hs l' (inl (it, asks, comes)) = then_in false moment (chooses_in false moment Found) (body_in it served) l hs l' comes
+  body_comes_in body served l hs l' (inr it) = calmly_in false moment (calms_tells (Refused At.Event None) refl) l hs l' it
+
+goes_deed : (deed : Action) (l l' : Ledger) → DoesDeed deed l l' → Goes (is_turn deed) (moment_of deed) l (happenings_of deed) l'
+goes_deed (Turned moment hs) l l' it = turn_in moment l hs l' it
+goes_deed (Served_body moment body answer hs) l l' (served, same, it) = body_comes_in moment body served l hs l' it
+goes_deed (Reported moment device said hs) l l' (what, same, (outcome, it)) = goes_event false moment (Is.Report device what) outcome (λ of. refl) l hs l' it
+goes_deed (Ticked moment hs) l l' it = ticks_in false moment l hs l' it
+
+-- ---- a trace
+
+record GoesOn (trace : Trace) (l l' : Ledger) : Type 1 where
+  came : List Came
+  timed : ComeOf trace came
+  run : AreRun l.core came l'.core
+  told : core_notes (happenings_in trace) ≡ flat_map (λ (it : Came). it.notes) came
+  sound : Sound l → Sound l'
+  reported : Sound l → (device : ℕ) (before : List ReportRecord) → IsReported device before l → IsReported device (before ++ reports_by device came) l'
+  greeted : (Name : List ℕ → ℕ → Type 0) → AreNames Name l.core came → Sound l → AllGreeted Name l → AllGreeted Name l'
+
+goes_on : (trace : Trace) (l l' : Ledger) → Runs trace l l' → GoesOn trace l l'
+goes_on [] l l' same = record {
+  came = [];
+  timed = refl;
+  run = ap (λ (x : Ledger). x.core) same;
+  told = refl;
+  sound = λ s. subst Sound (sym same) s;
+  reported = λ s device before r. reported_as device before (before ++ []) l' (sym (append-nil before)) (subst (λ (x : Ledger). IsReported device before x) (sym same) r);
+  greeted = λ Name names s all. subst (AllGreeted Name) (sym same) all;
+}
+goes_on (deed ∷ deeds) l l' (mid, does, runs) =
+    let first = goes_deed deed l mid does in
+    let later = goes_on deeds mid l' runs in
+    record {
+      came = first.came ++ later.came;
+      timed = (first.came, later.came, refl, first.timed, later.timed);
+      run = run_then l.core mid.core l'.core first.came later.came first.run later.run;
+      told = told_then (happenings_of deed ++ happenings_in deeds) (happenings_of deed) (happenings_in deeds) first.came later.came refl first.told later.told;
+      sound = λ s. later.sound (first.sound s);
+      reported = λ s device before r.
+          reported_as device ((before ++ reports_by device first.came) ++ reports_by device later.came) (before ++ reports_by device (first.came ++ later.came)) l' (reports_then device before first.came later.came)
+          (later.reported (first.sound s) device (before ++ reports_by device first.came) (first.reported s device before r));
+      greeted = λ Name names s all.
+          later.greeted Name (λ state name device is. names state name device (state_behind state l.core mid.core first.came later.came first.run is)) (first.sound s)
+          (first.greeted Name (λ state name device is. names state name device (state_more state l.core first.came later.came is)) s all);
+    }
+
+-- ---- the law
+
+opening_sound : (opening : State) → Sound (opening_ledger opening)
+opening_sound opening = record { each = λ key. tt; closed = All-nil (λ (it : Entry × Fate). IsRead it.0) }
+
+nothing_told : (device : ℕ) (opening : State) → IsReported device [] (opening_ledger opening)
+nothing_told device opening = record { past = []; now = []; whole = refl; closed = refl; given_up = All-nil _; is_now = inl (λ key is. is, refl) }
+
+pub are_heard : (opening : State) (trace : Trace) (l : Ledger) → Runs trace (opening_ledger opening) l → ((key : ℕ) (e : Entry) → l.entries key ≡ Some e → IsHeard e) → All (λ (it : Entry × Fate). IsHeard it.0) l.closed → AreHeard opening trace l
+are_heard opening trace l runs heard ended =
+    let all = goes_on trace (opening_ledger opening) l runs in
+    let sound = all.sound (opening_sound opening) in
+    let names = all.greeted (IsNameIn opening all.came) (λ state name device is place. (state, is, place)) (opening_sound opening) (record { each = λ key e there. cc; closed = All-nil (λ (it : Entry × Fate). IsGreeted (IsNameIn opening all.came) it.0) }) in
+    record {
+      came = all.came;
+      timed = all.timed;
+      run = all.run;
+      told = all.told;
+      reported = λ device. all.reported (opening_sound opening) device [] (nothing_told device opening);
+      greeted = names.each;
+      closed_greeted = names.closed;
+      read = λ key e there. (subst SoundAt there (sound.each key)).1;
+      closed_read = sound.closed;
+      heard = heard;
+      closed_heard = ended;
+    }

@@ -1,0 +1,7 @@
+use Rattle.promises.proofs.Ending.{all_ended}
+use Rattle.promises.proofs.Hearing.{all_heard}
+use Rattle.promises.proofs.Reporting.{are_heard}
+use Rattle.promises.proofs.bytes.devices_are_heard.Goals as goal
+
+pub returns : goal.returns
+returns c opening trace ledger runs = are_heard opening trace ledger runs (all_heard opening trace ledger runs) (all_ended opening trace ledger runs)
