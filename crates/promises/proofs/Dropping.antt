@@ -1,5 +1,5 @@
 -- Of each event of a trace the listener is told, of one that was dropped too.
-use Rattle.std.proofs.Common.{◌≡◌, ℕ, zero, suc, Bool, true, false, List, [], ◌∷◌, ◌++◌, map, refl, sym, ◌∙◌, ap, subst, Option, Some, None, inl, inr}
+use Rattle.std.proofs.Common.{◌≡◌, ℕ, Bool, true, false, List, [], ◌∷◌, ◌++◌, map, refl, sym, ◌∙◌, ap, subst, Option, Some, None, inl, inr}
 use Rattle.std.specs.Prelude.{◌||◌, All, nat_lt, length, take}
 use Rattle.std.proofs.lemmas.List.{append-nil, append_assoc, map-append}
 use Rattle.std.proofs.lemmas.List.Elements.{All-append, All-cons, All-nil}
@@ -53,7 +53,7 @@ use Rattle.connections.specs.Steps.{http_status}
 use Rattle.connections.specs.Choice.{part_of, lost_of}
 use Rattle.server.specs.Polls.{Happening, Polled, Told, Choice, Found, On, Asked, Rested, Looked, Chosen}
 use Rattle.server.specs.Ledger.{Ledger, Fate, Drained, Broken, with_entry, job_bytes}
-use Rattle.server.specs.Rel.{Rel, Nothing, Polls, Tells, Chooses, Then, If, Or, Times, Many, Each, EachOf}
+use Rattle.server.specs.Rel.{Rel, Nothing, Polls, Tells, Chooses, Then, If, Or, Many, Each, EachOf}
 use Rattle.server.specs.Enqueuing.{Sets, BreaksAt, Breaks, Drops, EnqueuesOpen, EnqueuesAt, EnqueuesWhere, Enqueues, EnqueuesOn, EnqueuesReplyAt, EnqueuesResponse, EnqueuesStatus}
 use Rattle.server.specs.Happening.{found_by, Sends, SendsAll, Starts, StartsAll, Orders, Happens, Unanswered}
 use Rattle.server.specs.Closing as Closing
@@ -69,6 +69,7 @@ use Rattle.server.proofs.Steps.{refusals_append}
 use Rattle.server.proofs.Happening.{refused_of}
 use Rattle.server.proofs.Speaking.{notes_append, never, none_before, none_after}
 use Rattle.promises.specs.Dropped.{brings_event, event_note, event_notes, begins_event, events_told, IsToldOf, AreToldOf, TellsDropped}
+use Rattle.promises.proofs.Combining.{or_within, if_within, many_within, each_within}
 
 -- ---- what is told of events
 
@@ -418,27 +419,26 @@ module _ (moment : ℕ) where
   then_in f g l hs l' it came =
       subst (λ (ks : List Happening). ToldFrom came moment l ks l') (sym it.whole) (from_then came moment l it.front it.mid it.back l' (f l it.front it.mid it.first came) (g it.mid it.back l' it.second (after came it.front)))
 
+  abbrev IsSaid : Ledger → List Happening → Ledger → Type 0
+  IsSaid l hs l' = (came : Bool) → ToldFrom came moment l hs l'
+
   or_in : {R S : Rel} → Within R → Within S → Within (Or R S)
-  or_in f g l hs l' (inl it) = f l hs l' it
-  or_in f g l hs l' (inr it) = g l hs l' it
+  or_in {R} {S} = or_within IsSaid R S
 
   if_in : (test : Bool) (R S : Rel) → Within R → Within S → Within (If test R S)
-  if_in true R S f g l hs l' it = f l hs l' it
-  if_in false R S f g l hs l' it = g l hs l' it
+  if_in = if_within IsSaid
 
   nothing_in : Within Nothing
   nothing_in = quietly_in quiet_nothing
 
-  times_in : (n : ℕ) (R : Rel) → Within R → Within (Times n R)
-  times_in zero R f = nothing_in
-  times_in (suc n) R f = then_in (times_in n R f) f
+  joins_in : (R S : Rel) → Within R → Within S → Within (Then R S)
+  joins_in R S = then_in {R = R} {S = S}
 
   many_in : (R : Rel) → Within R → Within (Many R)
-  many_in R f l hs l' (n, it) = times_in n R f l hs l' it
+  many_in = many_within IsSaid nothing_in joins_in
 
   each_in : (n : ℕ) (R : ℕ → Rel) → ((i : ℕ) → Within (R i)) → Within (Each n R)
-  each_in zero R f = nothing_in
-  each_in (suc n) R f = then_in (each_in n R f) (f n)
+  each_in = each_within IsSaid nothing_in joins_in
 
   polls_in : (poll : Poll) → Within (Polls poll)
   polls_in poll = quietly_in (quiet_polls poll)

@@ -19,6 +19,7 @@ pub mod Sparing
 pub mod Carrying
 pub mod Hearing
 pub mod Saying
+pub mod Combining
 pub mod Exchanging
 pub mod Dropping
 pub mod Speaking

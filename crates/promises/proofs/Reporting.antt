@@ -1,5 +1,5 @@
 -- A trace is one run of the core, and tells it of each device what it said on its connections, and the end of each.
-use Rattle.std.proofs.Common.{◌≡◌, ◌≢◌, ℕ, zero, suc, Bool, true, false, List, [], ◌∷◌, ◌++◌, length, take, refl, sym, ◌∙◌, ap, subst, append_assoc, append-nil, Option, Some, None, inl, inr, All}
+use Rattle.std.proofs.Common.{◌≡◌, ◌≢◌, ℕ, Bool, true, false, List, [], ◌∷◌, ◌++◌, length, take, refl, sym, ◌∙◌, ap, subst, append_assoc, append-nil, Option, Some, None, inl, inr, All}
 use Rattle.std.specs.Prelude.{◌==◌, if◌then◌else◌, nat_lt, slice_get}
 use Rattle.std.specs.List.{flat_map}
 use Rattle.std.proofs.lemmas.Grind.{flat_map-append}
@@ -33,7 +33,7 @@ use Rattle.connections.specs.Entry.{Talk, Http, Queue, Link, Entry, opening_entr
 use Rattle.connections.specs.Asking.{Hears, IsHeard}
 use Rattle.server.specs.Polls.{Happening, Choice, Found, On, Rested, Looked}
 use Rattle.server.specs.Ledger.{Ledger, Fate, Drained, Broken, opening_ledger, at_key, with_entry, without}
-use Rattle.server.specs.Rel.{Rel, Nothing, Polls, Tells, Chooses, Then, If, Or, Times, Many, Each}
+use Rattle.server.specs.Rel.{Rel, Nothing, Polls, Tells, Chooses, Then, If, Or, Many, Each}
 use Rattle.server.specs.Enqueuing.{Sets, IsDevice}
 use Rattle.server.specs.Happening.{Happens, Unanswered}
 use Rattle.server.specs.Closing.{IsGone, ClosesAs, ClosesFirst, Settles}
@@ -53,6 +53,7 @@ use Rattle.promises.proofs.Coming.{not_broken}
 use Rattle.promises.proofs.Speaking.{FreshOf, Grows, no_both, read_as, grows_as, grows_reading, broken_stays, named_stays, IsNew, Kept, kept_same, kept_open, here, aside, by_key, KeptAll, reported_kept, reported_as, gone_told, reported_left, told_if, More, reported_more, reported_named, reported_over, unnamed_nameless, SoundAt, kept_sound, Sound, sound_by, sound_kept, sound_left, none_read, AllGreeted, greeted_but, greeted_on, greeted_kept, greeted_left, greeted_first, greeted_more, greeted_nameless}
 use Rattle.promises.proofs.Calms.{Calm, Calms, kept_still, kept_next, no_notes, calm_still, calm_sets, calms_nothing, calms_tells, calms_polls, calms_choice, grows_broken, calms_breaks, calms_dropped, calms_declines, calms_answers, body_answers, OneEvent, happened, handles_behind}
 use Rattle.promises.proofs.Devices.{IsFine, step_fine, step_talk, client_grows, ReportsIt, DeviceStep, device_step}
+use Rattle.promises.proofs.Combining.{or_within, if_within, many_within, each_within}
 
 -- ---- from one ledger to the next
 
@@ -167,27 +168,26 @@ module _ (turn : Bool) (moment : ℕ) where
   then_in : {R S : Rel} → Within R → Within S → Within (Then R S)
   then_in f g l hs l' it = goes_then turn moment l it.front it.mid it.back l' hs it.whole (f l it.front it.mid it.first) (g it.mid it.back l' it.second)
 
+  abbrev IsSaid : Ledger → List Happening → Ledger → Type 1
+  IsSaid l hs l' = Goes turn moment l hs l'
+
   or_in : {R S : Rel} → Within R → Within S → Within (Or R S)
-  or_in f g l hs l' (inl it) = f l hs l' it
-  or_in f g l hs l' (inr it) = g l hs l' it
+  or_in {R} {S} = or_within IsSaid R S
 
   if_in : (test : Bool) (R S : Rel) → Within R → Within S → Within (If test R S)
-  if_in true R S f g l hs l' it = f l hs l' it
-  if_in false R S f g l hs l' it = g l hs l' it
+  if_in = if_within IsSaid
 
   nothing_in : Within Nothing
   nothing_in = calmly_in calms_nothing
 
-  times_in : (n : ℕ) (R : Rel) → Within R → Within (Times n R)
-  times_in zero R f = nothing_in
-  times_in (suc n) R f = then_in (times_in n R f) f
+  joins_in : (R S : Rel) → Within R → Within S → Within (Then R S)
+  joins_in R S = then_in {R = R} {S = S}
 
   many_in : (R : Rel) → Within R → Within (Many R)
-  many_in R f l hs l' (n, it) = times_in n R f l hs l' it
+  many_in = many_within IsSaid nothing_in joins_in
 
   each_in : (n : ℕ) (R : ℕ → Rel) → ((i : ℕ) → Within (R i)) → Within (Each n R)
-  each_in zero R f = nothing_in
-  each_in (suc n) R f = then_in (each_in n R f) (f n)
+  each_in = each_within IsSaid nothing_in joins_in
 
   chooses_in : (choice : Choice) → Within (Chooses choice)
   chooses_in choice = calmly_in (calms_choice choice)
