@@ -13,7 +13,5 @@ pub fn drop_front(bytes: &mut Vec<u8>, count: usize)
     requires { count ≤ length bytes.old.items }
     ensures { bytes.new.items ≡ drop count bytes.old.items }
 {
-    let rest = bytes.len() - count;
-    bytes.rotate_left(count);
-    bytes.truncate(rest);
+    bytes.drain(..count);
 }
