@@ -8,7 +8,7 @@
 //! is announced is what the settings say, and not what a device does at the moment.
 //!
 //! That Avahi reads such a file, and that clients find the printer by it, `tools/clients/try_avahi.sh`
-//! shows; its rows stand in `reader_tests`.
+//! shows; its rows stand in `unit_tests`.
 #![tactic(auto)]
 
 mod ability;

@@ -2,12 +2,12 @@
 use crate::figures::Figures;
 use crate::line::{Came, ServerLine};
 use crate::log::{Log, Note};
+use attach_orders::{JobOrder, Order, OrderError, OrderItem};
+use attach_printers::{Breach, Heard, Printer, Reached};
 use attachment::{Attachment, LoadedMedia, PrinterState};
 use base_types::{JobId, Report, Text};
-use device_orders::{JobOrder, Order, OrderError, OrderItem};
 use mio::Poll;
 use mio::event::Event;
-use printers::{Breach, Heard, Printer, Reached};
 use std::alloc::{AllocError, Global};
 use std::net::Net;
 use std::rt::Files;

@@ -1,8 +1,8 @@
 //! What is measured of the printer, as it is written after each job.
+use attach_orders::JobOrder;
+use attachment::Measurement;
 use base_types::Limits;
-use device_orders::JobOrder;
 use job_objects::estimated_impressions;
-use rates::Measurement;
 use std::alloc::{AllocError, Global};
 
 /// The printer's rates and its setup, where they are measured.

@@ -1,10 +1,10 @@
 //! The lines to and from the server.
 
+use attach_orders::{OrderError, OrderItem, OrderReader, write_report};
+use attach_printers::{Caller, Reached, has_to_wait};
 use base_types::Report;
-use device_orders::{OrderError, OrderItem, OrderReader, write_report};
 use mio::Poll;
 use mio::event::Event;
-use printers::{Caller, Reached, has_to_wait};
 use std::alloc::{AllocError, Global};
 use std::net::Net;
 use text::drop_front;

@@ -1,7 +1,6 @@
 //! The lines of a log.
-use device_orders::OrderFault;
-use ipp_printer::{LeftOut, ReplyBreach};
-use printers::Breach;
+use attach_orders::OrderFault;
+use attach_printers::{Breach, LeftOut, ReplyBreach};
 use std::alloc::{AllocError, Global};
 use std::fmt;
 

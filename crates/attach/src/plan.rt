@@ -1,7 +1,6 @@
 //! What an adapter is to do.
+use attach_printers::{IppAddress, MediaType, Place};
 use base_types::is_name;
-use ipp_printer::IppAddress;
-use printers::{MediaType, Place};
 use std::alloc::{AllocError, Global};
 use url::{ParseError, Url};
 

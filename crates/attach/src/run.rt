@@ -5,12 +5,12 @@ use crate::figures::Figures;
 use crate::line::ServerLine;
 use crate::log::Log;
 use crate::plan::{Plan, Target};
-use ipp_printer::IppPrinter;
+use attach_printers::{
+    AppSocket, Caller, Folder, Ipp, IppPrinter, Lpd, NetworkPrinter, Pjl, Place, Printer, Protocol,
+    Session,
+};
 use mio::unix::SourceFd;
 use mio::{Events, Interest, Poll, Token};
-use printers::{
-    AppSocket, Caller, Folder, Ipp, Lpd, NetworkPrinter, Pjl, Place, Printer, Protocol, Session,
-};
 use std::alloc::Global;
 use std::io;
 use std::io::Write;

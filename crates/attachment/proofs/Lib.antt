@@ -1,1 +1,2 @@
 mod Lives
+mod OnLine

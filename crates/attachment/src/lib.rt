@@ -9,15 +9,33 @@
 //! state is, and not twice. `specs/Promises.antt` has the four in a line or two for each event.
 //!
 //! What its printer has loaded is a [`LoadedMedia`], which is said where the server was told otherwise.
+//! When a printer that is away is tried again is said by [`Pauses`]: they double, up to a longest.
 //!
-//! Tests stand in `reader_tests`.
+//! The rates and the setup of a printer are measured from its jobs. A job takes a device its setup once, and
+//! a rate for each impression. [`Samples`] keeps sums over samples of jobs, and gives the setup and the rate
+//! of least squares: the solution of the normal equations, in whole ms within the limits of the settings.
+//! Where the samples lie on a line it gives just that line ([`setup_is_found`], [`rate_is_found`]).
+//! [`Measurement`] takes the samples of jobs as they go on, and is written as lines of the settings.
+//!
+//! Tests stand in `unit_tests`.
 #![tactic(auto)]
 
 mod attachment;
+mod law;
+mod measurement;
 mod media;
+mod pauses;
+mod quotient;
+mod sample;
+mod samples;
 mod state;
 mod work;
 
 pub use attachment::Attachment;
+pub use law::{rate_is_found, setup_is_found};
+pub use measurement::Measurement;
 pub use media::LoadedMedia;
+pub use pauses::Pauses;
+pub use sample::Sample;
+pub use samples::Samples;
 pub use state::PrinterState;

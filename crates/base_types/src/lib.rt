@@ -7,7 +7,7 @@
 //! happens to a job or a device stands in the crates above, and what any bytes are in `text`. Its
 //! calls are tried by the rows of the crates above.
 //!
-//! Tests stand in `queue_tests`.
+//! Tests stand in `unit_tests`.
 #![tactic(auto)]
 
 mod device;

@@ -3,7 +3,7 @@
 //! It promises that what it does is safe and ends, and no more: which words are read, and the texts
 //! of `--help` and of what is wrong, are `clap`'s. It opens no file, looks at no port and writes nothing.
 //!
-//! Tests stand in `reader_tests`.
+//! Tests stand in `unit_tests`.
 #![tactic(auto)]
 
 mod attach_words;

@@ -9,16 +9,16 @@ use Rattle.http_front.specs.declared.item.HttpItem.{HttpItem}
 use Rattle.http_front.specs.declared.item.HttpItem.TheVariants as item
 use Rattle.http_front.specs.Stream.{Said, HasHead, Invites, HasByte, EndsBody, IsRefused, said_by}
 use Rattle.http_front.specs.Stream as Http
-use Rattle.lpd_reader.specs.Session.{CommandRecord, ListsShort, ListsLong, RemovesJobs, ItemRecord, Says, Aborts, Announces, HasFile}
-use Rattle.lpd_reader.specs.Stream as Lpd
-use Rattle.lpd_session.specs.Session.{SessionState, SentRecord}
+use Rattle.lpd.specs.Conversation.{CommandRecord, ListsShort, ListsLong, RemovesJobs, ItemRecord, Says, Aborts, Announces, HasFile}
+use Rattle.lpd.specs.Stream as Lpd
+use Rattle.lpd.specs.Session.{SessionState, SentRecord}
 use Rattle.events.specs.declared.event.Event.{Event}
 use Rattle.events.specs.declared.event.Event.TheVariants as Is
 use Rattle.events.specs.SameEvent.{SameEvent}
 use Rattle.events.proofs.Sames.{same_self}
-use Rattle.requests.specs.declared.parsed_request.ParsedRequest.{ParsedRequest}
-use Rattle.requests.specs.declared.parsed_request.ParsedRequest.TheVariants as asks
-use Rattle.requests.specs.ParsedRequest.{Asks}
+use Rattle.ipp_operations.specs.declared.parsed_request.ParsedRequest.{ParsedRequest}
+use Rattle.ipp_operations.specs.declared.parsed_request.ParsedRequest.TheVariants as asks
+use Rattle.ipp_operations.specs.ParsedRequest.{Asks}
 use Rattle.connections.specs.declared.ask.Ask.{Ask}
 use Rattle.connections.specs.declared.ask.Ask.TheVariants as ask
 use Rattle.connections.specs.declared.ask.Client.TheVariants as client

@@ -5,7 +5,7 @@ use Rattle.http_front.specs.declared.item.HttpItem.{HttpItem}
 use Rattle.http_front.specs.declared.item.HttpItem.TheVariants as item
 use Rattle.http_front.specs.Stream.{HttpState}
 use Rattle.http_front.specs.Stream as Http
-use Rattle.lpd_reader.specs.Stream as Lpd
+use Rattle.lpd.specs.Stream as Lpd
 use Rattle.device_link.specs.Stream as Link
 use Rattle.settings_file.specs.Settings.{ServerSettings}
 use Rattle.connections.specs.declared.ask.Ask.{Ask}

@@ -17,13 +17,13 @@ use Rattle.http_front.specs.declared.item.HttpItem.{HttpItem}
 use Rattle.http_front.specs.declared.item.HttpItem.TheVariants as item
 use Rattle.http_front.specs.Stream.{HttpState, Said, said_by, Exchanges}
 use Rattle.http_front.specs.Stream as Http
-use Rattle.lpd_reader.specs.declared.fault.LpdError.{LpdError}
-use Rattle.lpd_reader.specs.declared.fault.LpdError.TheVariants as lpd
-use Rattle.lpd_reader.specs.declared.item.LpdItem.{LpdItem}
-use Rattle.lpd_reader.specs.Session.{ItemRecord, item_record}
-use Rattle.lpd_reader.specs.Stream.{LpdState, LpdItems, Open}
-use Rattle.lpd_reader.specs.Stream as Lpd
-use Rattle.requests.specs.Reader as Body
+use Rattle.lpd.specs.declared.fault.LpdError.{LpdError}
+use Rattle.lpd.specs.declared.fault.LpdError.TheVariants as lpd
+use Rattle.lpd.specs.declared.item.LpdItem.{LpdItem}
+use Rattle.lpd.specs.Conversation.{ItemRecord, item_record}
+use Rattle.lpd.specs.Stream.{LpdState, LpdItems, Open}
+use Rattle.lpd.specs.Stream as Lpd
+use Rattle.ipp_operations.specs.Reader as Body
 use Rattle.connections.specs.declared.peer.Peer.{Peer}
 use Rattle.connections.specs.declared.peer.Peer.TheVariants as of
 use Rattle.connections.specs.declared.step.Step.{Step}

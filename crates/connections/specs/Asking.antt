@@ -5,11 +5,11 @@ use Rattle.settings_file.specs.Settings.{ServerSettings}
 use Rattle.http_front.specs.Stream.{Said, said_by, Exchanges}
 use Rattle.http_front.specs.Stream as Http
 use Rattle.http_front.specs.declared.item.HttpItem.{HttpItem}
-use Rattle.lpd_reader.specs.declared.fault.LpdFault.{LpdFault}
-use Rattle.lpd_reader.specs.Session.{ItemRecord}
-use Rattle.lpd_reader.specs.Stream.{LpdItems, Open, Faulty}
-use Rattle.lpd_reader.specs.Stream as Lpd
-use Rattle.lpd_session.specs.Session.{SessionState}
+use Rattle.lpd.specs.declared.fault.LpdFault.{LpdFault}
+use Rattle.lpd.specs.Conversation.{ItemRecord}
+use Rattle.lpd.specs.Stream.{LpdItems, Open, Faulty}
+use Rattle.lpd.specs.Stream as Lpd
+use Rattle.lpd.specs.Session.{SessionState}
 use Rattle.device_link.specs.declared.fault.LinkFault.{LinkFault}
 use Rattle.device_link.specs.Stream.{device_reports, Unfinished}
 use Rattle.device_link.specs.Stream as Link

@@ -2,8 +2,8 @@
 use Rattle.std.specs.Prelude.{ℕ, nat_lt, Bool, true, false, List, [], ◌++◌, length, drop, Option, None}
 use Rattle.base_types.specs.Report.{ReportRecord}
 use Rattle.http_front.specs.Stream.{Said}
-use Rattle.lpd_reader.specs.Session.{ItemRecord}
-use Rattle.lpd_session.specs.Session.{SessionState}
+use Rattle.lpd.specs.Conversation.{ItemRecord}
+use Rattle.lpd.specs.Session.{SessionState}
 use Rattle.send_queues.specs.declared.queue.TheConstants.{RESERVED_BYTES}
 use Rattle.wires.specs.declared.wire.Door.{Door}
 use Rattle.wires.specs.declared.wire.Door.TheVariants.{Ipp, Lpd, Devices}

@@ -9,18 +9,18 @@ use Rattle.device_link.specs.declared.fault.LinkError.{LinkError}
 use Rattle.device_link.specs.declared.fault.LinkError.TheVariants as link
 use Rattle.device_link.specs.Stream.{LinkState}
 use Rattle.device_link.specs.Stream as Link
-use Rattle.lpd_reader.specs.declared.fault.LpdFault.{LpdFault}
-use Rattle.lpd_reader.specs.declared.fault.LpdError.TheVariants as lpd
-use Rattle.lpd_reader.specs.declared.item.LpdItem.{LpdItem}
-use Rattle.lpd_reader.specs.Session.{ItemRecord, item_record}
-use Rattle.lpd_reader.specs.Stream.{LpdState}
-use Rattle.lpd_reader.specs.Stream as Lpd
+use Rattle.lpd.specs.declared.fault.LpdFault.{LpdFault}
+use Rattle.lpd.specs.declared.fault.LpdError.TheVariants as lpd
+use Rattle.lpd.specs.declared.item.LpdItem.{LpdItem}
+use Rattle.lpd.specs.Conversation.{ItemRecord, item_record}
+use Rattle.lpd.specs.Stream.{LpdState}
+use Rattle.lpd.specs.Stream as Lpd
 use Rattle.http_front.specs.declared.item.HttpItem.{HttpItem}
 use Rattle.http_front.specs.declared.item.HttpItem.TheVariants as item
 use Rattle.http_front.specs.Stream.{HttpState, Said}
 use Rattle.http_front.specs.Stream as Http
-use Rattle.requests.specs.Reader.{ReaderState}
-use Rattle.requests.specs.Reader as Body
+use Rattle.ipp_operations.specs.Reader.{ReaderState}
+use Rattle.ipp_operations.specs.Reader as Body
 use Rattle.connections.specs.States.{IppClientState, LpdClientState, DeviceState}
 use Rattle.connections.specs.Session.{is_queue}
 use Rattle.connections.specs.Steps.{EndsBody, StepsLpd, StepsHello, silent, no_memory, refused, faulty, place_of}

@@ -4,9 +4,9 @@ use Rattle.base_types.specs.Report.{ReportRecord}
 use Rattle.device_link.specs.Stream as Link
 use Rattle.http_front.specs.Stream.{Said}
 use Rattle.http_front.specs.Stream as Http
-use Rattle.lpd_reader.specs.Session.{ItemRecord}
-use Rattle.lpd_reader.specs.Stream as Lpd
-use Rattle.requests.specs.Reader as Body
+use Rattle.lpd.specs.Conversation.{ItemRecord}
+use Rattle.lpd.specs.Stream as Lpd
+use Rattle.ipp_operations.specs.Reader as Body
 use Rattle.connections.specs.States.{IppClientState, LpdClientState, DeviceState}
 use Rattle.connections.specs.Entry.{Talk, Entry}
 use Rattle.connections.specs.Entry as entry

@@ -1,10 +1,10 @@
 -- Peers as plain data.
 use Rattle.std.specs.Prelude.{ℕ, Bool, Option}
 use Rattle.http_front.specs.Stream.{HttpState}
-use Rattle.lpd_reader.specs.Stream.{LpdState}
-use Rattle.lpd_session.specs.Session.{SessionState}
+use Rattle.lpd.specs.Stream.{LpdState}
+use Rattle.lpd.specs.Session.{SessionState}
 use Rattle.device_link.specs.Stream.{LinkState}
-use Rattle.requests.specs.Reader.{ReaderState}
+use Rattle.ipp_operations.specs.Reader.{ReaderState}
 
 pub record IppClientState : Type 0 where
   pub reader : HttpState

@@ -8,15 +8,15 @@ use Rattle.http_front.specs.Reply.{continue_head}
 use Rattle.http_front.specs.declared.refusal.HttpRejection.TheVariants.{BadRequest}
 use Rattle.http_front.specs.declared.item.HttpItem.{HttpItem}
 use Rattle.http_front.specs.declared.item.HttpItem.TheVariants as item
-use Rattle.lpd_reader.specs.declared.fault.LpdError.{LpdError}
-use Rattle.lpd_reader.specs.declared.fault.LpdError.TheVariants as fault
-use Rattle.lpd_reader.specs.Session.{ItemRecord, Says, Aborts, Announces, HasFile}
-use Rattle.lpd_session.specs.Session.{SessionState}
+use Rattle.lpd.specs.declared.fault.LpdError.{LpdError}
+use Rattle.lpd.specs.declared.fault.LpdError.TheVariants as fault
+use Rattle.lpd.specs.Conversation.{ItemRecord, Says, Aborts, Announces, HasFile}
+use Rattle.lpd.specs.Session.{SessionState}
 use Rattle.events.specs.declared.status.Status.{Status}
-use Rattle.requests.specs.declared.parsed_request.ParsedRequest.{ParsedRequest}
-use Rattle.requests.specs.declared.parsed_request.ParsedRequest.TheVariants as asks
-use Rattle.requests.specs.ParsedRequest.{Asks, request_id_of}
-use Rattle.responses.specs.Reply.{refusal_bytes}
+use Rattle.ipp_operations.specs.declared.parsed_request.ParsedRequest.{ParsedRequest}
+use Rattle.ipp_operations.specs.declared.parsed_request.ParsedRequest.TheVariants as asks
+use Rattle.ipp_operations.specs.ParsedRequest.{Asks, request_id_of}
+use Rattle.ipp_operations.specs.Reply.{refusal_bytes}
 use Rattle.send_queues.specs.Reply.{http_reply, refusal_head}
 use Rattle.connections.specs.declared.ask.Ask.TheVariants as ask
 use Rattle.connections.specs.declared.ask.Client.TheVariants as client

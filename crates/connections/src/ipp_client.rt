@@ -1,14 +1,14 @@
 //! An IPP client: requests over HTTP, whose bodies are read as they come.
 ghost use Rattle.std.specs.Prelude.{◌≡◌, OnOk, OnErr, List, ℕ};
-ghost use Rattle.requests.specs.ParsedRequest.{Asks};
-ghost use Rattle.requests.specs.Reader.{Heard};
+ghost use Rattle.ipp_operations.specs.ParsedRequest.{Asks};
+ghost use Rattle.ipp_operations.specs.Reader.{Heard};
 ghost use Rattle.connections.specs.Steps.{EndsBody, asked_step};
 ghost use Rattle.connections.specs.Peers.{IsNewIpp, IsFedIpp, NextIpp, HearsIpp, BeginsIpp, TakesPart, EndsIpp, LosesBody};
 
 use crate::ask::{Ask, Client, Growth};
 use crate::step::{Due, Step};
 use http_front::{HttpItem, HttpReader, HttpRejection};
-use requests::{ParsedRequest, RequestParser};
+use ipp_operations::{ParsedRequest, RequestParser};
 use std::alloc::{AllocError, Global};
 use std::marker::Model;
 use std::mem;

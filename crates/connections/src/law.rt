@@ -6,7 +6,7 @@ pub fn one_ask()
     ensures { AsksOne }
 {
     http_front::one_front();
-    lpd_reader::one_front();
+    lpd::one_front();
     device_link::one_front();
-    requests::one_asked();
+    ipp_operations::one_asked();
 }

@@ -14,10 +14,10 @@ use crate::connection::{Connection, Fed};
 use base_types::{DeviceId, JobId};
 use events::Status;
 use job_objects::Job;
+use octets::Document;
 use send_queues::Offered;
 use settings_file::Settings;
 use slab::Slab;
-use spool::Document;
 use std::alloc::Global;
 use wires::{Door, Wire, WireId};
 

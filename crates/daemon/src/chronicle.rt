@@ -2,8 +2,8 @@
 use crate::ends::Begun;
 use crate::last_plan::LastPlan;
 use crate::log::Lines;
-use assignment::AugmentingPaths;
 use base_types::{Moment, Text};
+use plan_solver::AugmentingPaths;
 use server::{Engine, LoggedNote};
 use sockets::ConnectionEvent;
 use std::alloc::{AllocError, Global};

@@ -6,7 +6,7 @@ ghost use Rattle.daemon.specs.Ends.{begun_by, ended_in, has_job, is_at, is_on};
 use base_types::{Activity, DeviceNow, JobId};
 use dispatcher::Started;
 use job_objects::{Job, JobState};
-use planners::Planner;
+use plan_prices::Planner;
 use server::{Engine, LoggedNote};
 use std::alloc::{AllocError, Global};
 use std::marker::Model;

@@ -4,9 +4,9 @@ ghost use Rattle.server.specs.Polls.{both};
 ghost use Rattle.server.specs.Refinement.{RefinesTurn};
 ghost use Rattle.settings_file.specs.Settings.{MeetsLimits};
 
-use assignment::AugmentingPaths;
 use base_types::Moment;
 use dispatcher::Listener;
+use plan_solver::AugmentingPaths;
 use server::Engine;
 use settings_file::Settings;
 use std::alloc::{AllocError, Global};

@@ -6,7 +6,7 @@ use Rattle.base_types.specs.declared.report.Report.{Report}
 use Rattle.job_objects.specs.declared.job_change.JobChange.{JobChange}
 use Rattle.job_objects.specs.declared.job_change.JobChange.TheVariants as Change
 use Rattle.job_objects.specs.Job.{JobRecord}
-use Rattle.spool.specs.Document.{DocumentRecord}
+use Rattle.octets.specs.Document.{DocumentRecord}
 use Rattle.spool.specs.Submission.{Submission}
 use Rattle.spool.specs.declared.refusal.SpoolRefusal.{SpoolRefusal}
 use Rattle.print_room.specs.State.{State}
@@ -40,8 +40,8 @@ use Rattle.dispatcher.specs.ListQueue.{ListsIt, ListsNothing}
 use Rattle.dispatcher.specs.RemoveJobs.{RemovesJobs}
 use Rattle.events.specs.declared.queue.ListQueue.{ListQueue}
 use Rattle.events.specs.declared.queue.RemoveJobs.{RemoveJobs}
-use Rattle.lpd_queues.specs.Queue.{queue_of}
-use Rattle.lpd_queues.specs.Removal.{removed_jobs}
+use Rattle.listings.specs.Queue.{queue_of}
+use Rattle.listings.specs.Removal.{removed_jobs}
 use Rattle.dispatcher.specs.Step.{StepAt}
 use Rattle.dispatcher.specs.Keeping.{StepKeeps}
 

@@ -7,7 +7,7 @@ use Rattle.base_types.specs.Device.{Device}
 use Rattle.base_types.specs.declared.report.Report.{Report}
 use Rattle.base_types.specs.declared.report.Report.TheVariants as Says
 use Rattle.base_types.specs.Report.{report_of}
-use Rattle.spool.specs.Document.{DocumentRecord}
+use Rattle.octets.specs.Document.{DocumentRecord}
 use Rattle.job_objects.specs.declared.job_change.JobChange.{JobChange}
 use Rattle.job_objects.specs.declared.job_change.JobChange.TheVariants as Change
 use Rattle.events.specs.declared.status.Status.{Status}
@@ -29,9 +29,9 @@ use Rattle.events.specs.Event.{is_query}
 use Rattle.events.specs.Effects.{IsResponse, Replies, AnswersLpd}
 use Rattle.events.specs.SameEvent.{SameFiles, SameList, SameRemoval, SameEvent}
 use Rattle.events.proofs.Sames.{by_report, OfEach, by_same}
-use Rattle.lpd_queues.specs.Queue.{queue_of}
-use Rattle.lpd_queues.specs.Listing.{ShowsQueue, entries_of}
-use Rattle.lpd_queues.specs.Removal.{removed_jobs}
+use Rattle.listings.specs.Queue.{queue_of}
+use Rattle.listings.specs.QueueListing.{ShowsQueue, entries_of}
+use Rattle.listings.specs.Removal.{removed_jobs}
 use Rattle.print_room.specs.Activity.{job_on}
 use Rattle.print_room.specs.Jobs.{canceling_each}
 use Rattle.print_room.specs.State.{State, holding, with_device}

@@ -4,7 +4,7 @@ use Rattle.std.specs.Prelude.{◌≢◌, OnErr, Result, Ok, Err}
 use Rattle.spool.specs.Spooled.{SpooledRecord}
 use Rattle.print_room.specs.State.{State}
 use Rattle.events.specs.declared.queue.RemoveJobs.{RemoveJobs}
-use Rattle.lpd_queues.specs.Removal.{is_named}
+use Rattle.listings.specs.Removal.{is_named}
 use Rattle.events.specs.declared.effects.Cancel.{Cancel}
 use Rattle.dispatcher.specs.CancelJob.{cancels_of}
 use Rattle.dispatcher.specs.RemoveJobs.{cancels_if_named, cancels_of_each}

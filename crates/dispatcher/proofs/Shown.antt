@@ -11,7 +11,7 @@ use Rattle.job_objects.specs.declared.job_change.JobChange.TheVariants.{Close}
 use Rattle.job_objects.specs.Job.{JobRecord}
 use Rattle.printer_objects.specs.Created.{created_group}
 use Rattle.spool.specs.Asker.{AskerRecord}
-use Rattle.spool.specs.Document.{DocumentRecord}
+use Rattle.octets.specs.Document.{DocumentRecord}
 use Rattle.spool.specs.Spooled.{SpooledRecord, changed, attached}
 use Rattle.spool.specs.Jobs.{spooled_at, job_at}
 use Rattle.spool.specs.Sound.{FitsState, IsSound}

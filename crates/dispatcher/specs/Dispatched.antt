@@ -1,6 +1,6 @@
 -- What a dispatch did, by whether it made a plan.
 use Rattle.std.specs.Prelude.{Bool, List, [], Option, None, if◌then◌else◌}
-use Rattle.prices.specs.Plan.{PlanRecord}
+use Rattle.plan_prices.specs.Plan.{PlanRecord}
 use Rattle.dispatcher.specs.declared.dispatch.Dispatched.{Dispatched}
 use Rattle.print_room.specs.declared.started.Started.{Started}
 use Rattle.print_room.specs.State.{State}

@@ -1,6 +1,6 @@
 -- What a step and a dispatch leave of the documents of jobs that devices have.
 use Rattle.std.specs.Prelude.{◌≡◌, List, []}
-use Rattle.spool.specs.Document.{DocumentRecord}
+use Rattle.octets.specs.Document.{DocumentRecord}
 use Rattle.print_room.specs.State.{State}
 use Rattle.print_room.specs.DeviceJobs.{AllKeep, KeepsOrEnds}
 use Rattle.events.specs.declared.event.Event.{Event}

@@ -7,8 +7,8 @@ use Rattle.events.specs.declared.effects.LpdResponse.TheVariants.{Taken, Queue, 
 use Rattle.events.specs.declared.effects.Effects.{Effects}
 use Rattle.events.specs.Effects.{AnswersLpd}
 use Rattle.events.specs.declared.queue.ListQueue.{ListQueue}
-use Rattle.lpd_queues.specs.Queue.{queue_of}
-use Rattle.lpd_queues.specs.Listing.{ShowsQueue}
+use Rattle.listings.specs.Queue.{queue_of}
+use Rattle.listings.specs.QueueListing.{ShowsQueue}
 use Rattle.print_room.specs.State.{State}
 
 -- the listing of the printer at a place

@@ -1,6 +1,6 @@
 -- A dispatch of the core, of which a listener is told.
 use Rattle.std.specs.Prelude.{ℕ, ◌≡◌, ◌≢◌, [], Some, None}
-use Rattle.prices.specs.Plan.{PlanRecord}
+use Rattle.plan_prices.specs.Plan.{PlanRecord}
 use Rattle.print_room.specs.State.{State}
 use Rattle.print_room.specs.Ready.{ready_of}
 use Rattle.print_room.specs.Dispatch.{Dispatches}

@@ -8,7 +8,7 @@ use Rattle.events.specs.declared.effects.Cancel.{Cancel}
 use Rattle.events.specs.declared.effects.Effects.{Effects}
 use Rattle.dispatcher.specs.CancelJob.{cancels_of}
 use Rattle.events.specs.declared.queue.RemoveJobs.{RemoveJobs}
-use Rattle.lpd_queues.specs.Removal.{is_named, removed_jobs}
+use Rattle.listings.specs.Removal.{is_named, removed_jobs}
 use Rattle.print_room.specs.State.{State}
 use Rattle.print_room.specs.Jobs.{canceling_each}
 

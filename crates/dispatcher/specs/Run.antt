@@ -1,6 +1,6 @@
 -- An event at the core: a step, the cancels that it sends, and a dispatch unless it is a query. A run: events one after the other.
 use Rattle.std.specs.Prelude.{ℕ, ◌≡◌, ◌≢◌, max, true, false, List, [], ◌∷◌, ◌++◌, map, Option, Some, None}
-use Rattle.prices.specs.Plan.{PlanRecord}
+use Rattle.plan_prices.specs.Plan.{PlanRecord}
 use Rattle.events.specs.declared.event.Event.{Event}
 use Rattle.events.specs.declared.effects.Effects.{Effects}
 use Rattle.events.specs.Event.{is_query}

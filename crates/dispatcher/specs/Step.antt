@@ -19,7 +19,7 @@ use Rattle.dispatcher.specs.GetJobs.{ListsJobs, wanted_of}
 use Rattle.dispatcher.specs.SubmitFiles.{SubmitsFiles, filed_of}
 use Rattle.dispatcher.specs.ListQueue.{ListsQueue}
 use Rattle.dispatcher.specs.RemoveJobs.{RemovesJobs, told_of}
-use Rattle.lpd_queues.specs.Queue.{queue_of}
+use Rattle.listings.specs.Queue.{queue_of}
 use Rattle.print_room.specs.Report.{Reports}
 use Rattle.print_room.specs.State.{State}
 use Rattle.print_room.specs.Jobs.{expiring}

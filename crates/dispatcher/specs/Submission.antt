@@ -5,7 +5,7 @@ use Rattle.text.specs.Steps.{◌>>=◌}
 use Rattle.ipp_codec.specs.Message.{IppGroup}
 use Rattle.printer_objects.specs.Created.{created_group}
 use Rattle.job_template.specs.Template.{template_of, medium_of}
-use Rattle.spool.specs.Document.{DocumentRecord}
+use Rattle.octets.specs.Document.{DocumentRecord}
 use Rattle.spool.specs.Submission.{Submission, spooled_of}
 use Rattle.spool.specs.Calls.{paused_at}
 use Rattle.events.specs.declared.event.JobCreation.{JobCreation}

@@ -11,7 +11,7 @@ use Rattle.events.specs.declared.event.SubmitFiles.{SubmitFiles}
 use Rattle.events.specs.declared.effects.LpdResponse.TheVariants.{Taken}
 use Rattle.events.specs.declared.effects.Effects.{Effects}
 use Rattle.events.specs.Effects.{AnswersLpd}
-use Rattle.lpd_queues.specs.Queue.{queue_of}
+use Rattle.listings.specs.Queue.{queue_of}
 use Rattle.print_room.specs.State.{State}
 use Rattle.print_room.specs.Jobs.{with_job_taken}
 

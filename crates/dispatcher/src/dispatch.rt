@@ -8,8 +8,7 @@ ghost use Rattle.dispatcher.specs.Dispatched.{plan_of, started_of, plan_if, begu
 
 use crate::server_core::Core;
 use base_types::Moment;
-use planners::Planner;
-use prices::Plan;
+use plan_prices::{Plan, Planner};
 use print_room::{PrintRoom, Started};
 use std::alloc::AllocError;
 

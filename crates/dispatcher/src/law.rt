@@ -2,7 +2,7 @@
 //! event leads to one state, as does any that says the same; that a Send-Document is answered its job as it
 //! is then. The functions do nothing: their contracts are what they are for.
 ghost use Rattle.std.specs.Prelude.{ℕ, ◌≡◌, [], List, Ok, Option};
-ghost use Rattle.prices.specs.Plan.{PlanRecord};
+ghost use Rattle.plan_prices.specs.Plan.{PlanRecord};
 ghost use Rattle.print_room.specs.declared.started.Started.{Started};
 ghost use Rattle.print_room.specs.State.{State};
 ghost use Rattle.print_room.specs.Dispatch.{Dispatches};
@@ -23,7 +23,7 @@ ghost use Rattle.dispatcher.specs.Keeping.{StepKeeps};
 ghost use Rattle.dispatcher.specs.OneStep.{SameEnd};
 
 use crate::server_core::Core;
-use planners::Planner;
+use plan_prices::Planner;
 
 impl<P: Planner + Drop> Core<P> {
     /// What holds of every state: what a print room keeps, and what a spool keeps.

@@ -1,11 +1,11 @@
 //! What an LPD client that lists a queue is answered (RFC 1179, sections 5.3 and 5.4).
 ghost use Rattle.std.specs.Prelude.{◌≡◌, ◌≤◌, IfOk, IsOk, OnErr, None};
-ghost use Rattle.lpd_queues.specs.Queue.{queue_of};
+ghost use Rattle.listings.specs.Queue.{queue_of};
 ghost use Rattle.dispatcher.specs.ListQueue.{ListsQueue};
 
 use base_types::Moment;
 use events::{Effects, ListQueue, LpdResponse};
-use lpd_queues::{queue_listing, queue_of};
+use listings::{queue_listing, queue_of};
 use print_room::PrintRoom;
 use std::alloc::{AllocError, Global};
 

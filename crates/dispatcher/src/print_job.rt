@@ -9,8 +9,8 @@ use crate::checks::{NamedPrinter, Rejection, format_asked, named_printer};
 use crate::submission::{Accepted, groups_of, job_asked};
 use base_types::{Moment, Text};
 use events::{Effects, PrintJob};
+use octets::{Document, Octets};
 use print_room::PrintRoom;
-use spool::{Document, Octets};
 use std::alloc::{AllocError, Global};
 
 /// Takes the job of a Print-Job request, or says why not.

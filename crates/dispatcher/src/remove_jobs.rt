@@ -1,13 +1,13 @@
 //! What an LPD client that removes jobs from a queue comes to (RFC 1179, section 5.5).
 ghost use Rattle.std.specs.Prelude.{◌≡◌, ◌≢◌, ◌≤◌, ◌++◌, [], IfOk, OnOk, IsOk, OnErr, option_to_list};
-ghost use Rattle.lpd_queues.specs.Removal.{active_job, named_jobs};
+ghost use Rattle.listings.specs.Removal.{active_job, named_jobs};
 ghost use Rattle.dispatcher.specs.RemoveJobs.{RemovesJobs, cancels_if_named, cancels_of_each, told_of};
 
 use crate::cancel_job::cancels_of;
 use base_types::{Moment, Text};
 use events::{Cancel, Effects, RemoveJobs};
 use job_objects::Job;
-use lpd_queues::{active_job, is_named, queue_of, remove};
+use listings::{active_job, is_named, queue_of, remove};
 use print_room::PrintRoom;
 use std::alloc::{AllocError, Global};
 

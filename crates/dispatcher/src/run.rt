@@ -9,7 +9,7 @@ use crate::outcome::Outcome;
 use crate::server_core::Core;
 use base_types::Moment;
 use events::{Cancel, Event};
-use planners::Planner;
+use plan_prices::Planner;
 use std::alloc::{AllocError, Global};
 
 /// An event, and the moment at which it comes.

@@ -12,9 +12,9 @@ use base_types::{JobId, Moment, Text};
 use events::{Effects, ResponseGroups, SendDocument, Status};
 use job_objects::{Job, JobState, waiting_reasons};
 use job_template::RequestAttributes;
+use octets::Document;
 use print_room::PrintRoom;
 use printer_objects::created_job_attributes;
-use spool::Document;
 use std::alloc::{AllocError, Global};
 
 /// The job that a document is sent to, where nothing stands against it: the document's format, and the

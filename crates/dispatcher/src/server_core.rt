@@ -10,10 +10,10 @@ use crate::apply::apply;
 use base_types::{DeviceId, DeviceNow, JobId, Moment};
 use events::{Effects, Event};
 use job_objects::Job;
-use planners::Planner;
+use octets::Document;
+use plan_prices::Planner;
 use print_room::{PrintRoom, Started};
 use settings_file::Settings;
-use spool::Document;
 use std::alloc::{AllocError, Global};
 use std::marker::Model;
 

@@ -6,7 +6,7 @@ ghost use Rattle.dispatcher.specs.SubmitFiles.{FilesJob, SubmitsFiles, filed_of,
 
 use base_types::{Finishings, Moment, PrinterId, Priority, Sides, Text};
 use events::{Effects, LpdResponse, SubmitFiles};
-use lpd_queues::queue_of;
+use listings::queue_of;
 use print_room::PrintRoom;
 use settings_file::PrinterSettings;
 use spool::NewJob;

@@ -8,7 +8,7 @@ use crate::response_groups::ResponseGroups;
 use crate::status::Status;
 use base_types::{DeviceId, JobId};
 use job_template::RequestAttributes;
-use spool::Document;
+use octets::Document;
 use std::alloc::Global;
 
 /// A cancel to send: the device still has the job.

@@ -6,9 +6,9 @@ ghost use Rattle.events.specs.Target.{names};
 use crate::queue::{ListQueue, RemoveJobs};
 use base_types::{DeviceId, JobId, Report, Text};
 use job_template::RequestAttributes;
+use octets::{Document, Octets};
 use printer_objects::Requested;
 use settings_file::PrinterSettings;
-use spool::{Document, Octets};
 
 /// Which printer a request's printer-uri names.
 #[derive(Debug, Drop)]

@@ -5,7 +5,7 @@
 //! spelling of a message. Nothing here knows what an attribute or an operation means: a value is a
 //! tag and bytes, or a collection of members.
 //!
-//! Tests stand in `reader_tests`.
+//! Tests stand in `unit_tests`.
 #![tactic(auto)]
 
 mod decoder;

@@ -5,7 +5,7 @@
 //! line. It promises that each job's numbers are in their ranges; which bytes are a record is `csv`'s to
 //! say. It opens no file, and knows no device: a job may need what none has.
 //!
-//! Tests stand in `reader_tests`.
+//! Tests stand in `unit_tests`.
 #![tactic(auto)]
 
 mod column;

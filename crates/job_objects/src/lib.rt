@@ -5,7 +5,7 @@
 //! the job's state allows, and leaves the job as it was where it doesn't. It takes no memory, holds no
 //! documents and knows nothing of other jobs; those stand in the spool above.
 //!
-//! Tests stand in `queue_tests`.
+//! Tests stand in `unit_tests`.
 #![tactic(auto)]
 
 mod device_says;

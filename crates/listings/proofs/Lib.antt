@@ -1,3 +1,4 @@
 mod Placing
 mod Showing
 mod Ordering
+pub mod Removing

@@ -4,10 +4,10 @@ use Rattle.std.specs.List.{filter_map, flat_map}
 use Rattle.base_types.specs.Device.{Device}
 use Rattle.base_types.specs.declared.device.Activity.{Activity}
 use Rattle.base_types.specs.declared.device.Activity.TheVariants.{Running, Stopped}
-use Rattle.cost_table.specs.Class.{Class}
-use Rattle.prices.specs.Timetable.{Slot, end_of, own_slots}
-use Rattle.prices.specs.declared.plan.PlannedClass.{PlannedClass}
-use Rattle.prices.specs.Plan.{PlanRecord}
+use Rattle.plan_problem.specs.Class.{Class}
+use Rattle.plan_prices.specs.Timetable.{Slot, end_of, own_slots}
+use Rattle.plan_prices.specs.declared.plan.PlannedClass.{PlannedClass}
+use Rattle.plan_prices.specs.Plan.{PlanRecord}
 use Rattle.listings.specs.declared.expected.Expected.{Expected}
 
 -- the job that a device has, which ends as estimated; where the device is stopped, once the time left of

@@ -4,3 +4,7 @@ pub mod Entry
 pub mod Listing
 pub mod Order
 pub mod Groups
+pub mod Queue
+pub mod Operand
+pub mod QueueListing
+pub mod Removal

@@ -1,14 +1,14 @@
 //! When jobs are expected to be complete.
 ghost use Rattle.std.specs.Prelude.{◌≡◌, ◌==◌, ◌^◌, ◌≤◌, ◌++◌, IfOk, OnOk, map, find};
 ghost use Rattle.std.specs.Option.{option_copied};
-ghost use Rattle.cost_table.specs.Class.{wait_in};
-ghost use Rattle.prices.specs.Total.{time_on};
-ghost use Rattle.prices.specs.Timetable.{slots_of_list};
+ghost use Rattle.plan_problem.specs.Class.{wait_in};
+ghost use Rattle.plan_prices.specs.Total.{time_on};
+ghost use Rattle.plan_prices.specs.Timetable.{slots_of_list};
 ghost use Rattle.listings.specs.Expected.{completion, completions_in, expected_of, moment_of, on_devices, planned};
 
 use base_types::{Activity, DeviceId, DeviceNow, JobId, Moment};
-use cost_table::ClassProblem;
-use prices::{Plan, PlannedClass};
+use plan_prices::{Plan, PlannedClass};
+use plan_problem::ClassProblem;
 use std::alloc::{AllocError, Global};
 
 /// A job, and when it is expected to be complete.

@@ -6,12 +6,12 @@ use Rattle.std.specs.Option.{option_map_or}
 use Rattle.std.proofs.lemmas.Bool.{cases_eq, eq-eqb, ne_eqb}
 use Rattle.std.proofs.lemmas.List.{get_or_default}
 use Rattle.std.proofs.lemmas.List.Sums.{sum_by-cons}
-use Rattle.cost_table.specs.Class.{Class}
-use Rattle.prices.specs.declared.plan.PlannedClass.{PlannedClass}
-use Rattle.prices.specs.Way.{IsWay, times_named}
-use Rattle.prices.specs.Total.{time_on}
-use Rattle.prices.specs.Timetable.{Slot, IsTimetable, own_slots, slots_naming}
-use Rattle.prices.proofs.Names.{of_counted}
+use Rattle.plan_problem.specs.Class.{Class}
+use Rattle.plan_prices.specs.declared.plan.PlannedClass.{PlannedClass}
+use Rattle.plan_prices.specs.Way.{IsWay, times_named}
+use Rattle.plan_prices.specs.Total.{time_on}
+use Rattle.plan_prices.specs.Timetable.{Slot, IsTimetable, own_slots, slots_naming}
+use Rattle.plan_prices.proofs.Names.{of_counted}
 use Rattle.plan_audit.specs.Check.{start_line, job_start}
 
 abbrev naming : List Slot → ℕ → ℕ

@@ -4,9 +4,9 @@ use Rattle.std.specs.Fmt.{decimal}
 use Rattle.std.specs.Io.KnownBytes.{Appends}
 use Rattle.std.specs.Option.{option_map_or}
 use Rattle.base_types.specs.declared.limits.TheConstants.Limits.{INPUT_BYTES}
-use Rattle.cost_table.specs.Class.{Class}
-use Rattle.prices.specs.declared.plan.PlannedClass.{PlannedClass}
-use Rattle.prices.specs.Timetable.{Slot, end_of, own_slots}
+use Rattle.plan_problem.specs.Class.{Class}
+use Rattle.plan_prices.specs.declared.plan.PlannedClass.{PlannedClass}
+use Rattle.plan_prices.specs.Timetable.{Slot, end_of, own_slots}
 use Rattle.plan_audit.specs.declared.check.Audit.{Audit}
 use Rattle.plan_audit.specs.declared.objection.Objection.{Objection}
 use Rattle.plan_audit.specs.declared.objection.Objection.TheVariants.{Size, Text, Plan}
@@ -20,10 +20,10 @@ use Rattle.plan_checker.specs.declared.verdict.PlanVerdict.TheVariants.{Yes, No}
 use Rattle.plan_text.specs.NamedPlan.{NamedPlan}
 use Rattle.plan_checker.specs.Plan.{IsPlanVerdict}
 use Rattle.plan_text.specs.Whole.{plan_at}
-use Rattle.streams.specs.declared.exit_status.ExitStatus.{ExitStatus}
-use Rattle.streams.specs.declared.exit_status.ExitStatus.TheVariants as Ends
-use Rattle.streams.specs.Input.{IsWhole, GaveMore}
-use Rattle.streams.specs.Said.{refused_as}
+use Rattle.program.specs.declared.exit_status.ExitStatus.{ExitStatus}
+use Rattle.program.specs.declared.exit_status.ExitStatus.TheVariants as Ends
+use Rattle.program.specs.Input.{IsWhole, GaveMore}
+use Rattle.program.specs.Said.{refused_as}
 
 abbrev pub text_fault_name : TextFault → List ℕ
 text_fault_name BadLine = codes "BadLine"

@@ -1,8 +1,8 @@
 //! The text of a plan, judged.
 ghost use Rattle.std.specs.Prelude.{ℕ, ◌≡◌, ◌++◌, ◌<◌, Err, None, All, IfOk, IfSome, [], codes, if◌then◌else◌, length};
 ghost use Rattle.std.specs.Fmt.{decimal};
-ghost use Rattle.prices.specs.Plan.{HasOneListEach};
-ghost use Rattle.prices.specs.Prices.{IsProved};
+ghost use Rattle.plan_prices.specs.Plan.{HasOneListEach};
+ghost use Rattle.plan_prices.specs.Prices.{IsProved};
 ghost use Rattle.plan_checker.specs.Plan.{IsPlanVerdict};
 ghost use Rattle.plan_text.specs.Whole.{plan_at};
 ghost use Rattle.plan_audit.specs.Check.{fault_name, text_fault_name, plan_starts, priority_at, refused_for, judged_of, IsJudged, IsAnswer, Checks};
@@ -14,12 +14,12 @@ use crate::place::fault_line;
 use crate::starts::put_starts;
 use base_types::{Limits, Text};
 use plan_checker::{Fault, PlanVerdict, check_plan};
+use plan_prices::PlannedClass;
 use plan_text::{PlanText, ReadError, TextFault, read_plan_text};
-use prices::PlannedClass;
+use program::{ExitStatus, InputFault, read_whole, refused_line, write_front};
 use std::alloc::{AllocError, Global};
 use std::io::{Read, Write};
 use std::marker::Model;
-use streams::{ExitStatus, InputFault, read_whole, refused_line, write_front};
 
 /// How an audit ends.
 #[derive(Clone, Copy, Debug, PartialEq, Eq)]

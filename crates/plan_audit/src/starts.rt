@@ -1,14 +1,14 @@
 //! When the jobs of a plan start, as lines.
 ghost use Rattle.std.specs.Prelude.{◌≡◌, ◌++◌, All, Contains, OnOk, codes};
 ghost use Rattle.std.specs.Fmt.{decimal};
-ghost use Rattle.prices.specs.Prices.{IsProved};
+ghost use Rattle.plan_prices.specs.Prices.{IsProved};
 ghost use Rattle.plan_text.specs.NamedPlan.{name_at};
 ghost use Rattle.plan_audit.specs.Check.{start_line, job_start, job_starts, plan_starts};
 
 use base_types::{DeviceId, JobId, Text};
-use cost_table::ClassProblem;
+use plan_prices::{PlannedClass, start_of};
+use plan_problem::ClassProblem;
 use plan_text::name_of;
-use prices::{PlannedClass, start_of};
 use std::alloc::{AllocError, Global};
 
 /// Appends when each job starts.

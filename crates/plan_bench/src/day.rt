@@ -4,8 +4,8 @@ use crate::made_class::{Speed, made_speed};
 use crate::random::Random;
 use anyhow::{Context, Error, bail};
 use base_types::JobId;
-use cost_table::{ClassProblem, Row, is_class};
-use prices::Way;
+use plan_prices::Way;
+use plan_problem::{ClassProblem, Row, is_class};
 use std::alloc::{AllocError, Global};
 
 /// How a day goes.

@@ -1,7 +1,7 @@
 use crate::random::Random;
 use anyhow::{Context, Error, bail};
 use base_types::JobId;
-use cost_table::{ClassProblem, Row, is_class};
+use plan_problem::{ClassProblem, Row, is_class};
 use std::alloc::{AllocError, Global};
 
 /// The longest of the times that are uniform at random, in ms.

@@ -18,16 +18,17 @@ mod day;
 mod made_class;
 mod played;
 mod random;
+mod search;
 
 use crate::day::{Course, Day};
 use crate::made_class::{Kind, made_class};
 use crate::played::{By, play};
 use crate::random::Random;
+use crate::search::least_total;
 use anyhow::{Context, Error, bail};
-use assignment::{AugmentingPaths, DenseAugmentingPaths};
-use cost_table::ClassProblem;
-use exhaustive_search::least_total;
-use planners::{Planner, each_able};
+use plan_prices::{Planner, each_able};
+use plan_problem::ClassProblem;
+use plan_solver::{AugmentingPaths, DenseAugmentingPaths};
 use std::alloc::Global;
 use std::env;
 

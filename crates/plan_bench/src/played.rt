@@ -2,11 +2,10 @@
 
 use crate::day::{Course, Day};
 use anyhow::{Error, bail};
-use assignment::AugmentingPaths;
-use cost_table::ClassProblem;
 use plan_checker::{Verdict, check_class};
-use planners::{Planner, each_able};
-use prices::PricedWay;
+use plan_prices::{Planner, PricedWay, each_able};
+use plan_problem::ClassProblem;
+use plan_solver::AugmentingPaths;
 use std::alloc::Global;
 
 /// Which planners plan a day.

@@ -2,14 +2,14 @@
 use Rattle.std.proofs.Common.{◌≡◌, ◌==◌, ℕ, zero, suc, ◌-◌, ◌<◌, ◌≤◌, List, length, get_or, Option, Some, None, MatchOption, is_some, false, true, Contains, arith, sym, ap, ◌∙◌, subst}
 use Rattle.std.specs.Prelude.{slice_get}
 use Rattle.std.proofs.lemmas.Option.{get_or_from_slice_get, slice_get-get_or}
-use Rattle.cost_table.specs.Class.{Class, place_of}
-use Rattle.cost_table.proofs.Places.{place_below}
-use Rattle.prices.specs.declared.plan.PlannedClass.{PlannedClass}
-use Rattle.prices.specs.Way.{IsWay}
-use Rattle.prices.specs.Waits.{waits_after}
-use Rattle.prices.proofs.Each.{match_since_some}
-use Rattle.prices.proofs.Names.{contains_from_place}
-use Rattle.prices.proofs.Steps.{length-waits_from}
+use Rattle.plan_problem.specs.Class.{Class, place_of}
+use Rattle.plan_problem.proofs.Places.{place_below}
+use Rattle.plan_prices.specs.declared.plan.PlannedClass.{PlannedClass}
+use Rattle.plan_prices.specs.Way.{IsWay}
+use Rattle.plan_prices.specs.Waits.{waits_after}
+use Rattle.plan_prices.proofs.Each.{match_since_some}
+use Rattle.plan_prices.proofs.Names.{contains_from_place}
+use Rattle.plan_prices.proofs.Steps.{length-waits_from}
 use Rattle.plan_checker.specs.Beside.{WaitsFollow, AboveHaveWays}
 
 -- a job that a class finds is one of its jobs

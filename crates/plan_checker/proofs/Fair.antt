@@ -1,9 +1,9 @@
 -- steps of the loops over prices
 use Rattle.std.proofs.Common.{◌≡◌, ℕ, ◌+◌, ◌<◌, ◌≤◌, List, length, drop, get_or, sym, ap, ◌∙◌, subst, arith, Option, Some, ℤ, pos, ◌+ℤ◌}
 use Rattle.std.proofs.lemmas.List.{at_drop_more, get_or_default}
-use Rattle.cost_table.proofs.Places.{place_at, at_place, timed_place}
-use Rattle.cost_table.specs.Class.{Class, IsClass, place_of, time_in, wait_in}
-use Rattle.prices.specs.Prices.{sum_signed, sum_lists}
+use Rattle.plan_problem.proofs.Places.{place_at, at_place, timed_place}
+use Rattle.plan_problem.specs.Class.{Class, IsClass, place_of, time_in, wait_in}
+use Rattle.plan_prices.specs.Prices.{sum_signed, sum_lists}
 use Rattle.plan_checker.specs.Fair.{IsFairOn, AllFairOn}
 
 pub sum_signed_step : (xs : List ℤ) (i : ℕ) → i < length xs → sum_signed (drop i xs) ≡ get_or xs i (pos 0) +ℤ sum_signed (drop (i + 1) xs)

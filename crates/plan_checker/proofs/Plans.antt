@@ -4,16 +4,16 @@ use Rattle.std.specs.Prelude.{slice_get}
 use Rattle.std.proofs.lemmas.List.{get_or-take, length-take}
 use Rattle.std.proofs.lemmas.Option.{get_or_from_slice_get, slice_get-get_or, slice_get_within}
 use Rattle.base_types.specs.declared.needs.Stranded.{Stranded}
-use Rattle.cost_table.specs.Class.{IsClass}
-use Rattle.prices.specs.declared.plan.PlannedClass.{PlannedClass}
-use Rattle.prices.specs.Plan.{PlanRecord, HasOneListEach}
-use Rattle.prices.specs.Way.{IsWay}
-use Rattle.prices.specs.Total.{IsBest, total_of}
-use Rattle.prices.specs.Prices.{IsProved}
-use Rattle.prices.specs.Timetable.{Slot, IsTimetable, slots_total}
-use Rattle.prices.proofs.Names.{way_from_parts}
-use Rattle.prices.proofs.Timetables.{best_of_timetables}
-use Rattle.prices.proofs.Each.{each_more, last_or_before}
+use Rattle.plan_problem.specs.Class.{IsClass}
+use Rattle.plan_prices.specs.declared.plan.PlannedClass.{PlannedClass}
+use Rattle.plan_prices.specs.Plan.{PlanRecord, HasOneListEach}
+use Rattle.plan_prices.specs.Way.{IsWay}
+use Rattle.plan_prices.specs.Total.{IsBest, total_of}
+use Rattle.plan_prices.specs.Prices.{IsProved}
+use Rattle.plan_prices.specs.Timetable.{Slot, IsTimetable, slots_total}
+use Rattle.plan_prices.proofs.Names.{way_from_parts}
+use Rattle.plan_prices.proofs.Timetables.{best_of_timetables}
+use Rattle.plan_prices.proofs.Each.{each_more, last_or_before}
 use Rattle.plan_checker.specs.Beside.{AboveHaveWays}
 use Rattle.plan_checker.specs.Verdict.{IsVerdict}
 use Rattle.plan_checker.specs.Plan.{beside_at, IsVerdictAt, YesAbove, IsProvedPlan}

@@ -5,14 +5,14 @@ use Rattle.std.proofs.lemmas.Bool.{cases_lt}
 use Rattle.std.proofs.lemmas.List.{get_or_past, get_or_default}
 use lib.Signed.{le_z_yes}
 use Rattle.base_types.specs.declared.limits.TheConstants.Limits.{UNFINISHED_JOBS}
-use Rattle.cost_table.specs.Class.{Class, IsClass, time_in, wait_in}
-use Rattle.prices.specs.Way.{IsWay, queue_of}
-use Rattle.prices.specs.Total.{IsBest}
-use Rattle.prices.specs.Prices.{PriceLists, job_price, places_on, place_price, IsProved}
-use Rattle.cost_table.proofs.Places.{timed_device}
-use Rattle.prices.proofs.Names.{way_from_parts, none_twice_in, all_named_in}
-use Rattle.prices.proofs.Bounds.{length_names, part_short}
-use Rattle.prices.proofs.Duality.{best_from_fair}
+use Rattle.plan_problem.specs.Class.{Class, IsClass, time_in, wait_in}
+use Rattle.plan_prices.specs.Way.{IsWay, queue_of}
+use Rattle.plan_prices.specs.Total.{IsBest}
+use Rattle.plan_prices.specs.Prices.{PriceLists, job_price, places_on, place_price, IsProved}
+use Rattle.plan_problem.proofs.Places.{timed_device}
+use Rattle.plan_prices.proofs.Names.{way_from_parts, none_twice_in, all_named_in}
+use Rattle.plan_prices.proofs.Bounds.{length_names, part_short}
+use Rattle.plan_prices.proofs.Duality.{best_from_fair}
 use Rattle.plan_checker.specs.Fair.{NoneMissing, NonePositive, NoneTooHigh, IsFairOn}
 use Rattle.plan_checker.specs.Beside.{Beside, alone, NoneElsewhere, WaitsFollow}
 use Rattle.plan_checker.specs.Verdict.{MustHold, faults, IsFirst, IsVerdict}

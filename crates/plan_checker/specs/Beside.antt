@@ -1,10 +1,10 @@
 -- What stands beside a class in its plan: the classes above it, and the stranded jobs.
 use Rattle.std.specs.Prelude.{◌≡◌, ℕ, suc, List, [], Some, length, All, Contains, slice_get}
 use Rattle.base_types.specs.declared.needs.Stranded.{Stranded}
-use Rattle.cost_table.specs.Class.{Class}
-use Rattle.prices.specs.declared.plan.PlannedClass.{PlannedClass}
-use Rattle.prices.specs.Way.{IsWay}
-use Rattle.prices.specs.Waits.{waits_after}
+use Rattle.plan_problem.specs.Class.{Class}
+use Rattle.plan_prices.specs.declared.plan.PlannedClass.{PlannedClass}
+use Rattle.plan_prices.specs.Way.{IsWay}
+use Rattle.plan_prices.specs.Waits.{waits_after}
 
 -- the classes above, the highest first
 pub record Beside : Type 0 where

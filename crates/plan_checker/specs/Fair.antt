@@ -1,9 +1,9 @@
 -- The parts of fair prices, one by one, as a checker tells them apart.
 use Rattle.std.specs.Prelude.{◌≡◌, ℕ, suc, ◌+◌, ◌*◌, ◌<◌, List, length, Some, All, slice_index_or, ℤ, pos, ◌+ℤ◌, ◌≤ℤ◌}
-use Rattle.cost_table.specs.Class.{Class, time_in, wait_in}
-use Rattle.prices.specs.Way.{queue_of, AllNamed}
-use Rattle.prices.specs.Total.{total_of}
-use Rattle.prices.specs.Prices.{PriceLists, sum_signed, sum_lists, job_price, places_on}
+use Rattle.plan_problem.specs.Class.{Class, time_in, wait_in}
+use Rattle.plan_prices.specs.Way.{queue_of, AllNamed}
+use Rattle.plan_prices.specs.Total.{total_of}
+use Rattle.plan_prices.specs.Prices.{PriceLists, sum_signed, sum_lists, job_price, places_on}
 
 -- each used place of each device has one price
 abbrev pub AllPlacesPriced : List (List ℕ) → List (List ℤ) → Type 0

@@ -1,8 +1,8 @@
 -- The verdict on a plan, and what a proved plan is.
 use Rattle.std.specs.Prelude.{◌≡◌, ℕ, ◌<◌, Some, length, take, All, slice_get}
-use Rattle.prices.specs.declared.plan.PlannedClass.{PlannedClass}
-use Rattle.prices.specs.Plan.{PlanRecord}
-use Rattle.prices.specs.Prices.{IsProved}
+use Rattle.plan_prices.specs.declared.plan.PlannedClass.{PlannedClass}
+use Rattle.plan_prices.specs.Plan.{PlanRecord}
+use Rattle.plan_prices.specs.Prices.{IsProved}
 use Rattle.plan_checker.specs.Beside.{Beside, NoneElsewhere, WaitsFollow}
 use Rattle.plan_checker.specs.Verdict.{IsVerdict}
 use Rattle.plan_checker.specs.declared.verdict.Verdict.{Verdict}

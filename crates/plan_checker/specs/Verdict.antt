@@ -1,8 +1,8 @@
 -- What each verdict on a priced way says: that all checks hold, or the first that doesn't.
 use Rattle.std.specs.Prelude.{◌≡◌, ◌⊎◌, ℕ, List, [], ◌∷◌}
-use Rattle.cost_table.specs.Class.{Class}
-use Rattle.prices.specs.Way.{NamesKnown, NoneTwice, AllAble}
-use Rattle.prices.specs.Prices.{PriceLists}
+use Rattle.plan_problem.specs.Class.{Class}
+use Rattle.plan_prices.specs.Way.{NamesKnown, NoneTwice, AllAble}
+use Rattle.plan_prices.specs.Prices.{PriceLists}
 use Rattle.plan_checker.specs.Beside.{Beside, NoneElsewhere, WaitsFollow}
 use Rattle.plan_checker.specs.Fair.{NoneMissing, NonePositive, NoneTooHigh, TotalsAgree}
 use Rattle.plan_checker.specs.declared.verdict.Fault.{Fault}

@@ -1,12 +1,12 @@
 //! Whether a job stands elsewhere in the plan, and whether waits follow from the class above.
 ghost use Rattle.std.specs.Prelude.{◌≡◌, ◌↔◌, All, IsTrue};
-ghost use Rattle.prices.specs.Way.{IsWay};
-ghost use Rattle.prices.specs.Waits.{waits_after};
+ghost use Rattle.plan_prices.specs.Way.{IsWay};
+ghost use Rattle.plan_prices.specs.Waits.{waits_after};
 ghost use Rattle.plan_checker.specs.Beside.{AboveHaveWays, NoneElsewhere, NotAbove, NotStranded, WaitsFollow};
 
 use base_types::JobId;
-use cost_table::ClassProblem;
-use prices::{PlannedClass, Stranded, leaves_waits};
+use plan_prices::{PlannedClass, Stranded, leaves_waits};
+use plan_problem::ClassProblem;
 
 /// Whether no job of the class is one of a class above, or stranded.
 pub(crate) fn none_elsewhere(

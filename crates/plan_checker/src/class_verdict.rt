@@ -1,9 +1,9 @@
 //! The verdict on a priced way.
 ghost use Rattle.std.specs.Prelude.{◌≡◌, ◌↔◌, ◌≤◌, List, length};
-ghost use Rattle.cost_table.specs.Class.{IsClass};
-ghost use Rattle.prices.specs.Total.{IsBest, total_of};
-ghost use Rattle.prices.specs.Timetable.{Slot, IsTimetable, slots_total};
-ghost use Rattle.prices.specs.Prices.{IsProved};
+ghost use Rattle.plan_problem.specs.Class.{IsClass};
+ghost use Rattle.plan_prices.specs.Total.{IsBest, total_of};
+ghost use Rattle.plan_prices.specs.Timetable.{Slot, IsTimetable, slots_total};
+ghost use Rattle.plan_prices.specs.Prices.{IsProved};
 ghost use Rattle.plan_checker.specs.Beside.{AboveHaveWays, alone};
 ghost use Rattle.plan_checker.specs.Verdict.{IsVerdict};
 
@@ -11,8 +11,8 @@ use crate::beside::{none_elsewhere, waits_follow};
 use crate::fairness::{all_fair, no_place_positive, none_missing};
 use crate::totals::totals_agree;
 use crate::verdict::{Fault, Verdict};
-use cost_table::ClassProblem;
-use prices::{PlannedClass, PricedWay, Stranded, all_able, names_known, none_twice};
+use plan_prices::{PlannedClass, PricedWay, Stranded, all_able, names_known, none_twice};
+use plan_problem::ClassProblem;
 
 /// Judges a priced way of a class by itself. It takes no memory.
 ///

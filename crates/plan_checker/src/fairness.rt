@@ -3,8 +3,8 @@ ghost use Rattle.std.specs.Prelude.{◌≡◌, ◌↔◌, ◌<◌, ◌≤◌, Al
 ghost use Rattle.plan_checker.specs.Fair.{AllFairOn, AllPlacesPriced, IsFairOn, NoneMissing, NonePositive, NoneTooHigh};
 
 use base_types::{DeviceId, Limits};
-use cost_table::ClassProblem;
-use prices::{PlacePrices, Prices, Way, all_named};
+use plan_prices::{PlacePrices, Prices, Way, all_named};
+use plan_problem::ClassProblem;
 
 /// Whether each job stands in the way, and each job and each used place has a price.
 pub(crate) fn none_missing(class: &ClassProblem, way: &Way, prices: &Prices) -> bool

@@ -3,7 +3,7 @@ ghost use Rattle.std.specs.Prelude.{◌≡◌};
 ghost use Rattle.plan_checker.specs.Plan.{IsPlanVerdict, IsProvedPlan};
 
 use crate::verdict::PlanVerdict;
-use prices::Plan;
+use plan_prices::Plan;
 
 /// Of a proved plan, [`crate::check_plan`] says yes.
 pub fn proved_plan_is_yes(plan: &Plan)

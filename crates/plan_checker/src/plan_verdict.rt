@@ -1,13 +1,13 @@
 //! The verdict on a plan.
 ghost use Rattle.std.specs.Prelude.{◌≡◌, ◌↔◌, ◌≤◌, All, IsTrue, List, length};
-ghost use Rattle.prices.specs.Total.{IsBest, total_of};
-ghost use Rattle.prices.specs.Timetable.{Slot, IsTimetable, slots_total};
-ghost use Rattle.prices.specs.Plan.{HasOneListEach};
+ghost use Rattle.plan_prices.specs.Total.{IsBest, total_of};
+ghost use Rattle.plan_prices.specs.Timetable.{Slot, IsTimetable, slots_total};
+ghost use Rattle.plan_prices.specs.Plan.{HasOneListEach};
 ghost use Rattle.plan_checker.specs.Plan.{IsPlanVerdict, IsProvedPlan};
 
 use crate::class_verdict::judge;
 use crate::verdict::{PlanVerdict, Verdict};
-use prices::{Plan, PlannedClass};
+use plan_prices::{Plan, PlannedClass};
 
 /// Judges a plan, class by class from the top. It takes no memory.
 ///

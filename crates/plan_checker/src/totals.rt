@@ -1,13 +1,13 @@
 //! Whether a stated total is the way's and the prices'.
 ghost use Rattle.std.specs.Prelude.{◌≡◌, ◌↔◌, ◌^◌, ◌≤◌, All, IsTrue, length, pos, neg_ℤ, ◌≤ℤ◌};
-ghost use Rattle.cost_table.specs.Class.{IsClass};
-ghost use Rattle.prices.specs.Way.{IsWay};
-ghost use Rattle.prices.specs.Prices.{sum_signed, sum_lists};
+ghost use Rattle.plan_problem.specs.Class.{IsClass};
+ghost use Rattle.plan_prices.specs.Way.{IsWay};
+ghost use Rattle.plan_prices.specs.Prices.{sum_signed, sum_lists};
 ghost use Rattle.plan_checker.specs.Fair.{NoneMissing, TotalsAgree};
 
 use base_types::Limits;
-use cost_table::ClassProblem;
-use prices::{PlacePrices, PricedWay, total};
+use plan_prices::{PlacePrices, PricedWay, total};
+use plan_problem::ClassProblem;
 
 /// Whether the stated total is the way's, and the sum of all prices.
 pub(crate) fn totals_agree(class: &ClassProblem, priced: &PricedWay) -> bool

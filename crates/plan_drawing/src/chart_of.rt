@@ -1,13 +1,13 @@
 //! The chart of a plan.
 ghost use Rattle.std.specs.Prelude.{◌≡◌, All, Contains, IfSome};
-ghost use Rattle.prices.specs.Way.{IsWay};
-ghost use Rattle.prices.specs.Total.{completion_of};
-ghost use Rattle.prices.specs.Timetable.{own_slots};
+ghost use Rattle.plan_prices.specs.Way.{IsWay};
+ghost use Rattle.plan_prices.specs.Total.{completion_of};
+ghost use Rattle.plan_prices.specs.Timetable.{own_slots};
 
 use base_types::{JobId, Text};
 use gantt_chart::{Bar, Chart, ChartJob, Ending, Lane, Mark};
+use plan_prices::{PlannedClass, start_of, total};
 use plan_text::PlanText;
-use prices::{PlannedClass, start_of, total};
 use std::alloc::{AllocError, Global};
 
 /// A job on a device, from its start to its end, in ms from the moment that the waits are counted from.

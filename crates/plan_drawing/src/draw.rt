@@ -1,6 +1,6 @@
 //! The text of a plan, drawn.
 ghost use Rattle.std.specs.Prelude.{All};
-ghost use Rattle.prices.specs.Plan.{HasOneListEach};
+ghost use Rattle.plan_prices.specs.Plan.{HasOneListEach};
 
 use crate::chart_of::chart_of;
 use crate::ways::{follow_one_another, have_ways};
@@ -9,10 +9,10 @@ use gantt_chart::{Form, draw_charts};
 use plan_audit::{Audit, Objection, fault_line};
 use plan_checker::{PlanVerdict, check_plan};
 use plan_text::{PlanText, ReadError, read_plan_text};
+use program::{ExitStatus, InputFault, read_whole, write_front};
 use std::alloc::{AllocError, Global};
 use std::io::{Read, Write};
 use std::slice;
-use streams::{ExitStatus, InputFault, read_whole, write_front};
 
 /// A picture, how the program ends, and what is objected to.
 #[derive(Drop)]

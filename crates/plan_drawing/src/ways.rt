@@ -1,8 +1,8 @@
 //! Whether the lists of a plan are a timetable.
 ghost use Rattle.std.specs.Prelude.{All, IsTrue, ◌↔◌};
-ghost use Rattle.prices.specs.Way.{IsWay};
+ghost use Rattle.plan_prices.specs.Way.{IsWay};
 
-use prices::{PlannedClass, is_way, leaves_waits};
+use plan_prices::{PlannedClass, is_way, leaves_waits};
 
 /// Whether the lists of each class are a way of it.
 pub(crate) fn have_ways(classes: &[PlannedClass]) -> bool

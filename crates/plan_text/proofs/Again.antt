@@ -15,7 +15,7 @@ use Rattle.std.proofs.lemmas.Int.{ints}
 use Rattle.std.proofs.lemmas.Fmt.{digits_value-decimal, digits_decimal, decimal_nonempty, first_decimal, decimal_digit}
 use Rattle.base_types.specs.declared.limits.TheConstants.Limits.{AMOUNT, JOB_TIME}
 use Rattle.base_types.specs.Forms.{is_name, is_name_byte}
-use Rattle.cost_table.specs.Time.{IsTime}
+use Rattle.plan_problem.specs.Time.{IsTime}
 use Rattle.text.specs.Digits.{is_number}
 use Rattle.plan_text.specs.Word.{number_at, numbers_at, is_dash, is_entry, entry_at, entries_at, has_minus, is_price, price_at, prices_at}
 use Rattle.text.specs.Parts.{words_of}

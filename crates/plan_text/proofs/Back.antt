@@ -7,8 +7,8 @@ use Rattle.std.proofs.lemmas.List.Elements.{All-head, All-tail}
 use Rattle.base_types.specs.declared.limits.TheConstants.Limits.{HIGHEST_PRIORITY, DEFAULT_PRIORITY, UNFINISHED_JOBS, DEVICES}
 use Rattle.base_types.specs.Forms.{is_name}
 use Rattle.base_types.specs.Ranges.{IsJobId}
-use Rattle.cost_table.specs.Time.{IsTime}
-use Rattle.prices.specs.declared.plan.PlannedClass.{PlannedClass}
+use Rattle.plan_problem.specs.Time.{IsTime}
+use Rattle.plan_prices.specs.declared.plan.PlannedClass.{PlannedClass}
 use Rattle.base_types.specs.declared.needs.Stranded.{Stranded}
 use Rattle.plan_text.specs.declared.fault.TextFault.{TextFault}
 use Rattle.plan_text.specs.declared.stage.Stage.{Stage}

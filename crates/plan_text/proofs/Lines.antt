@@ -1,6 +1,6 @@
 -- The text of lines, part by part.
 use Rattle.std.proofs.Common.{◌≡◌, ℕ, ℤ, List, [], ◌∷◌, ◌++◌, refl, sym, ap, ◌∙◌, append_assoc, codes, length, drop, get_or, ◌<◌, ◌+◌, add-one, drop-cons}
-use Rattle.prices.specs.declared.plan.PlannedClass.{PlannedClass}
+use Rattle.plan_prices.specs.declared.plan.PlannedClass.{PlannedClass}
 use Rattle.plan_text.specs.NamedPlan.{NamedPlan}
 use Rattle.plan_text.specs.Line.{Said, SaysPlan, SaysEnd, SaysPlacePrices}
 use Rattle.plan_text.specs.Writing.{line_text, lines_text, class_job_lines, class_way_lines, class_price_lines, class_lines, classes_lines, device_lines, stranded_lines, plan_text, prices_text}

@@ -6,8 +6,8 @@ use Rattle.std.proofs.lemmas.List.Sums.{list_all-from_AllPass, AllPass-from_list
 use Rattle.std.proofs.lemmas.Bool.{and_from, and_parts, false_from_ne_true}
 use Rattle.std.proofs.lemmas.Bool.Decides.{nat_tests}
 use Rattle.base_types.specs.declared.limits.TheConstants.Limits.{UNFINISHED_JOBS, DEVICES, JOB_TIME, WAIT}
-use Rattle.cost_table.specs.Class.{Class, IsClass}
-use Rattle.cost_table.specs.Time.{IsTime}
+use Rattle.plan_problem.specs.Class.{Class, IsClass}
+use Rattle.plan_problem.specs.Time.{IsTime}
 use Rattle.plan_text.specs.Steps.{is_problem, is_row, is_time, is_wait, rises}
 
 le_yes : (m n : ℕ) → m ≤ n → nat_le m n ≡ true

@@ -9,7 +9,7 @@ use Rattle.base_types.specs.declared.needs.Cause.{Cause}
 use Rattle.base_types.specs.declared.needs.Cause.TheVariants as causes
 use Rattle.base_types.specs.Forms.{is_name}
 use Rattle.base_types.specs.Ranges.{IsJobId, IsPriority}
-use Rattle.cost_table.specs.Time.{IsTime}
+use Rattle.plan_problem.specs.Time.{IsTime}
 use Rattle.plan_text.specs.declared.fault.TextFault.{TextFault}
 use Rattle.plan_text.specs.declared.fault.TextFault.TheVariants.{BadLine}
 use Rattle.plan_text.specs.declared.stage.Stage.TheVariants as stages

@@ -3,7 +3,7 @@ use Rattle.std.proofs.Common.{◌≡◌, ◌==◌, ◌&&◌, ◌⊎◌, inl, inr
 use Rattle.std.proofs.lemmas.Bool.{and_parts, eqb-true, not-false}
 use Rattle.std.proofs.lemmas.List.Elements.{All-append, All-cons, All-nil}
 use Rattle.base_types.specs.declared.limits.TheConstants.Limits.{DEVICES, DEFAULT_PRIORITY}
-use Rattle.prices.specs.declared.plan.PlannedClass.{PlannedClass}
+use Rattle.plan_prices.specs.declared.plan.PlannedClass.{PlannedClass}
 use Rattle.base_types.specs.declared.needs.Stranded.{Stranded}
 use Rattle.plan_text.specs.declared.fault.TextFault.{TextFault}
 use Rattle.plan_text.specs.declared.fault.TextFault.TheVariants.{BadLine, OutOfRange, NoEnd}
@@ -13,7 +13,7 @@ use Rattle.text.specs.Steps.{◌>>=◌}
 use Rattle.text.proofs.Chains.{went_on}
 use Rattle.plan_text.specs.Reading.{Gives}
 use Rattle.plan_text.specs.NamedPlan.{NamedPlan, HasOneEach}
-use Rattle.prices.specs.Plan.{HasOneListEach}
+use Rattle.plan_prices.specs.Plan.{HasOneListEach}
 use Rattle.plan_text.specs.Line.{Said, SaysPlan, SaysDevice, SaysClass, SaysJob, SaysWait, SaysWay, SaysTotal, SaysJobPrices, SaysPlacePrices, SaysStranded, SaysEnd, line_at}
 use Rattle.plan_text.specs.Steps.{Heard, stage_number, is_at, one_each, is_named, may_have, plan_next, device_next, is_problem, problem_of, planned, opened_at, opened_kept, closed, class_opened, class_next, job_next, wait_next, way_next, total_next, job_prices_next, place_prices_next, classes_over, stranded_added, stranded_next, end_next, next}
 use Rattle.plan_text.specs.Whole.{line_next, lines_next, nothing_heard, plan_of, ended, plan_from, plan_in, plan_at}

@@ -14,7 +14,7 @@ use Rattle.base_types.specs.declared.limits.TheConstants.Limits.{AMOUNT, JOB_TIM
 use Rattle.base_types.specs.declared.needs.Cause.{Cause}
 use Rattle.base_types.specs.declared.needs.Cause.TheVariants as causes
 use Rattle.base_types.specs.Forms.{is_name}
-use Rattle.cost_table.specs.Time.{IsTime}
+use Rattle.plan_problem.specs.Time.{IsTime}
 use Rattle.text.specs.Digits.{is_number}
 use Rattle.text.specs.Parts.{words_of}
 use Rattle.text.specs.Steps.{◌>>=◌}

@@ -10,7 +10,7 @@ use Rattle.base_types.specs.declared.limits.TheConstants.Limits.{HIGHEST_PRIORIT
 use Rattle.base_types.specs.declared.needs.Stranded.{Stranded}
 use Rattle.base_types.specs.Forms.{is_name}
 use Rattle.base_types.specs.Ranges.{IsJobId, IsPriority}
-use Rattle.prices.specs.declared.plan.PlannedClass.{PlannedClass}
+use Rattle.plan_prices.specs.declared.plan.PlannedClass.{PlannedClass}
 use Rattle.text.specs.Steps.{◌>>=◌}
 use Rattle.text.specs.Parts.{words_of, texts_of}
 use Rattle.text.proofs.Chains.{went_on}

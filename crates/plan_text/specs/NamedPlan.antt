@@ -1,7 +1,7 @@
 -- A plan with the names of its devices.
 use Rattle.std.specs.Prelude.{◌≡◌, ℕ, List, [], length, slice_index_or}
-use Rattle.prices.specs.Plan.{PlanRecord}
-use Rattle.prices.specs.declared.plan.PlannedClass.{PlannedClass}
+use Rattle.plan_prices.specs.Plan.{PlanRecord}
+use Rattle.plan_prices.specs.declared.plan.PlannedClass.{PlannedClass}
 
 pub record NamedPlan : Type 0 where
   pub devices : List (List ℕ)

@@ -3,8 +3,8 @@ use Rattle.std.specs.Prelude.{◌≡◌, ℕ, ℤ, ◌+◌, ◌<◌, ◌≤◌, 
 use Rattle.base_types.specs.declared.limits.TheConstants.Limits.{HIGHEST_PRIORITY, UNFINISHED_JOBS, DEVICES, AMOUNT}
 use Rattle.base_types.specs.Forms.{is_name}
 use Rattle.base_types.specs.Ranges.{IsJobId, IsPriority}
-use Rattle.cost_table.specs.Class.{IsClass}
-use Rattle.prices.specs.declared.plan.PlannedClass.{PlannedClass}
+use Rattle.plan_problem.specs.Class.{IsClass}
+use Rattle.plan_prices.specs.declared.plan.PlannedClass.{PlannedClass}
 use Rattle.base_types.specs.declared.needs.Stranded.{Stranded}
 use Rattle.plan_text.specs.NamedPlan.{NamedPlan}
 

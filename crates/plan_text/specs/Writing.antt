@@ -4,7 +4,7 @@ use Rattle.std.specs.Fmt.{decimal, signed_decimal}
 use Rattle.base_types.specs.declared.needs.Cause.{Cause}
 use Rattle.base_types.specs.declared.needs.Cause.TheVariants as causes
 use Rattle.base_types.specs.declared.needs.Stranded.{Stranded}
-use Rattle.prices.specs.declared.plan.PlannedClass.{PlannedClass}
+use Rattle.plan_prices.specs.declared.plan.PlannedClass.{PlannedClass}
 use Rattle.plan_text.specs.NamedPlan.{NamedPlan}
 use Rattle.plan_text.specs.Line.{Said, SaysPlan, SaysDevice, SaysClass, SaysJob, SaysWait, SaysWay, SaysTotal, SaysJobPrices, SaysPlacePrices, SaysStranded, SaysEnd}
 

@@ -1,7 +1,7 @@
 //! What a reader has heard of a plan so far.
 ghost use Rattle.std.specs.Prelude.{◌≡◌, ◌==◌, ◌&&◌, ◌≤◌, length, nat_lt, slice_index_or};
 ghost use Rattle.std.specs.Str.{bytes_eq};
-ghost use Rattle.cost_table.specs.Class.{IsClass};
+ghost use Rattle.plan_problem.specs.Class.{IsClass};
 ghost use Rattle.plan_text.specs.Line.{said_by};
 ghost use Rattle.plan_text.specs.Steps.{Leaves, heard_by, opened_of, opened_at, problem_of, is_problem, is_named, may_have, next, plan_next, device_next, closed, opened_kept, class_opened, class_next, job_next, wait_next, way_next, total_next, job_prices_next, place_prices_next, classes_over, stranded_added, stranded_next, end_next};
 ghost use Rattle.plan_text.specs.Whole.{nothing_heard};
@@ -11,8 +11,8 @@ use crate::line::Line;
 use crate::open_class::OpenClass;
 use crate::stage::Stage;
 use base_types::{JobId, Limits, Priority, Text};
-use cost_table::{Row, is_class};
-use prices::{PlacePrices, PlannedClass, Queue, Stranded};
+use plan_prices::{PlacePrices, PlannedClass, Queue, Stranded};
+use plan_problem::{Row, is_class};
 use std::alloc::Global;
 use std::mem::replace;
 

@@ -4,7 +4,7 @@
 //! which is read back as that plan. Nothing here says whether a plan is any good: a text may hold a
 //! bad one, which a checker judges.
 //!
-//! Tests stand in `planner_tests`.
+//! Tests stand in `unit_tests`.
 #![tactic(auto)]
 
 mod cut;

@@ -1,5 +1,5 @@
 use base_types::{JobId, Priority, Text};
-use prices::Stranded;
+use plan_prices::Stranded;
 
 /// What a line of a plan's text says.
 #[derive(Debug, Drop)]

@@ -2,7 +2,7 @@
 ghost use Rattle.std.specs.Prelude.{◌≡◌};
 
 use base_types::Text;
-use prices::Plan;
+use plan_prices::Plan;
 use std::marker::Model;
 
 /// A plan with the names of its devices, as a text shows it. In clauses it is a record of the same

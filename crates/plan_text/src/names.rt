@@ -3,7 +3,7 @@ ghost use Rattle.std.specs.Prelude.{◌≡◌, ◌↔◌, All, IsTrue};
 ghost use Rattle.plan_text.specs.NamedPlan.{HasOneEach, name_at};
 
 use base_types::{DeviceId, Text};
-use prices::PlannedClass;
+use plan_prices::PlannedClass;
 
 /// The name of a device, empty where it has none.
 pub fn name_of(names: &[Text], device: DeviceId) -> &[u8]

@@ -1,11 +1,11 @@
 //! A class of which not all is read.
 ghost use Rattle.std.specs.Prelude.{◌≡◌};
 ghost use Rattle.plan_text.specs.Steps.{opened_of, opened_at, planned, problem_of};
-ghost use Rattle.cost_table.specs.Class.{IsClass};
+ghost use Rattle.plan_problem.specs.Class.{IsClass};
 
 use base_types::{JobId, Priority};
-use cost_table::{ClassProblem, Row};
-use prices::{PlacePrices, PlannedClass, PricedWay, Prices, Queue, Way};
+use plan_prices::{PlacePrices, PlannedClass, PricedWay, Prices, Queue, Way};
+use plan_problem::{ClassProblem, Row};
 use std::alloc::Global;
 
 /// A class whose lines are being read.

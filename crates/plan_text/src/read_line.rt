@@ -12,7 +12,7 @@ use crate::values::{
     are_entries, are_numbers, are_prices, read_entries, read_ids, read_prices, read_waits,
 };
 use base_types::{Limits, Priority, Text, is_name};
-use prices::Stranded;
+use plan_prices::Stranded;
 use std::alloc::Global;
 use text::is_number;
 

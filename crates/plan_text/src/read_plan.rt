@@ -1,6 +1,6 @@
 //! The plan of a text, or its first fault.
 ghost use Rattle.std.specs.Prelude.{◌≡◌, All, IfOk, map};
-ghost use Rattle.prices.specs.Plan.{HasOneListEach};
+ghost use Rattle.plan_prices.specs.Plan.{HasOneListEach};
 ghost use Rattle.plan_text.specs.NamedPlan.{HasOneEach};
 ghost use Rattle.plan_text.specs.Reading.{Gives};
 ghost use Rattle.plan_text.specs.TextOf.{IsTextOf};
@@ -14,7 +14,7 @@ use crate::open_class::OpenClass;
 use crate::read_line::read_line;
 use crate::stage::Stage;
 use base_types::{Limits, Priority};
-use prices::Plan;
+use plan_prices::Plan;
 use std::alloc::Global;
 use text::{parts, words};
 

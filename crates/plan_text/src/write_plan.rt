@@ -6,8 +6,8 @@ ghost use Rattle.plan_text.specs.Writing.{line_text, lines_text, job_lines, way_
 use crate::named_plan::PlanText;
 use crate::write_word::{cause_word, put_entries, put_ids, put_number, put_numbers, put_prices};
 use base_types::{JobId, Text};
-use cost_table::Row;
-use prices::{PlacePrices, Plan, PlannedClass, Queue, Stranded};
+use plan_prices::{PlacePrices, Plan, PlannedClass, Queue, Stranded};
+use plan_problem::Row;
 use std::alloc::{AllocError, Global};
 
 /// Appends the text of a plan with the names of its devices. Where there is no memory, nothing is

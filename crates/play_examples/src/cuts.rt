@@ -1,8 +1,8 @@
 //! Streams that come in two pieces, cut at each byte in turn: what comes of them stays the same.
 
+use program::ExitStatus;
 use replay::run_replay;
 use std::alloc::{AllocError, Global};
-use streams::ExitStatus;
 
 /// An example of one connection, whose peer sends all in one piece.
 pub struct Stream {

@@ -1,4 +1,4 @@
-use streams::ExitStatus;
+use program::ExitStatus;
 
 /// What plays an example.
 #[derive(Clone, Copy)]

@@ -22,10 +22,10 @@ use gantt_chart::Form;
 use plan_audit::run_check;
 use plan_drawing::run_draw;
 use playback::Shows;
+use program::ExitStatus;
 use replay::run_replay;
 use std::process::ExitCode;
 use std::{fs, io};
-use streams::ExitStatus;
 
 /// Plays a recorded day, and gives its status.
 fn play_recorded(

@@ -1,9 +1,9 @@
 //! As many jobs as there can be, in traces too long to stand in `data/`: each job as long as one can
 //! be, at the last moment; and on as many devices as there can be.
 
+use program::ExitStatus;
 use replay::run_replay;
 use std::alloc::{AllocError, Global};
-use streams::ExitStatus;
 
 /// A device that is as slow as one can be, at the last moment.
 const SLOW_DEVICE: &str = "version = 1\n\

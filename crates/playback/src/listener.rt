@@ -7,7 +7,7 @@ use events::Cancel;
 use server::{LoggedNote, NoteLog};
 use std::alloc::{AllocError, Global};
 use std::mem;
-use transcripts::{put_cancel, put_dispatch};
+use traces::{put_cancel, put_dispatch};
 use wires::WireId;
 
 /// A listener that keeps what is shown: the lines of each dispatch and of each cancel, as those of a trace

@@ -3,9 +3,9 @@
 use crate::difference::put_difference;
 use crate::listener::Told;
 use crate::playing::Shows;
-use assignment::AugmentingPaths;
 use base_types::Moment;
 use daemon::Chronicle;
+use plan_solver::AugmentingPaths;
 use recordings::{Entry, Moved, Script, read_entry};
 use server::Engine;
 use settings_file::Settings;

@@ -4,16 +4,15 @@ ghost use Rattle.settings_file.specs.Settings.{MeetsLimits};
 
 use crate::input::Lines;
 use crate::player::{Audience, Player, Step};
-use assignment::AugmentingPaths;
 use base_types::Limits;
+use plan_solver::AugmentingPaths;
+use program::ExitStatus;
 use recordings::GOES_ON;
 use server::Engine;
-use settings_faults::explain;
-use settings_file::{Settings, SettingsFault, read_settings_bytes};
+use settings_file::{Settings, SettingsFault, explain, read_settings_bytes};
 use std::alloc::{AllocError, Global};
 use std::io;
 use std::io::{ErrorKind, Read, Write};
-use streams::ExitStatus;
 
 /// How much is printed at a time.
 const PRINTED: usize = 65_536;

@@ -14,12 +14,12 @@ use Rattle.job_objects.specs.Job.{JobRecord}
 use Rattle.job_objects.specs.JobState.{is_pending}
 use Rattle.job_objects.specs.declared.job_state.JobState.{JobState}
 use Rattle.job_objects.specs.declared.job_state.JobState.TheVariants.{Pending, PendingHeld, Processing, Canceled, Aborted, Completed, Stopped as Interrupted}
-use Rattle.cost_table.specs.Class.{Class}
-use Rattle.prices.specs.declared.plan.PlannedClass.{PlannedClass}
-use Rattle.prices.specs.Way.{IsWay, queue_of, times_named}
+use Rattle.plan_problem.specs.Class.{Class}
+use Rattle.plan_prices.specs.declared.plan.PlannedClass.{PlannedClass}
+use Rattle.plan_prices.specs.Way.{IsWay, queue_of, times_named}
 use Rattle.print_room.specs.declared.started.Started.{Started}
 use Rattle.print_room.specs.Dispatch.{first_of, first_of_queue, or_next, runs_idle, is_free, starts_from, starts_of, beginning, beginning_all, marked_state, Dispatches}
-use Rattle.prices.specs.Plan.{PlanRecord}
+use Rattle.plan_prices.specs.Plan.{PlanRecord}
 use Rattle.base_types.specs.declared.needs.Stranded.{Stranded}
 use Rattle.job_objects.specs.declared.job_change.JobChange.TheVariants.{Begin}
 use Rattle.spool.specs.Spooled.{SpooledRecord, changed, settled, marked}

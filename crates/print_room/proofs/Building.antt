@@ -9,16 +9,16 @@ use Rattle.base_types.specs.Needs.{JobNeeds}
 use Rattle.base_types.specs.Device.{Device}
 use Rattle.base_types.specs.declared.limits.TheConstants.Limits.{JOB_TIME, NOT_BEFORE, UNFINISHED_JOBS, DEVICES, AMOUNT}
 use Rattle.job_objects.specs.Job.{JobRecord}
-use Rattle.capabilities.specs.Able.{IsAble}
+use Rattle.plan_problem.specs.Able.{IsAble}
 use Rattle.base_types.specs.declared.needs.Cause.{Cause}
-use Rattle.capabilities.specs.Cause.{HasAbleDevice}
-use Rattle.capabilities.proofs.Causes.{cause_none}
-use Rattle.cost_table.specs.Class.{Class, IsClass, time_in}
-use Rattle.cost_table.specs.ClassJob.{JobOfClass, CanBuild, IsClassOf, printer_of}
-use Rattle.prices.specs.Way.{IsWay}
-use Rattle.prices.specs.Total.{total_of}
-use Rattle.prices.proofs.Bounds.{total_within}
-use Rattle.planners.specs.Able.{EachAble}
+use Rattle.plan_problem.specs.Cause.{HasAbleDevice}
+use Rattle.plan_problem.proofs.Causes.{cause_none}
+use Rattle.plan_problem.specs.Class.{Class, IsClass, time_in}
+use Rattle.plan_problem.specs.ClassJob.{JobOfClass, CanBuild, IsClassOf, printer_of}
+use Rattle.plan_prices.specs.Way.{IsWay}
+use Rattle.plan_prices.specs.Total.{total_of}
+use Rattle.plan_prices.proofs.Bounds.{total_within}
+use Rattle.plan_prices.specs.Able.{EachAble}
 use Rattle.spool.specs.Spool.{IsSpool}
 use Rattle.print_room.specs.State.{State, sets_of}
 use Rattle.print_room.specs.Ready.{ready_of, belongs, class_of, cause_in}

@@ -9,9 +9,9 @@ use Rattle.base_types.specs.declared.needs.Cause.{Cause}
 use Rattle.base_types.specs.declared.needs.Stranded.{Stranded}
 use Rattle.base_types.specs.declared.limits.TheConstants.Limits.{HIGHEST_PRIORITY}
 use Rattle.job_objects.specs.Job.{JobRecord}
-use Rattle.prices.specs.declared.plan.PlannedClass.{PlannedClass}
-use Rattle.prices.specs.Plan.{PlanRecord}
-use Rattle.prices.specs.Waits.{waits_after}
+use Rattle.plan_prices.specs.declared.plan.PlannedClass.{PlannedClass}
+use Rattle.plan_prices.specs.Plan.{PlanRecord}
+use Rattle.plan_prices.specs.Waits.{waits_after}
 use Rattle.plan_checker.specs.Beside.{WaitsFollow, NoneElsewhere}
 use Rattle.plan_checker.specs.Plan.{beside_at, IsProvedPlan}
 use Rattle.print_room.specs.State.{State}

@@ -11,7 +11,7 @@ use Rattle.base_types.specs.declared.report.Report.{Report}
 use Rattle.base_types.specs.declared.report.Report.TheVariants as Says
 use Rattle.job_objects.specs.declared.device_says.DeviceSays.{DeviceSays}
 use Rattle.job_objects.specs.declared.device_says.DeviceSays.TheVariants.{Stop, Continue, Done, Fail}
-use Rattle.spool.specs.Document.{DocumentRecord}
+use Rattle.octets.specs.Document.{DocumentRecord}
 use Rattle.spool.specs.Spooled.{SpooledRecord, handed_out}
 use Rattle.spool.specs.Jobs.{spooled_at, documents_told}
 use Rattle.spool.specs.Kept.{jobs_told}

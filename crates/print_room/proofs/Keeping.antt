@@ -10,7 +10,7 @@ use Rattle.job_objects.specs.declared.job_change.JobChange.TheVariants.{Close}
 use Rattle.job_objects.specs.declared.device_says.DeviceSays.{DeviceSays}
 use Rattle.job_objects.specs.declared.device_says.DeviceSays.TheVariants.{Stop, Continue, Done, Fail}
 use Rattle.job_objects.specs.DeviceSays.{is_end}
-use Rattle.spool.specs.Document.{DocumentRecord}
+use Rattle.octets.specs.Document.{DocumentRecord}
 use Rattle.spool.specs.Spooled.{SpooledRecord, attached, changed, handed_out, expired}
 use Rattle.spool.specs.Jobs.{spooled_at, with_job, documents_told}
 use Rattle.spool.specs.OnDevice.{is_on_device, documents_at, AllStay}

@@ -1,8 +1,8 @@
 -- How far the planning of a state has come: the classes of the priorities above one are planned.
 use Rattle.std.specs.Prelude.{ℕ, ◌≡◌, ◌+◌, ◌*◌, ◌≤◌, nat_lt, List, [], ◌∷◌, ◌++◌, map, filter, length, count_by, All}
 use Rattle.base_types.specs.declared.limits.TheConstants.Limits.{JOB_TIME, NOT_BEFORE}
-use Rattle.prices.specs.declared.plan.PlannedClass.{PlannedClass}
-use Rattle.prices.specs.Waits.{waits_after}
+use Rattle.plan_prices.specs.declared.plan.PlannedClass.{PlannedClass}
+use Rattle.plan_prices.specs.Waits.{waits_after}
 use Rattle.print_room.specs.State.{State}
 use Rattle.print_room.specs.Ready.{ready_of, class_of}
 use Rattle.print_room.specs.GoodPlan.{is_some_job, falling, priorities_of, waits_of, AllPlannedBest}

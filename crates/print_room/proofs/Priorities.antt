@@ -6,8 +6,8 @@ use Rattle.std.proofs.lemmas.List.Sums.{sum_by-cons}
 use Rattle.base_types.specs.declared.limits.TheConstants.Limits.{JOB_TIME, NOT_BEFORE, HIGHEST_PRIORITY}
 use Rattle.base_types.specs.Device.{Device}
 use Rattle.job_objects.specs.Job.{JobRecord}
-use Rattle.prices.specs.declared.plan.PlannedClass.{PlannedClass}
-use Rattle.prices.specs.Waits.{waits_after, GrowsByTimes}
+use Rattle.plan_prices.specs.declared.plan.PlannedClass.{PlannedClass}
+use Rattle.plan_prices.specs.Waits.{waits_after, GrowsByTimes}
 use Rattle.print_room.specs.Activity.{wait_of}
 use Rattle.print_room.specs.State.{State}
 use Rattle.print_room.specs.Ready.{ready_of, belongs, class_of, cause_in}

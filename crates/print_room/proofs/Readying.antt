@@ -13,7 +13,7 @@ use Rattle.job_objects.specs.declared.job_state.JobState.TheVariants.{Pending, P
 use Rattle.spool.specs.Spooled.{SpooledRecord}
 use Rattle.spool.specs.Calls.{is_ready, is_unfinished, unfinished_jobs, paused_at}
 use Rattle.spool.specs.Ready.{ready_jobs}
-use Rattle.cost_table.specs.ClassJob.{JobOfClass}
+use Rattle.plan_problem.specs.ClassJob.{JobOfClass}
 use Rattle.print_room.specs.State.{State}
 use Rattle.print_room.specs.Ready.{stranding, belongs, cause_in}
 use Rattle.print_room.specs.GoodPlan.{is_some_job, job_of_class}

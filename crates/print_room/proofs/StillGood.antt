@@ -12,10 +12,10 @@ use Rattle.job_objects.specs.Job.{JobRecord}
 use Rattle.spool.specs.Spooled.{SpooledRecord, marked}
 use Rattle.spool.specs.Calls.{is_ready, marked_by}
 use Rattle.spool.specs.Ready.{ready_jobs}
-use Rattle.cost_table.specs.ClassJob.{JobOfClass, IsClassOf}
-use Rattle.prices.specs.declared.plan.PlannedClass.{PlannedClass}
-use Rattle.prices.specs.Plan.{PlanRecord}
-use Rattle.prices.specs.Waits.{waits_after}
+use Rattle.plan_problem.specs.ClassJob.{JobOfClass, IsClassOf}
+use Rattle.plan_prices.specs.declared.plan.PlannedClass.{PlannedClass}
+use Rattle.plan_prices.specs.Plan.{PlanRecord}
+use Rattle.plan_prices.specs.Waits.{waits_after}
 use Rattle.print_room.specs.declared.started.Started.{Started}
 use Rattle.print_room.specs.Activity.{wait_of}
 use Rattle.print_room.specs.State.{State, sets_of, loaded_if, with_device}

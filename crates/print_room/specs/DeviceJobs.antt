@@ -4,7 +4,7 @@ use Rattle.std.specs.Prelude.{ℕ, ◌≡◌, ◌⊎◌, true, List, [], length,
 use Rattle.std.specs.Option.{option_and_then}
 use Rattle.base_types.specs.Device.{Device}
 use Rattle.settings_file.specs.Settings.{MeetsLimits}
-use Rattle.spool.specs.Document.{DocumentRecord}
+use Rattle.octets.specs.Document.{DocumentRecord}
 use Rattle.spool.specs.Spooled.{SpooledRecord}
 use Rattle.spool.specs.OnDevice.{is_on_device, documents_at}
 use Rattle.print_room.specs.Activity.{job_on}

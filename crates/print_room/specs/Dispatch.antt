@@ -3,10 +3,10 @@ use Rattle.std.specs.Prelude.{ℕ, suc, ◌≡◌, ◌≢◌, ◌==◌, ◌&&◌
 use Rattle.base_types.specs.Device.{Device}
 use Rattle.base_types.specs.declared.device.Activity.{Activity}
 use Rattle.base_types.specs.declared.device.Activity.TheVariants.{Running}
-use Rattle.prices.specs.declared.plan.PlannedClass.{PlannedClass}
-use Rattle.prices.specs.Plan.{PlanRecord}
-use Rattle.prices.specs.Way.{queue_of}
-use Rattle.prices.specs.Total.{time_on}
+use Rattle.plan_prices.specs.declared.plan.PlannedClass.{PlannedClass}
+use Rattle.plan_prices.specs.Plan.{PlanRecord}
+use Rattle.plan_prices.specs.Way.{queue_of}
+use Rattle.plan_prices.specs.Total.{time_on}
 use Rattle.spool.specs.Jobs.{with_job}
 use Rattle.job_objects.specs.declared.job_change.JobChange.TheVariants.{Begin}
 use Rattle.spool.specs.Spooled.{changed}

@@ -4,7 +4,7 @@ use Rattle.base_types.specs.Needs.{JobNeeds}
 use Rattle.base_types.specs.declared.needs.Cause.{Cause}
 use Rattle.base_types.specs.declared.needs.Stranded.{Stranded}
 use Rattle.job_objects.specs.Job.{JobRecord}
-use Rattle.cost_table.specs.ClassJob.{JobOfClass}
+use Rattle.plan_problem.specs.ClassJob.{JobOfClass}
 use Rattle.print_room.specs.State.{State}
 use Rattle.print_room.specs.Ready.{ready_of, cause_in}
 

@@ -5,14 +5,14 @@
 use Rattle.std.specs.Prelude.{ℕ, zero, suc, ◌≡◌, ◌≤◌, Bool, true, false, List, [], ◌∷◌, map, filter}
 use Rattle.base_types.specs.declared.limits.TheConstants.Limits.{HIGHEST_PRIORITY, AMOUNT}
 use Rattle.job_objects.specs.Job.{JobRecord}
-use Rattle.cost_table.specs.Class.{IsClass}
-use Rattle.cost_table.specs.ClassJob.{JobOfClass, IsClassOf}
-use Rattle.prices.specs.declared.plan.PlannedClass.{PlannedClass}
-use Rattle.prices.specs.Plan.{PlanRecord}
-use Rattle.prices.specs.Total.{IsBest, total_of}
-use Rattle.prices.specs.Timetable.{Slot, IsTimetable, slots_total}
-use Rattle.prices.specs.Prices.{IsProved}
-use Rattle.prices.specs.Waits.{waits_after}
+use Rattle.plan_problem.specs.Class.{IsClass}
+use Rattle.plan_problem.specs.ClassJob.{JobOfClass, IsClassOf}
+use Rattle.plan_prices.specs.declared.plan.PlannedClass.{PlannedClass}
+use Rattle.plan_prices.specs.Plan.{PlanRecord}
+use Rattle.plan_prices.specs.Total.{IsBest, total_of}
+use Rattle.plan_prices.specs.Timetable.{Slot, IsTimetable, slots_total}
+use Rattle.plan_prices.specs.Prices.{IsProved}
+use Rattle.plan_prices.specs.Waits.{waits_after}
 use Rattle.plan_checker.specs.Plan.{IsPlanVerdict}
 use Rattle.plan_checker.specs.declared.verdict.PlanVerdict.TheVariants.{Yes}
 use Rattle.print_room.specs.Activity.{wait_of}

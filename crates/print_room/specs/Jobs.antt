@@ -4,7 +4,7 @@ use Rattle.std.specs.List.{list_any}
 use Rattle.std.specs.Str.{bytes_eq}
 use Rattle.job_objects.specs.declared.job_change.JobChange.{JobChange}
 use Rattle.spool.specs.declared.refusal.SpoolRefusal.{SpoolRefusal}
-use Rattle.spool.specs.Document.{DocumentRecord}
+use Rattle.octets.specs.Document.{DocumentRecord}
 use Rattle.spool.specs.Submission.{Submission, spooled_of}
 use Rattle.spool.specs.Spooled.{SpooledRecord, changed, expired}
 use Rattle.spool.specs.Jobs.{spooled_at, with_job}

@@ -6,8 +6,8 @@ use Rattle.base_types.specs.declared.needs.Cause.{Cause}
 use Rattle.base_types.specs.declared.needs.Stranded.{Stranded}
 use Rattle.job_objects.specs.Job.{JobRecord}
 use Rattle.spool.specs.Ready.{ready_jobs}
-use Rattle.capabilities.specs.Cause.{cause_of}
-use Rattle.cost_table.specs.ClassJob.{printer_of}
+use Rattle.plan_problem.specs.Cause.{cause_of}
+use Rattle.plan_problem.specs.ClassJob.{printer_of}
 use Rattle.print_room.specs.State.{State, sets_of}
 
 -- the jobs that are pending and whose printer isn't paused, by rising id

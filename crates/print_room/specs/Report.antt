@@ -7,10 +7,10 @@ use Rattle.base_types.specs.declared.device.Activity.{Activity}
 use Rattle.base_types.specs.declared.device.Activity.TheVariants.{Running, Stopped}
 use Rattle.base_types.specs.declared.report.Report.{Report}
 use Rattle.base_types.specs.declared.report.Report.TheVariants as Says
-use Rattle.cost_table.specs.Time.{rate_of}
+use Rattle.plan_problem.specs.Time.{rate_of}
 use Rattle.job_objects.specs.declared.device_says.DeviceSays.{DeviceSays}
 use Rattle.job_objects.specs.declared.device_says.DeviceSays.TheVariants.{Stop, Continue, Done, Fail}
-use Rattle.spool.specs.Document.{DocumentRecord}
+use Rattle.octets.specs.Document.{DocumentRecord}
 use Rattle.spool.specs.Spooled.{SpooledRecord}
 use Rattle.spool.specs.Kept.{jobs_told}
 use Rattle.spool.specs.Jobs.{job_at, documents_told}

@@ -7,7 +7,7 @@ use Rattle.base_types.specs.declared.device.Medium.{Medium}
 use Rattle.base_types.specs.declared.device.Activity.{Activity}
 use Rattle.settings_file.specs.Settings.{ServerSettings}
 use Rattle.spool.specs.Jobs.{SpoolRecord}
-use Rattle.prices.specs.Plan.{PlanRecord}
+use Rattle.plan_prices.specs.Plan.{PlanRecord}
 use Rattle.print_room.specs.declared.started.Started.{Started}
 use Rattle.print_room.specs.Activity.{KeepsTime}
 

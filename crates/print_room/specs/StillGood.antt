@@ -4,7 +4,7 @@ use Rattle.std.specs.List.{list_all, list_any}
 use Rattle.std.specs.Str.{bytes_eq}
 use Rattle.base_types.specs.Device.{Device}
 use Rattle.base_types.specs.declared.device.Medium.{Medium}
-use Rattle.prices.specs.Plan.{PlanRecord}
+use Rattle.plan_prices.specs.Plan.{PlanRecord}
 use Rattle.print_room.specs.Activity.{wait_of}
 use Rattle.print_room.specs.State.{State}
 use Rattle.print_room.specs.GoodPlan.{IsGoodPlan}

@@ -9,7 +9,7 @@ use crate::room::PrintRoom;
 use crate::started::Started;
 use base_types::{DeviceId, DeviceNow, JobId, Moment, PrinterId};
 use job_objects::Printer;
-use prices::Plan;
+use plan_prices::Plan;
 use settings_file::Settings;
 use spool::{Spool, is_paused};
 

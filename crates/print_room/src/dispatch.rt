@@ -1,6 +1,6 @@
 //! A dispatch: the plan, and what it starts.
 ghost use Rattle.std.specs.Prelude.{◌≡◌, ◌≤◌, ◌<◌, All, IfOk, OnOk, OnErr, true, false, IsOk, [], Some, length};
-ghost use Rattle.prices.specs.Plan.{PlanRecord};
+ghost use Rattle.plan_prices.specs.Plan.{PlanRecord};
 ghost use Rattle.print_room.specs.Beginning.{AllCanBegin};
 ghost use Rattle.print_room.specs.GoodPlan.{is_some_job};
 ghost use Rattle.print_room.specs.Ready.{ready_of};
@@ -13,8 +13,7 @@ use crate::room::PrintRoom;
 use crate::started::Started;
 use crate::starting::starts_of;
 use base_types::{Limits, Moment};
-use planners::Planner;
-use prices::Plan;
+use plan_prices::{Plan, Planner};
 use std::alloc::AllocError;
 
 impl PrintRoom {

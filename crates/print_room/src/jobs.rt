@@ -8,7 +8,8 @@ ghost use Rattle.print_room.specs.DeviceJobs.{AllKeep};
 
 use crate::room::{PrintRoom, is_named};
 use base_types::{JobId, Moment, Text};
-use spool::{Asker, Document, NewJob, Refused, RefusedDocument, SpoolRefusal};
+use octets::Document;
+use spool::{Asker, NewJob, Refused, RefusedDocument, SpoolRefusal};
 
 /// What becomes of jobs by what people ask, at a moment that is not before the last one. A refusal
 /// changes nothing.

@@ -2,8 +2,8 @@
 ghost use Rattle.std.specs.Prelude.{◌≡◌, ℕ, Bool, List, Option, None, length};
 ghost use Rattle.base_types.specs.declared.report.Report.{Report};
 ghost use Rattle.job_objects.specs.declared.job_change.JobChange.{JobChange};
-ghost use Rattle.prices.specs.Plan.{PlanRecord};
-ghost use Rattle.spool.specs.Document.{DocumentRecord};
+ghost use Rattle.plan_prices.specs.Plan.{PlanRecord};
+ghost use Rattle.octets.specs.Document.{DocumentRecord};
 ghost use Rattle.spool.specs.Submission.{Submission};
 ghost use Rattle.print_room.specs.declared.started.Started.{Started};
 ghost use Rattle.print_room.specs.State.{State};

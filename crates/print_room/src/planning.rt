@@ -1,7 +1,7 @@
 //! The plan of the ready jobs, class by class.
 ghost use Rattle.std.specs.Prelude.{◌≡◌, ◌+◌, ◌*◌, ◌≤◌, length, true, map, All, IfOk, OnOk};
 ghost use Rattle.base_types.specs.declared.limits.TheConstants.Limits.{JOB_TIME, NOT_BEFORE, UNFINISHED_JOBS};
-ghost use Rattle.prices.specs.Waits.{GrowsByTimes, waits_after as waits_left};
+ghost use Rattle.plan_prices.specs.Waits.{GrowsByTimes, waits_after as waits_left};
 ghost use Rattle.spool.specs.Spool.{IsSpool};
 ghost use Rattle.print_room.specs.Ready.{class_of};
 ghost use Rattle.print_room.specs.GoodPlan.{AllPlannedBest, IsGoodPlan, IsPlannedBest, is_some_job, job_of_class, priorities_of, waits_of};
@@ -11,10 +11,9 @@ use crate::activity::wait_of;
 use crate::ready::{ReadyJob, class_jobs, highest_within, stranded};
 use crate::room::PrintRoom;
 use base_types::{Limits, Moment, Priority};
-use cost_table::{ClassJob, build};
 use plan_checker::proved_plan_is_yes;
-use planners::Planner;
-use prices::{Plan, PlannedClass, best_at_most_timetables, waits_after};
+use plan_prices::{Plan, PlannedClass, Planner, best_at_most_timetables, waits_after};
+use plan_problem::{ClassJob, build};
 use std::alloc::AllocError;
 
 /// A class that is planned, and when each device is free after it, in ms.

@@ -9,9 +9,8 @@ ghost use Rattle.print_room.specs.Gathered.{gathered, gathered_of, entry_of, is_
 
 use crate::room::PrintRoom;
 use base_types::{Cause, JobId, Needs, Priority, Stranded};
-use capabilities::stranded_cause;
-use cost_table::ClassJob;
 use job_objects::Job;
+use plan_problem::{ClassJob, stranded_cause};
 use std::alloc::{AllocError, Global};
 use std::marker::Model;
 

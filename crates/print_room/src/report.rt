@@ -8,9 +8,9 @@ ghost use Rattle.print_room.specs.DeviceJobs.{Agree, KeepsOrEnds};
 use crate::activity::{idle, job_on, running_from, stopped_at, taking};
 use crate::room::PrintRoom;
 use base_types::{Activity, DeviceNow, JobId, Limits, Moment, Needs, Report};
-use cost_table::rate;
 use job_objects::DeviceSays;
-use spool::Document;
+use octets::Document;
+use plan_problem::rate;
 
 /// Whether the device has the job of this number.
 pub(crate) fn has_job(activity: Activity, number: u32) -> bool

@@ -12,7 +12,7 @@ use crate::activity::is_same;
 use crate::started::Started;
 use base_types::{Activity, DeviceNow, Medium, Moment, PrinterSet, Text};
 use job_objects::Printer;
-use prices::Plan;
+use plan_prices::Plan;
 use settings_file::Settings;
 use spool::Spool;
 use std::alloc::Global;

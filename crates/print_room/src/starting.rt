@@ -1,6 +1,6 @@
 //! Which jobs begin.
 ghost use Rattle.std.specs.Prelude.{◌≡◌, ◌<◌, ◌≤◌, IfOk, IfSome, None, length, All, if◌then◌else◌};
-ghost use Rattle.prices.specs.Way.{queue_of};
+ghost use Rattle.plan_prices.specs.Way.{queue_of};
 ghost use Rattle.print_room.specs.Beginning.{CanBegin, AllCanBegin};
 ghost use Rattle.print_room.specs.Dispatch.{runs_idle, is_free, beginning, beginning_all, first_of, first_of_queue, starts_from};
 
@@ -8,7 +8,7 @@ use crate::activity::wait_of;
 use crate::room::PrintRoom;
 use crate::started::Started;
 use base_types::{Activity, DeviceId, DeviceNow, JobId, Limits, Moment, Printing};
-use prices::{PlannedClass, Way};
+use plan_prices::{PlannedClass, Way};
 use std::alloc::{AllocError, Global};
 
 /// Whether a device can begin a job at a moment: it runs, has no job, and isn't kept from it any longer.

@@ -2,8 +2,8 @@
 use crate::failure::{cannot, out_of_memory};
 use attach::{PlanWords, WordFault, attach, read_plan};
 use command_line::Attaching;
+use program::ExitStatus;
 use std::io;
-use streams::ExitStatus;
 
 /// Attaches a printer, until told to stop; the error is one of what was said.
 pub(crate) fn run_attach(

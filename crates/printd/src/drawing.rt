@@ -7,9 +7,9 @@ use crate::settings::read_file;
 use gantt_chart::Form;
 use plan_drawing::run_draw;
 use playback::{Written, as_written};
+use program::ExitStatus;
 use recorded_days::{DayFault, draw_day};
 use std::io;
-use streams::ExitStatus;
 
 /// The form that is asked for.
 pub(crate) fn form_of(text: bool) -> Form {

@@ -1,8 +1,8 @@
 //! What is said where the program fails.
+use program::ExitStatus;
 use std::fmt::Display;
 use std::io;
 use std::io::{ErrorKind, Write};
-use streams::ExitStatus;
 
 /// The system's reason, in words.
 fn reason(error: &io::Error) -> &'static str {

@@ -2,9 +2,9 @@
 use crate::failure::{cannot, out_of_memory, say};
 use crate::noted::{NotedInput, NotedOutput};
 use plan_audit::{Audit, run_check};
+use program::ExitStatus;
 use std::io;
 use std::io::{Input, Read, Write};
-use streams::ExitStatus;
 
 /// Judges the text of a plan from standard input.
 pub(crate) fn check(rt: &HostRuntime, starts: bool) -> ExitStatus {

@@ -26,11 +26,11 @@ use crate::serving::run_serve;
 use crate::settings::run_settings;
 use crate::simulating::run_simulate;
 use command_line::{Subcommand, WordsError, read_words};
+use program::ExitStatus;
 use std::alloc::AllocError;
 use std::io::{ErrorKind, Write};
 use std::process::ExitCode;
 use std::{env, io};
-use streams::ExitStatus;
 
 /// Why the words can't be read: one isn't UTF-8, which is said, or the system fails.
 fn unread(rt: &HostRuntime, error: io::Error) -> ExitStatus {

@@ -4,12 +4,12 @@ use crate::judging::failed;
 use crate::noted::{NotedInput, NotedOutput};
 use command_line::Replaying;
 use playback::{Shows, Whole, peek, play};
+use program::ExitStatus;
 use replay::{Replayed, run_replay};
 use std::alloc::AllocError;
 use std::fs::File;
 use std::io;
 use std::io::{Input, Read, Write};
-use streams::ExitStatus;
 
 /// What standard input is called.
 const INPUT: &str = "<standard input>";

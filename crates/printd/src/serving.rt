@@ -7,11 +7,11 @@ use crate::settings::{built_in_text, read_file, settings_in};
 use crate::tape::TapeFiles;
 use command_line::{Log, Serving};
 use daemon::{Recording, serve};
+use program::ExitStatus;
 use settings_file::Settings;
 use sockets::{Listening, Sockets};
 use std::io;
 use std::net::SocketAddr;
-use streams::ExitStatus;
 use wires::Door;
 
 /// A door, by the option that says where it is.

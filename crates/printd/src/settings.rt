@@ -5,12 +5,10 @@ ghost use Rattle.settings_file.specs.Settings.{MeetsLimits};
 use crate::failure::{cannot, cannot_with};
 use announcements::{Ports, ipp_port, only_printer, printer_named, write_service};
 use command_line::AboutSettings;
-use settings_faults::explain;
-use settings_file::{PrinterSettings, Settings};
-use startup::{BUILT_IN_SETTINGS, read_or_refuse};
+use program::{BUILT_IN_SETTINGS, ExitStatus, read_or_refuse};
+use settings_file::{PrinterSettings, Settings, explain};
 use std::io::Write;
 use std::{fs, io};
-use streams::ExitStatus;
 
 /// Says what is wrong with the settings of a file, if anything is.
 fn say_fault(rt: &HostRuntime, file: &str, bytes: &[u8]) -> Result<(), ExitStatus> {

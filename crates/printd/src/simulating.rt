@@ -6,14 +6,13 @@ use crate::failure::{cannot, out_of_memory, say, write_text};
 use crate::settings::{read_file, settings_of};
 use command_line::Simulating;
 use job_lists::{ListError, ListedJob, read_list};
-use policies::Policy;
+use program::ExitStatus;
 use recorded_days::{DayFault, listed_jobs, read_day};
 use settings_file::Settings;
-use simulation::{Added, Drawn, FleetFault, Noise, Question, Watch, run_simulation};
+use simulation::{Added, Drawn, FleetFault, Noise, Policy, Question, Watch, run_simulation};
 use std::alloc::AllocError;
 use std::fs;
 use std::os::unix::fs::FileTypeExt;
-use streams::ExitStatus;
 use traces::split_settings;
 
 /// What is done here, in words.

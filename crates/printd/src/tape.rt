@@ -2,6 +2,7 @@
 use crate::failure::{cannot_with, out_of_memory};
 use command_line::VERSION;
 use daemon::Tape;
+use program::ExitStatus;
 use recordings::{put_goes_on, put_start};
 use std::alloc::AllocError;
 use std::fs::{File, OpenOptions};
@@ -9,7 +10,6 @@ use std::io;
 use std::io::{ErrorKind, Write};
 use std::os::unix::fs::OpenOptionsExt;
 use std::time::{Duration, SystemTime};
-use streams::ExitStatus;
 
 /// How many files a name may have.
 const MOST_FILES: u32 = 1_000_000;

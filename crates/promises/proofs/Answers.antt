@@ -21,8 +21,8 @@ use Rattle.dispatcher.specs.declared.listener.AllocationSite.{AllocationSite}
 use Rattle.dispatcher.specs.declared.listener.AllocationSite.TheVariants as At
 use Rattle.dispatcher.specs.Notes.{Refused}
 use Rattle.dispatcher.specs.OneStep.{SameListing, SameLpdAnswer, SameIppAnswer, SameAnswer, SameReply}
-use Rattle.responses.specs.Reply.{IsReply, reply_of, unsupported_of, message_of}
-use Rattle.responses.specs.QueueText.{printer_word, lines_of, queue_text, ack_of, text_of}
+use Rattle.ipp_operations.specs.Reply.{IsReply, reply_of, unsupported_of, message_of}
+use Rattle.ipp_operations.specs.QueueText.{printer_word, lines_of, queue_text, ack_of, text_of}
 use Rattle.events.specs.SameEvent.{SameEvent}
 use Rattle.connections.specs.declared.ask.Client.{Client}
 use Rattle.connections.specs.declared.ask.Client.TheVariants as client

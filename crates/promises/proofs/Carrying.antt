@@ -22,9 +22,9 @@ use Rattle.dispatcher.specs.declared.listener.AllocationSite.{AllocationSite}
 use Rattle.dispatcher.specs.declared.listener.AllocationSite.TheVariants as At
 use Rattle.dispatcher.specs.Notes.{Note, DeviceRefused, Refused}
 use Rattle.dispatcher.specs.Run.{reply_of}
-use Rattle.requests.specs.declared.parsed_request.ParsedRequest.{ParsedRequest}
-use Rattle.requests.specs.declared.parsed_request.ParsedRequest.TheVariants as asked
-use Rattle.responses.specs.QueueText.{ack_of, text_of}
+use Rattle.ipp_operations.specs.declared.parsed_request.ParsedRequest.{ParsedRequest}
+use Rattle.ipp_operations.specs.declared.parsed_request.ParsedRequest.TheVariants as asked
+use Rattle.ipp_operations.specs.QueueText.{ack_of, text_of}
 use Rattle.send_queues.specs.SendQueue.{IsFront}
 use Rattle.send_queues.specs.Reply.{http_reply}
 use Rattle.wires.specs.Poll.{Poll, Accepts, Reads, Writes, Closes}

@@ -31,9 +31,9 @@ use Rattle.dispatcher.specs.declared.run.Timed.{Timed}
 use Rattle.dispatcher.specs.Notes.{Note, Planned, Canceled, DeviceRefused, Refused, Tells as Leads}
 use Rattle.dispatcher.specs.Run.{reply_of, cancels_told, Handles, Run}
 use Rattle.dispatcher.specs.Step.{TakesNoMemory}
-use Rattle.requests.specs.declared.parsed_request.ParsedRequest.{ParsedRequest}
-use Rattle.requests.specs.declared.parsed_request.ParsedRequest.TheVariants as asks
-use Rattle.responses.specs.QueueText.{ack_of, text_of}
+use Rattle.ipp_operations.specs.declared.parsed_request.ParsedRequest.{ParsedRequest}
+use Rattle.ipp_operations.specs.declared.parsed_request.ParsedRequest.TheVariants as asks
+use Rattle.ipp_operations.specs.QueueText.{ack_of, text_of}
 use Rattle.send_queues.specs.Reply.{http_reply}
 use Rattle.wires.specs.Poll.{Poll, Accepts, Reads, Writes}
 use Rattle.wires.specs.declared.wire.Progress.TheVariants as wire

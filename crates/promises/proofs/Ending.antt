@@ -13,8 +13,8 @@ use Rattle.dispatcher.specs.declared.listener.DeviceRefusal.TheVariants as why
 use Rattle.dispatcher.specs.declared.listener.AllocationSite.TheVariants as At
 use Rattle.dispatcher.specs.Notes.{DeviceRefused, Refused}
 use Rattle.dispatcher.specs.Run.{reply_of}
-use Rattle.requests.specs.declared.parsed_request.ParsedRequest.{ParsedRequest}
-use Rattle.requests.specs.declared.parsed_request.ParsedRequest.TheVariants as asked
+use Rattle.ipp_operations.specs.declared.parsed_request.ParsedRequest.{ParsedRequest}
+use Rattle.ipp_operations.specs.declared.parsed_request.ParsedRequest.TheVariants as asked
 use Rattle.wires.specs.Poll.{Accepts, Reads, Writes}
 use Rattle.wires.specs.declared.wire.Progress.{Progress as WireAnswer}
 use Rattle.wires.specs.declared.wire.Progress.TheVariants as wire

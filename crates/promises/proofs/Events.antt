@@ -1,7 +1,7 @@
 -- An event comes about in one way: up to what its listener is told of its plan, which stands in the list of what happens.
 use Rattle.std.proofs.Common.{◌≡◌, ℕ, max, Bool, true, false, List, [], ◌∷◌, ◌++◌, map, refl, sym, ◌∙◌, ap, subst, Option, Some, None, inl, inr, ◌⊎◌}
 use Rattle.base_types.specs.declared.report.Report.{Report}
-use Rattle.prices.specs.Plan.{PlanRecord}
+use Rattle.plan_prices.specs.Plan.{PlanRecord}
 use Rattle.print_room.specs.declared.started.Started.{Started}
 use Rattle.print_room.specs.State.{State}
 use Rattle.print_room.specs.Dispatch.{beginning_all, marked_state}

@@ -11,16 +11,16 @@ use Rattle.http_front.specs.declared.item.HttpItem.TheVariants as item
 use Rattle.http_front.specs.Reply.{continue_head}
 use Rattle.http_front.specs.Stream.{Said, HasHead, Invites, HasByte, EndsBody, IsRefused, said_by, is_last, Exchanges, SaysFirst, SaysSome, FirstStays}
 use Rattle.http_front.specs.Order.{Place, Between, Headed, Within, is_none, in_order, SaysInOrder}
-use Rattle.requests.specs.declared.parsed_request.ParsedRequest.{ParsedRequest}
-use Rattle.requests.specs.declared.parsed_request.ParsedRequest.TheVariants as asks
+use Rattle.ipp_operations.specs.declared.parsed_request.ParsedRequest.{ParsedRequest}
+use Rattle.ipp_operations.specs.declared.parsed_request.ParsedRequest.TheVariants as asks
 use Rattle.send_queues.specs.Reply.{refusal_head}
 use Rattle.wires.specs.declared.wire.Door.{Door}
 use Rattle.wires.specs.declared.wire.Door.TheVariants.{Ipp, Lpd, Devices}
 use Rattle.connections.specs.declared.step.Step.{Step}
 use Rattle.connections.specs.Steps.{StepsIpp, EndsBody as Ends, asked_step, closes_after, body_after, grown}
 use Rattle.connections.specs.Entry.{Talk, Http, Queue, Link, Entry, opening_talk, closes_of}
-use Rattle.lpd_reader.specs.Session.{ItemRecord}
-use Rattle.lpd_session.specs.Session.{SessionState}
+use Rattle.lpd.specs.Conversation.{ItemRecord}
+use Rattle.lpd.specs.Session.{SessionState}
 use Rattle.settings_file.specs.Settings.{ServerSettings}
 use Rattle.server.specs.Ledger.{Ledger, Fate}
 use Rattle.server.specs.Turn.{Trace}

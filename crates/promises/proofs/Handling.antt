@@ -8,14 +8,14 @@ use Rattle.base_types.specs.Device.{Device}
 use Rattle.base_types.specs.declared.device.Activity.{Activity}
 use Rattle.base_types.specs.declared.device.Activity.TheVariants.{Running, Stopped}
 use Rattle.base_types.specs.declared.report.Report.TheVariants as report
-use Rattle.prices.specs.declared.plan.PlannedClass.{PlannedClass}
-use Rattle.prices.specs.Way.{queue_of}
+use Rattle.plan_prices.specs.declared.plan.PlannedClass.{PlannedClass}
+use Rattle.plan_prices.specs.Way.{queue_of}
 use Rattle.print_room.specs.declared.started.Started.{Started}
 use Rattle.print_room.specs.State.{State, with_device}
 use Rattle.print_room.specs.Activity.{stopped_at, idle, job_on}
 use Rattle.print_room.specs.Report.{Reports, refitted, state_after, documents_out, said_of_job}
 use Rattle.print_room.specs.Dispatch.{is_free, first_of, first_of_queue, or_next, starts_from}
-use Rattle.spool.specs.Document.{DocumentRecord}
+use Rattle.octets.specs.Document.{DocumentRecord}
 use Rattle.events.specs.declared.event.Event.{Event}
 use Rattle.events.specs.declared.event.Event.TheVariants as Is
 use Rattle.events.specs.declared.effects.Cancel.{Cancel}

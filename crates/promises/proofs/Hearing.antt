@@ -8,8 +8,8 @@ use Rattle.events.specs.declared.event.Event.{Event}
 use Rattle.events.specs.declared.event.Event.TheVariants as Is
 use Rattle.events.specs.declared.effects.Effects.{Effects}
 use Rattle.dispatcher.specs.Run.{reply_of}
-use Rattle.requests.specs.declared.parsed_request.ParsedRequest.{ParsedRequest}
-use Rattle.requests.specs.declared.parsed_request.ParsedRequest.TheVariants as asked
+use Rattle.ipp_operations.specs.declared.parsed_request.ParsedRequest.{ParsedRequest}
+use Rattle.ipp_operations.specs.declared.parsed_request.ParsedRequest.TheVariants as asked
 use Rattle.wires.specs.Poll.{Poll, Accepts, Reads, Writes}
 use Rattle.wires.specs.declared.wire.Progress.{Progress as WireAnswer}
 use Rattle.wires.specs.declared.wire.Progress.TheVariants as wire

@@ -17,12 +17,12 @@ use Rattle.spool.specs.Spooled.{SpooledRecord}
 use Rattle.spool.specs.Calls.{is_ready}
 use Rattle.spool.specs.Spool.{IsSpool}
 use Rattle.spool.proofs.RisingIds.{RisesFrom, filter_rises}
-use Rattle.prices.specs.declared.plan.PlannedClass.{PlannedClass}
-use Rattle.prices.specs.Plan.{PlanRecord}
-use Rattle.prices.specs.Waits.{waits_after}
-use Rattle.prices.proofs.Bounded.{job_prices_bounded, place_prices_bounded}
-use Rattle.prices.proofs.Grows.{waits_from_length}
-use Rattle.prices.proofs.Names.{all_lists}
+use Rattle.plan_prices.specs.declared.plan.PlannedClass.{PlannedClass}
+use Rattle.plan_prices.specs.Plan.{PlanRecord}
+use Rattle.plan_prices.specs.Waits.{waits_after}
+use Rattle.plan_prices.proofs.Bounded.{job_prices_bounded, place_prices_bounded}
+use Rattle.plan_prices.proofs.Grows.{waits_from_length}
+use Rattle.plan_prices.proofs.Names.{all_lists}
 use Rattle.plan_text.specs.Ranges.{IsClassInRange, IsPlanInRange, PrioritiesFall, StrandedRise, jobs_in}
 use Rattle.print_room.specs.DeviceJobs.{IsRoom}
 use Rattle.print_room.specs.State.{State}

@@ -8,8 +8,8 @@ use Rattle.events.specs.declared.event.Event.{Event}
 use Rattle.events.specs.declared.event.Event.TheVariants as Is
 use Rattle.events.specs.declared.effects.Effects.{Effects}
 use Rattle.dispatcher.specs.Run.{reply_of}
-use Rattle.requests.specs.declared.parsed_request.ParsedRequest.{ParsedRequest}
-use Rattle.requests.specs.declared.parsed_request.ParsedRequest.TheVariants as asked
+use Rattle.ipp_operations.specs.declared.parsed_request.ParsedRequest.{ParsedRequest}
+use Rattle.ipp_operations.specs.declared.parsed_request.ParsedRequest.TheVariants as asked
 use Rattle.wires.specs.Poll.{Poll, Accepts, Reads, Writes}
 use Rattle.wires.specs.declared.wire.Progress.{Progress as WireAnswer}
 use Rattle.wires.specs.declared.wire.Progress.TheVariants as wire
@@ -42,7 +42,7 @@ use Rattle.dispatcher.specs.declared.listener.DeviceRefusal.TheVariants as why
 use Rattle.dispatcher.specs.declared.listener.AllocationSite.{AllocationSite}
 use Rattle.dispatcher.specs.declared.listener.AllocationSite.TheVariants as At
 use Rattle.dispatcher.specs.Notes.{Note, DeviceRefused, Refused}
-use Rattle.responses.specs.QueueText.{ack_of, text_of}
+use Rattle.ipp_operations.specs.QueueText.{ack_of, text_of}
 use Rattle.send_queues.specs.Reply.{http_reply}
 use Rattle.server.specs.Answering as Ans
 use Rattle.server.specs.Greeting.{GivesWayAt, GivesWay, SaysName, TakesOver, Greets}

@@ -4,14 +4,14 @@ use Rattle.base_types.specs.Report.{ReportRecord, SaysHello, SaysMedia, SaysRead
 use Rattle.settings_file.specs.Settings.{ServerSettings}
 use Rattle.http_front.specs.declared.item.HttpItem.{HttpItem}
 use Rattle.http_front.specs.declared.item.HttpItem.TheVariants as item
-use Rattle.lpd_reader.specs.Session.{ItemRecord, Says as SaysCommand, Aborts, Announces, HasFile}
-use Rattle.lpd_session.specs.Session.{SessionState}
+use Rattle.lpd.specs.Conversation.{ItemRecord, Says as SaysCommand, Aborts, Announces, HasFile}
+use Rattle.lpd.specs.Session.{SessionState}
 use Rattle.events.specs.declared.event.Event.TheVariants as Is
 use Rattle.dispatcher.specs.declared.listener.DeviceRefusal.TheVariants as why
 use Rattle.dispatcher.specs.Notes.{Note, DeviceRefused, Refused}
-use Rattle.requests.specs.declared.parsed_request.ParsedRequest.{ParsedRequest}
-use Rattle.requests.specs.declared.parsed_request.ParsedRequest.TheVariants as asked
-use Rattle.requests.specs.ParsedRequest.{Asks as AsksBody}
+use Rattle.ipp_operations.specs.declared.parsed_request.ParsedRequest.{ParsedRequest}
+use Rattle.ipp_operations.specs.declared.parsed_request.ParsedRequest.TheVariants as asked
+use Rattle.ipp_operations.specs.ParsedRequest.{Asks as AsksBody}
 use Rattle.connections.specs.declared.ask.Ask.{Ask}
 use Rattle.connections.specs.declared.ask.Ask.TheVariants as ask
 use Rattle.connections.specs.declared.ask.Client.TheVariants as client

@@ -9,8 +9,8 @@ use Rattle.wires.specs.declared.wire.Progress.{Progress}
 use Rattle.wires.specs.declared.wire.Progress.TheVariants as wire
 use Rattle.dispatcher.specs.declared.listener.AllocationSite.TheVariants as At
 use Rattle.dispatcher.specs.Notes.{Refused}
-use Rattle.requests.specs.declared.parsed_request.ParsedRequest.{ParsedRequest}
-use Rattle.requests.specs.declared.parsed_request.ParsedRequest.TheVariants as asked
+use Rattle.ipp_operations.specs.declared.parsed_request.ParsedRequest.{ParsedRequest}
+use Rattle.ipp_operations.specs.declared.parsed_request.ParsedRequest.TheVariants as asked
 use Rattle.connections.specs.Entry.{Entry, opening_entry, reading, waiting}
 use Rattle.connections.specs.Choice.{AsksOne}
 use Rattle.server.specs.Polls.{Happening, Polled, Told, Choice, Found, Opened, Rested, Looked, Chosen}

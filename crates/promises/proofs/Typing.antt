@@ -6,8 +6,8 @@ use Rattle.ipp_codec.specs.Message.{IppAttribute, IppGroup}
 use Rattle.printer_objects.specs.declared.operation.Operation.{Operation}
 use Rattle.printer_objects.specs.declared.operation.Operation.TheVariants as operation
 use Rattle.print_room.specs.State.{State}
-use Rattle.lpd_reader.specs.Session.{CommandRecord, PrintsWaiting, ReceivesJob, ListsShort, ListsLong, RemovesJobs}
-use Rattle.lpd_session.specs.Session.{SentRecord}
+use Rattle.lpd.specs.Conversation.{CommandRecord, PrintsWaiting, ReceivesJob, ListsShort, ListsLong, RemovesJobs}
+use Rattle.lpd.specs.Session.{SentRecord}
 use Rattle.events.specs.declared.event.Event.{Event}
 use Rattle.events.specs.declared.event.Event.TheVariants as Is
 use Rattle.events.specs.declared.effects.Response.{Response}
@@ -37,11 +37,11 @@ use Rattle.dispatcher.specs.declared.outcome.Outcome.TheVariants.{Dropped, Queri
 use Rattle.dispatcher.specs.Notes.{Note}
 use Rattle.dispatcher.specs.Run.{reply_of, Handles}
 use Rattle.dispatcher.specs.Step.{StepAt}
-use Rattle.requests.specs.declared.parsed_request.ParsedRequest.TheVariants as asked
-use Rattle.requests.specs.ParsedRequest.{header_of, operation_of, Requests, AsksBy, AsksUnder, Asks}
+use Rattle.ipp_operations.specs.declared.parsed_request.ParsedRequest.TheVariants as asked
+use Rattle.ipp_operations.specs.ParsedRequest.{header_of, operation_of, Requests, AsksBy, AsksUnder, Asks}
 use Rattle.events.specs.declared.status.Status.TheVariants as status
-use Rattle.requests.specs.Request.{operation_group, job_attributes, is_utf8}
-use Rattle.requests.specs.Event.{is_complete, are_tagged, event_in, asked_in}
+use Rattle.ipp_operations.specs.Request.{operation_group, job_attributes, is_utf8}
+use Rattle.ipp_operations.specs.Event.{is_complete, are_tagged, event_in, asked_in}
 use Rattle.connections.specs.declared.ask.Client.{Client}
 use Rattle.connections.specs.declared.ask.Client.TheVariants as client
 use Rattle.connections.specs.Commands.{SubmitsJob, IsCommand}

@@ -4,8 +4,8 @@ use Rattle.std.specs.List.{flat_map}
 use Rattle.settings_file.specs.Settings.{ServerSettings}
 use Rattle.http_front.specs.declared.item.HttpItem.{HttpItem}
 use Rattle.http_front.specs.Stream.{Said, said_by, SaysFirst}
-use Rattle.lpd_reader.specs.Session.{ItemRecord}
-use Rattle.lpd_session.specs.Session.{SessionState}
+use Rattle.lpd.specs.Conversation.{ItemRecord}
+use Rattle.lpd.specs.Session.{SessionState}
 use Rattle.wires.specs.declared.wire.Door.{Door}
 use Rattle.print_room.specs.State.{State}
 use Rattle.events.specs.declared.effects.Response.{Response}
@@ -14,8 +14,8 @@ use Rattle.events.specs.declared.effects.LpdResponse.TheVariants as Shown
 use Rattle.events.specs.declared.effects.Effects.{Effects}
 use Rattle.events.specs.declared.status.Status.TheVariants.{TemporaryError}
 use Rattle.dispatcher.specs.Run.{reply_of}
-use Rattle.responses.specs.Reply.{IsReply}
-use Rattle.responses.specs.QueueText.{ack_of, text_of}
+use Rattle.ipp_operations.specs.Reply.{IsReply}
+use Rattle.ipp_operations.specs.QueueText.{ack_of, text_of}
 use Rattle.send_queues.specs.Reply.{http_reply}
 use Rattle.connections.specs.declared.ask.Ask.{Ask}
 use Rattle.connections.specs.declared.ask.Ask.TheVariants as ask

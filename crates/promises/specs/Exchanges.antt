@@ -10,9 +10,9 @@ use Rattle.http_front.specs.Stream.{Said, HasHead, Invites, HasByte, EndsBody, I
 use Rattle.http_front.specs.Order.{Between, in_order}
 use Rattle.events.specs.declared.status.Status.TheVariants.{TemporaryError}
 use Rattle.dispatcher.specs.Run.{reply_of}
-use Rattle.requests.specs.declared.parsed_request.ParsedRequest.{ParsedRequest}
-use Rattle.requests.specs.declared.parsed_request.ParsedRequest.TheVariants as asks
-use Rattle.requests.specs.ParsedRequest.{Asks, request_id_of}
+use Rattle.ipp_operations.specs.declared.parsed_request.ParsedRequest.{ParsedRequest}
+use Rattle.ipp_operations.specs.declared.parsed_request.ParsedRequest.TheVariants as asks
+use Rattle.ipp_operations.specs.ParsedRequest.{Asks, request_id_of}
 use Rattle.send_queues.specs.Reply.{refusal_head}
 use Rattle.connections.specs.declared.ask.Client.TheVariants as client
 use Rattle.connections.specs.Steps.{http_status}

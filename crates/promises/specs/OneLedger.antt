@@ -6,8 +6,8 @@ use Rattle.events.specs.declared.effects.Effects.{Effects}
 use Rattle.events.specs.Event.{is_query}
 use Rattle.dispatcher.specs.OneStep.{SameEnd}
 use Rattle.dispatcher.specs.Step.{Step}
-use Rattle.requests.specs.declared.parsed_request.ParsedRequest.{ParsedRequest}
-use Rattle.requests.specs.ParsedRequest.{Asks}
+use Rattle.ipp_operations.specs.declared.parsed_request.ParsedRequest.{ParsedRequest}
+use Rattle.ipp_operations.specs.ParsedRequest.{Asks}
 use Rattle.events.specs.SameEvent.{SameEvent}
 use Rattle.server.specs.Ledger.{Ledger}
 use Rattle.server.specs.Turn.{Trace, Runs}

@@ -1,7 +1,7 @@
 -- What the text of a plan has to do.
 use Rattle.std.specs.Prelude.{◌≡◌, Ok}
 use Rattle.settings_file.specs.Settings.{ServerSettings, device_names}
-use Rattle.prices.specs.Plan.{PlanRecord}
+use Rattle.plan_prices.specs.Plan.{PlanRecord}
 use Rattle.plan_text.specs.NamedPlan.{NamedPlan}
 use Rattle.plan_text.specs.Whole.{plan_at}
 use Rattle.plan_text.specs.Writing.{plan_text}

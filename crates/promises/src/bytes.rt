@@ -25,7 +25,7 @@ pub fn one_ledger()
     dispatcher::one_step();
     dispatcher::same_needs();
     connections::one_ask();
-    requests::one_asked();
+    ipp_operations::one_asked();
 }
 
 /// Of a trace the core's events are one run, which tells just what the listener was told. On each open

@@ -1,11 +1,11 @@
 //! What holds of the text of each plan. The function does nothing: its contract is what it is for.
 ghost use Rattle.std.specs.Prelude.{ℕ};
-ghost use Rattle.prices.specs.Plan.{PlanRecord};
+ghost use Rattle.plan_prices.specs.Plan.{PlanRecord};
 ghost use Rattle.print_room.specs.GoodPlan.{IsGoodPlan};
 ghost use Rattle.promises.specs.Passes.{PassesAsText};
 
 use dispatcher::Core;
-use planners::Planner;
+use plan_prices::Planner;
 
 /// Each good plan of a core, at any moment, may be written as a text, with the names that the devices
 /// have in the settings: the text is read back as the plan, and the checker says yes to it.

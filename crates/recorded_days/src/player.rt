@@ -1,13 +1,14 @@
 //! A server that is told the lines of a trace, and is looked at.
 
 use crate::recorder::Recorder;
-use assignment::AugmentingPaths;
 use base_types::{Moment, Text};
+use plan_solver::AugmentingPaths;
 use replay::{LineFault, TraceWire, form_fault};
 use server::{Engine, NoteLog};
 use std::alloc::{AllocError, Global};
-use traces::{Input, Line, Opening, read_line};
-use transcripts::{Connection, end_at, numbered, put_connection, send_at};
+use traces::{
+    Connection, Input, Line, Opening, end_at, numbered, put_connection, read_line, send_at,
+};
 use wires::{MemoryPeer, MemoryWire};
 
 /// After so many turns for one line no more are taken for it.

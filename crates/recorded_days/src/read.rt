@@ -5,11 +5,10 @@ ghost use Rattle.settings_file.specs.Settings.{MeetsLimits};
 use crate::fault::{DayFault, refused};
 use crate::job::{RecordedJob, RecordedPrint};
 use crate::player::Player;
-use assignment::AugmentingPaths;
 use base_types::{Stranded, Text};
+use plan_solver::AugmentingPaths;
 use server::Engine;
-use settings_faults::explain;
-use settings_file::{Settings, SettingsFault, read_settings_bytes};
+use settings_file::{Settings, SettingsFault, explain, read_settings_bytes};
 use std::alloc::{AllocError, Global};
 use traces::{CutTrace, next_line, split_settings};
 

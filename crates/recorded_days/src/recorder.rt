@@ -1,10 +1,10 @@
 //! What is seen of a server's jobs while it plays.
 
 use crate::job::{RecordedJob, RecordedPrint};
-use assignment::AugmentingPaths;
 use base_types::{Activity, DeviceId, JobId, Limits, Stranded};
 use dispatcher::Started;
 use job_objects::Job;
+use plan_solver::AugmentingPaths;
 use server::{Engine, LoggedNote};
 use std::alloc::{AllocError, Global};
 

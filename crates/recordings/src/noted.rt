@@ -4,10 +4,10 @@ ghost use Rattle.std.specs.Io.Slices.{io_slices_bytes};
 ghost use Rattle.wires.specs.Poll.{Accepts, Reads, Writes, Closes, bytes_read, IsCount};
 ghost use Rattle.recordings.specs.Noting.{NoteState, Notes, EndsTurn, with_note};
 
+use crate::blanker::Blanker;
 use crate::note_lines::NoteLines;
 use crate::sum::sum_of_front;
 use base_types::Moment;
-use document_octets::Blanker;
 use std::alloc::{AllocError, Global};
 use std::io::IoSlice;
 use std::marker::Model;

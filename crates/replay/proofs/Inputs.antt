@@ -3,10 +3,10 @@ use Rattle.std.proofs.Common.{◌≡◌, ℕ, Bool, List, Option, Some, None, Is
 use Rattle.std.specs.Result.{result_ok}
 use Rattle.std.specs.Io.KnownBytes.{Appends}
 use Rattle.base_types.specs.declared.limits.TheConstants.Limits.{INPUT_BYTES}
-use Rattle.streams.specs.declared.exit_status.ExitStatus.{ExitStatus}
-use Rattle.streams.specs.declared.exit_status.ExitStatus.TheVariants as Ends
-use Rattle.streams.specs.Input.{IsWhole}
-use Rattle.streams.specs.Said.{Said}
+use Rattle.program.specs.declared.exit_status.ExitStatus.{ExitStatus}
+use Rattle.program.specs.declared.exit_status.ExitStatus.TheVariants as Ends
+use Rattle.program.specs.Input.{IsWhole}
+use Rattle.program.specs.Said.{Said}
 use Rattle.replay.specs.Replay.{TraceGives, InputGives, InputLeaves, Replays}
 
 pub some_of_ok : {T E : Type 0} (r : Result T E) (o : Option T) (P : T → Type 0) → o ≡ result_ok r → IfOk r P → IfSome o P

@@ -9,7 +9,7 @@ use Rattle.wires.specs.MemoryPeer.{PeerState}
 use Rattle.server.specs.Refinement.{RefinesBody}
 use Rattle.server.specs.Refinement as Engine
 use Rattle.server.specs.Turn.{Action, Turned, Served_body, Outcome}
-use Rattle.transcripts.specs.declared.peers.Connection.{Connection}
+use Rattle.traces.specs.declared.peers.Connection.{Connection}
 use Rattle.replay.specs.declared.play.Play.{Play}
 use Rattle.wires.specs.declared.wire.Door.{Door}
 use Rattle.traces.specs.declared.line.Line.{Line}
@@ -17,7 +17,7 @@ use Rattle.traces.specs.declared.line.Line.TheVariants as Form
 use Rattle.traces.specs.TraceLine.{IsLine, Finds}
 use Rattle.replay.specs.declared.wire.TraceWire.{TraceWire}
 use Rattle.replay.specs.Acting.{standing, Moves, IsReady, Becomes, Does, TakesTurn, TakesTurns, TakesTillQuiet}
-use Rattle.transcripts.specs.Connections.{numbered, with_connection, new_peer, changed_at, connections_text, seen, emptied}
+use Rattle.traces.specs.Connections.{numbered, with_connection, new_peer, changed_at, connections_text, seen, emptied}
 use Rattle.replay.specs.Log.{LogRecord, Hears, happening_text, happenings_text}
 use Rattle.replay.specs.Playing.{Standing, Calls, Serves, Turns, Plays, IsReplyLine, most_turns, opened, on_peer}
 use Rattle.replay.specs.Wire.{WirePolls, PeersSee, any_stirs, all_turns}

@@ -4,9 +4,9 @@ use Rattle.std.specs.Fmt.{decimal}
 use Rattle.server.specs.State.{EngineState}
 use Rattle.server.specs.Refinement.{StandsAt}
 use Rattle.server.specs.Turn.{Trace}
-use Rattle.streams.specs.declared.exit_status.ExitStatus.{ExitStatus}
-use Rattle.streams.specs.declared.exit_status.ExitStatus.TheVariants as Ends
-use Rattle.streams.specs.Said.{Said, refused_as, said_after}
+use Rattle.program.specs.declared.exit_status.ExitStatus.{ExitStatus}
+use Rattle.program.specs.declared.exit_status.ExitStatus.TheVariants as Ends
+use Rattle.program.specs.Said.{Said, refused_as, said_after}
 use Rattle.replay.specs.declared.play.Play.{Play}
 use Rattle.traces.specs.declared.line.Line.{Line}
 use Rattle.replay.specs.Acting.{standing, Moves, IsReady, Acts, PlaysAll, PlaysFirst}

@@ -5,10 +5,10 @@ use Rattle.settings_file.specs.declared.fault.SettingsFault.TheVariants as code
 use Rattle.settings_file.specs.Fault.{Fault, not_toml, fault_of}
 use Rattle.settings_file.specs.Reading.{IsFaultOf}
 use Rattle.traces.specs.Lines.{HasNoStop, lines_of}
-use Rattle.streams.specs.declared.exit_status.ExitStatus.{ExitStatus}
-use Rattle.streams.specs.declared.exit_status.ExitStatus.TheVariants as Ends
-use Rattle.streams.specs.Said.{Said, said_after}
-use Rattle.startup.specs.Refusal.{settings_refused}
+use Rattle.program.specs.declared.exit_status.ExitStatus.{ExitStatus}
+use Rattle.program.specs.declared.exit_status.ExitStatus.TheVariants as Ends
+use Rattle.program.specs.Said.{Said, said_after}
+use Rattle.program.specs.RefusedSettings.{settings_refused}
 use Rattle.std.specs.Str.{IsUtf8}
 use Rattle.settings_file.specs.Settings.{ServerSettings, device_names}
 use Rattle.settings_file.specs.Reading.{settings_of}

@@ -31,10 +31,10 @@ use Rattle.dispatcher.specs.PausePrinter.{PausesIt, SetsPaused, paused_of}
 use Rattle.dispatcher.specs.GetJobs.{wanted_of}
 use Rattle.print_room.specs.State.{State}
 use Rattle.dispatcher.specs.Step.{StepAt}
-use Rattle.requests.specs.declared.parsed_request.ParsedRequest.TheVariants as Body
-use Rattle.requests.specs.ParsedRequest.{Asks, AsksUnder, Requests, answered, header_of, operation_of}
-use Rattle.requests.specs.Event.{event_of, asked_in, event_in, are_tagged, is_complete}
-use Rattle.requests.specs.Request.{operation_group, job_attributes, is_utf8}
+use Rattle.ipp_operations.specs.declared.parsed_request.ParsedRequest.TheVariants as Body
+use Rattle.ipp_operations.specs.ParsedRequest.{Asks, AsksUnder, Requests, answered, header_of, operation_of}
+use Rattle.ipp_operations.specs.Event.{event_of, asked_in, event_in, are_tagged, is_complete}
+use Rattle.ipp_operations.specs.Request.{operation_group, job_attributes, is_utf8}
 use Rattle.dispatcher.specs.declared.outcome.Outcome.{Outcome}
 use Rattle.dispatcher.specs.declared.outcome.Outcome.TheVariants.{Dropped, Queried, Undispatched, Idle, Dispatched}
 use Rattle.dispatcher.specs.Notes.{Note}

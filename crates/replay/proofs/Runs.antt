@@ -15,23 +15,23 @@ use Rattle.events.specs.declared.effects.Effects.{Effects}
 use Rattle.dispatcher.specs.declared.run.Timed.{Timed}
 use Rattle.dispatcher.specs.declared.outcome.Outcome.{Outcome}
 use Rattle.dispatcher.specs.Run.{Comes, Run}
-use Rattle.requests.specs.declared.parsed_request.ParsedRequest.{ParsedRequest}
-use Rattle.requests.specs.declared.parsed_request.ParsedRequest.TheVariants as Body
-use Rattle.requests.specs.ParsedRequest.{Asks}
-use Rattle.responses.specs.Reply.{refusal_bytes}
+use Rattle.ipp_operations.specs.declared.parsed_request.ParsedRequest.{ParsedRequest}
+use Rattle.ipp_operations.specs.declared.parsed_request.ParsedRequest.TheVariants as Body
+use Rattle.ipp_operations.specs.ParsedRequest.{Asks}
+use Rattle.ipp_operations.specs.Reply.{refusal_bytes}
 use Rattle.server.specs.Ledger.{Ledger, opening_ledger}
 use Rattle.server.specs.Law.{IsOneEvent, IsNoEvent, IsServed, IsAtMostOne}
 use Rattle.dispatcher.specs.Notes.{Note, Tells}
 use Rattle.server.specs.Polls.{Happening, Polled, Told, Chosen, seen}
 use Rattle.server.specs.Turn.{Outcome as Given, Replied, BadRequest, OutOfMemory, Action, Served_body, Reported, Ticked, Trace, Allows}
 use Rattle.server.proofs.Laws.{deed_seen, none_seen, seen_apart}
-use Rattle.streams.specs.Said.{Said, said_after}
+use Rattle.program.specs.Said.{Said, said_after}
 use Rattle.traces.specs.declared.line.Line.{Line}
 use Rattle.traces.specs.declared.line.Line.TheVariants as Form
 use Rattle.replay.specs.Log.{note_text, happenings_text}
 use Rattle.replay.specs.OneRun.{IsOfNoConnection, SpeaksOfNoConnection, PrintsEach, Part, nothing, then_part, IsOne, BodyMeans, Means, moment_after, IsNoLine, LinesMean, IsOneRun}
 use Rattle.replay.specs.Playing.{Standing, IsReplyLine, Plays, may_come, IsBad, LinesPlay}
-use Rattle.transcripts.specs.Printed.{reply_line}
+use Rattle.traces.specs.Printed.{reply_line}
 use Rattle.replay.specs.Replay.{LinesGive, start}
 use Rattle.traces.specs.TraceLine.{IsDeviceIn, IsLine}
 use Rattle.replay.proofs.Requests.{body_replied}

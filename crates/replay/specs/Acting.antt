@@ -8,8 +8,8 @@ use Rattle.server.specs.Polls.{Happening, Leads}
 use Rattle.server.specs.Turn.{Trace, Turned}
 use Rattle.server.specs.State.{EngineState}
 use Rattle.server.specs.Refinement.{StandsAt}
-use Rattle.streams.specs.declared.exit_status.ExitStatus.TheVariants as Ends
-use Rattle.streams.specs.Said.{Said, said_after}
+use Rattle.program.specs.declared.exit_status.ExitStatus.TheVariants as Ends
+use Rattle.program.specs.Said.{Said, said_after}
 use Rattle.replay.specs.declared.play.Play.{Play}
 use Rattle.traces.specs.declared.line.Line.{Line}
 use Rattle.replay.specs.Log.{happenings_text}

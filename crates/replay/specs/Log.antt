@@ -2,7 +2,7 @@
 use Rattle.std.specs.Prelude.{ℕ, ◌≡◌, ◌⊎◌, Bool, List, [], ◌∷◌, ◌++◌, Option, None, option_map}
 use Rattle.dispatcher.specs.Notes.{Note, Planned, Canceled, DeviceRefused, Refused}
 use Rattle.server.specs.Polls.{Happening, Polled, Told, Chosen}
-use Rattle.transcripts.specs.Printed.{dispatch_lines, cancel_line}
+use Rattle.traces.specs.Printed.{dispatch_lines, cancel_line}
 
 -- whether the texts of plans are asked for, the names of the devices, and what was heard, unless memory was refused
 pub record LogRecord : Type 0 where

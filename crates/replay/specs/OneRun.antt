@@ -14,17 +14,17 @@ use Rattle.dispatcher.specs.declared.run.Timed.{Timed}
 use Rattle.dispatcher.specs.declared.outcome.Outcome.{Outcome}
 use Rattle.dispatcher.specs.Notes.{Note}
 use Rattle.dispatcher.specs.Run.{reply_of, Run}
-use Rattle.requests.specs.declared.parsed_request.ParsedRequest.{ParsedRequest}
-use Rattle.requests.specs.declared.parsed_request.ParsedRequest.TheVariants as Body
-use Rattle.requests.specs.ParsedRequest.{Asks}
-use Rattle.responses.specs.Reply.{IsReply, refusal_bytes}
-use Rattle.streams.specs.declared.exit_status.ExitStatus.TheVariants as Ends
-use Rattle.streams.specs.Said.{Said, refused_as, said_after}
+use Rattle.ipp_operations.specs.declared.parsed_request.ParsedRequest.{ParsedRequest}
+use Rattle.ipp_operations.specs.declared.parsed_request.ParsedRequest.TheVariants as Body
+use Rattle.ipp_operations.specs.ParsedRequest.{Asks}
+use Rattle.ipp_operations.specs.Reply.{IsReply, refusal_bytes}
+use Rattle.program.specs.declared.exit_status.ExitStatus.TheVariants as Ends
+use Rattle.program.specs.Said.{Said, refused_as, said_after}
 use Rattle.traces.specs.declared.line.Line.{Line}
 use Rattle.traces.specs.declared.line.Line.TheVariants as Form
 use Rattle.traces.specs.TraceLine.{IsLine}
 use Rattle.server.specs.Law.{IsWhole}
-use Rattle.transcripts.specs.Printed.{reply_line}
+use Rattle.traces.specs.Printed.{reply_line}
 use Rattle.replay.specs.Log.{note_text}
 
 -- ---- lines without connections

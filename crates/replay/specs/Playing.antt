@@ -7,14 +7,14 @@ use Rattle.wires.specs.MemoryPeer.{PeerState}
 use Rattle.server.specs.Polls.{Happening, Leads}
 use Rattle.server.specs.Turn.{Action, Turned, Served_body, Reported, Ticked, Trace, Outcome, Replied, BadRequest, OutOfMemory, has_refusal}
 use Rattle.wires.specs.declared.wire.Door.{Door}
-use Rattle.streams.specs.declared.exit_status.ExitStatus.TheVariants as Ends
-use Rattle.streams.specs.Said.{Said, refused_as, said_after}
-use Rattle.transcripts.specs.declared.peers.Connection.{Connection}
+use Rattle.program.specs.declared.exit_status.ExitStatus.TheVariants as Ends
+use Rattle.program.specs.Said.{Said, refused_as, said_after}
+use Rattle.traces.specs.declared.peers.Connection.{Connection}
 use Rattle.traces.specs.declared.line.Line.{Line}
 use Rattle.traces.specs.declared.line.Line.TheVariants as Form
-use Rattle.transcripts.specs.Connections.{numbered, with_connection, new_peer, changed_at, sending, ending, may_send, connections_text, seen, emptied}
+use Rattle.traces.specs.Connections.{numbered, with_connection, new_peer, changed_at, sending, ending, may_send, connections_text, seen, emptied}
 use Rattle.replay.specs.Log.{happenings_text}
-use Rattle.transcripts.specs.Printed.{reply_line}
+use Rattle.traces.specs.Printed.{reply_line}
 use Rattle.traces.specs.TraceLine.{IsLine}
 use Rattle.replay.specs.Wire.{PeersSee, any_stirs, all_turns}
 

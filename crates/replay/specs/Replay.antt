@@ -9,11 +9,11 @@ use Rattle.settings_file.specs.Reading.{settings_of}
 use Rattle.print_room.specs.Opening.{opening}
 use Rattle.server.specs.Ledger.{Ledger, opening_ledger}
 use Rattle.server.specs.Turn.{Trace, Allows}
-use Rattle.streams.specs.declared.exit_status.ExitStatus.{ExitStatus}
-use Rattle.streams.specs.declared.exit_status.ExitStatus.TheVariants as Ends
-use Rattle.streams.specs.Input.{IsWhole, GaveMore}
-use Rattle.streams.specs.Said.{Said, refused_as}
-use Rattle.startup.specs.Refusal.{settings_refused}
+use Rattle.program.specs.declared.exit_status.ExitStatus.{ExitStatus}
+use Rattle.program.specs.declared.exit_status.ExitStatus.TheVariants as Ends
+use Rattle.program.specs.Input.{IsWhole, GaveMore}
+use Rattle.program.specs.Said.{Said, refused_as}
+use Rattle.program.specs.RefusedSettings.{settings_refused}
 use Rattle.traces.specs.Lines.{lines_of, IsSplit, HasNoStop}
 use Rattle.replay.specs.Playing.{Standing, LinesPlay}
 

@@ -3,7 +3,7 @@ ghost use Rattle.std.specs.Prelude.{Bool, ℕ, List};
 ghost use Rattle.settings_file.specs.Settings.{ServerSettings, device_names};
 ghost use Rattle.replay.specs.OneRun.{SpeaksOfNoConnection, IsOneRun};
 ghost use Rattle.replay.specs.Replay.{LinesGive};
-ghost use Rattle.streams.specs.Said.{Said};
+ghost use Rattle.program.specs.Said.{Said};
 
 /// What the lines of a trace without connections give is given by one run of the core: their events, in
 /// order and each at the moment that the trace told last, lead the core on from the start of a server

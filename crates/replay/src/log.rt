@@ -10,7 +10,7 @@ use events::Cancel;
 use std::alloc::{AllocError, Global};
 use std::marker::Model;
 use std::mem;
-use transcripts::{put_cancel, put_dispatch};
+use traces::{put_cancel, put_dispatch};
 use wires::WireId;
 
 /// A listener that keeps what is printed of each dispatch and of each cancel. In clauses it is a record

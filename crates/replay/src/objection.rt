@@ -1,6 +1,6 @@
 //! What is wrong with a trace, in a sentence for whoever wrote it.
 
-use settings_faults::explain;
+use settings_file::explain;
 use std::alloc::Global;
 use std::fmt;
 

@@ -5,22 +5,21 @@ ghost use Rattle.settings_file.specs.Settings.{MeetsLimits};
 ghost use Rattle.server.specs.Refinement.{said_of};
 ghost use Rattle.server.specs.Turn.{Reported, Ticked};
 ghost use Rattle.replay.specs.Playing.{Calls, Serves, Turns, Plays, IsReplyLine, opened, on_peer, is_open, may_come};
-ghost use Rattle.transcripts.specs.Connections.{sending, ending, may_send};
+ghost use Rattle.traces.specs.Connections.{sending, ending, may_send};
 ghost use Rattle.replay.specs.Acting.{standing, IsReady, IsStart, Becomes, Does, TakesTurn, TakesTillQuiet, Acts};
-ghost use Rattle.transcripts.specs.Printed.{reply_line};
+ghost use Rattle.traces.specs.Printed.{reply_line};
 
 use crate::log::Log;
 use crate::objection::{LineFault, form_fault};
 use crate::wire::TraceWire;
-use assignment::AugmentingPaths;
 use base_types::{DeviceId, Moment, Report};
+use plan_solver::AugmentingPaths;
 use server::{Engine, Served};
 use settings_file::Settings;
 use std::alloc::{AllocError, Global};
-use traces::{Input, Line, Opening, read_line};
-use transcripts::{
-    Connection, empty_all, end_at, mark_closed, numbered, put_connection, put_connections,
-    put_reply, send_at,
+use traces::{
+    Connection, Input, Line, Opening, empty_all, end_at, mark_closed, numbered, put_connection,
+    put_connections, put_reply, read_line, send_at,
 };
 use wires::{MemoryPeer, MemoryWire};
 

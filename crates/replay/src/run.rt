@@ -7,9 +7,9 @@ ghost use Rattle.base_types.specs.declared.limits.TheConstants.Limits.{INPUT_BYT
 ghost use Rattle.settings_file.specs.Settings.{ServerSettings};
 ghost use Rattle.settings_file.specs.Fault.{Fault, fault_of};
 ghost use Rattle.settings_file.specs.Reading.{settings_of, IsFaultOf};
-ghost use Rattle.streams.specs.declared.exit_status.ExitStatus.TheVariants as Ends;
-ghost use Rattle.streams.specs.Said.{refused_as};
-ghost use Rattle.startup.specs.Refusal.{settings_refused};
+ghost use Rattle.program.specs.declared.exit_status.ExitStatus.TheVariants as Ends;
+ghost use Rattle.program.specs.Said.{refused_as};
+ghost use Rattle.program.specs.RefusedSettings.{settings_refused};
 ghost use Rattle.traces.specs.Lines.{lines_of};
 ghost use Rattle.replay.specs.Acting.{IsReady, IsStart, PlaysAll, PlaysFirst};
 ghost use Rattle.replay.specs.Replay.{SettingsGive, SettingsLeave, TraceGives, TraceLeaves, InputGives, InputLeaves, Replays};
@@ -17,11 +17,10 @@ ghost use Rattle.replay.specs.Replay.{SettingsGive, SettingsLeave, TraceGives, T
 use crate::objection::{LineFault, Objection, about_settings};
 use crate::play::Play;
 use base_types::Limits;
+use program::{ExitStatus, InputFault, read_whole, refusal_line, write_front};
 use settings_file::{SettingsFault, read_settings_bytes};
-use startup::refusal_line;
 use std::alloc::{AllocError, Global};
 use std::io::{Read, Write};
-use streams::{ExitStatus, InputFault, read_whole, write_front};
 use traces::{next_line, split_settings};
 
 /// How a replay ends.

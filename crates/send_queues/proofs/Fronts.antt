@@ -1,7 +1,7 @@
 -- Fronts of octets, part after part.
 use Rattle.std.proofs.Common.{◌≡◌, ◌+◌, ◌≤◌, ℕ, List, [], ◌++◌, length, drop, refl, sym, ap, subst, ◌∙◌, append_assoc, arith}
 use Rattle.std.proofs.lemmas.List.{append-nil, length-append, length-drop, drop-drop, drop_at}
-use Rattle.spool.specs.Document.{IsFrontOf}
+use Rattle.octets.specs.Document.{IsFrontOf}
 
 -- a front is no longer than what it is a front of
 pub front_within : (piece octets : List ℕ) (start : ℕ) → start ≤ length octets → IsFrontOf piece (drop start octets) → start + length piece ≤ length octets

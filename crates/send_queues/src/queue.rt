@@ -3,7 +3,7 @@ ghost use Rattle.std.specs.Prelude.{◌≡◌, ◌<◌, ◌≤◌, ◌+◌, ◌+
 ghost use Rattle.std.specs.List.{flat_map, All};
 ghost use Rattle.device_link.specs.Orders.{cancel_line, job_line};
 ghost use Rattle.std.specs.Io.Slices.{io_slice_bytes, io_slices_bytes};
-ghost use Rattle.spool.specs.Document.{IsFrontOf};
+ghost use Rattle.octets.specs.Document.{IsFrontOf};
 ghost use Rattle.send_queues.specs.Reply.{http_reply, refusal_head};
 ghost use Rattle.send_queues.specs.SendQueue.{OffersFront, IsSome, joined};
 
@@ -11,7 +11,7 @@ use base_types::{JobId, Needs};
 use device_link::{write_cancel, write_job};
 use http::StatusCode;
 use http_front::{HttpRejection, write_head};
-use spool::{Document, Octets, Pages};
+use octets::{Document, Octets, Pages};
 use std::alloc::{AllocError, Global};
 use std::io::IoSlice;
 use std::marker::Model;

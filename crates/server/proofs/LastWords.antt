@@ -8,7 +8,7 @@ use Rattle.http_front.specs.Reply.{opening, ending, head, continue_head}
 use Rattle.http_front.specs.declared.refusal.HttpRejection.{HttpRejection}
 use Rattle.http_front.specs.declared.refusal.HttpRejection.TheVariants.{BadRequest, MethodNotAllowed, ContentTooLarge, UnsupportedMediaType, ExpectationFailed, HeadTooLarge, NotImplemented}
 use Rattle.events.specs.declared.status.Status.{Status}
-use Rattle.responses.specs.Reply.{refusal_bytes}
+use Rattle.ipp_operations.specs.Reply.{refusal_bytes}
 use Rattle.server.specs.Rel.{Nothing, If}
 use Rattle.server.specs.Enqueuing.{EnqueuesOpen, EnqueuesAt}
 use Rattle.send_queues.specs.Reply.{http_reply, refusal_head}

@@ -12,9 +12,9 @@ use Rattle.dispatcher.specs.declared.outcome.Outcome.{Outcome}
 use Rattle.dispatcher.specs.declared.outcome.Outcome.TheVariants.{Dropped, Queried, Undispatched, Idle, Dispatched}
 use Rattle.dispatcher.specs.Run.{reply_of, Comes, Run}
 use Rattle.dispatcher.specs.Step.{TakesNoMemory}
-use Rattle.requests.specs.declared.parsed_request.ParsedRequest.{ParsedRequest}
-use Rattle.requests.specs.declared.parsed_request.ParsedRequest.TheVariants as asks
-use Rattle.requests.specs.ParsedRequest.{Asks}
+use Rattle.ipp_operations.specs.declared.parsed_request.ParsedRequest.{ParsedRequest}
+use Rattle.ipp_operations.specs.declared.parsed_request.ParsedRequest.TheVariants as asks
+use Rattle.ipp_operations.specs.ParsedRequest.{Asks}
 use Rattle.dispatcher.specs.Notes.{Note, Tells}
 use Rattle.server.specs.Polls.{Happening, Polled, Told, Chosen, seen}
 use Rattle.server.specs.Ledger.{Ledger, Fate, opening_ledger}

@@ -14,8 +14,8 @@ use Rattle.dispatcher.specs.declared.listener.AllocationSite.{AllocationSite}
 use Rattle.dispatcher.specs.declared.listener.AllocationSite.TheVariants as At
 use Rattle.dispatcher.specs.Notes.{Refused}
 use Rattle.dispatcher.specs.Run.{reply_of}
-use Rattle.responses.specs.Reply.{IsReply}
-use Rattle.responses.specs.QueueText.{ack_of, text_of}
+use Rattle.ipp_operations.specs.Reply.{IsReply}
+use Rattle.ipp_operations.specs.QueueText.{ack_of, text_of}
 use Rattle.connections.specs.declared.ask.Client.{Client}
 use Rattle.connections.specs.declared.ask.Client.TheVariants as client
 use Rattle.server.specs.Polls.{Found}

@@ -1,7 +1,7 @@
 -- What a listener that keeps its notes has heard.
 use Rattle.std.specs.Prelude.{◌≡◌, ◌⊎◌, List, [], ◌∷◌, ◌++◌, Option, Some, None, option_map, map}
-use Rattle.prices.specs.Plan.{PlanRecord}
-use Rattle.prices.specs.declared.plan.PlannedClass.{PlannedClass}
+use Rattle.plan_prices.specs.Plan.{PlanRecord}
+use Rattle.plan_prices.specs.declared.plan.PlannedClass.{PlannedClass}
 use Rattle.print_room.specs.declared.started.Started.{Started}
 use Rattle.dispatcher.specs.Notes.{Note, Planned, Canceled, DeviceRefused, Refused}
 use Rattle.server.specs.declared.note_log.LoggedNote.{LoggedNote}

@@ -6,7 +6,7 @@ use Rattle.print_room.specs.State.{State}
 use Rattle.events.specs.declared.effects.Response.{Response}
 use Rattle.events.specs.declared.effects.Effects.{Effects}
 use Rattle.events.specs.declared.status.Status.{Status}
-use Rattle.responses.specs.Reply.{refusal_bytes}
+use Rattle.ipp_operations.specs.Reply.{refusal_bytes}
 use Rattle.dispatcher.specs.declared.listener.AllocationSite.TheVariants as At
 use Rattle.dispatcher.specs.Notes.{Note, Refused}
 use Rattle.connections.specs.declared.table.ConnectionAsk.{ConnectionAsk}

@@ -10,7 +10,7 @@ use base_types::Moment;
 use connections::table::{ConnectionAsk, next};
 use connections::{Ask, Growth, Part};
 use dispatcher::{AllocationSite, DeviceRefusal, Listener};
-use planners::Planner;
+use plan_prices::Planner;
 use wires::{Wire, WireId};
 
 /// Who asks: the connection under a key, and its number.

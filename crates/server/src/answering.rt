@@ -1,6 +1,6 @@
 //! What clients' events are answered.
 ghost use Rattle.std.specs.Prelude.{◌≡◌};
-ghost use Rattle.responses.specs.QueueText.{text_of};
+ghost use Rattle.ipp_operations.specs.QueueText.{text_of};
 ghost use Rattle.server.specs.Polls.{alone};
 ghost use Rattle.server.specs.Answering.{IsAnswered, Answers, Replies, RepliesWith, LosesReply, Drops, ipp_answer, Declines, Acknowledges, Responds, IsShown, IsTold, Shows};
 ghost use Rattle.server.specs.Refinement.{RefinesQuietly};
@@ -12,8 +12,8 @@ use connections::table::break_off;
 use connections::{Client, REFUSED};
 use dispatcher::{AllocationSite, Listener};
 use events::{Effects, Event, IppResponse, LpdResponse, Response, Status};
-use planners::Planner;
-use responses::{ipp_response, lpd_ack, lpd_queue_text};
+use ipp_operations::{ipp_response, lpd_ack, lpd_queue_text};
+use plan_prices::Planner;
 
 impl<P: Planner + Drop> Engine<P> {
     /// An event of a client, and its answer.

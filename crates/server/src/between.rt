@@ -10,9 +10,8 @@ use crate::served::{Served, answered};
 use base_types::{DeviceId, Moment, Report};
 use dispatcher::{AllocationSite, Listener};
 use events::{Effects, Event, Response, Status};
-use planners::Planner;
-use requests::{ParsedRequest, ipp_event};
-use responses::{ipp_refusal, ipp_response};
+use ipp_operations::{ParsedRequest, ipp_event, ipp_refusal, ipp_response};
+use plan_prices::Planner;
 use std::alloc::AllocError;
 
 /// What a caller without connections gives the server.

@@ -15,7 +15,7 @@ use crate::engine::Engine;
 use base_types::{Moment, Report};
 use connections::table::{break_off, close, is_broken, is_done};
 use dispatcher::Listener;
-use planners::Planner;
+use plan_prices::Planner;
 use wires::Wire;
 
 /// Closings: of connections that broke, and of those that are done.

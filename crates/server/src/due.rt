@@ -9,7 +9,7 @@ use crate::engine::Engine;
 use connections::table::{enqueue, enqueue_response, enqueue_status};
 use dispatcher::{AllocationSite, Listener};
 use events::Status;
-use planners::Planner;
+use plan_prices::Planner;
 use wires::WireId;
 
 /// Bytes become due, or memory for them is refused: then the listener is told, and the connection

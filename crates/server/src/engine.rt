@@ -12,7 +12,7 @@ use base_types::{DeviceId, DeviceNow, JobId, Moment};
 use connections::Connection;
 use dispatcher::{Core, Listener};
 use job_objects::Job;
-use planners::Planner;
+use plan_prices::Planner;
 use settings_file::Settings;
 use slab::Slab;
 use std::alloc::{AllocError, Global};

@@ -8,7 +8,7 @@ use crate::engine::Engine;
 use base_types::{DeviceId, Moment, Report, Text};
 use connections::table::{give_way, has_ended, other_key_of};
 use dispatcher::{DeviceRefusal, Listener};
-use planners::Planner;
+use plan_prices::Planner;
 
 /// Devices that say their names, one at a time.
 impl<P: Planner + Drop> Engine<P> {

@@ -12,7 +12,7 @@ use base_types::Moment;
 use connections::table::{enqueue_cancel, key_of};
 use dispatcher::{Listener, Outcome, Timed};
 use events::{Cancel, Event};
-use planners::Planner;
+use plan_prices::Planner;
 
 /// What came of an event.
 #[derive(Drop)]

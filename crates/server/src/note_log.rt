@@ -7,7 +7,7 @@ ghost use Rattle.server.specs.NoteLog.{plan_words, class_word, dispatch_words};
 use base_types::{Priority, Stranded};
 use dispatcher::{AllocationSite, DeviceRefusal, Dispatched, Listener, Started};
 use events::Cancel;
-use prices::{Plan, PlannedClass};
+use plan_prices::{Plan, PlannedClass};
 use std::alloc::{AllocError, Global};
 use std::marker::Model;
 use std::mem;

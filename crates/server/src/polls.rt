@@ -8,7 +8,7 @@ use base_types::{Limits, Moment};
 use connections::Fed;
 use connections::table::{end, feed, insert, offer, to_read};
 use dispatcher::{AllocationSite, Listener};
-use planners::Planner;
+use plan_prices::Planner;
 use send_queues::Offered;
 use wires::{Door, Progress, Wire, WireId};
 

@@ -13,7 +13,7 @@ use base_types::JobId;
 use connections::Connection;
 use connections::table::{enqueue, enqueue_job, key_of};
 use dispatcher::{Core, Listener, Started};
-use planners::Planner;
+use plan_prices::Planner;
 use slab::Slab;
 use wires::WireId;
 

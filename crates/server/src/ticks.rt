@@ -8,7 +8,7 @@ use crate::engine::Engine;
 use base_types::Moment;
 use dispatcher::Listener;
 use events::Event;
-use planners::Planner;
+use plan_prices::Planner;
 use wires::Wire;
 
 /// Ms between ticks.

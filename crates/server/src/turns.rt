@@ -11,7 +11,7 @@ use crate::engine::Engine;
 use crate::polls::PIECE;
 use base_types::Moment;
 use dispatcher::Listener;
-use planners::Planner;
+use plan_prices::Planner;
 use wires::{Door, Wire};
 
 /// The parts of a turn.

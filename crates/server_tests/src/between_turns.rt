@@ -1,7 +1,7 @@
 //! Bodies, reports and ticks without a wire.
 use crate::exchanges::{BODY, REPLY, SETTINGS};
-use assignment::AugmentingPaths;
 use base_types::{DeviceId, Moment, Report};
+use plan_solver::AugmentingPaths;
 use server::{Engine, LoggedNote, NoteLog, Served};
 use settings_file::read_settings;
 use std::alloc::Global;

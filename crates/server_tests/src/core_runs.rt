@@ -1,9 +1,9 @@
 //! Lists of events, and who hears of their plans.
-use assignment::AugmentingPaths;
 use base_types::{DeviceId, Moment, Report};
 use dispatcher::{AllocationSite, Core, DeviceRefusal, Dispatched, Listener, Outcome, Timed};
 use events::{Cancel, Event};
-use requests::{ParsedRequest, ipp_event};
+use ipp_operations::{ParsedRequest, ipp_event};
+use plan_solver::AugmentingPaths;
 use settings_file::read_settings;
 use std::alloc::Global;
 use std::test::Fail;

@@ -2,8 +2,8 @@
 use crate::exchanges::{
     BOTH_FRAMINGS, CHUNKED, Exchange, LAST, NOT_POST, PLAIN, SETTINGS, SHORT_BODY, TWO,
 };
-use assignment::AugmentingPaths;
 use base_types::Moment;
+use plan_solver::AugmentingPaths;
 use server::{Engine, NoteLog};
 use settings_file::read_settings;
 use std::alloc::{AllocError, Global};

@@ -7,9 +7,9 @@ use crate::exchanges::{BOTH_FRAMINGS, CHUNKED, Exchange, LAST, NOT_POST, PLAIN, 
 use crate::lpd_sessions::ONE_JOB;
 use base_types::Moment;
 use daemon::Server;
+use program::read_or_refuse;
 use settings_file::Settings;
 use sockets::{Listening, Sockets};
-use startup::read_or_refuse;
 use std::io;
 use std::io::{Read, Write};
 use std::net::{IpAddr, Ipv4Addr, Shutdown, SocketAddr, TcpStream};

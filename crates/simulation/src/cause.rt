@@ -1,10 +1,10 @@
 //! Why no device of a core can print a job.
 ghost use Rattle.std.specs.Prelude.{◌<◌, length};
 
-use assignment::AugmentingPaths;
 use base_types::{Cause, DeviceId, DeviceNow, Needs, PrinterSet};
-use capabilities::stranded_cause;
 use dispatcher::Core;
+use plan_problem::stranded_cause;
+use plan_solver::AugmentingPaths;
 use std::alloc::{AllocError, Global};
 use std::slice;
 

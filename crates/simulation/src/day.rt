@@ -1,13 +1,12 @@
 //! The jobs of a day, with how long each takes on each device of its printer.
 
 use crate::cause::cause_of;
-use assignment::AugmentingPaths;
+use crate::day_job::{DayJob, Member};
 use base_types::{DeviceId, DeviceNow, JobId, Needs, PrinterSet, Stranded};
-use capabilities::able;
-use cost_table::time;
 use dispatcher::Core;
 use job_lists::ListedJob;
-use policies::{DayJob, Member};
+use plan_problem::{able, time};
+use plan_solver::AugmentingPaths;
 use rand_core::utils::NextWord;
 use rand_pcg::Pcg32;
 use std::alloc::{AllocError, Global};

@@ -3,10 +3,10 @@ ghost use Rattle.std.specs.Prelude.{IfOk};
 ghost use Rattle.settings_file.specs.Settings.{MeetsLimits};
 
 use crate::planned::apply_to;
-use assignment::AugmentingPaths;
 use base_types::{DeviceId, Finishings, Moment, Report, Text};
 use dispatcher::Core;
 use events::Event;
+use plan_solver::AugmentingPaths;
 use settings_file::{
     DeviceSettings, PrinterSettings, Settings, SettingsFault, read_settings_bytes,
 };

@@ -1,8 +1,8 @@
 //! The devices of a day, and what happens on them.
 
 use crate::day::Day;
+use crate::queue::Start;
 use crate::room::Room;
-use policies::Start;
 use std::alloc::{AllocError, Global};
 
 /// A job that was printed: on which device, and from when to when, in ms from the beginning of the day.

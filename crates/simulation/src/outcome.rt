@@ -3,10 +3,11 @@
 use crate::day::Day;
 use crate::floor::{Print, Watch, play};
 use crate::planned::Planned;
-use assignment::AugmentingPaths;
+use crate::policy::Policy;
+use crate::queue::Queue;
 use dispatcher::Core;
 use job_lists::ListedJob;
-use policies::{Policy, Queue};
+use plan_solver::AugmentingPaths;
 use std::alloc::{AllocError, Global};
 
 /// The name of the day that the server plans.

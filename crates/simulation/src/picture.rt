@@ -3,9 +3,9 @@
 use crate::day::Day;
 use crate::floor::Print;
 use crate::outcome::{Outcome, PLANNED};
+use crate::policy::Policy;
 use base_types::Text;
 use gantt_chart::{Arrival, Chart, Ending, Form, chart_of_day, draw_charts};
-use policies::Policy;
 use std::alloc::{AllocError, Global};
 
 /// What is drawn of a simulation: the planned day, and below it that of a policy.

@@ -1,15 +1,15 @@
 //! The jobs of a day, given to the real core.
 
+use crate::queue::Start;
 use crate::request::print_job;
 use crate::room::Room;
-use assignment::AugmentingPaths;
 use base_types::{DeviceId, JobId, Limits, Moment, Report};
 use dispatcher::Core;
 use events::{Effects, Event, Response, Status};
+use ipp_operations::{ParsedRequest, ipp_event};
 use job_lists::ListedJob;
-use policies::Start;
+use plan_solver::AugmentingPaths;
 use print_room::Started;
-use requests::{ParsedRequest, ipp_event};
 use std::alloc::{AllocError, Global};
 use std::collections::VecDeque;
 

@@ -1,6 +1,6 @@
 //! Whoever gives jobs to devices.
 
-use policies::{Queue, Start};
+use crate::queue::{Queue, Start};
 use std::alloc::AllocError;
 
 /// What decides which job a device begins, and is told what comes and what ends.

@@ -7,10 +7,10 @@ use crate::floor::Watch;
 use crate::outcome::play_all;
 use crate::picture::{Drawn, picture_of};
 use crate::table::table_of;
-use assignment::AugmentingPaths;
 use base_types::Text;
 use dispatcher::Core;
 use job_lists::ListedJob;
+use plan_solver::AugmentingPaths;
 use settings_file::Settings;
 use std::alloc::{AllocError, Global};
 

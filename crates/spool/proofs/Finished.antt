@@ -13,7 +13,7 @@ use Rattle.job_objects.specs.DeviceSays.{change_of, is_end}
 use Rattle.job_objects.specs.JobState.{is_finished}
 use Rattle.job_objects.specs.Job.{JobRecord}
 use Rattle.job_objects.specs.JobStep.{changed_from, job_after}
-use Rattle.spool.specs.Document.{DocumentRecord}
+use Rattle.octets.specs.Document.{DocumentRecord}
 use Rattle.spool.specs.Spooled.{SpooledRecord, settled, on_device_after, changed, let_go, told, attached, is_overdue, expired, marked}
 use Rattle.spool.specs.Calls.{is_ready, marked_by}
 use Rattle.spool.proofs.Ids.{either}

@@ -8,5 +8,4 @@ pub mod Rising
 pub mod RisingIds
 pub mod Removing
 pub mod Mapping
-pub mod PageLemmas
 pub mod FinishedFirst

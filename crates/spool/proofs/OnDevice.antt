@@ -13,7 +13,7 @@ use Rattle.job_objects.specs.declared.device_says.DeviceSays.{DeviceSays}
 use Rattle.job_objects.specs.DeviceSays.{change_of, is_end}
 use Rattle.job_objects.specs.Job.{JobRecord}
 use Rattle.job_objects.specs.JobStep.{job_after}
-use Rattle.spool.specs.Document.{DocumentRecord}
+use Rattle.octets.specs.Document.{DocumentRecord}
 use Rattle.spool.specs.Spooled.{SpooledRecord, is_settled, settled, on_device_after, changed, let_go, told, is_overdue, expired, marked}
 use Rattle.spool.specs.Jobs.{spooled_at, with_job}
 use Rattle.spool.specs.Kept.{is_kept, later_jobs, retained, jobs_told}

@@ -12,7 +12,7 @@ use Rattle.job_objects.specs.Job.{JobRecord}
 use Rattle.job_objects.specs.JobStep.{job_after}
 use Rattle.spool.specs.declared.refusal.SpoolRefusal.{SpoolRefusal}
 use Rattle.spool.specs.declared.refusal.SpoolRefusal.TheVariants as Why
-use Rattle.spool.specs.Document.{DocumentRecord, octets_of}
+use Rattle.octets.specs.Document.{DocumentRecord, octets_of}
 use Rattle.spool.specs.Asker.{AskerRecord, may_ask, canceler_of}
 use Rattle.spool.specs.Spooled.{SpooledRecord, changed, attached, marked}
 use Rattle.spool.specs.Submission.{Submission, spooled_of}

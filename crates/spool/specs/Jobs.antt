@@ -3,7 +3,7 @@ use Rattle.std.specs.Prelude.{ℕ, zero, suc, ◌≡◌, ◌<◌, ◌==◌, if�
 use Rattle.std.specs.Option.{option_map_or}
 use Rattle.job_objects.specs.Job.{JobRecord}
 use Rattle.job_objects.specs.declared.device_says.DeviceSays.{DeviceSays}
-use Rattle.spool.specs.Document.{DocumentRecord}
+use Rattle.octets.specs.Document.{DocumentRecord}
 use Rattle.spool.specs.Spooled.{SpooledRecord, handed_out}
 
 pub record SpoolRecord : Type 0 where

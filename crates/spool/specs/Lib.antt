@@ -1,5 +1,3 @@
-pub mod Pages
-pub mod Document
 pub mod Asker
 pub mod Spooled
 pub mod Submission

@@ -1,7 +1,7 @@
 -- The jobs that devices have: until its device ends a job, it stays there with its documents, byte for byte.
 use Rattle.std.specs.Prelude.{ℕ, ◌≡◌, Bool, true, false, List, []}
 use Rattle.std.specs.Option.{option_map_or}
-use Rattle.spool.specs.Document.{DocumentRecord}
+use Rattle.octets.specs.Document.{DocumentRecord}
 use Rattle.spool.specs.Spooled.{SpooledRecord}
 use Rattle.spool.specs.Jobs.{spooled_at}
 

@@ -10,7 +10,7 @@ use Rattle.job_objects.specs.JobState.{is_finished}
 use Rattle.job_objects.specs.Job.{JobRecord}
 use Rattle.job_objects.specs.JobStep.{job_after, stepped}
 use Rattle.job_objects.specs.Impressions.{impressions_of}
-use Rattle.spool.specs.Document.{DocumentRecord}
+use Rattle.octets.specs.Document.{DocumentRecord}
 
 pub record SpooledRecord : Type 0 where
   pub job : JobRecord

@@ -4,7 +4,7 @@ use Rattle.base_types.specs.declared.finishings.Finishings.{Finishings}
 use Rattle.base_types.specs.declared.needs.Sides.{Sides}
 use Rattle.job_objects.specs.JobState.{waiting_state}
 use Rattle.job_objects.specs.Impressions.{impressions_of}
-use Rattle.spool.specs.Document.{DocumentRecord, octets_of}
+use Rattle.octets.specs.Document.{DocumentRecord, octets_of}
 use Rattle.spool.specs.Spooled.{SpooledRecord}
 
 pub record Submission : Type 0 where

@@ -11,11 +11,11 @@ ghost use Rattle.spool.specs.Calls.{asking_refusal, change_refusal, cancel_refus
 ghost use Rattle.spool.specs.OnDevice.{AllStay};
 
 use crate::asker::Asker;
-use crate::document::Document;
 use crate::refusal::SpoolRefusal;
 use crate::spool::Spool;
 use base_types::{JobId, Moment};
 use job_objects::{Canceler, Job, JobChange, StateRefusal};
+use octets::Document;
 
 /// What people ask of jobs. A refusal changes nothing. In this order: not found, not authorized, not
 /// possible.

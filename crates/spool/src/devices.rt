@@ -7,10 +7,10 @@ ghost use Rattle.spool.specs.Kept.{jobs_told};
 ghost use Rattle.spool.specs.Jobs.{with_job, documents_told};
 ghost use Rattle.spool.specs.OnDevice.{AllStay, OthersStay};
 
-use crate::document::Document;
 use crate::spool::Spool;
 use base_types::{JobId, Moment};
 use job_objects::{DeviceSays, JobChange};
+use octets::Document;
 
 /// What devices do to jobs. An id that no job has, and a change that a job's state doesn't allow,
 /// change nothing.

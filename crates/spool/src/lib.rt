@@ -12,14 +12,9 @@
 mod asker;
 mod asking;
 mod devices;
-mod document;
 mod expiring;
 mod forgetting;
 mod new_job;
-mod octets;
-mod page;
-mod paged;
-mod pages;
 mod ready;
 mod refusal;
 mod sending;
@@ -29,10 +24,7 @@ mod stranding;
 mod submitting;
 
 pub use asker::Asker;
-pub use document::Document;
 pub use new_job::NewJob;
-pub use octets::Octets;
-pub use pages::Pages;
 pub use ready::{Ready, is_paused};
 pub use refusal::{Refused, RefusedDocument, SpoolRefusal};
 pub use spool::Spool;

@@ -1,12 +1,12 @@
 //! A job that comes, before it has an id.
 ghost use Rattle.std.specs.Prelude.{◌≡◌, ◌≤◌, ◌<◌, IfOk, IfSome, IfNone, length, map, if◌then◌else◌};
-ghost use Rattle.spool.specs.Document.{octets_of};
+ghost use Rattle.octets.specs.Document.{octets_of};
 ghost use Rattle.spool.specs.Submission.{spooled_of};
 
-use crate::document::Document;
 use crate::spooled::SpooledJob;
 use base_types::{Finishings, JobId, Limits, Moment, Needs, PrinterId, Priority, Sides, Text};
 use job_objects::{Job, JobState, estimated_impressions};
+use octets::Document;
 use std::alloc::{AllocError, Global};
 use std::marker::Model;
 

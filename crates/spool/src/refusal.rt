@@ -1,5 +1,5 @@
-use crate::document::Document;
 use crate::new_job::NewJob;
+use octets::Document;
 
 /// Why a call is refused.
 #[derive(Clone, Copy, Debug, PartialEq, Eq)]

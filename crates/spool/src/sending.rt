@@ -7,11 +7,11 @@ ghost use Rattle.spool.specs.Calls.{IsRefusal, adds, is_too_large, taking_refusa
 ghost use Rattle.spool.specs.OnDevice.{is_on_device, AllStay};
 
 use crate::asker::Asker;
-use crate::document::Document;
 use crate::refusal::{RefusedDocument, SpoolRefusal};
 use crate::spool::Spool;
 use base_types::{JobId, Limits, Moment};
 use job_objects::{Job, JobChange};
+use octets::Document;
 
 /// Whether a document of so many octets is added to its job: the last one isn't, if it has none.
 fn adds(octets: usize, last: bool) -> bool

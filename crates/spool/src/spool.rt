@@ -3,7 +3,7 @@ ghost use Rattle.std.specs.Prelude.{◌≡◌, ◌≤◌, ◌<◌, ◌+◌, ◌�
 ghost use Rattle.std.specs.Option.{option_copied};
 ghost use Rattle.spool.specs.Spooled.{changed, told, attached, expired};
 ghost use Rattle.base_types.specs.declared.limits.TheConstants.Limits.{LAST_JOB_ID, UNFINISHED_JOBS, JOB_DOCUMENTS, JOB_OCTETS};
-ghost use Rattle.spool.specs.Document.{octets_of};
+ghost use Rattle.octets.specs.Document.{octets_of};
 ghost use Rattle.spool.specs.Submission.{spooled_of};
 ghost use Rattle.spool.specs.Calls.{allows, marked_by, unfinished_jobs};
 ghost use Rattle.spool.specs.Jobs.{spooled_at, with_job, map_at, documents_told};
@@ -14,12 +14,12 @@ ghost use Rattle.spool.specs.Sound.{IsSound};
 ghost use Rattle.spool.specs.OnDevice.{AllStay, OthersStay};
 ghost use Rattle.job_objects.specs.DeviceSays.{is_end};
 
-use crate::document::Document;
 use crate::new_job::{NewJob, taken};
 use crate::spooled::SpooledJob;
 use base_types::{JobId, Moment, Stranded, Text};
 use indexmap::IndexMap;
 use job_objects::{DeviceSays, JobChange, Printer, StateRefusal};
+use octets::Document;
 use std::alloc::Global;
 use std::marker::Model;
 

@@ -3,9 +3,9 @@ ghost use Rattle.std.specs.Prelude.{◌≡◌, ◌≤◌, ◌<◌, ◌+◌, [], 
 ghost use Rattle.job_objects.specs.JobStep.{job_after};
 ghost use Rattle.spool.specs.Spooled.{changed, on_device_after, let_go, told, handed_out, settled, is_settled, counted, attached, expired, is_overdue, marked};
 
-use crate::document::Document;
 use base_types::{Limits, Moment, Text};
 use job_objects::{DeviceSays, Job, JobChange, StateRefusal, estimated_impressions, job_step};
+use octets::Document;
 use std::alloc::{AllocError, Global};
 use std::marker::Model;
 use std::mem;

@@ -3,11 +3,11 @@ ghost use Rattle.std.specs.Prelude.{◌≡◌, [], IfOk, OnOk, OnErr, IfErr, Non
 ghost use Rattle.spool.specs.Calls.{is_full, new_refusal, IsRefusal, Takes};
 ghost use Rattle.spool.specs.OnDevice.{AllStay};
 
-use crate::document::Document;
 use crate::new_job::{NewJob, formats_of, octets_within};
 use crate::refusal::{Refused, SpoolRefusal};
 use crate::spool::Spool;
 use base_types::{JobId, Limits};
+use octets::Document;
 
 impl Spool {
     /// Whether no further job is taken: too many are unfinished, or the last id is used.

@@ -8,7 +8,7 @@
 //! stand in `base_types`, and what a line says stands with its reader.
 //!
 //! The call that each reader makes is [`first_line`]: a line of at most `most` bytes, whole only once
-//! its line feed is there. The tests are in `reader_tests` (`text_bytes`, and each reader's rows).
+//! its line feed is there. The tests are in `unit_tests` (`text_bytes`, and each reader's rows).
 #![tactic(auto)]
 
 mod bytes;

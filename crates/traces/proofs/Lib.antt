@@ -2,3 +2,4 @@ mod Texts
 mod Settings
 mod Forms
 mod Digits
+mod Places

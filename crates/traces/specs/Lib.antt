@@ -1,2 +1,4 @@
 pub mod Lines
 pub mod TraceLine
+pub mod Printed
+pub mod Connections

@@ -1,5 +1,5 @@
 use Rattle.std.proofs.Common.{◌≡◌, ◌++◌, map, filter, drop}
-use Rattle.lpd_queues.specs.Removal.{is_named, named_jobs}
+use Rattle.listings.specs.Removal.{is_named, named_jobs}
 use Rattle.dispatcher.specs.RemoveJobs.{cancels_of_each}
 use Rattle.dispatcher.proofs.remove_jobs.told_of_named.Given as goal
 

@@ -1,5 +1,5 @@
 use Rattle.std.proofs.Common.{◌≡◌, ◌++◌, map, drop}
-use Rattle.prices.specs.Timetable.{slots_from}
+use Rattle.plan_prices.specs.Timetable.{slots_from}
 use Rattle.listings.specs.Expected.{completion, completions_in}
 use Rattle.listings.proofs.expected.add_class.Given as goal
 

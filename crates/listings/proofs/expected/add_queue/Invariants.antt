@@ -1,6 +1,6 @@
 use Rattle.std.proofs.Common.{◌≡◌, ◌≤◌, ◌+◌, ◌*◌, ◌^◌, ◌++◌, map, drop}
-use Rattle.cost_table.specs.Class.{wait_in}
-use Rattle.prices.specs.Timetable.{slots_of_list}
+use Rattle.plan_problem.specs.Class.{wait_in}
+use Rattle.plan_prices.specs.Timetable.{slots_of_list}
 use Rattle.listings.specs.Expected.{completion}
 use Rattle.listings.proofs.expected.add_queue.Given as goal
 

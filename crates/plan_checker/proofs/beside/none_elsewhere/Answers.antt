@@ -1,6 +1,6 @@
 use Rattle.std.proofs.Common.{◌≡◌, ◌<◌, ◌≤◌, length, get_or, arith, ap, refl, sym, ◌∙◌, subst}
 use Rattle.plan_checker.specs.Beside.{NotAbove, NotStranded}
-use Rattle.prices.proofs.Each.{none_is_true, each_more, past_end}
+use Rattle.plan_prices.proofs.Each.{none_is_true, each_more, past_end}
 use Rattle.plan_checker.proofs.beside.none_elsewhere.Goals as goal
 
 pub returns-then-not-not_above : goal.returns-then-not-not_above

@@ -1,6 +1,6 @@
 use Rattle.std.proofs.Common.{◌≡◌, arith, refl, false, Contains, is_some, sym, ◌∙◌, subst}
-use Rattle.prices.specs.declared.plan.PlannedClass.{PlannedClass}
-use Rattle.prices.proofs.Each.{none_is_true, each_more}
+use Rattle.plan_prices.specs.declared.plan.PlannedClass.{PlannedClass}
+use Rattle.plan_prices.proofs.Each.{none_is_true, each_more}
 use Rattle.plan_checker.proofs.Above.{found_job, missed_job}
 use Rattle.plan_checker.proofs.beside.not_above.Goals as goal
 

@@ -1,5 +1,5 @@
 use Rattle.std.proofs.Common.{ℕ, ◌<◌, get_or, Contains}
-use Rattle.prices.specs.declared.plan.PlannedClass.{PlannedClass}
+use Rattle.plan_prices.specs.declared.plan.PlannedClass.{PlannedClass}
 use Rattle.plan_checker.proofs.beside.not_above.Given as goal
 
 abbrev pub invariant-loop-class : goal.invariant-loop-class

@@ -1,6 +1,6 @@
 use Rattle.std.proofs.Common.{◌≤◌, length, ap, ◌∙◌}
-use Rattle.prices.specs.declared.plan.PlannedClass.{PlannedClass}
-use Rattle.prices.specs.Waits.{waits_after}
+use Rattle.plan_prices.specs.declared.plan.PlannedClass.{PlannedClass}
+use Rattle.plan_prices.specs.Waits.{waits_after}
 use Rattle.plan_checker.proofs.Above.{filled, last_is, last_way, follow_last}
 use Rattle.plan_checker.proofs.beside.waits_follow.Goals as goal
 

@@ -1,5 +1,5 @@
 use Rattle.std.proofs.Common.{subst}
-use Rattle.prices.proofs.Timetables.{best_of_timetables}
+use Rattle.plan_prices.proofs.Timetables.{best_of_timetables}
 use Rattle.plan_checker.specs.Beside.{alone}
 use Rattle.plan_checker.specs.Verdict.{IsVerdict}
 use Rattle.plan_checker.proofs.Proved.{yes_from_proved, proved_from_yes, only_yes, best_from_proved, nothing_elsewhere, nothing_above}

@@ -1,6 +1,6 @@
 use Rattle.std.proofs.Common.{refl, inl, inr}
-use Rattle.prices.proofs.Each.{none_is_true}
-use Rattle.prices.proofs.Names.{way_from_parts}
+use Rattle.plan_prices.proofs.Each.{none_is_true}
+use Rattle.plan_prices.proofs.Names.{way_from_parts}
 use Rattle.plan_checker.proofs.class_verdict.judge.Goals as goal
 
 pub totals_agree-requires-clause-way : goal.totals_agree-requires-clause-way

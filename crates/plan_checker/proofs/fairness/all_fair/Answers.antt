@@ -1,6 +1,6 @@
 use Rattle.std.proofs.Common.{◌≡◌, ◌<◌, [], get_or, refl, ap, length, arith}
-use Rattle.prices.specs.Prices.{places_on}
-use Rattle.prices.proofs.Each.{each_last, none_is_true, item_is}
+use Rattle.plan_prices.specs.Prices.{places_on}
+use Rattle.plan_prices.proofs.Each.{each_last, none_is_true, item_is}
 use Rattle.plan_checker.specs.Fair.{AllFairOn}
 use Rattle.plan_checker.proofs.fairness.all_fair.Goals as goal
 

@@ -1,5 +1,5 @@
 use Rattle.std.proofs.Common.{ℕ, ◌<◌}
-use Rattle.prices.specs.Prices.{places_on}
+use Rattle.plan_prices.specs.Prices.{places_on}
 use Rattle.plan_checker.specs.Fair.{AllFairOn}
 use Rattle.plan_checker.proofs.fairness.all_fair.Given as goal
 

@@ -2,8 +2,8 @@ use Rattle.std.proofs.Common.{◌≡◌, Some, None, arith, rules, inl, inr, len
 use Rattle.std.proofs.lemmas.Int.{to_z-of_z}
 use mir.Val.{SFits, to_z, of_z}
 use mir.Syntax.{w64}
-use Rattle.cost_table.specs.Class.{wait_in}
-use Rattle.prices.proofs.Each.{last_or_before, none_is_true}
+use Rattle.plan_problem.specs.Class.{wait_in}
+use Rattle.plan_prices.proofs.Each.{last_or_before, none_is_true}
 use Rattle.plan_checker.specs.Fair.{IsFairOn}
 use Rattle.plan_checker.proofs.Fair.{read_time, fair_at_place, fair_for_all}
 use Rattle.plan_checker.proofs.fairness.all_fair_on.Goals as goal

@@ -1,5 +1,5 @@
 use Rattle.std.proofs.Common.{◌≡◌, ℕ, ◌<◌, get_or, pos, Some}
-use Rattle.cost_table.specs.Class.{time_in}
+use Rattle.plan_problem.specs.Class.{time_in}
 use Rattle.plan_checker.specs.Fair.{IsFairOn}
 use Rattle.plan_checker.proofs.fairness.all_fair_on.Given as goal
 

@@ -1,7 +1,7 @@
 use Rattle.std.proofs.Common.{◌≡◌, ◌*◌, ◌<◌, arith, inl, inr, length, ap}
 use Rattle.std.proofs.lemmas.Int.{ints}
 use Rattle.std.proofs.lemmas.Bool.{true_from_ne_false}
-use Rattle.prices.proofs.Each.{last_or_before}
+use Rattle.plan_prices.proofs.Each.{last_or_before}
 use Rattle.plan_checker.proofs.fairness.is_fair_on.Goals as goal
 
 pub loop-place-preserved : goal.loop-place-preserved

@@ -1,6 +1,6 @@
 use Rattle.std.proofs.Common.{◌≡◌, ℕ, ◌<◌, length}
-use Rattle.prices.specs.Way.{queue_of}
-use Rattle.prices.specs.Prices.{places_on}
+use Rattle.plan_prices.specs.Way.{queue_of}
+use Rattle.plan_prices.specs.Prices.{places_on}
 use Rattle.plan_checker.proofs.fairness.places_priced.Given as goal
 
 abbrev pub invariant-loop-device : goal.invariant-loop-device

@@ -1,5 +1,5 @@
 use Rattle.std.proofs.Common.{◌≡◌, ◌<◌, ◌≤◌, List, length, take, get_or, arith, refl, sym, ap, ◌∙◌, subst}
-use Rattle.prices.specs.declared.plan.PlannedClass.{PlannedClass}
+use Rattle.plan_prices.specs.declared.plan.PlannedClass.{PlannedClass}
 use Rattle.plan_checker.specs.Beside.{AboveHaveWays}
 use Rattle.plan_checker.specs.Plan.{IsVerdictAt}
 use Rattle.plan_checker.specs.declared.verdict.Verdict.TheVariants.{Yes, No}

@@ -1,5 +1,5 @@
 use Rattle.std.proofs.Common.{◌≡◌, ◌*◌, ◌^◌, drop, pos, ◌+ℤ◌, neg_ℤ, ◌≤ℤ◌}
-use Rattle.prices.specs.Prices.{sum_signed}
+use Rattle.plan_prices.specs.Prices.{sum_signed}
 use Rattle.plan_checker.proofs.totals.sum_of.Given as goal
 
 abbrev pub invariant-loop-price : goal.invariant-loop-price

@@ -1,6 +1,6 @@
 use Rattle.std.proofs.Common.{ℕ, Bool, List, take, Option, Some, None, IfSome, IsNone, inr, refl, subst}
 use Rattle.std.specs.Io.KnownBytes.{Appends}
-use Rattle.streams.specs.declared.exit_status.ExitStatus.{ExitStatus}
+use Rattle.program.specs.declared.exit_status.ExitStatus.{ExitStatus}
 use Rattle.replay.specs.Replay.{InputGives, InputLeaves}
 use Rattle.replay.proofs.run.play_input.Goals as goal
 

@@ -1,6 +1,6 @@
 use Rattle.std.proofs.Common.{ℕ, List, Option, subst}
 use Rattle.std.specs.Prelude.{max}
-use Rattle.prices.specs.Plan.{PlanRecord}
+use Rattle.plan_prices.specs.Plan.{PlanRecord}
 use Rattle.print_room.specs.declared.started.Started.{Started}
 use Rattle.print_room.specs.State.{State}
 use Rattle.print_room.specs.Dispatch.{Dispatches}

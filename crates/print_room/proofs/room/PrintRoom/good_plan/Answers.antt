@@ -1,5 +1,5 @@
 use Rattle.std.proofs.Common.{◌≡◌, ◌∙◌, List, filter_map, ap}
-use Rattle.prices.specs.Plan.{PlanRecord}
+use Rattle.plan_prices.specs.Plan.{PlanRecord}
 use Rattle.print_room.specs.State.{State}
 use Rattle.print_room.specs.Ready.{ready_of, stranded_of}
 use Rattle.print_room.specs.GoodPlan.{waits_of}

@@ -1,6 +1,6 @@
 use Rattle.std.proofs.Common.{◌≡◌, ◌≤◌, ◌+◌, ◌*◌, All, ◌∙◌, ℕ, List, map, length, sym, ap, subst}
 use Rattle.base_types.specs.declared.limits.TheConstants.Limits.{DEVICES, JOB_TIME, NOT_BEFORE, UNFINISHED_JOBS}
-use Rattle.cost_table.specs.ClassJob.{JobOfClass, IsClassOf}
+use Rattle.plan_problem.specs.ClassJob.{JobOfClass, IsClassOf}
 use Rattle.print_room.specs.State.{State, sets_of}
 use Rattle.print_room.specs.Ready.{class_of}
 use Rattle.print_room.specs.GoodPlan.{job_of_class}

@@ -1,6 +1,6 @@
 use Rattle.std.proofs.Common.{arith, ◌≡◌, ◌≤◌, ◌∙◌, ◌-◌, ◌++◌, ◌∷◌, [], ℕ, suc, true, List, length, Option, unwrap_or, sym, ap, subst}
 use Rattle.base_types.specs.declared.limits.TheConstants.Limits.{HIGHEST_PRIORITY}
-use Rattle.prices.specs.declared.plan.PlannedClass.{PlannedClass}
+use Rattle.plan_prices.specs.declared.plan.PlannedClass.{PlannedClass}
 use Rattle.print_room.specs.State.{State}
 use Rattle.print_room.specs.Ready.{ready_of, class_of}
 use Rattle.print_room.specs.GoodPlan.{is_some_job, IsPlannedBest}

@@ -1,7 +1,7 @@
 use Rattle.std.proofs.Common.{arith, refl, ap, map, length, ◌∙◌}
 use Rattle.std.proofs.lemmas.List.{with_items_is}
 use Rattle.std.specs.Vec.{with_items}
-use Rattle.transcripts.specs.Connections.{emptied}
+use Rattle.traces.specs.Connections.{emptied}
 use Rattle.replay.specs.declared.play.Play.{Play}
 use Rattle.replay.proofs.Playing.{ran, marked_so, written_so}
 use Rattle.replay.proofs.play.Play.run.Goals as goal

@@ -1,6 +1,6 @@
 use Rattle.std.proofs.Common.{◌++◌, [], List, ℕ, subst}
 use Rattle.std.specs.Io.Slices.{io_slice_bytes}
-use Rattle.spool.specs.Document.{IsFrontOf}
+use Rattle.octets.specs.Document.{IsFrontOf}
 use Rattle.send_queues.proofs.Fronts.{part_alone, part_more}
 use Rattle.send_queues.proofs.queue.Rest.front.Goals as goal
 

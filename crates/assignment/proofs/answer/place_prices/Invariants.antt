@@ -1,6 +1,0 @@
-use Rattle.std.proofs.Common.{◌≡◌, map}
-use Rattle.assignment.specs.Answer.{price_of_dual, duals_of_columns}
-use Rattle.assignment.proofs.answer.place_prices.Given as goal
-
-abbrev pub invariant-loop-column : goal.invariant-loop-column
-invariant-loop-column l = l.prices.items ≡ map price_of_dual (duals_of_columns l.device l.matching.columns.items l.matching.duals.items l.column)

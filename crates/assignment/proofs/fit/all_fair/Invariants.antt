@@ -1,9 +1,0 @@
-use Rattle.std.proofs.Common.{ℕ, ◌<◌}
-use Rattle.assignment.specs.Begun.{IsFairAt, IsFairBeside}
-use Rattle.assignment.proofs.fit.all_fair.Given as goal
-
-abbrev pub invariant-loop-q : goal.invariant-loop-q
-invariant-loop-q l = record {
-  columns : (q : ℕ) → q < l.q → IsFairAt l.costs l.matching q;
-  next : (q : ℕ) → q < l.q → IsFairBeside l.costs l.by_device l.matching q;
-}

@@ -1,0 +1,22 @@
+//! An IPP client's side of printing: requests to a printer as bytes, and what its replies say
+//! (RFC 8010, RFC 8011).
+//!
+//! Each request is the one spelling of a message that its contract has; what is found in a reply is the
+//! first attribute of its name in the first group of its kind. It sends nothing, and doesn't know what a
+//! reply does to a job.
+//!
+//! Tests stand in `unit_tests`.
+#![tactic(auto)]
+
+mod group;
+mod media;
+mod printer;
+mod reply;
+mod request;
+mod ticket;
+
+pub use media::loaded_media;
+pub use printer::{copies_up_to, is_stopped};
+pub use reply::{first_in, is_successful, lists, lists_number, number_in, reply_in};
+pub use request::{ask_of_job, ask_of_printer, cancel_job, print_job};
+pub use ticket::Ticket;

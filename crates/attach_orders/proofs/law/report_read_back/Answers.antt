@@ -1,0 +1,5 @@
+use Rattle.attach_orders.proofs.Told.{read_back}
+use Rattle.attach_orders.proofs.law.report_read_back.Goals as goal
+
+pub returns : goal.returns
+returns c = read_back

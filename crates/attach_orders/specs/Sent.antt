@@ -1,0 +1,46 @@
+-- What the server sends, and what it means.
+use Rattle.std.specs.Prelude.{ℕ, ◌≡◌, ◌≤◌, IsTrue, List, [], ◌∷◌, ◌++◌, map, length}
+use Rattle.base_types.specs.declared.limits.TheConstants.Limits.{JOB_OCTETS}
+use Rattle.base_types.specs.Needs.{JobNeeds}
+use Rattle.base_types.specs.Forms.{is_media}
+use Rattle.base_types.specs.Ranges.{IsJobId, IsCopies}
+use Rattle.device_link.specs.Orders.{job_line, cancel_line}
+use Rattle.attach_orders.specs.declared.order.Order.TheVariants.{Job, Cancel}
+use Rattle.attach_orders.specs.Stream.{Said, Orders, HasOctet, InLine, orders_heard}
+
+-- what the server may want of a device
+pub data Wanted : Type 0 where
+  ToPrint : (job : ℕ) (octets : List ℕ) (needs : JobNeeds) → Wanted
+  ToCancel : (job : ℕ) → Wanted
+
+-- what it sends: the line of a job and its octets, or the line of a cancel
+abbrev pub sent : Wanted → List ℕ
+sent (ToPrint job octets needs) = job_line job (length octets) needs ++ octets
+sent (ToCancel job) = cancel_line job
+
+-- what a device is to hear
+abbrev pub meant : Wanted → List Said
+meant (ToPrint job octets needs) =
+    Orders (Job (record { job = job; octets = length octets; copies = needs.copies; sides = needs.sides; finishings = needs.finishings; media = needs.media })) ∷ map HasOctet octets
+meant (ToCancel job) = Orders (Cancel job) ∷ []
+
+-- ids, octets and copies are within the server's limits, and the medium's name is one
+abbrev pub IsWithin : Wanted → Type 0
+IsWithin (ToPrint job octets needs) = IsJobId job × (length octets ≤ JOB_OCTETS) × IsCopies needs.copies × IsTrue (is_media needs.media)
+IsWithin (ToCancel job) = IsJobId job
+
+abbrev pub AreWithin : List Wanted → Type 0
+AreWithin [] = Unit {0}
+AreWithin (first ∷ later) = IsWithin first × AreWithin later
+
+abbrev pub all_sent : List Wanted → List ℕ
+all_sent [] = []
+all_sent (first ∷ later) = sent first ++ all_sent later
+
+abbrev pub all_meant : List Wanted → List Said
+all_meant [] = []
+all_meant (first ∷ later) = meant first ++ all_meant later
+
+-- what the server sends is heard as what it means, and the next line may follow
+abbrev pub HeardAsMeant : Type 0
+HeardAsMeant = (wanted : List Wanted) → AreWithin wanted → orders_heard (all_sent wanted) ≡ record { said = all_meant wanted; place = InLine [] }

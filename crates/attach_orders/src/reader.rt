@@ -1,0 +1,210 @@
+//! The reader of the server's stream.
+ghost use Rattle.std.specs.Prelude.{◌≡◌, ◌≤◌, ◌<◌, ◌+◌, ◌-◌, ◌++◌, [], List, ℕ, None, Some, Err, OnOk, OnErr, IsOk, IsSome, IfOk, IfSome, take, drop, length as length_of};
+ghost use Rattle.text.specs.FirstLine.{first_line_of};
+ghost use Rattle.text.specs.declared.line.FirstLine.TheVariants.{Whole};
+ghost use Rattle.attach_orders.specs.Line.{order_in};
+ghost use Rattle.attach_orders.specs.Stream.{Said, Stands, Answers, work, octets_after};
+
+use crate::fault::{OrderError, OrderFault};
+use crate::line::read_line;
+use crate::order::{Order, OrderItem};
+use base_types::Limits;
+use std::alloc::{AllocError, Global};
+use std::marker::Model;
+use text::{FirstLine, Unread, first_line};
+
+/// A reader of what the server sends, in pieces of any length. In clauses it is a record of the octets
+/// of a job that it lends, of what it still has to read, how many octets of a job are among these and
+/// those to come, and its fault.
+#[derive(Debug, Drop)]
+pub struct OrderReader {
+    alloc: Global,
+    unread: Unread,
+    /// How many of the unread bytes are read already, and lent as a part.
+    lent: usize,
+    octets: u32,
+    fault: Option<OrderFault>,
+}
+
+impl Model for OrderReader {
+    ghost use Rattle.std.specs.Prelude.{◌≤◌, take, drop, length};
+    ghost use Rattle.attach_orders.specs.Stream.{ReaderState};
+
+    ghost Value = { ReaderState };
+
+    ghost view = { λ r. record { part = take r.lent r.unread; rest = drop r.lent r.unread; octets = r.octets; fault = r.fault } };
+
+    ghost invariant = { λ r. r.lent ≤ length r.unread };
+}
+
+/// How many octets follow the line of an order.
+fn octets_after(order: &Order) -> u32
+    ensures { result ≡ octets_after order.now }
+{
+    match order {
+        Order::Job(job) => job.octets,
+        Order::Cancel(_) => 0,
+    }
+}
+
+impl OrderReader {
+    /// A reader of a new connection.
+    pub fn new(alloc: Global) -> OrderReader
+        ensures { Stands [] [] result }
+    {
+        OrderReader {
+            alloc,
+            unread: Unread::new(alloc),
+            lent: 0,
+            octets: 0,
+            fault: None,
+        }
+    }
+
+    /// Takes the next bytes of the connection. The part that was lent is given back. After a fault
+    /// they are dropped.
+    ///
+    /// Where there is no memory, none of them is taken, and the part stays lent.
+    pub fn feed(&mut self, piece: &[u8]) -> Result<(), AllocError>
+        ensures fed { OnOk result ((stream : List ℕ) (given : List Said) → Stands stream given self.old → Stands (stream ++ piece.now) given self.new) }
+        ensures err { OnErr result (self.new ≡ self.old) }
+        ensures over { IsSome self.old.fault → IsOk result × (self.new ≡ self.old) }
+    {
+        if self.fault().is_some() {
+            return Ok(());
+        }
+        self.append(piece)
+    }
+
+    /// The next order, if its line is whole, or the next octets of a job: `part` lends them.
+    ///
+    /// After a fault it answers that fault, whatever it is fed. Where there is no memory for the name
+    /// of a medium, the order stays to be read.
+    pub fn next_item(&mut self) -> Result<Option<OrderItem>, OrderError>
+        ensures answer { Answers self.old result self.new }
+        ensures falls { IfOk result (λ item. IsSome item → work self.new < work self.old) }
+        ensures kept { IfSome self.old.fault (λ fault. result ≡ Err (OrderError.Fault fault)) }
+    {
+        if let Some(fault) = self.fault() {
+            return Err(OrderError::Fault(fault));
+        }
+        if self.octets() > 0 {
+            return Ok(self.next_octets());
+        }
+        match first_line(self.rest(), Limits::DEVICE_LINE_BYTES) {
+            FirstLine::Unfinished => Ok(None),
+            FirstLine::TooLong => Err(self.fail(OrderFault::LineTooLong)),
+            FirstLine::Whole(length) => self.take_line(length),
+        }
+    }
+
+    /// The octets of a job that the last item was.
+    pub fn part(&self) -> &[u8]
+        ensures { result.now ≡ self.now.part }
+    {
+        &self.unread.bytes()[..self.lent]
+    }
+
+    /// Lends those octets of a job that are there.
+    fn next_octets(&mut self) -> Option<OrderItem>
+        requires faultless { self.old.fault ≡ None }
+        requires within { 0 < self.old.octets }
+        ensures answer { Answers self.old (Ok result) self.new }
+        ensures falls { IsSome result → work self.new < work self.old }
+    {
+        let length = self.rest().len().min(self.octets() as usize);
+        if length == 0 {
+            return None;
+        }
+        self.lend(length);
+        Some(OrderItem::Octets)
+    }
+
+    /// Reads the line of so many bytes at the front.
+    fn take_line(&mut self, length: usize) -> Result<Option<OrderItem>, OrderError>
+        requires line { first_line_of Limits.DEVICE_LINE_BYTES self.old.rest ≡ Whole length }
+        requires faultless { self.old.fault ≡ None }
+        requires outside { self.old.octets ≡ 0 }
+        ensures answer { Answers self.old result self.new }
+        ensures falls { IfOk result (λ item. IsSome item → work self.new < work self.old) }
+    {
+        match self.read_front(length)? {
+            None => Err(self.fail(OrderFault::BadLine)),
+            Some(order) => {
+                self.pass_line(length, octets_after(&order));
+                Ok(Some(OrderItem::Order(order)))
+            }
+        }
+    }
+
+    /// The bytes that are not read yet.
+    fn rest(&self) -> &[u8]
+        ensures { result.now ≡ self.now.rest }
+    {
+        &self.unread.bytes()[self.lent..]
+    }
+
+    /// The fault, once there is one.
+    fn fault(&self) -> Option<OrderFault>
+        ensures { result ≡ self.now.fault }
+    {
+        self.fault
+    }
+
+    /// How many octets of a job are still to be read.
+    fn octets(&self) -> u32
+        ensures { result ≡ self.now.octets }
+    {
+        self.octets
+    }
+
+    /// The order of the line of so many bytes at the front.
+    fn read_front(&self, length: usize) -> Result<Option<Order>, AllocError>
+        requires { length < length_of self.now.rest }
+        ensures { IfOk result (λ order. order ≡ order_in (take length self.now.rest)) }
+    {
+        read_line(self.alloc, &self.rest()[..length])
+    }
+
+    /// Goes past the line of so many bytes at the front, which so many octets follow.
+    fn pass_line(&mut self, length: usize, octets: u32)
+        requires { length < length_of self.old.rest }
+        ensures { self.new ≡ record { part = []; rest = drop (length + 1) self.old.rest; octets = octets; fault = self.old.fault } }
+    {
+        self.unread.pass(self.lent);
+        self.unread.pass_line(length);
+        self.lent = 0;
+        self.octets = octets;
+    }
+
+    /// Goes past so many octets of a job, and lends them.
+    fn lend(&mut self, length: usize)
+        requires there { length ≤ length_of self.old.rest }
+        requires few { length ≤ self.old.octets }
+        ensures { self.new ≡ record { part = take length self.old.rest; rest = drop length self.old.rest; octets = self.old.octets - length; fault = self.old.fault } }
+    {
+        self.unread.pass(self.lent);
+        self.lent = length;
+        self.octets -= length as u32;
+    }
+
+    /// Keeps a fault.
+    fn fail(&mut self, fault: OrderFault) -> OrderError
+        ensures kept { self.new ≡ record self.old { fault = Some fault } }
+        ensures answer { result ≡ OrderError.Fault fault }
+    {
+        self.fault = Some(fault);
+        OrderError::Fault(fault)
+    }
+
+    /// Keeps these bytes to be read.
+    fn append(&mut self, piece: &[u8]) -> Result<(), AllocError>
+        ensures ok { OnOk result (self.new ≡ record self.old { part = []; rest = self.old.rest ++ piece.now }) }
+        ensures err { OnErr result (self.new ≡ self.old) }
+    {
+        self.unread.append(piece)?;
+        self.unread.pass(self.lent);
+        self.lent = 0;
+        Ok(())
+    }
+}

@@ -1,0 +1,76 @@
+//! The reader of a printer's stream.
+ghost use Rattle.std.specs.Prelude.{◌≡◌, OnOk, OnErr, IfOk};
+ghost use Rattle.attach_pjl.specs.Stream.{place_after, status_at, start};
+
+use crate::message::read_message;
+use crate::status::Status;
+use std::alloc::{AllocError, Global};
+use std::marker::Model;
+
+/// How many bytes of a message are kept; a longer one says nothing.
+const MOST: usize = 4096;
+
+/// What ends a message.
+const FORM_FEED: u8 = 12;
+
+/// A reader of what a printer says, byte by byte. In clauses it is the place in the stream that it has come
+/// to: the message so far, or that the message is too long.
+#[derive(Debug, Drop)]
+pub struct StatusReader {
+    message: Vec<u8>,
+    skips: bool,
+}
+
+impl Model for StatusReader {
+    ghost use Rattle.attach_pjl.specs.Stream.{Place};
+
+    ghost Value = { Place };
+
+    ghost view = { λ r. record { message = r.message.items; skips = r.skips } };
+}
+
+impl StatusReader {
+    /// A reader of a new connection.
+    pub fn new(alloc: Global) -> StatusReader
+        ensures { result ≡ start }
+    {
+        StatusReader {
+            message: Vec::new(alloc),
+            skips: false,
+        }
+    }
+
+    /// Takes the next byte, and gives the status that ends with it. Where there is no memory, the byte
+    /// isn't taken.
+    pub fn take(&mut self, byte: u8) -> Result<Option<Status>, AllocError>
+        ensures status { IfOk result (λ status. status ≡ status_at self.old byte) }
+        ensures place { OnOk result (self.new ≡ place_after self.old byte) }
+        ensures err { OnErr result (self.new ≡ self.old) }
+    {
+        if byte == FORM_FEED {
+            return Ok(self.end_message());
+        }
+        if self.skips || self.message.len() >= MOST {
+            self.skips = true;
+            self.message.clear();
+            return Ok(None);
+        }
+        self.message.push(byte)?;
+        Ok(None)
+    }
+
+    /// Ends a message, and gives what it said.
+    fn end_message(&mut self) -> Option<Status>
+        ensures status { result ≡ status_at self.old 12 }
+        ensures place { self.new ≡ start }
+    {
+        let status = if self.skips {
+            None
+        } else {
+            Some(read_message(&self.message))
+        };
+        self.skips = false;
+        self.message.clear();
+        status
+    }
+}

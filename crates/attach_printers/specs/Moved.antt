@@ -1,0 +1,11 @@
+-- How much a call on a connection moved.
+use Rattle.std.specs.Prelude.{ℕ, ◌<◌, ◌≤◌, List, length}
+use Rattle.attach_printers.specs.declared.session.Moved.{Moved}
+use Rattle.attach_printers.specs.declared.session.Moved.TheVariants.{Nothing, Bytes, End, Broken}
+
+-- one byte at least, and no more than there are
+abbrev pub MovesAtMost : Moved → List ℕ → Type 0
+MovesAtMost (Bytes count) bytes = (0 < count) × (count ≤ length bytes)
+MovesAtMost Nothing bytes = Unit {0}
+MovesAtMost End bytes = Unit {0}
+MovesAtMost Broken bytes = Unit {0}

@@ -1,0 +1,34 @@
+-- What is told of a printer's answer about a job.
+use Rattle.std.specs.Prelude.{ℕ, if◌then◌else◌, nat_lt, Bool, true, false, Option, Some, None}
+use Rattle.attach_printers.specs.declared.answer.JobState.{JobState}
+use Rattle.attach_printers.specs.declared.answer.JobState.TheVariants.{Completed, GivenUp}
+use Rattle.attach_printers.specs.declared.answer.JobAnswer.{JobAnswer}
+use Rattle.attach_printers.specs.declared.told.Told.{Told}
+use Rattle.attach_printers.specs.declared.told.Told.TheVariants.{Pages, Printed}
+
+-- so many impressions, where they are more than before
+abbrev pub more_than : ℕ → Option ℕ → Option ℕ
+more_than before None = None
+more_than before (Some count) = if nat_lt before count then Some count else None
+
+abbrev pub is_completed : JobState → Bool
+is_completed Completed = true
+is_completed state = false
+
+-- the impressions that are to be told of a job in a state: those of one that is given up aren't
+abbrev pub due_in : JobState → ℕ → Option ℕ → Option ℕ
+due_in GivenUp before impressions = None
+due_in state before impressions = more_than before impressions
+
+abbrev pub pages_due : JobAnswer → ℕ → Option ℕ
+pages_due answer before = due_in answer.state before answer.impressions
+
+-- the impressions that are told
+abbrev pub pages_told : Told → Option ℕ
+pages_told (Pages count) = Some count
+pages_told (Printed pages) = pages
+pages_told told = None
+
+abbrev pub is_printed : Told → Bool
+is_printed (Printed pages) = true
+is_printed told = false

@@ -1,0 +1,97 @@
+//! What a whole reply says.
+ghost use Rattle.std.specs.Prelude.{◌≡◌};
+ghost use Rattle.attach_printers.specs.Told.{is_completed, is_printed, more_than, pages_due, pages_told};
+
+use crate::told::{ReplyBreach, Told};
+use attach_http::ReplyReader;
+use attach_ipp::{is_successful, number_in, reply_in};
+use ipp_codec::{GroupTag, MessageView};
+
+/// The status of HTTP that a reply of IPP has (RFC 8010, section 4).
+const OK: u32 = 200;
+
+/// How far a job is at the printer.
+#[derive(Clone, Copy)]
+pub(crate) enum JobState {
+    /// It isn't printed yet.
+    Goes,
+    Completed,
+    /// It was canceled or aborted.
+    GivenUp,
+}
+
+/// What a printer tells of a job.
+#[derive(Clone, Copy)]
+pub(crate) struct JobAnswer {
+    pub(crate) job: Option<i32>,
+    pub(crate) state: JobState,
+    /// How many impressions are printed, where it says so.
+    pub(crate) impressions: Option<u32>,
+}
+
+impl JobAnswer {
+    /// What is told of it, where it was told before that so many impressions are printed: those that are
+    /// more now, also where the job is completed by it.
+    pub(crate) fn told(self, before: u32) -> Told
+        ensures pages { pages_told result ≡ pages_due self before }
+        ensures printed { is_printed result ≡ is_completed self.state }
+    {
+        let pages = more_than(before, self.impressions);
+        match self.state {
+            JobState::Goes => match pages {
+                Some(count) => Told::Pages(count),
+                None => Told::Nothing,
+            },
+            JobState::Completed => Told::Printed(pages),
+            JobState::GivenUp => Told::Failed(ReplyBreach::GivenUp),
+        }
+    }
+}
+
+/// How many impressions are printed, where they are more than before.
+fn more_than(before: u32, impressions: Option<u32>) -> Option<u32>
+    ensures { result ≡ more_than before impressions }
+{
+    match impressions {
+        Some(count) if count > before => Some(count),
+        _ => None,
+    }
+}
+
+/// The message of a reply that says that the operation was done.
+pub(crate) fn message_of(reader: &ReplyReader) -> Result<MessageView<'_>, ReplyBreach> {
+    if let Some(fault) = reader.fault() {
+        return Err(ReplyBreach::Fault(fault));
+    }
+    if reader.status() != OK {
+        return Err(ReplyBreach::Http(reader.status()));
+    }
+    match reply_in(reader.body()) {
+        Some(reply) if is_successful(reply.code()) => Ok(reply),
+        Some(reply) => Err(ReplyBreach::Ipp(reply.code())),
+        None => Err(ReplyBreach::NotIpp),
+    }
+}
+
+/// What a reply tells of a job.
+pub(crate) fn job_answer(reader: &ReplyReader) -> Result<JobAnswer, ReplyBreach> {
+    let reply = message_of(reader)?;
+    let Some(state) = number_in(&reply, GroupTag::JOB, b"job-state") else {
+        return Err(ReplyBreach::NotIpp);
+    };
+    let impressions = number_in(&reply, GroupTag::JOB, b"job-impressions-completed");
+    Ok(JobAnswer {
+        job: number_in(&reply, GroupTag::JOB, b"job-id"),
+        state: job_state(state),
+        impressions: impressions.and_then(|count| u32::try_from(count).ok()),
+    })
+}
+
+/// The state of this number (RFC 8011, section 5.3.7).
+fn job_state(number: i32) -> JobState {
+    match number {
+        7 | 8 => JobState::GivenUp,
+        9 => JobState::Completed,
+        _ => JobState::Goes,
+    }
+}

@@ -1,0 +1,101 @@
+//! AppSocket: one connection a job, its octets, and then what the printer says until it closes.
+use crate::heard::{Breach, Heard};
+use crate::protocol::Protocol;
+use crate::session::{CALLS, Moved, PIECE, Session};
+use attach_orders::JobOrder;
+use attachment::Attachment;
+use std::alloc::AllocError;
+
+/// AppSocket, as a printer speaks it.
+#[derive(Drop)]
+pub struct AppSocket {
+    linger: u64,
+    /// All is sent, and nothing more will be written.
+    ends: bool,
+}
+
+impl AppSocket {
+    /// Once a printer's machine has taken all, the printer may be silent for so many ms before the job counts as
+    /// printed.
+    pub fn new(linger: u64) -> AppSocket {
+        AppSocket {
+            linger,
+            ends: false,
+        }
+    }
+
+    /// Sends what is due, copy by copy, and ends the writing side after the last.
+    fn send_all(&mut self, session: &mut Session, attachment: &mut Attachment, now: u64) -> Moved {
+        for _ in 0..CALLS {
+            if attachment.is_copy_sent() {
+                attachment.end_copy();
+            }
+            if attachment.is_sent() {
+                self.ends = true;
+                return session.end_writing(now);
+            }
+            match session.send_due(attachment, now) {
+                Moved::Bytes(_) => {}
+                moved => return moved,
+            }
+        }
+        Moved::Nothing
+    }
+}
+
+impl Protocol for AppSocket {
+    fn begin(&mut self, _order: &JobOrder) {}
+
+    fn times(&self, order: &JobOrder) -> u32 {
+        order.copies.max(1)
+    }
+
+    fn exchange(
+        &mut self,
+        session: &mut Session,
+        attachment: &mut Attachment,
+        now: u64,
+    ) -> Result<Heard, AllocError> {
+        match listen(session, now) {
+            Moved::End if self.ends => return Ok(session.heed_end(now)),
+            Moved::End | Moved::Broken => return Ok(Heard::Failed(Breach::Broken)),
+            Moved::Bytes(_) | Moved::Nothing => {}
+        }
+        if !self.ends && self.send_all(session, attachment, now) == Moved::Broken {
+            return Ok(Heard::Failed(Breach::Broken));
+        }
+        if !self.ends || session.has_backlog() {
+            return Ok(session.wait(now));
+        }
+        Ok(if session.silence(now) >= self.linger {
+            Heard::Printed(None)
+        } else {
+            Heard::Nothing
+        })
+    }
+
+    fn drop_job(&mut self) {
+        self.ends = false;
+    }
+
+    fn pause(&self, session: &Session, now: u64, has_job: bool) -> Option<u64> {
+        let patience = if self.ends && !session.has_backlog() {
+            self.linger
+        } else {
+            session.timeout()
+        };
+        session.pause(now, has_job, patience)
+    }
+}
+
+/// Passes over all that the printer says for now.
+fn listen(session: &mut Session, now: u64) -> Moved {
+    let mut buffer = [0u8; PIECE];
+    for _ in 0..CALLS {
+        match session.read(&mut buffer, now) {
+            Moved::Bytes(_) => {}
+            moved => return moved,
+        }
+    }
+    Moved::Nothing
+}

@@ -1,0 +1,26 @@
+//! Laws of least squares. Their functions do nothing: their contracts are what they are for.
+ghost use Rattle.std.specs.Prelude.{◌≡◌, ◌≢◌, ◌<◌, Contains, Some};
+ghost use Rattle.base_types.specs.Ranges.{IsRate, IsSetup};
+ghost use Rattle.attachment.specs.Sums.{sums_of};
+ghost use Rattle.attachment.specs.Fit.{AreOn, setup_of, rate_of};
+
+use crate::sample::Sample;
+
+/// Samples on a line, of which two have different numbers of impressions, give its setup.
+pub fn setup_is_found(samples: &[Sample], one: Sample, other: Sample, setup: u32, rate: u32)
+    requires on { AreOn setup rate samples.now }
+    requires one { Contains samples.now one }
+    requires other { Contains samples.now other }
+    requires different { one.impressions ≢ other.impressions }
+    requires setup { IsSetup setup }
+    ensures { setup_of (sums_of samples.now) ≡ Some setup }
+{}
+
+/// Samples on a line with this setup, of which one has impressions, give its rate.
+pub fn rate_is_found(samples: &[Sample], one: Sample, setup: u32, rate: u32)
+    requires on { AreOn setup rate samples.now }
+    requires one { Contains samples.now one }
+    requires some { 0 < one.impressions }
+    requires rate { IsRate rate }
+    ensures { rate_of setup (sums_of samples.now) ≡ Some rate }
+{}

@@ -1,0 +1,13 @@
+//! Quotients in whole numbers.
+ghost use Rattle.std.specs.Prelude.{◌≡◌, ◌<◌, ◌^◌};
+ghost use Rattle.attachment.specs.Fit.{nearest};
+
+/// The whole number that is nearest to a quotient, the greater of two.
+pub(crate) fn nearest(dividend: u128, divisor: u128) -> u128
+    requires some { 0 < divisor }
+    requires dividend { dividend < 2 ^ 126 }
+    requires divisor { divisor < 2 ^ 126 }
+    ensures { result ≡ nearest dividend divisor }
+{
+    (2 * dividend + divisor) / (2 * divisor)
+}

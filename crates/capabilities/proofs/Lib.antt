@@ -1,3 +1,0 @@
-pub mod Filters
-pub mod Stages
-pub mod Causes

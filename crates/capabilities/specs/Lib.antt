@@ -1,2 +1,0 @@
-pub mod Able
-pub mod Cause

@@ -1,5 +1,0 @@
-use Rattle.cost_table.proofs.Rows.{RowsSoFar}
-use Rattle.cost_table.proofs.class_job.build.Given as goal
-
-abbrev pub invariant-loop-job : goal.invariant-loop-job
-invariant-loop-job l = RowsSoFar l.jobs l.devices l.printers l.job-index l.ids.items l.rows.items

@@ -1,4 +1,0 @@
-pub mod Time
-pub mod Class
-pub mod ClassJob
-pub mod Alike

@@ -1,5 +1,0 @@
-use Rattle.device_orders.proofs.Written.{heard_all}
-use Rattle.device_orders.proofs.law.orders_read_back.Goals as goal
-
-pub returns : goal.returns
-returns c = heard_all

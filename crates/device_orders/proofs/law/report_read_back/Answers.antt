@@ -1,5 +1,0 @@
-use Rattle.device_orders.proofs.Told.{read_back}
-use Rattle.device_orders.proofs.law.report_read_back.Goals as goal
-
-pub returns : goal.returns
-returns c = read_back

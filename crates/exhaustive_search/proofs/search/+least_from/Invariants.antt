@@ -1,4 +1,0 @@
-use Rattle.exhaustive_search.proofs.search.+least_from.Given as goal
-
-abbrev pub decreases-least_from : goal.decreases-least_from
-decreases-least_from l = l.left

@@ -1,7 +1,0 @@
-//! A law of replies. Its function does nothing: its contract is what it is for.
-ghost use Rattle.http_replies.specs.Reply.{CuttingTellsNothing};
-
-/// Bytes lead to the same in one piece and in two.
-pub fn cutting_tells_nothing()
-    ensures { CuttingTellsNothing }
-{}

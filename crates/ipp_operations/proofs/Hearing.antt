@@ -1,0 +1,196 @@
+-- A body that comes in pieces: what its reader has heard, and what it asks.
+use Rattle.std.proofs.Common.{◌≡◌, ℕ, ◌+◌, ◌≤◌, Bool, true, false, cond, List, [], ◌∷◌, ◌++◌, length, take, drop, Option, Some, None, option_map, Result, Ok, Err, MatchOption, MatchResult, refl, sym, ap, subst, ◌∙◌, inl, inr, arith}
+use Rattle.std.specs.Option.{option_map_or}
+use Rattle.std.proofs.lemmas.List.{length-append, drop-append-le, drop_at, drop-drop, drop_all}
+use Rattle.base_types.specs.declared.limits.TheConstants.Limits.{IPP_HEAD_BYTES}
+use Rattle.ipp_codec.specs.declared.fault.CodecFault.{CodecFault}
+use Rattle.ipp_codec.specs.declared.stage.Stage.{Stage}
+use Rattle.ipp_codec.specs.declared.stage.Stage.TheVariants.{Awaiting, Whole, Faulty}
+use Rattle.ipp_codec.specs.Message.{IppMessage}
+use Rattle.ipp_codec.specs.Grammar.{Spells}
+use Rattle.ipp_codec.specs.FirstFault.{HeadFault}
+use Rattle.ipp_codec.specs.Decoder.{DecoderState, StandsAt, Stands, TakesIn}
+use Rattle.printer_objects.specs.declared.operation.Operation.{Operation}
+use Rattle.printer_objects.specs.declared.operation.Operation.TheVariants as operation
+use Rattle.events.specs.declared.event.Event.{Event}
+use Rattle.events.specs.declared.status.Status.{Status}
+use Rattle.ipp_operations.specs.declared.header.Header.{Header}
+use Rattle.ipp_operations.specs.declared.parsed_request.ParsedRequest.{ParsedRequest}
+use Rattle.ipp_operations.specs.declared.parsed_request.ParsedRequest.TheVariants.{TooShort, Refused}
+use Rattle.ipp_operations.specs.ParsedRequest.{header_of, operation_of, request_id_of, status_of, Requests, answered, AsksBy, AsksUnder}
+use Rattle.ipp_operations.specs.Event.{event_of}
+use Rattle.ipp_operations.specs.Reader.{ReaderState, has_document, reads_document, sends_document, KeptAt, Heard, Holds, RequestsOf, AsksByOf, AsksUnderOf, AsksOf}
+
+-- ---- the header
+
+header_front : (bytes : List ℕ) → header_of bytes ≡ header_of (take 8 bytes)
+header_front [] = refl
+header_front (a ∷ []) = refl
+header_front (a ∷ b ∷ []) = refl
+header_front (a ∷ b ∷ c ∷ []) = refl
+header_front (a ∷ b ∷ c ∷ d ∷ []) = refl
+header_front (a ∷ b ∷ c ∷ d ∷ e ∷ []) = refl
+header_front (a ∷ b ∷ c ∷ d ∷ e ∷ f ∷ []) = refl
+header_front (a ∷ b ∷ c ∷ d ∷ e ∷ f ∷ g ∷ []) = refl
+header_front (a ∷ b ∷ c ∷ d ∷ e ∷ f ∷ g ∷ h ∷ rest) = refl
+
+-- the header of what is kept is that of all bytes
+pub header_kept : (bytes : List ℕ) (decoder : DecoderState) → Stands bytes decoder → header_of decoder.head ≡ header_of bytes
+header_kept bytes decoder stands = header_front decoder.head ∙ ap header_of stands.header ∙ sym (header_front bytes)
+
+-- ---- what is asked
+
+-- an event that has no document is the same whatever follows its head
+no_document : (asked : Operation) (message : IppMessage) (x y : List ℕ) → has_document asked ≡ false → event_of asked message x ≡ event_of asked message y
+no_document operation.PrintJob message x y none = absurd cc
+no_document operation.SendDocument message x y none = absurd cc
+no_document operation.ValidateJob message x y none = refl
+no_document operation.CreateJob message x y none = refl
+no_document operation.CancelJob message x y none = refl
+no_document operation.GetJobAttributes message x y none = refl
+no_document operation.GetJobs message x y none = refl
+no_document operation.GetPrinterAttributes message x y none = refl
+no_document operation.HoldJob message x y none = refl
+no_document operation.ReleaseJob message x y none = refl
+no_document operation.PausePrinter message x y none = refl
+no_document operation.ResumePrinter message x y none = refl
+
+event_by : (asked : Operation) (has : Bool) → has_document asked ≡ has → (message : IppMessage) (bytes document : List ℕ) (decoder : DecoderState) → decoder.stage ≡ Whole → Holds has bytes decoder document
+    → event_of asked message document ≡ event_of asked message (drop (length decoder.head) bytes)
+event_by asked true is message bytes document decoder whole holds = ap (λ (l : List ℕ). event_of asked message l) (holds refl whole)
+event_by asked false is message bytes document decoder whole holds = no_document asked message document (drop (length decoder.head) bytes) is
+
+-- the event of a message that a decoder found
+pub found_requests : (asked : Operation) (message : IppMessage) (count : ℕ) (bytes document : List ℕ) (decoder : DecoderState) (event : Result Event Status)
+    → (count ≤ IPP_HEAD_BYTES) × (count ≤ length bytes) × Spells (take count bytes) message → count ≡ length decoder.head → decoder.stage ≡ Whole → Holds (has_document asked) bytes decoder document
+    → event ≡ event_of asked message document → Requests asked bytes event
+found_requests asked message count bytes document decoder event found long whole holds is =
+    let same : event_of asked message document ≡ event_of asked message (drop count bytes) =
+    event_by asked (has_document asked) refl message bytes document decoder whole holds ∙ ap (λ (n : ℕ). event_of asked message (drop n bytes)) (sym long) in
+    inr (count, message, found.0, found.2, is ∙ same)
+
+-- the first fault that a decoder answered
+pub fault_requests : (asked : Operation) (fault : CodecFault) (bytes : List ℕ) → HeadFault bytes fault → Requests asked bytes (Err (status_of fault))
+fault_requests asked fault bytes is = inl (fault, is, refl)
+
+-- the request-id of what is kept is that of all bytes
+pub id_kept : (bytes : List ℕ) (decoder : DecoderState) → Stands bytes decoder → request_id_of decoder.head ≡ request_id_of bytes
+id_kept bytes decoder stands = ap (λ (o : Option Header). option_map (λ (h : Header). h.request_id) o) (header_kept bytes decoder stands)
+
+-- ---- a reader
+
+-- what is kept is the document, where it is read
+pub holds : (bytes : List ℕ) (reader : ReaderState) → Heard bytes reader → Holds (reads_document reader.decoder.head) bytes reader.decoder reader.document
+holds bytes reader heard reads whole =
+    let kept : KeptAt Whole bytes reader = subst (λ (s : Stage). KeptAt s bytes reader) whole heard.kept in
+    kept ∙ ap (λ (b : Bool). cond b (drop (length reader.decoder.head) bytes) []) reads
+
+-- ---- a piece
+
+abbrev reader_of : DecoderState → List ℕ → ReaderState
+reader_of decoder document = record { decoder = decoder; document = document }
+
+-- where nothing more is awaited, a decoder stays as it is
+abbrev pub StaysOver : DecoderState → DecoderState → Type 0
+StaysOver old new = ¬ (old.stage ≡ Awaiting) → new ≡ old
+
+none_yet : (bytes document : List ℕ) (old new : DecoderState) (stage : Stage) → old.stage ≡ stage → KeptAt stage bytes (reader_of old document) → StaysOver old new → ¬ (new.stage ≡ Whole) → document ≡ []
+none_yet bytes document old new Awaiting is kept over head = kept
+none_yet bytes document old new (Faulty fault) is kept over head = kept
+none_yet bytes document old new Whole is kept over head =
+    let same : new ≡ old = over (λ h. let e : Whole ≡ Awaiting = sym is ∙ h in absurd cc) in
+    absurd (head (ap (λ (d : DecoderState). d.stage) same ∙ is))
+
+no_document_at : (bytes document : List ℕ) (new : DecoderState) (stage : Stage) → new.stage ≡ stage → ¬ (new.stage ≡ Whole) → document ≡ [] → KeptAt stage bytes (reader_of new document)
+no_document_at bytes document new Awaiting is head none = none
+no_document_at bytes document new (Faulty fault) is head none = none
+no_document_at bytes document new Whole is head none = absurd (head is)
+
+-- a piece behind which the head isn't whole
+pub heard_no_head : (bytes piece document : List ℕ) (old new : DecoderState) → TakesIn old piece new → StaysOver old new → ¬ (new.stage ≡ Whole) → Heard bytes (reader_of old document) → Heard (bytes ++ piece) (reader_of new document)
+heard_no_head bytes piece document old new takes over head heard = record {
+  stands = takes bytes heard.stands;
+  kept = no_document_at (bytes ++ piece) document new new.stage refl head (none_yet bytes document old new old.stage refl heard.kept over head);
+}
+
+went_on : (reads : Bool) (document before part piece all : List ℕ) → document ≡ cond reads before [] → part ≡ piece → all ≡ before ++ piece → cond reads (document ++ part) document ≡ cond reads all []
+went_on true document before part piece all was more behind = ap (λ (l : List ℕ). l ++ part) was ∙ ap (λ (l : List ℕ). before ++ l) more ∙ sym behind
+went_on false document before part piece all was more behind = was
+
+-- what a piece in which the head is whole makes of the document
+headed : (bytes piece document : List ℕ) (old new : DecoderState) (count : ℕ) (stage : Stage) (reads : Bool) → old.stage ≡ stage → Stands bytes old → StandsAt stage bytes old → KeptAt stage bytes (reader_of old document)
+    → StaysOver old new → new.stage ≡ Whole → length new.head ≡ length old.head + count → reads_document new.head ≡ reads
+    → cond reads (document ++ drop count piece) document ≡ cond reads (drop (length new.head) (bytes ++ piece)) []
+headed bytes piece document old new count Awaiting false is stands known kept over whole long reads = kept
+headed bytes piece document old new count Awaiting true is stands known kept over whole long reads =
+    let all : length bytes ≡ length old.head = ap length (sym known.0) in
+    let far : length new.head ≡ length bytes + count = omega (arith, long, all) in
+    ap (λ (l : List ℕ). l ++ drop count piece) kept
+    ∙ sym (ap (λ (n : ℕ). drop n (bytes ++ piece)) far ∙ sym (drop-drop count (length bytes) (bytes ++ piece)) ∙ ap (λ (l : List ℕ). drop count l) (drop_at bytes piece (length bytes) refl))
+headed bytes piece document old new count (Faulty fault) reads is stands known kept over whole long read =
+    let same : new ≡ old = over (λ h. let e : Faulty fault ≡ Awaiting = sym is ∙ h in absurd cc) in
+    let e : Whole ≡ Faulty fault = sym whole ∙ ap (λ (d : DecoderState). d.stage) same ∙ is in
+    absurd cc
+headed bytes piece document old new count Whole reads is stands known kept over whole long read =
+    let same : new ≡ old = over (λ h. let e : Whole ≡ Awaiting = sym is ∙ h in absurd cc) in
+    let heads : new.head ≡ old.head = ap (λ (d : DecoderState). d.head) same in
+    let none : count ≡ 0 = omega (arith, long, ap length heads) in
+    let was : document ≡ cond reads (drop (length old.head) bytes) [] = kept ∙ ap (λ (b : Bool). cond b (drop (length old.head) bytes) []) (ap reads_document (sym heads) ∙ read) in
+    let within : length old.head ≤ length bytes = omega (arith, ap length stands.front.1, length-append old.head stands.front.0) in
+    let behind : drop (length new.head) (bytes ++ piece) ≡ drop (length old.head) bytes ++ piece = ap (λ (l : List ℕ). drop (length l) (bytes ++ piece)) heads ∙ drop-append-le (length old.head) bytes piece within in
+    let more : drop count piece ≡ piece = ap (λ (n : ℕ). drop n piece) none in
+    went_on reads document (drop (length old.head) bytes) (drop count piece) piece (drop (length new.head) (bytes ++ piece)) was more behind
+
+-- a piece in which the head is whole
+pub heard_head : (bytes piece document later : List ℕ) (old new : DecoderState) (count : ℕ) → TakesIn old piece new → StaysOver old new → new.stage ≡ Whole → length new.head ≡ length old.head + count
+    → later ≡ cond (reads_document new.head) (document ++ drop count piece) document → Heard bytes (reader_of old document) → Heard (bytes ++ piece) (reader_of new later)
+heard_head bytes piece document later old new count takes over whole long is heard =
+    let kept : KeptAt Whole (bytes ++ piece) (reader_of new later) = is ∙ headed bytes piece document old new count old.stage (reads_document new.head) refl heard.stands heard.stands.known heard.kept over whole long refl in
+    record {
+      stands = takes bytes heard.stands;
+      kept = subst (λ (s : Stage). KeptAt s (bytes ++ piece) (reader_of new later)) (sym whole) kept;
+    }
+
+-- ---- nothing yet
+
+either : (b : Bool) (x : List ℕ) → x ≡ [] → cond b x [] ≡ []
+either true x is = is
+either false x is = refl
+
+none_kept : (decoder : DecoderState) (document : List ℕ) (stage : Stage) → document ≡ [] → KeptAt stage [] (reader_of decoder document)
+none_kept decoder document Awaiting none = none
+none_kept decoder document (Faulty fault) none = none
+none_kept decoder document Whole none = none ∙ sym (either (reads_document decoder.head) (drop (length decoder.head) []) (drop_all (length decoder.head) [] (omega arith)))
+
+-- a reader of a new body
+pub heard_nothing : (decoder : DecoderState) (document : List ℕ) → Stands [] decoder → document ≡ [] → Heard [] (reader_of decoder document)
+heard_nothing decoder document stands none = record { stands = stands; kept = none_kept decoder document decoder.stage none }
+
+-- ---- from a decoder to what is asked
+
+-- the header is there
+pub asks_under : (decoder : DecoderState) (document : List ℕ) (header : Header) (said : ParsedRequest) → header_of decoder.head ≡ Some header → AsksUnderOf header decoder document said → AsksOf decoder document said
+asks_under decoder document header said is under bytes stands holds =
+    let all : header_of bytes ≡ Some header = sym (header_kept bytes decoder stands) ∙ is in
+    let reads : reads_document decoder.head ≡ sends_document (operation_of header) = ap (λ (o : Option Header). option_map_or (λ (h : Header). sends_document (operation_of h)) o false) is in
+    subst (λ (o : Option Header). MatchOption o (said ≡ TooShort) (λ (h : Header). AsksUnder h bytes said)) (sym all) (under bytes stands (λ so. holds (reads ∙ so)))
+
+-- it isn't
+pub asks_short : (decoder : DecoderState) (document : List ℕ) → header_of decoder.head ≡ None → AsksOf decoder document TooShort
+asks_short decoder document is bytes stands holds =
+    subst (λ (o : Option Header). MatchOption o (TooShort ≡ TooShort) (λ (h : Header). AsksUnder h bytes TooShort)) (sym (sym (header_kept bytes decoder stands) ∙ is)) refl
+
+-- it asks for an operation
+pub asks_by : (decoder : DecoderState) (document : List ℕ) (header : Header) (asked : Operation) (said : ParsedRequest) → operation_of header ≡ Ok asked → AsksByOf asked header.request_id decoder document said → AsksUnderOf header decoder document said
+asks_by decoder document header asked said is by bytes stands holds =
+    subst (λ (r : Result Operation Status). MatchResult r (λ (o : Operation). AsksBy o header.request_id bytes said) (λ (s : Status). said ≡ Refused s header.request_id)) (sym is)
+    (by bytes stands (λ so. holds (ap sends_document is ∙ so)))
+
+-- it asks for none
+pub asks_none : (decoder : DecoderState) (document : List ℕ) (header : Header) (status : Status) → operation_of header ≡ Err status → AsksUnderOf header decoder document (Refused status header.request_id)
+asks_none decoder document header status is bytes stands holds =
+    let said = Refused status header.request_id in
+    subst (λ (r : Result Operation Status). MatchResult r (λ (o : Operation). AsksBy o header.request_id bytes said) (λ (s : Status). said ≡ Refused s header.request_id)) (sym is) refl
+
+pub asks_event : (decoder : DecoderState) (document : List ℕ) (asked : Operation) (id : ℕ) (event : Result Event Status) → RequestsOf asked decoder document event → AsksByOf asked id decoder document (answered id event)
+asks_event decoder document asked id event requests bytes stands holds = (event, requests bytes stands holds, refl)

@@ -1,0 +1,14 @@
+pub mod Syntax
+pub mod OperationAttribute
+pub mod Attributes
+pub mod Request
+pub mod Target
+pub mod Requested
+pub mod JobCreation
+pub mod JobRequests
+pub mod PrinterRequests
+pub mod Event
+pub mod ParsedRequest
+pub mod Reader
+pub mod Reply
+pub mod QueueText

@@ -1,0 +1,63 @@
+//! The header of a body.
+ghost use Rattle.std.specs.Prelude.{◌≡◌};
+ghost use Rattle.ipp_operations.specs.ParsedRequest.{header_of, operation_in, operation_of, request_id_of};
+
+use events::Status;
+use printer_objects::Operation;
+
+/// The first eight bytes of a request (RFC 8010, section 3.1.1), without the version's minor number.
+#[derive(Clone, Copy, Debug, PartialEq, Eq)]
+pub(crate) struct Header {
+    pub major: u8,
+    /// The operation's code.
+    pub operation: u16,
+    /// The number that the reply repeats.
+    pub request_id: u32,
+}
+
+/// The header of a body that has a whole one.
+pub(crate) fn header_of(body: &[u8]) -> Option<Header>
+    ensures { result ≡ header_of body.now }
+{
+    let [major, _, high, low, id_3, id_2, id_1, id_0, ..] = body else {
+        return None;
+    };
+    Some(Header {
+        major: *major,
+        operation: u16::from_be_bytes([*high, *low]),
+        request_id: u32::from_be_bytes([*id_3, *id_2, *id_1, *id_0]),
+    })
+}
+
+/// The request-id of a body that has a whole header. It takes no memory.
+pub fn request_id(body: &[u8]) -> Option<u32>
+    ensures { result ≡ request_id_of body.now }
+{
+    header_of(body).map(|header| header.request_id)
+}
+
+/// The operation that a header asks for, or why it is refused: it has another version, or asks for an
+/// operation that isn't in the table.
+pub(crate) fn operation_of(header: Header) -> Result<Operation, Status>
+    ensures { result ≡ operation_of header }
+{
+    if header.major != 1 && header.major != 2 {
+        return Err(Status::VersionNotSupported);
+    }
+    match operation_in(header.operation) {
+        Some(operation) => Ok(operation),
+        None => Err(Status::OperationNotSupported),
+    }
+}
+
+/// The operation of a code, if it is one of the table.
+fn operation_in(code: u16) -> Option<Operation>
+    ensures { result ≡ operation_in code }
+{
+    for operation in Operation::all() {
+        if operation.code() == code {
+            return Some(operation);
+        }
+    }
+    None
+}

@@ -1,0 +1,113 @@
+//! What a body asks.
+ghost use Rattle.std.specs.Prelude.{◌≡◌, IfOk, OnErr};
+ghost use Rattle.ipp_operations.specs.ParsedRequest.{Asks, status_of};
+ghost use Rattle.ipp_operations.specs.Reader.{WasFed, AsksOf, AsksUnderOf, AsksByOf, RequestsOf};
+
+use crate::event::event_of;
+use crate::header::{Header, header_of, operation_of};
+use crate::request_parser::RequestParser;
+use events::{Event, Status};
+use ipp_codec::{CodecFault, Decoder};
+use octets::Pages;
+use printer_objects::Operation;
+use std::alloc::{AllocError, Global};
+
+/// What an IPP body comes to.
+#[derive(Drop)]
+pub enum ParsedRequest {
+    /// It has no whole header.
+    TooShort,
+    /// It is answered a status, under this request-id, and is no event.
+    Refused(Status, u32),
+    /// It is an event, to be answered under this request-id.
+    Event(u32, Event),
+}
+
+/// The event of an IPP body, or the status of the first check that it fails (RFC 8011, section
+/// 4.1). The error is out of memory.
+pub fn ipp_event(alloc: Global, body: &[u8]) -> Result<ParsedRequest, AllocError>
+    ensures { IfOk result (λ asked. Asks body.now asked) }
+{
+    let mut reader = RequestParser::new(alloc);
+    reader.feed(body)?;
+    reader.finish()
+}
+
+/// What a body asks whose head was fed to a decoder. Its document goes to the event, if all memory
+/// that is needed is there.
+pub(crate) fn parsed(
+    alloc: Global,
+    decoder: &Decoder,
+    document: &mut Pages,
+) -> Result<ParsedRequest, AllocError>
+    requires { WasFed decoder.now }
+    ensures asked { IfOk result (λ asked. AsksOf decoder.now document.old asked) }
+    ensures err { OnErr result (document.new ≡ document.old) }
+{
+    match header_of(decoder.head()) {
+        Some(header) => asked_under(alloc, header, decoder, document),
+        None => Ok(ParsedRequest::TooShort),
+    }
+}
+
+/// What a body with this header asks.
+fn asked_under(
+    alloc: Global,
+    header: Header,
+    decoder: &Decoder,
+    document: &mut Pages,
+) -> Result<ParsedRequest, AllocError>
+    requires { WasFed decoder.now }
+    ensures asked { IfOk result (λ asked. AsksUnderOf header decoder.now document.old asked) }
+    ensures err { OnErr result (document.new ≡ document.old) }
+{
+    match operation_of(header) {
+        Ok(operation) => asked_by(alloc, header.request_id, operation, decoder, document),
+        Err(status) => Ok(ParsedRequest::Refused(status, header.request_id)),
+    }
+}
+
+/// What a body asks that is sent as an operation, under this request-id.
+fn asked_by(
+    alloc: Global,
+    request_id: u32,
+    operation: Operation,
+    decoder: &Decoder,
+    document: &mut Pages,
+) -> Result<ParsedRequest, AllocError>
+    requires { WasFed decoder.now }
+    ensures asked { IfOk result (λ asked. AsksByOf operation request_id decoder.now document.old asked) }
+    ensures err { OnErr result (document.new ≡ document.old) }
+{
+    match event_by(alloc, operation, decoder, document)? {
+        Ok(event) => Ok(ParsedRequest::Event(request_id, event)),
+        Err(status) => Ok(ParsedRequest::Refused(status, request_id)),
+    }
+}
+
+/// The event of a body, or the status of the first check that it fails after its header.
+fn event_by(
+    alloc: Global,
+    operation: Operation,
+    decoder: &Decoder,
+    document: &mut Pages,
+) -> Result<Result<Event, Status>, AllocError>
+    requires { WasFed decoder.now }
+    ensures requests { IfOk result (λ event. RequestsOf operation decoder.now document.old event) }
+    ensures err { OnErr result (document.new ≡ document.old) }
+{
+    match decoder.finish() {
+        Ok((message, _)) => event_of(alloc, operation, &message, document),
+        Err(fault) => Ok(Err(status_of(fault))),
+    }
+}
+
+/// The status of a fault.
+fn status_of(fault: CodecFault) -> Status
+    ensures { result ≡ status_of fault }
+{
+    match fault {
+        CodecFault::TooLarge => Status::TooLarge,
+        _ => Status::BadRequest,
+    }
+}

@@ -1,0 +1,203 @@
+//! The text of a queue, as an LPD client is sent it (RFC 1179, sections 5.3 and 5.4), and the byte that
+//! acknowledges a job (section 6).
+ghost use Rattle.std.specs.Prelude.{◌≡◌, ◌++◌, IfOk, OnOk};
+ghost use Rattle.std.specs.List.{flat_map};
+ghost use Rattle.ipp_operations.specs.QueueText.{ack_of, line_of, lines_of, long_line, long_start, printer_word, queue_text, reasons_word, short_line, shown, sizes_of, shown_byte, state_word, text_of};
+
+use events::{LpdResponse, QueueEntry, QueueForm, QueueListing};
+use job_objects::{JobReasons, JobState};
+use printer_objects::PrinterState;
+use std::alloc::{AllocError, Global};
+
+/// The byte that answers an LPD client once its files make a job: 0 where the job was taken, else 1.
+pub fn lpd_ack(answer: &LpdResponse) -> u8
+    ensures { result ≡ ack_of answer.now }
+{
+    match answer {
+        LpdResponse::Taken(true) => 0,
+        LpdResponse::Taken(false) => 1,
+        LpdResponse::Queue(_) | LpdResponse::NoQueue => 1,
+    }
+}
+
+/// The text that answers an LPD client that lists a queue. The only error is out of memory.
+pub fn lpd_queue_text(alloc: Global, answer: &LpdResponse) -> Result<Vec<u8>, AllocError>
+    ensures { IfOk result (λ text. text.items ≡ text_of answer.now) }
+{
+    match answer {
+        LpdResponse::Queue(listing) => queue_text(alloc, listing),
+        LpdResponse::NoQueue => Vec::from_slice(alloc, b"no queue\n"),
+        LpdResponse::Taken(_) => Ok(Vec::new(alloc)),
+    }
+}
+
+/// The text of a listing: the name and the state of the printer, then its jobs.
+fn queue_text(alloc: Global, listing: &QueueListing) -> Result<Vec<u8>, AllocError>
+    ensures { IfOk result (λ text. text.items ≡ queue_text listing.now) }
+{
+    let mut text = Vec::from_slice(alloc, listing.name.as_bytes())?;
+    text.extend_from_slice(b" ")?;
+    text.extend_from_slice(printer_word(listing.state).as_bytes())?;
+    text.extend_from_slice(b"\n")?;
+    put_lines(alloc, &mut text, listing.form, &listing.jobs)?;
+    Ok(text)
+}
+
+/// Appends a line for each job, or that there is none.
+fn put_lines(
+    alloc: Global,
+    text: &mut Vec<u8>,
+    form: QueueForm,
+    jobs: &[QueueEntry],
+) -> Result<(), AllocError>
+    ensures { OnOk result (text.new.items ≡ text.old.items ++ lines_of form jobs.now) }
+{
+    if jobs.is_empty() {
+        text.extend_from_slice(b"no entries\n")?;
+        return Ok(());
+    }
+    put_each(alloc, text, form, jobs)?;
+    Ok(())
+}
+
+/// Appends a line for each job.
+fn put_each(
+    alloc: Global,
+    text: &mut Vec<u8>,
+    form: QueueForm,
+    jobs: &[QueueEntry],
+) -> Result<(), AllocError>
+    ensures { OnOk result (text.new.items ≡ text.old.items ++ flat_map (line_of form) jobs.now) }
+{
+    for job in jobs {
+        let line = line_of(alloc, form, job)?;
+        text.extend_from_slice(&line)?;
+    }
+    Ok(())
+}
+
+/// The line of a job.
+fn line_of(alloc: Global, form: QueueForm, job: &QueueEntry) -> Result<Vec<u8>, AllocError>
+    ensures { IfOk result (λ line. line.items ≡ line_of form job.now) }
+{
+    match form {
+        QueueForm::Short => short_line(alloc, job),
+        QueueForm::Long => long_line(alloc, job),
+    }
+}
+
+/// The line of a job in the short form.
+fn short_line(alloc: Global, job: &QueueEntry) -> Result<Vec<u8>, AllocError>
+    ensures { IfOk result (λ line. line.items ≡ short_line job.now) }
+{
+    let number = job.id.number();
+    let state = state_word(job.state);
+    let octets = job.octets;
+    let head = format!(in alloc; "{number} {state} ")?;
+    let size = format!(in alloc; " {octets} ")?;
+    let mut line = Vec::from_slice(alloc, head.as_bytes())?;
+    line.extend_from_slice(&shown(alloc, true, job.owner.as_bytes())?)?;
+    line.extend_from_slice(size.as_bytes())?;
+    line.extend_from_slice(&shown(alloc, false, job.name.as_bytes())?)?;
+    line.extend_from_slice(b"\n")?;
+    Ok(line)
+}
+
+/// The line of a job in the long form.
+fn long_line(alloc: Global, job: &QueueEntry) -> Result<Vec<u8>, AllocError>
+    ensures { IfOk result (λ line. line.items ≡ long_line job.now) }
+{
+    let mut line = long_start(alloc, job)?;
+    line.extend_from_slice(&shown(alloc, true, job.owner.as_bytes())?)?;
+    line.extend_from_slice(&sizes_of(alloc, job)?)?;
+    line.extend_from_slice(&shown(alloc, false, job.name.as_bytes())?)?;
+    line.extend_from_slice(b"\n")?;
+    Ok(line)
+}
+
+/// What the long form says in front of the owner: the id, the state, and why the job is in it.
+#[tactic(auto, unfolding(crate::specs::QueueText::long_start))]
+fn long_start(alloc: Global, job: &QueueEntry) -> Result<Vec<u8>, AllocError>
+    ensures { IfOk result (λ start. start.items ≡ long_start job.now) }
+{
+    let number = job.id.number();
+    let state = state_word(job.state);
+    let head = format!(in alloc; "{number} {state} ")?;
+    let mut start = Vec::from_slice(alloc, head.as_bytes())?;
+    put_reasons(&mut start, job.reasons)?;
+    start.extend_from_slice(b" ")?;
+    Ok(start)
+}
+
+/// What the long form says of the size of a job: its octets, its impressions and its copies.
+#[tactic(auto, unfolding(crate::specs::QueueText::sizes_of))]
+fn sizes_of(alloc: Global, job: &QueueEntry) -> Result<Vec<u8>, AllocError>
+    ensures { IfOk result (λ words. words.items ≡ sizes_of job.now) }
+{
+    let octets = job.octets;
+    let impressions = job.impressions;
+    let copies = job.copies;
+    let words = format!(in alloc; " {octets} {impressions} {copies} ")?;
+    Vec::from_slice(alloc, words.as_bytes())
+}
+
+/// Appends why a job is in its state: one keyword, or two with a comma between.
+fn put_reasons(line: &mut Vec<u8>, reasons: JobReasons) -> Result<(), AllocError>
+    ensures { OnOk result (line.new.items ≡ line.old.items ++ reasons_word reasons) }
+{
+    line.extend_from_slice(reasons.first.keyword().as_bytes())?;
+    if let Some(second) = reasons.second {
+        line.extend_from_slice(b",")?;
+        line.extend_from_slice(second.keyword().as_bytes())?;
+    }
+    Ok(())
+}
+
+/// The bytes of a name as they are written.
+fn shown(alloc: Global, one_word: bool, bytes: &[u8]) -> Result<Vec<u8>, AllocError>
+    ensures { IfOk result (λ written. written.items ≡ shown one_word bytes.now) }
+{
+    let mut written = Vec::with_capacity(alloc, bytes.len())?;
+    for byte in bytes {
+        written.push(shown_byte(one_word, *byte))?;
+    }
+    Ok(written)
+}
+
+/// A byte as it is written: a control character as a question mark, and a space too where the name has
+/// to be one word.
+fn shown_byte(one_word: bool, byte: u8) -> u8
+    ensures { result ≡ shown_byte one_word byte }
+{
+    if byte < b' ' || byte == 0x7F || (one_word && byte == b' ') {
+        b'?'
+    } else {
+        byte
+    }
+}
+
+/// The word of a printer's state.
+fn printer_word(state: PrinterState) -> &'static str
+    ensures { result.now ≡ printer_word state }
+{
+    match state {
+        PrinterState::Idle => "idle",
+        PrinterState::Processing => "processing",
+        PrinterState::Stopped => "stopped",
+    }
+}
+
+/// The word of a job's state. No finished job is listed.
+fn state_word(state: JobState) -> &'static str
+    ensures { result.now ≡ state_word state }
+{
+    match state {
+        JobState::Pending => "pending",
+        JobState::PendingHeld => "pending-held",
+        JobState::Processing => "processing",
+        JobState::Stopped => "processing-stopped",
+        JobState::Canceled => "canceled",
+        JobState::Aborted => "aborted",
+        JobState::Completed => "completed",
+    }
+}

@@ -1,0 +1,114 @@
+//! Bodies that come in pieces.
+ghost use Rattle.std.specs.Prelude.{◌≡◌, ◌++◌, ℕ, [], List, IfOk, OnOk, OnErr};
+ghost use Rattle.ipp_operations.specs.ParsedRequest.{Asks, request_id_of};
+ghost use Rattle.ipp_operations.specs.Reader.{Heard, has_document, sends_document, reads_document};
+
+use crate::header::{header_of, operation_of, request_id};
+use crate::parsed_request::{ParsedRequest, parsed};
+use events::Status;
+use ipp_codec::{DecodeError, Decoder, Fed};
+use octets::Pages;
+use printer_objects::Operation;
+use std::alloc::{AllocError, Global};
+use std::marker::Model;
+
+/// A reader of an IPP body that comes in pieces of any length. In clauses it is a record of its
+/// decoder and of the octets that it keeps of the document.
+///
+/// It holds the head, and the document where the operation reads one, each once.
+#[derive(Debug, Drop)]
+pub struct RequestParser {
+    alloc: Global,
+    decoder: Decoder,
+    document: Pages,
+}
+
+impl Model for RequestParser {
+    ghost use Rattle.ipp_operations.specs.Reader.{ReaderState, WasFed};
+
+    ghost Value = { ReaderState };
+
+    ghost view = { λ r. record { decoder = r.decoder; document = r.document } };
+
+    ghost invariant = { λ r. WasFed r.decoder };
+}
+
+impl RequestParser {
+    /// A reader of a new body.
+    pub fn new(alloc: Global) -> RequestParser
+        ensures { Heard [] result }
+    {
+        RequestParser {
+            alloc,
+            decoder: Decoder::new(alloc),
+            document: Pages::new(alloc),
+        }
+    }
+
+    /// Takes the next bytes of the body. Where there is no memory, none of them is taken.
+    pub fn feed(&mut self, piece: &[u8]) -> Result<(), AllocError>
+        ensures fed { OnOk result ((bytes : List ℕ) → Heard bytes self.old → Heard (bytes ++ piece.now) self.new) }
+        ensures err { OnErr result (self.new ≡ self.old) }
+    {
+        let reached = self.decoder.reached();
+        let count = match self.decoder.feed(piece) {
+            Ok(Fed::Head(count)) => count,
+            Ok(Fed::More) => return Ok(()),
+            Err(DecodeError::Fault(_)) => return Ok(()),
+            Err(DecodeError::OutOfMemory) => return Err(AllocError),
+        };
+        if !reads_document(self.decoder.head()) {
+            return Ok(());
+        }
+        let kept = self.document.push(&piece[count..]);
+        if kept.is_err() {
+            self.decoder.back_to(reached);
+        }
+        kept
+    }
+
+    /// The request-id, once the header is whole. It takes no memory.
+    pub fn request_id(&self) -> Option<u32>
+        ensures { (bytes : List ℕ) → Heard bytes self.now → result ≡ request_id_of bytes }
+    {
+        request_id(self.decoder.head())
+    }
+
+    /// What the body asks: its event, or the status of the first check that it fails (RFC 8011,
+    /// section 4.1). The document goes to the event.
+    ///
+    /// Where there is no memory, the reader is as it was, and can be asked again.
+    pub fn finish(&mut self) -> Result<ParsedRequest, AllocError>
+        ensures asked { IfOk result (λ asked. (bytes : List ℕ) → Heard bytes self.old → Asks bytes asked) }
+        ensures err { OnErr result (self.new ≡ self.old) }
+    {
+        parsed(self.alloc, &self.decoder, &mut self.document)
+    }
+}
+
+/// Whether bytes with this header have a document that is read.
+fn reads_document(head: &[u8]) -> bool
+    ensures { result ≡ reads_document head.now }
+{
+    match header_of(head) {
+        Some(header) => sends_document(operation_of(header)),
+        None => false,
+    }
+}
+
+/// Whether a document follows the attributes of a request.
+fn sends_document(asked: Result<Operation, Status>) -> bool
+    ensures { result ≡ sends_document asked }
+{
+    match asked {
+        Ok(operation) => has_document(operation),
+        Err(_) => false,
+    }
+}
+
+/// Whether a document follows the attributes of this operation.
+fn has_document(operation: Operation) -> bool
+    ensures { result ≡ has_document operation }
+{
+    matches!(operation, Operation::PrintJob | Operation::SendDocument)
+}

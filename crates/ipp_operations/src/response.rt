@@ -1,0 +1,75 @@
+//! Answers as bytes.
+ghost use Rattle.std.specs.Prelude.{◌≡◌, ◌∷◌, IfOk};
+ghost use Rattle.ipp_codec.specs.Grammar.{IsMessage};
+ghost use Rattle.ipp_operations.specs.Reply.{opening_group, tells_unsupported, unsupported_of, message_of, IsReply};
+
+use events::{IppResponse, Status};
+use ipp_codec::{
+    Attribute, EncodeFault, Group, GroupTag, Message, Value, ValueTag, Version, encode,
+};
+use std::alloc::{AllocError, Global};
+
+/// The bytes of an answer, under a request-id (RFC 8011, section 4.1.4.2). The error is want of
+/// memory.
+pub fn ipp_response(
+    alloc: Global,
+    answer: IppResponse,
+    request_id: u32,
+) -> Result<Vec<u8>, AllocError>
+    ensures { IfOk result (λ bytes. IsReply answer request_id bytes.items) }
+{
+    let message = message_of(alloc, answer, request_id)?;
+    let mut bytes = Vec::new(alloc);
+    match encode(&message, &mut bytes) {
+        Ok(()) => Ok(bytes),
+        Err(EncodeFault::Unspellable) => unreachable!(),
+        Err(EncodeFault::OutOfMemory) => Err(AllocError),
+    }
+}
+
+/// The message of an answer.
+fn message_of(alloc: Global, answer: IppResponse, request_id: u32) -> Result<Message, AllocError>
+    ensures value { IfOk result (λ message. message ≡ message_of answer request_id) }
+    ensures spelt { IfOk result IsMessage }
+{
+    let IppResponse {
+        status,
+        unsupported,
+        groups,
+    } = answer;
+    let unsupported = unsupported.into_vec();
+    let mut groups = groups.into_vec();
+    let version = Version { major: 1, minor: 1 };
+    let mut message = Message::new(alloc, version, status.code(), request_id);
+    message.push(opening_group(alloc)?)?;
+    if tells_unsupported(status) && !unsupported.is_empty() {
+        message.push(Group {
+            tag: GroupTag::UNSUPPORTED,
+            attributes: unsupported,
+        })?;
+    }
+    message.groups.append(&mut groups)?;
+    Ok(message)
+}
+
+/// Whether the status tells that something isn't supported.
+fn tells_unsupported(status: Status) -> bool
+    ensures { result ≡ tells_unsupported status }
+{
+    matches!(
+        status,
+        Status::OkIgnoredOrSubstituted | Status::AttributesNotSupported
+    )
+}
+
+/// The operation group of every reply: its charset and natural language.
+fn opening_group(alloc: Global) -> Result<Group, AllocError>
+    ensures { IfOk result (λ group. group ≡ opening_group) }
+{
+    let mut group = Group::new(alloc, GroupTag::OPERATION);
+    let charset = Value::copy_of(alloc, ValueTag::CHARSET, b"utf-8")?;
+    group.push(Attribute::new(alloc, b"attributes-charset", charset)?)?;
+    let language = Value::copy_of(alloc, ValueTag::NATURAL_LANGUAGE, b"en")?;
+    group.push(Attribute::new(alloc, b"attributes-natural-language", language)?)?;
+    Ok(group)
+}

@@ -1,0 +1,76 @@
+//! The listing of a queue.
+ghost use Rattle.std.specs.Prelude.{◌≡◌, ◌++◌, IfOk, OnOk};
+ghost use Rattle.listings.specs.QueueListing.{ShowsQueue, entries_of, shown_of};
+
+use crate::groups::state_of_printer;
+use crate::listing::listed;
+use crate::lpd_entry::entry_of;
+use crate::operand::is_shown;
+use crate::wanted::Wanted;
+use base_types::{Moment, PrinterId, Text};
+use events::{ListQueue, QueueEntry, QueueListing};
+use job_objects::Job;
+use print_room::PrintRoom;
+use std::alloc::{AllocError, Global};
+
+/// The queue of the printer at a place of the settings, as it is at a moment: of its jobs that aren't
+/// finished those that an operand names, or all where there are no operands, in the order of
+/// [`listed`].
+///
+/// The only error is out of memory.
+pub fn queue_listing(
+    alloc: Global,
+    room: &PrintRoom,
+    place: usize,
+    request: &ListQueue,
+    now: Moment,
+) -> Result<QueueListing, AllocError>
+    ensures { IfOk result (λ listing. ShowsQueue now place request.now room.now listing) }
+{
+    Ok(QueueListing {
+        form: request.form,
+        name: request.queue.copied(alloc)?,
+        state: state_of_printer(room, place),
+        jobs: shown_jobs(alloc, room, place, &request.operands, now)?,
+    })
+}
+
+/// What is shown of the jobs that are listed.
+fn shown_jobs(
+    alloc: Global,
+    room: &PrintRoom,
+    place: usize,
+    operands: &[Text],
+    now: Moment,
+) -> Result<Vec<QueueEntry>, AllocError>
+    ensures { IfOk result (λ jobs. jobs.items ≡ entries_of now place operands.now room.now) }
+{
+    let wanted = Wanted {
+        printer: PrinterId::new(place),
+        finished: false,
+        owner: None,
+        limit: None,
+    };
+    let listed = listed(alloc, room, &wanted, now)?;
+    let mut jobs = Vec::new(alloc);
+    for entry in &listed {
+        add_shown(alloc, &mut jobs, room, operands, entry.job())?;
+    }
+    Ok(jobs)
+}
+
+/// Adds what is shown of a job, if it is listed.
+fn add_shown(
+    alloc: Global,
+    jobs: &mut Vec<QueueEntry>,
+    room: &PrintRoom,
+    operands: &[Text],
+    job: &Job,
+) -> Result<(), AllocError>
+    ensures { OnOk result (jobs.new.items ≡ jobs.old.items ++ shown_of operands.now room.now job.now) }
+{
+    if is_shown(operands, job) {
+        jobs.push(entry_of(alloc, room, job)?)?;
+    }
+    Ok(())
+}

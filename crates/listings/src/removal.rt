@@ -1,0 +1,171 @@
+//! Which jobs a client removes, and their removal.
+ghost use Rattle.std.specs.Prelude.{◌≡◌, ◌≤◌, ◌&&◌, None, find, option_map, option_to_list};
+ghost use Rattle.std.specs.List.{list_any};
+ghost use Rattle.std.specs.Option.{option_copied};
+ghost use Rattle.spool.specs.Calls.{cancel_refusal};
+ghost use Rattle.spool.specs.Jobs.{spooled_at};
+ghost use Rattle.spool.specs.Spool.{IsSpool};
+ghost use Rattle.print_room.specs.Jobs.{canceling, canceling_each};
+ghost use Rattle.listings.specs.Removal.{active_job, is_active, is_named, is_root, may_remove, named_jobs, names_for, removed_from, removed_jobs, remover};
+
+use crate::queue::queue_of;
+use base_types::{JobId, Moment, PrinterId, Text};
+use events::RemoveJobs;
+use job_objects::Job;
+use print_room::PrintRoom;
+use printer_objects::keeps_busy;
+use spool::{Asker, SpooledJob};
+use text::decimal;
+
+/// Whether an agent is root.
+fn is_root(agent: &Text) -> bool
+    ensures { result ≡ is_root agent.now }
+{
+    agent.as_bytes() == b"root".as_slice()
+}
+
+/// Whether an agent may remove a job: root any, others their own.
+fn may_remove(agent: &Text, job: &Job) -> bool
+    ensures { result ≡ may_remove agent.now job.now }
+{
+    is_root(agent) || agent.as_bytes() == job.owner.as_bytes()
+}
+
+/// Whether an operand of an agent names a job: by its id, where it is digits alone, else by its owner,
+/// which root alone may do.
+fn names_for(agent: &Text, operand: &Text, job: &Job) -> bool
+    ensures { result ≡ names_for agent.now operand.now job.now }
+{
+    match decimal(operand.as_bytes()) {
+        Some(number) => number == job.id.number(),
+        None => is_root(agent) && operand.as_bytes() == job.owner.as_bytes(),
+    }
+}
+
+/// Whether one of these names a job for an agent.
+fn is_one_of(agent: &Text, operands: &[Text], job: &Job) -> bool
+    ensures { result ≡ list_any (λ operand. names_for agent.now operand job.now) operands.now }
+{
+    operands
+        .iter()
+        .any(|operand| names_for(agent, operand, job))
+}
+
+/// Whether a removal from the printer at a place takes an unfinished job by its id, or by its owner.
+pub fn is_named(place: usize, request: &RemoveJobs, job: &Job) -> bool
+    ensures { result ≡ is_named place request.now job.now }
+{
+    job.needs.printer.place() == place
+        && !job.state.is_finished()
+        && may_remove(&request.agent, job)
+        && is_one_of(&request.agent, &request.operands, job)
+}
+
+/// Whether the printer at a place prints a job that the agent may remove, or its device is stopped.
+fn is_active(place: usize, agent: &Text, job: &Job) -> bool
+    ensures { result ≡ is_active place agent.now job.now }
+{
+    keeps_busy(job, PrinterId::new(place)) && may_remove(agent, job)
+}
+
+/// The first job that is active.
+fn find_active<'a>(jobs: &'a [SpooledJob], place: usize, agent: &Text) -> Option<&'a SpooledJob>
+    ensures { option_copied result ≡ find (λ s. is_active place agent.now s.job) jobs.now }
+{
+    jobs.iter()
+        .find(|spooled| is_active(place, agent, spooled.job()))
+}
+
+/// The job that is removed from the printer at a place where none is named: the one of the least id
+/// that a device prints, or is stopped in, and that the agent may remove.
+pub fn active_job(room: &PrintRoom, place: usize, agent: &Text) -> Option<JobId>
+    ensures value { result ≡ active_job place agent.now room.now }
+    ensures kept { IsSpool room.now.spool }
+{
+    let spooled = find_active(room.spool().jobs(), place, agent)?;
+    Some(spooled.job().id)
+}
+
+/// The first job that is named.
+fn find_named<'a>(
+    jobs: &'a [SpooledJob],
+    place: usize,
+    request: &RemoveJobs,
+) -> Option<&'a SpooledJob>
+    ensures { option_copied result ≡ find (λ s. is_named place request.now s.job) jobs.now }
+{
+    jobs.iter()
+        .find(|spooled| is_named(place, request, spooled.job()))
+}
+
+/// The id of the first job that is named.
+fn first_named(room: &PrintRoom, place: usize, request: &RemoveJobs) -> Option<JobId>
+    ensures value { result ≡ option_map (λ s. s.job.id) (find (λ s. is_named place request.now s.job) room.now.spool.jobs) }
+    ensures kept { IsSpool room.now.spool }
+{
+    let spooled = find_named(room.spool().jobs(), place, request)?;
+    Some(spooled.job().id)
+}
+
+/// Removes jobs, at a moment that is not before the last one: those that are named, by rising id, or
+/// where none is named the active one. Nothing is removed from a queue that isn't known. It takes no
+/// memory.
+///
+/// A device that has such a job keeps it until it says that it is done.
+pub fn remove(room: &mut PrintRoom, request: &RemoveJobs, now: Moment)
+    requires { room.old.last ≤ now }
+    ensures { room.new ≡ canceling_each now request.now.agent (removed_jobs request.now room.old) room.old }
+{
+    match queue_of(room, &request.queue) {
+        Some(place) => remove_from(room, place, request, now),
+        None => room.advance(now),
+    }
+}
+
+/// Removes jobs from the printer at a place.
+fn remove_from(room: &mut PrintRoom, place: usize, request: &RemoveJobs, now: Moment)
+    requires { room.old.last ≤ now }
+    ensures { room.new ≡ canceling_each now request.now.agent (removed_from place request.now room.old) room.old }
+{
+    if request.operands.is_empty() {
+        remove_active(room, place, &request.agent, now);
+    } else {
+        remove_named(room, place, request, now);
+    }
+}
+
+/// Removes the active job.
+fn remove_active(room: &mut PrintRoom, place: usize, agent: &Text, now: Moment)
+    requires { room.old.last ≤ now }
+    ensures { room.new ≡ canceling_each now agent.now (option_to_list (active_job place agent.now room.old)) room.old }
+{
+    match active_job(room, place, agent) {
+        Some(id) => cancel(room, id, agent, now),
+        None => room.advance(now),
+    }
+}
+
+/// Removes each job that is named.
+fn remove_named(room: &mut PrintRoom, place: usize, request: &RemoveJobs, now: Moment)
+    requires { room.old.last ≤ now }
+    ensures { room.new ≡ canceling_each now request.now.agent (named_jobs place request.now room.old) room.old }
+{
+    while let Some(id) = first_named(room, place, request) {
+        cancel(room, id, &request.agent, now);
+    }
+    room.advance(now);
+}
+
+/// Cancels an unfinished job that the agent may remove.
+fn cancel(room: &mut PrintRoom, id: JobId, agent: &Text, now: Moment)
+    requires later { room.old.last ≤ now }
+    requires free { cancel_refusal (remover agent.now) (spooled_at id room.old.spool.jobs) ≡ None }
+    ensures { room.new ≡ canceling now id agent.now room.old }
+{
+    let is_operator = is_root(agent);
+    let asker = Asker {
+        name: agent,
+        is_operator,
+    };
+    let _canceled = room.cancel_for(id, &asker, now);
+}

@@ -1,0 +1,201 @@
+-- Where a reader stands after a piece, an item, or a fault.
+use Rattle.std.specs.Prelude.{ℕ, ◌==◌, ◌≡◌, ◌≢◌, ◌⊎◌, ◌||◌, ◌++◌, ◌+◌, ◌<◌, ◌≤◌, is_some, true, false, List, [], ◌∷◌, length, take, drop, slice_index_or, Option, Some, None, Result, Ok, Err, OnOk}
+use Rattle.std.proofs.Common.{rules, arith, refl, subst, sym, ap, ◌∙◌, inl, inr}
+use Rattle.std.proofs.lemmas.List.{append-nil}
+use Rattle.std.specs.declared.alloc.AllocError.{AllocError}
+use Rattle.text.specs.FirstLine.{first_line_of}
+use Rattle.text.specs.declared.line.FirstLine.TheVariants as line
+use Rattle.base_types.specs.declared.limits.TheConstants.Limits.{LPD_LINE_BYTES}
+use Rattle.lpd.specs.declared.fault.LpdFault.{LpdFault}
+use Rattle.lpd.specs.declared.fault.LpdFault.TheVariants.{LineTooLong, MissingZero}
+use Rattle.lpd.specs.declared.fault.LpdError.TheVariants.{Fault}
+use Rattle.lpd.specs.declared.item.LpdItem.{LpdItem}
+use Rattle.lpd.specs.declared.item.LpdItem.TheVariants as item
+use Rattle.lpd.specs.declared.reader.Awaited.{Awaited}
+use Rattle.lpd.specs.declared.reader.Awaited.TheVariants.{Command, Subcommand, File, Nothing}
+use Rattle.lpd.specs.Conversation.{ItemRecord, HasFile, item_record, awaited_after}
+use Rattle.lpd.specs.Command.{meaning_of, awaits_line}
+use Rattle.lpd.specs.Stream.{Front, Gives, Fails, Waits, by_line, front_of, Ending, Open, Faulty, Hears, HearsOn, Leads, SaysFirst, LpdItems, LpdState, is_over, is_nothing, IsLeft, Stands, Answers}
+use Rattle.lpd.proofs.Streams.{fails_more, leads_then, hears_then, leads_more, hears_first, stays_in}
+
+-- ---- pieces
+
+left_fed : (fault : Option LpdFault) (awaited : Awaited) (rest left piece : List ℕ) → IsLeft fault awaited rest left → IsLeft fault awaited (rest ++ piece) (left ++ piece)
+left_fed (Some fault) awaited rest left piece is = fails_more awaited left piece fault is
+left_fed None awaited rest left piece (inl over) = inl over
+left_fed None awaited rest left piece (inr same) = inr (ap (λ l. l ++ piece) same)
+
+-- a piece of which nothing is read yet
+stands_fed : (stream : List ℕ) (given : List ItemRecord) (piece : List ℕ) (reader : LpdState) → Stands stream given reader → Stands (stream ++ piece) given (record reader { file = []; rest = reader.rest ++ piece })
+stands_fed stream given piece reader stands = record {
+  left = stands.left ++ piece;
+  leads = leads_more Command stream piece given reader.awaited stands.left stands.leads;
+  kept = left_fed reader.fault reader.awaited reader.rest stands.left piece stands.kept;
+}
+
+pub fed_by : (old new : LpdState) (piece : List ℕ) (answer : Result (Unit {0}) AllocError) → OnOk answer (new ≡ record old { file = []; rest = old.rest ++ piece }) → OnOk answer ((stream : List ℕ) (given : List ItemRecord) → Stands stream given old → Stands (stream ++ piece) given new)
+fed_by old new piece (Ok done) is = λ stream given stands. subst (λ n. Stands (stream ++ piece) given n) (sym is) (stands_fed stream given piece old stands)
+fed_by old new piece (Err error) is = tt
+
+is_nothing_is : (awaited : Awaited) → is_nothing awaited ≡ true → awaited ≡ Nothing
+is_nothing_is Command is = absurd (let no : false ≡ true = is in (cc))
+is_nothing_is Subcommand is = absurd (let no : false ≡ true = is in (cc))
+is_nothing_is (File count) is = absurd (let no : false ≡ true = is in (cc))
+is_nothing_is Nothing is = refl
+
+left_still : (fault : Option LpdFault) (awaited : Awaited) (rest left piece : List ℕ) → (is_some fault || is_nothing awaited) ≡ true → IsLeft fault awaited rest left → IsLeft fault awaited rest (left ++ piece)
+left_still (Some fault) awaited rest left piece over is = fails_more awaited left piece fault is
+left_still None awaited rest left piece over is = inl (is_nothing_is awaited over)
+
+-- where nothing counts any more
+pub stands_still : (stream : List ℕ) (given : List ItemRecord) (piece : List ℕ) (reader : LpdState) → is_over reader ≡ true → Stands stream given reader → Stands (stream ++ piece) given reader
+stands_still stream given piece reader over stands = record {
+  left = stands.left ++ piece;
+  leads = leads_more Command stream piece given reader.awaited stands.left stands.leads;
+  kept = left_still reader.fault reader.awaited reader.rest stands.left piece over stands.kept;
+}
+
+-- ---- what stands at the front
+
+-- what a line means where one is awaited
+front_by_line : (awaited : Awaited) (bytes : List ℕ) → awaits_line awaited ≡ true → front_of awaited bytes ≡ by_line (meaning_of awaited) bytes (first_line_of LPD_LINE_BYTES bytes)
+front_by_line Command bytes is = refl
+front_by_line Subcommand bytes is = refl
+front_by_line (File length) bytes is = absurd (search (rules, is))
+front_by_line Nothing bytes is = absurd (search (rules, is))
+
+-- a reader without a fault that something counts for stands at what it hasn't read
+at_front : (awaited : Awaited) (rest left : List ℕ) (front : Front) → IsLeft None awaited rest left → front_of awaited rest ≡ front → (front ≡ Waits → ⊥) → left ≡ rest
+at_front awaited rest left front (inl over) is some = absurd (some (sym is ∙ ap (λ (a : Awaited). front_of a rest) over))
+at_front awaited rest left front (inr same) is some = same
+
+waits_left : (awaited : Awaited) (rest left : List ℕ) → IsLeft None awaited rest left → front_of awaited rest ≡ Waits → front_of awaited left ≡ Waits
+waits_left awaited rest left (inl over) is = ap (λ (a : Awaited). front_of a left) over
+waits_left awaited rest left (inr same) is = ap (λ (l : List ℕ). front_of awaited l) same ∙ is
+
+gives_some : (said : ItemRecord) (rest : List ℕ) → Gives said rest ≡ Waits → ⊥
+gives_some said rest is = (cc)
+
+fails_some : (fault : LpdFault) → Fails fault ≡ Waits → ⊥
+fails_some fault is = (cc)
+
+-- where an item stands at the front
+answers_item : (old : LpdState) (said : LpdItem) (file rest : List ℕ) → old.fault ≡ None → front_of old.awaited old.rest ≡ Gives (item_record said file) rest → Answers old (Ok (Some said)) (record { file = file; rest = rest; awaited = awaited_after (item_record said file); fault = None })
+answers_item old said file rest faultless gives stream given stands =
+    let told = item_record said file in
+    let kept : IsLeft None old.awaited old.rest stands.left = subst (λ (f : Option LpdFault). IsLeft f old.awaited old.rest stands.left) faultless stands.kept in
+    let same : stands.left ≡ old.rest = at_front old.awaited old.rest stands.left (Gives told rest) kept gives (gives_some told rest) in
+    let here : Leads Command stream given old.awaited old.rest = subst (λ (l : List ℕ). Leads Command stream given old.awaited l) same stands.leads in
+    let on : Leads old.awaited old.rest (told ∷ []) (awaited_after told) rest = (rest, gives, (refl, refl)) in
+    record { left = rest; leads = leads_then Command stream given old.awaited old.rest (told ∷ []) (awaited_after told) rest here on; kept = inr refl }
+
+-- where a fault stands at the front
+fault_stands : (old : LpdState) (fault : LpdFault) → ((left : List ℕ) → IsLeft old.fault old.awaited old.rest left → front_of old.awaited left ≡ Fails fault) → Answers old (Err (Fault fault)) (record old { fault = Some fault })
+fault_stands old fault fails = (
+  refl,
+  λ stream given stands.
+      let here = fails stands.left stands.kept in
+      let hears : Hears Command stream (given ++ []) (Faulty fault) = hears_then Command stream given old.awaited stands.left [] (Faulty fault) stands.leads here in (
+        subst (λ (items : List ItemRecord). Hears Command stream items (Faulty fault)) (append-nil given) hears,
+        record { left = stands.left; leads = stands.leads; kept = here },
+      ),
+)
+
+answers_fault : (old : LpdState) (fault : LpdFault) → old.fault ≡ None → front_of old.awaited old.rest ≡ Fails fault → Answers old (Err (Fault fault)) (record old { fault = Some fault })
+answers_fault old fault faultless fails =
+    fault_stands old fault
+    (λ left kept.
+    let left_is : IsLeft None old.awaited old.rest left = subst (λ (f : Option LpdFault). IsLeft f old.awaited old.rest left) faultless kept in
+    ap (λ (l : List ℕ). front_of old.awaited l) (at_front old.awaited old.rest left (Fails fault) left_is fails (fails_some fault)) ∙ fails)
+
+pub answers_again : (old : LpdState) (fault : LpdFault) → old.fault ≡ Some fault → Answers old (Err (Fault fault)) old
+answers_again old fault faulty =
+    let same : record old { fault = Some fault } ≡ old = search (rules, faulty) in
+    subst (λ new. Answers old (Err (Fault fault)) new) same
+    (fault_stands old fault (λ left kept. subst (λ (f : Option LpdFault). IsLeft f old.awaited old.rest left) faulty kept))
+
+-- where nothing can be told yet
+answers_nothing : (old : LpdState) → old.fault ≡ None → front_of old.awaited old.rest ≡ Waits → Answers old (Ok None) old
+answers_nothing old faultless waits = (
+  refl,
+  λ stream given stands.
+      let kept : IsLeft None old.awaited old.rest stands.left = subst (λ (f : Option LpdFault). IsLeft f old.awaited old.rest stands.left) faultless stands.kept in
+      let hears : Hears Command stream (given ++ []) Open = hears_then Command stream given old.awaited stands.left [] Open stands.leads (waits_left old.awaited old.rest stands.left kept waits) in
+      subst (λ (items : List ItemRecord). Hears Command stream items Open) (append-nil given) hears,
+)
+
+pub answers_over : (old : LpdState) → old.fault ≡ None → old.awaited ≡ Nothing → Answers old (Ok None) old
+answers_over old faultless over = answers_nothing old faultless (ap (λ (a : Awaited). front_of a old.rest) over)
+
+-- ---- lines
+
+pub answers_line : (old : LpdState) (count : ℕ) (said : LpdItem) → old.fault ≡ None → awaits_line old.awaited ≡ true → first_line_of LPD_LINE_BYTES old.rest ≡ line.Whole count → meaning_of old.awaited (take count old.rest) ≡ Ok (item_record said []) → Answers old (Ok (Some said)) (record { file = []; rest = drop (count + 1) old.rest; awaited = awaited_after (item_record said []); fault = None })
+answers_line old count said faultless is whole says =
+    answers_item old said [] (drop (count + 1) old.rest) faultless (rw (front_by_line old.awaited old.rest is, whole, says) refl)
+
+pub answers_bad_line : (old : LpdState) (count : ℕ) (fault : LpdFault) → old.fault ≡ None → awaits_line old.awaited ≡ true → first_line_of LPD_LINE_BYTES old.rest ≡ line.Whole count → meaning_of old.awaited (take count old.rest) ≡ Err fault → Answers old (Err (Fault fault)) (record old { fault = Some fault })
+answers_bad_line old count fault faultless is whole says = answers_fault old fault faultless (rw (front_by_line old.awaited old.rest is, whole, says) refl)
+
+pub answers_too_long : (old : LpdState) → old.fault ≡ None → awaits_line old.awaited ≡ true → first_line_of LPD_LINE_BYTES old.rest ≡ line.TooLong → Answers old (Err (Fault LineTooLong)) (record old { fault = Some LineTooLong })
+answers_too_long old faultless is long = answers_fault old LineTooLong faultless (rw (front_by_line old.awaited old.rest is, long) refl)
+
+pub answers_no_line : (old : LpdState) → old.fault ≡ None → awaits_line old.awaited ≡ true → first_line_of LPD_LINE_BYTES old.rest ≡ line.Unfinished → Answers old (Ok None) old
+answers_no_line old faultless is begun = answers_nothing old faultless (rw (front_by_line old.awaited old.rest is, begun) refl)
+
+-- ---- files
+
+file_unread : (bytes : List ℕ) (count : ℕ) → length bytes ≤ count → front_of (File count) bytes ≡ Waits
+file_unread bytes count short = search (rules, short)
+
+pub answers_no_file : (old : LpdState) (count : ℕ) → old.fault ≡ None → old.awaited ≡ File count → length old.rest ≤ count → Answers old (Ok None) old
+answers_no_file old count faultless is short = answers_nothing old faultless (rw is (file_unread old.rest count short))
+
+file_gives : (bytes : List ℕ) (count : ℕ) → count < length bytes → slice_index_or bytes count 0 ≡ 0 → front_of (File count) bytes ≡ Gives (HasFile (take count bytes)) (drop (count + 1) bytes)
+file_gives bytes count within zero = search (rules, within, zero)
+
+file_fails : (bytes : List ℕ) (count : ℕ) → count < length bytes → slice_index_or bytes count 0 ≢ 0 → front_of (File count) bytes ≡ Fails MissingZero
+file_fails bytes count within other = search (rules, within, other)
+
+pub answers_file : (old : LpdState) (count : ℕ) → old.fault ≡ None → old.awaited ≡ File count → count < length old.rest → slice_index_or old.rest count 0 ≡ 0 → Answers old (Ok (Some item.File)) (record { file = take count old.rest; rest = drop (count + 1) old.rest; awaited = Subcommand; fault = None })
+answers_file old count faultless is within zero =
+    answers_item old item.File (take count old.rest) (drop (count + 1) old.rest) faultless (rw is (file_gives old.rest count within zero))
+
+pub answers_no_zero : (old : LpdState) (count : ℕ) → old.fault ≡ None → old.awaited ≡ File count → count < length old.rest → slice_index_or old.rest count 0 ≢ 0 → Answers old (Err (Fault MissingZero)) (record old { fault = Some MissingZero })
+answers_no_zero old count faultless is within other = answers_fault old MissingZero faultless (rw is (file_fails old.rest count within other))
+
+-- ---- laws
+
+pub fault_stays : (stream more : List ℕ) (given : List ItemRecord) (fault : LpdFault) → LpdItems stream given (Faulty fault) → LpdItems (stream ++ more) given (Faulty fault)
+fault_stays stream more given fault x =
+    let first = hears_first Command stream given (Faulty fault) x in
+    let hears : Hears Command (stream ++ more) (given ++ []) (Faulty fault) =
+    hears_then Command (stream ++ more) given first.0 (first.1 ++ more) [] (Faulty fault) (leads_more Command stream more given first.0 first.1 first.2) (fails_more first.0 first.1 more fault first.3) in
+    subst (λ (items : List ItemRecord). Hears Command (stream ++ more) items (Faulty fault)) (append-nil given) hears
+
+pub all_stays : (stream more : List ℕ) (given items : List ItemRecord) (end ending : Ending) → LpdItems stream given end → LpdItems (stream ++ more) items ending → (later : List ItemRecord) × (items ≡ given ++ later)
+all_stays stream more given items end ending x y =
+    let first = hears_first Command stream given end x in
+    stays_in Command stream more given first.0 first.1 items ending first.2 y
+
+pub first_stays : (stream more : List ℕ) (first items : List ItemRecord) (ending : Ending) → SaysFirst stream first → LpdItems (stream ++ more) items ending → (later : List ItemRecord) × (items ≡ first ++ later)
+first_stays stream more first items ending x y = stays_in Command stream more first x.next x.left items ending x.leads y
+
+-- where nothing counts any more, nothing is heard of other bytes either
+nothing_heard : (bytes other : List ℕ) (items : List ItemRecord) (ending : Ending) → Hears Nothing bytes items ending → Hears Nothing other items ending
+nothing_heard bytes other [] Open x = refl
+nothing_heard bytes other [] (Faulty fault) x = absurd (let no : Waits ≡ Fails fault = x in (cc))
+nothing_heard bytes other (said ∷ items) ending x = absurd (let no : Waits ≡ Gives said x.0 = x.1 in (cc))
+
+hears_left : (fault : Option LpdFault) (awaited : Awaited) (rest left coming : List ℕ) (items : List ItemRecord) (ending : Ending) → IsLeft fault awaited rest left → HearsOn fault awaited (rest ++ coming) items ending → Hears awaited (left ++ coming) items ending
+hears_left (Some fault) awaited rest left coming items ending kept hears =
+    let here : Hears awaited (left ++ coming) [] (Faulty fault) = fails_more awaited left coming fault kept in
+    subst (λ (i : List ItemRecord). Hears awaited (left ++ coming) i ending) (sym hears.0) (subst (λ (e : Ending). Hears awaited (left ++ coming) [] e) (sym hears.1) here)
+hears_left None awaited rest left coming items ending (inl over) hears =
+    let here : Hears Nothing (rest ++ coming) items ending = subst (λ (a : Awaited). Hears a (rest ++ coming) items ending) over hears in
+    subst (λ (a : Awaited). Hears a (left ++ coming) items ending) (sym over) (nothing_heard (rest ++ coming) (left ++ coming) items ending here)
+hears_left None awaited rest left coming items ending (inr same) hears = subst (λ (l : List ℕ). Hears awaited (l ++ coming) items ending) (sym same) hears
+
+pub hears_rest : (stream coming : List ℕ) (given items : List ItemRecord) (ending : Ending) (reader : LpdState) → Stands stream given reader → HearsOn reader.fault reader.awaited (reader.rest ++ coming) items ending → LpdItems (stream ++ coming) (given ++ items) ending
+hears_rest stream coming given items ending reader stands hears =
+    hears_then Command (stream ++ coming) given reader.awaited (stands.left ++ coming) items ending (leads_more Command stream coming given reader.awaited stands.left stands.leads)
+    (hears_left reader.fault reader.awaited reader.rest stands.left coming items ending stands.kept hears)

@@ -1,0 +1,221 @@
+-- What stands at the front of bytes stays there where more comes, and so does what they say.
+use Rattle.std.specs.Prelude.{ℕ, suc, zero, ◌==◌, ◌≡◌, ◌⊎◌, ◌++◌, ◌+◌, ◌<◌, ◌≤◌, nat_le, if◌then◌else◌, Bool, true, false, List, [], ◌∷◌, length, take, drop, slice_index_or, Result, Ok, Err}
+use Rattle.std.proofs.Common.{rules, arith, refl, subst, sym, ap, ◌∙◌, inl, inr}
+use Rattle.std.proofs.lemmas.List.{append_assoc, drop-append-le, take-append-le, length-append, length-drop, get_or_append_left}
+use Rattle.std.proofs.lemmas.List.Quantifiers.{position-Some}
+use Rattle.text.specs.FirstLine.{first_line_of}
+use Rattle.text.specs.declared.line.FirstLine.{FirstLine}
+use Rattle.text.specs.declared.line.FirstLine.TheVariants as line
+use Rattle.base_types.specs.declared.limits.TheConstants.Limits.{LPD_LINE_BYTES}
+use Rattle.text.proofs.FirstLines.{whole_line, line_grown, too_long_grown}
+use Rattle.lpd.specs.declared.fault.LpdFault.{LpdFault}
+use Rattle.lpd.specs.declared.fault.LpdFault.TheVariants.{MissingZero}
+use Rattle.lpd.specs.declared.reader.Awaited.{Awaited}
+use Rattle.lpd.specs.declared.reader.Awaited.TheVariants.{Command, Subcommand, File, Nothing}
+use Rattle.lpd.specs.Conversation.{ItemRecord, HasFile, awaited_after}
+use Rattle.lpd.specs.Command.{command_line, subcommand_line}
+use Rattle.lpd.specs.Stream.{Front, Gives, Fails, Waits, line_says, by_line, by_file, front_of, Ending, Open, Faulty, EndsAs, Hears, Leads}
+
+-- ---- a front
+
+-- a line at the front stands within the bytes
+pub line_within : (bytes : List ℕ) (count : ℕ) → first_line_of LPD_LINE_BYTES bytes ≡ line.Whole count → count < length bytes
+line_within bytes count whole =
+    let at = whole_line LPD_LINE_BYTES bytes count whole in
+    search (rules, position-Some (λ byte. byte == 10) bytes count 0 at.0)
+
+-- a front with more behind it
+abbrev grow : List ℕ → Front → Front
+grow more (Gives said rest) = Gives said (rest ++ more)
+grow more (Fails fault) = Fails fault
+grow more Waits = Waits
+
+says_grow : (said : Result ItemRecord LpdFault) (rest more : List ℕ) → line_says said (rest ++ more) ≡ grow more (line_says said rest)
+says_grow (Ok said) rest more = refl
+says_grow (Err fault) rest more = refl
+
+line_grows : (meaning : List ℕ → Result ItemRecord LpdFault) (bytes more : List ℕ) (front : FirstLine) → first_line_of LPD_LINE_BYTES bytes ≡ front
+    → (by_line meaning bytes front ≡ Waits) ⊎ (by_line meaning (bytes ++ more) (first_line_of LPD_LINE_BYTES (bytes ++ more)) ≡ grow more (by_line meaning bytes front))
+line_grows meaning bytes more (line.Whole count) is =
+    let within = line_within bytes count is in
+    let first : take count (bytes ++ more) ≡ take count bytes = take-append-le count bytes more (omega (arith, within)) in
+    let rest : drop (count + 1) (bytes ++ more) ≡ drop (count + 1) bytes ++ more = drop-append-le (count + 1) bytes more (omega (arith, within)) in
+    let whole : by_line meaning (bytes ++ more) (first_line_of LPD_LINE_BYTES (bytes ++ more)) ≡ line_says (meaning (take count bytes)) (drop (count + 1) bytes ++ more) =
+    rw (line_grown LPD_LINE_BYTES bytes more count is, first, rest) refl in
+    inr (whole ∙ says_grow (meaning (take count bytes)) (drop (count + 1) bytes) more)
+line_grows meaning bytes more line.TooLong is = inr (rw (too_long_grown LPD_LINE_BYTES bytes more is) refl)
+line_grows meaning bytes more line.Unfinished is = inl refl
+
+if_grow : (t : Bool) (said : ItemRecord) (rest more : List ℕ) (fault : LpdFault) → (if t then Gives said (rest ++ more) else Fails fault) ≡ grow more (if t then Gives said rest else Fails fault)
+if_grow true said rest more fault = refl
+if_grow false said rest more fault = refl
+
+file_is : (count : ℕ) (bytes : List ℕ) → count < length bytes → by_file count bytes ≡ (if slice_index_or bytes count 0 == 0 then Gives (HasFile (take count bytes)) (drop (count + 1) bytes) else Fails MissingZero)
+file_is count bytes within =
+    let long : nat_le (length bytes) count ≡ false = grind (arith, within) in
+    rw long refl
+
+file_waits : (count : ℕ) (bytes : List ℕ) → length bytes ≤ count → by_file count bytes ≡ Waits
+file_waits count bytes short =
+    let all : nat_le (length bytes) count ≡ true = grind (arith, short) in
+    rw all refl
+
+file_by : (count : ℕ) (bytes more : List ℕ) (short : Bool) → nat_le (length bytes) count ≡ short → (by_file count bytes ≡ Waits) ⊎ (by_file count (bytes ++ more) ≡ grow more (by_file count bytes))
+file_by count bytes more true is = inl (file_waits count bytes (grind (arith, is)))
+file_by count bytes more false is =
+    let within : count < length bytes = grind (arith, is) in
+    let long : count < length (bytes ++ more) = rw (length-append bytes more) (omega (arith, within)) in
+    let here = file_is count bytes within in
+    let byte : slice_index_or (bytes ++ more) count 0 ≡ slice_index_or bytes count 0 = get_or_append_left bytes more 0 count within in
+    let first : take count (bytes ++ more) ≡ take count bytes = take-append-le count bytes more (omega (arith, within)) in
+    let rest : drop (count + 1) (bytes ++ more) ≡ drop (count + 1) bytes ++ more = drop-append-le (count + 1) bytes more (omega (arith, within)) in
+    let grown : by_file count (bytes ++ more) ≡ (if slice_index_or bytes count 0 == 0 then Gives (HasFile (take count bytes)) (drop (count + 1) bytes ++ more) else Fails MissingZero) =
+    file_is count (bytes ++ more) long ∙ rw (byte, first, rest) refl in
+    inr (grown ∙ if_grow (slice_index_or bytes count 0 == 0) (HasFile (take count bytes)) (drop (count + 1) bytes) more MissingZero ∙ ap (λ front. grow more front) (sym here))
+
+grows : (awaited : Awaited) (bytes more : List ℕ) → (front_of awaited bytes ≡ Waits) ⊎ (front_of awaited (bytes ++ more) ≡ grow more (front_of awaited bytes))
+grows Command bytes more = line_grows command_line bytes more (first_line_of LPD_LINE_BYTES bytes) refl
+grows Subcommand bytes more = line_grows subcommand_line bytes more (first_line_of LPD_LINE_BYTES bytes) refl
+grows (File count) bytes more = file_by count bytes more (nat_le (length bytes) count) refl
+grows Nothing bytes more = inl refl
+
+gives_by : (front grown : Front) (more : List ℕ) (said : ItemRecord) (rest : List ℕ) → (front ≡ Waits) ⊎ (grown ≡ grow more front) → front ≡ Gives said rest → grown ≡ Gives said (rest ++ more)
+gives_by front grown more said rest (inl waits) is = absurd (let no : Waits ≡ Gives said rest = sym waits ∙ is in (cc))
+gives_by front grown more said rest (inr grows) is = grows ∙ ap (λ front. grow more front) is
+
+fails_by : (front grown : Front) (more : List ℕ) (fault : LpdFault) → (front ≡ Waits) ⊎ (grown ≡ grow more front) → front ≡ Fails fault → grown ≡ Fails fault
+fails_by front grown more fault (inl waits) is = absurd (let no : Waits ≡ Fails fault = sym waits ∙ is in (cc))
+fails_by front grown more fault (inr grows) is = grows ∙ ap (λ front. grow more front) is
+
+gives_more : (awaited : Awaited) (bytes more : List ℕ) (said : ItemRecord) (rest : List ℕ) → front_of awaited bytes ≡ Gives said rest → front_of awaited (bytes ++ more) ≡ Gives said (rest ++ more)
+gives_more awaited bytes more said rest is = gives_by (front_of awaited bytes) (front_of awaited (bytes ++ more)) more said rest (grows awaited bytes more) is
+
+pub fails_more : (awaited : Awaited) (bytes more : List ℕ) (fault : LpdFault) → front_of awaited bytes ≡ Fails fault → front_of awaited (bytes ++ more) ≡ Fails fault
+fails_more awaited bytes more fault is = fails_by (front_of awaited bytes) (front_of awaited (bytes ++ more)) more fault (grows awaited bytes more) is
+
+-- ---- an item takes a byte at least
+
+gives_rest : (said told : ItemRecord) (rest left : List ℕ) → Gives said rest ≡ Gives told left → (said ≡ told) × (rest ≡ left)
+gives_rest said told rest left same = ((cc), (cc))
+
+says_rest : (meant : Result ItemRecord LpdFault) (left : List ℕ) (said : ItemRecord) (rest : List ℕ) → line_says meant left ≡ Gives said rest → left ≡ rest
+says_rest (Ok told) left said rest is = (gives_rest told said left rest is).1
+says_rest (Err fault) left said rest is = absurd (let no : Fails fault ≡ Gives said rest = is in (cc))
+
+shorter : (bytes rest : List ℕ) (count : ℕ) → count < length bytes → drop (count + 1) bytes ≡ rest → length rest < length bytes
+shorter bytes rest count within is = rw (sym is) (omega (arith, within, length-drop (count + 1) bytes))
+
+line_shorter : (meaning : List ℕ → Result ItemRecord LpdFault) (bytes : List ℕ) (front : FirstLine) (said : ItemRecord) (rest : List ℕ) → first_line_of LPD_LINE_BYTES bytes ≡ front → by_line meaning bytes front ≡ Gives said rest → length rest < length bytes
+line_shorter meaning bytes (line.Whole count) said rest line is =
+    shorter bytes rest count (line_within bytes count line) (says_rest (meaning (take count bytes)) (drop (count + 1) bytes) said rest is)
+line_shorter meaning bytes line.TooLong said rest line is = absurd (cc is)
+line_shorter meaning bytes line.Unfinished said rest line is = absurd (cc is)
+
+if_rest : (t : Bool) (told said : ItemRecord) (left rest : List ℕ) (fault : LpdFault) → (if t then Gives told left else Fails fault) ≡ Gives said rest → left ≡ rest
+if_rest true told said left rest fault is = (gives_rest told said left rest is).1
+if_rest false told said left rest fault is = absurd (let no : Fails fault ≡ Gives said rest = is in (cc))
+
+file_shorter : (count : ℕ) (bytes : List ℕ) (said : ItemRecord) (rest : List ℕ) (short : Bool) → nat_le (length bytes) count ≡ short → by_file count bytes ≡ Gives said rest → length rest < length bytes
+file_shorter count bytes said rest true test is =
+    let no : Waits ≡ Gives said rest = sym (file_waits count bytes (grind (arith, test))) ∙ is in
+    absurd (cc no)
+file_shorter count bytes said rest false test is =
+    let within : count < length bytes = grind (arith, test) in
+    shorter bytes rest count within (if_rest (slice_index_or bytes count 0 == 0) (HasFile (take count bytes)) said (drop (count + 1) bytes) rest MissingZero (sym (file_is count bytes within) ∙ is))
+
+pub less : (awaited : Awaited) (bytes : List ℕ) (said : ItemRecord) (rest : List ℕ) → front_of awaited bytes ≡ Gives said rest → length rest < length bytes
+less Command bytes said rest is = line_shorter command_line bytes (first_line_of LPD_LINE_BYTES bytes) said rest refl is
+less Subcommand bytes said rest is = line_shorter subcommand_line bytes (first_line_of LPD_LINE_BYTES bytes) said rest refl is
+less (File count) bytes said rest is = file_shorter count bytes said rest (nat_le (length bytes) count) refl is
+less Nothing bytes said rest is = absurd (let no : Waits ≡ Gives said rest = is in (cc))
+
+-- ---- items, one after the other
+
+pub leads_then : (a : Awaited) (bytes : List ℕ) (first : List ItemRecord) (b : Awaited) (mid : List ℕ) (later : List ItemRecord) (c : Awaited) (left : List ℕ) → Leads a bytes first b mid → Leads b mid later c left → Leads a bytes (first ++ later) c left
+leads_then a bytes [] b mid later c left x y = subst (λ (q : Awaited). Leads q bytes later c left) x.0 (subst (λ (r : List ℕ). Leads b r later c left) x.1 y)
+leads_then a bytes (said ∷ first) b mid later c left x y = (x.0, x.1, leads_then (awaited_after said) x.0 first b mid later c left x.2 y)
+
+pub hears_then : (a : Awaited) (bytes : List ℕ) (first : List ItemRecord) (b : Awaited) (mid : List ℕ) (items : List ItemRecord) (ending : Ending) → Leads a bytes first b mid → Hears b mid items ending → Hears a bytes (first ++ items) ending
+hears_then a bytes [] b mid items ending x y = subst (λ (q : Awaited). Hears q bytes items ending) x.0 (subst (λ (r : List ℕ). Hears b r items ending) x.1 y)
+hears_then a bytes (said ∷ first) b mid items ending x y = (x.0, x.1, hears_then (awaited_after said) x.0 first b mid items ending x.2 y)
+
+pub leads_more : (a : Awaited) (bytes more : List ℕ) (items : List ItemRecord) (b : Awaited) (left : List ℕ) → Leads a bytes items b left → Leads a (bytes ++ more) items b (left ++ more)
+leads_more a bytes more [] b left x = (x.0, ap (λ l. l ++ more) x.1)
+leads_more a bytes more (said ∷ items) b left x = (x.0 ++ more, gives_more a bytes more said x.0 x.1, leads_more (awaited_after said) x.0 more items b left x.2)
+
+-- what all of the bytes say they say first
+pub hears_first : (a : Awaited) (bytes : List ℕ) (items : List ItemRecord) (ending : Ending) → Hears a bytes items ending → (next : Awaited) × (left : List ℕ) × Leads a bytes items next left × EndsAs (front_of next left) ending
+hears_first a bytes [] ending x = (a, bytes, (refl, refl), x)
+hears_first a bytes (said ∷ items) ending x =
+    let tail = hears_first (awaited_after said) x.0 items ending x.2 in
+    (tail.0, tail.1, (x.0, x.1, tail.2), tail.3)
+
+-- where no item stands, none is given
+ends_no : (front : Front) (ending : Ending) (said : ItemRecord) (rest : List ℕ) → EndsAs front ending → front ≡ Gives said rest → ⊥
+ends_no front Open said rest x is = let no : Waits ≡ Gives said rest = sym x ∙ is in (cc)
+ends_no front (Faulty fault) said rest x is = let no : Fails fault ≡ Gives said rest = sym x ∙ is in (cc)
+
+ends_one : (front : Front) (end ending : Ending) → EndsAs front end → EndsAs front ending → end ≡ ending
+ends_one front Open Open x y = refl
+ends_one front Open (Faulty fault) x y = absurd (let no : Waits ≡ Fails fault = sym x ∙ y in (cc))
+ends_one front (Faulty fault) Open x y = absurd (let no : Fails fault ≡ Waits = sym x ∙ y in (cc))
+ends_one front (Faulty fault) (Faulty other) x y =
+    let same : Fails fault ≡ Fails other = sym x ∙ y in
+    let faults : fault ≡ other = (cc) in
+    ap (λ (f : LpdFault). Faulty f) faults
+
+pub says_one : (a : Awaited) (bytes : List ℕ) (given items : List ItemRecord) (end ending : Ending) → Hears a bytes given end → Hears a bytes items ending → (given ≡ items) × (end ≡ ending)
+says_one a bytes [] [] end ending x y = (refl, ends_one (front_of a bytes) end ending x y)
+says_one a bytes [] (said ∷ items) end ending x y = absurd (ends_no (front_of a bytes) end said y.0 x y.1)
+says_one a bytes (said ∷ given) [] end ending x y = absurd (ends_no (front_of a bytes) ending said x.0 y x.1)
+says_one a bytes (said ∷ given) (told ∷ items) end ending x y =
+    let same = gives_rest told said y.0 x.0 (sym y.1 ∙ x.1) in
+    let tail : Hears (awaited_after said) x.0 items ending = subst (λ (s : ItemRecord). Hears (awaited_after s) x.0 items ending) same.0 (subst (λ (r : List ℕ). Hears (awaited_after told) r items ending) same.1 y.2) in
+    let later = says_one (awaited_after said) x.0 given items end ending x.2 tail in
+    (ap (λ s. s ∷ given) (sym same.0) ∙ ap (λ i. told ∷ i) later.0, later.1)
+
+pub stays_in : (a : Awaited) (bytes more : List ℕ) (first : List ItemRecord) (b : Awaited) (left : List ℕ) (items : List ItemRecord) (ending : Ending) → Leads a bytes first b left → Hears a (bytes ++ more) items ending → (later : List ItemRecord) × (items ≡ first ++ later)
+stays_in a bytes more [] b left items ending x y = (items, refl)
+stays_in a bytes more (said ∷ first) b left [] ending x y = absurd (ends_no (front_of a (bytes ++ more)) ending said (x.0 ++ more) y (gives_more a bytes more said x.0 x.1))
+stays_in a bytes more (said ∷ first) b left (told ∷ items) ending x y =
+    let same = gives_rest told said y.0 (x.0 ++ more) (sym y.1 ∙ gives_more a bytes more said x.0 x.1) in
+    let tail : Hears (awaited_after said) (x.0 ++ more) items ending = subst (λ (s : ItemRecord). Hears (awaited_after s) (x.0 ++ more) items ending) same.0 (subst (λ (r : List ℕ). Hears (awaited_after told) r items ending) same.1 y.2) in
+    let later = stays_in (awaited_after said) x.0 more first b left items ending x.2 tail in
+    (later.0, ap (λ s. s ∷ items) same.0 ∙ ap (λ i. said ∷ i) later.1)
+
+-- of one length bytes say one list of items first
+pub leads_one : (a : Awaited) (bytes : List ℕ) (one other : List ItemRecord) (b c : Awaited) (left behind : List ℕ) → Leads a bytes one b left → Leads a bytes other c behind → length one ≡ length other → one ≡ other
+leads_one a bytes [] [] b c left behind x y long = refl
+leads_one a bytes [] (told ∷ other) b c left behind x y long = absurd (omega (arith, long))
+leads_one a bytes (said ∷ one) [] b c left behind x y long = absurd (omega (arith, long))
+leads_one a bytes (said ∷ one) (told ∷ other) b c left behind x y long =
+    let same = gives_rest told said y.0 x.0 (sym y.1 ∙ x.1) in
+    let tail : Leads (awaited_after said) x.0 other c behind = subst (λ (s : ItemRecord). Leads (awaited_after s) x.0 other c behind) same.0 (subst (λ (r : List ℕ). Leads (awaited_after told) r other c behind) same.1 y.2) in
+    let later = leads_one (awaited_after said) x.0 one other b c left behind x.2 tail (omega (arith, long)) in
+    ap (λ s. s ∷ one) (sym same.0) ∙ ap (λ i. told ∷ i) later
+
+-- none stands behind all of them
+pub none_follows : (a : Awaited) (bytes : List ℕ) (items : List ItemRecord) (said : ItemRecord) (b : Awaited) (left : List ℕ) (ending : Ending) → Leads a bytes (items ++ said ∷ []) b left → Hears a bytes items ending → ⊥
+none_follows a bytes [] said b left ending x y = ends_no (front_of a bytes) ending said x.0 y x.1
+none_follows a bytes (told ∷ items) said b left ending x y =
+    let same = gives_rest told told y.0 x.0 (sym y.1 ∙ x.1) in
+    none_follows (awaited_after told) x.0 items said b left ending x.2 (subst (λ (r : List ℕ). Hears (awaited_after told) r items ending) same.1 y.2)
+
+-- ---- every stream says something
+
+abbrev SaysSo : Awaited → List ℕ → Type 0
+SaysSo a bytes = (items : List ItemRecord) × (ending : Ending) × Hears a bytes items ending
+
+some_by : (a : Awaited) (bytes : List ℕ) (front : Front) → front_of a bytes ≡ front → ((b : Awaited) (rest : List ℕ) → length rest < length bytes → SaysSo b rest) → SaysSo a bytes
+some_by a bytes (Gives said rest) is later =
+    let tail = later (awaited_after said) rest (less a bytes said rest is) in
+    (said ∷ tail.0, tail.1, (rest, is, tail.2))
+some_by a bytes (Fails fault) is later = ([], Faulty fault, is)
+some_by a bytes Waits is later = ([], Open, is)
+
+some_in : (most : ℕ) (a : Awaited) (bytes : List ℕ) → length bytes < most → SaysSo a bytes
+some_in zero a bytes fits = absurd (omega (arith, fits))
+some_in (suc most) a bytes fits = some_by a bytes (front_of a bytes) refl (λ b rest short. some_in most b rest (omega (arith, fits, short)))
+
+pub says_some : (a : Awaited) (bytes : List ℕ) → SaysSo a bytes
+says_some a bytes = some_in (length bytes + 1) a bytes (omega arith)

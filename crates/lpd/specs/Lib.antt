@@ -1,0 +1,8 @@
+pub mod FileName
+pub mod Conversation
+pub mod Command
+pub mod Stream
+pub mod Control
+pub mod ControlLine
+pub mod Pending
+pub mod Session

@@ -1,4 +1,0 @@
-pub mod Queue
-pub mod Operand
-pub mod Listing
-pub mod Removal

@@ -1,8 +1,0 @@
-use Rattle.lpd_reader.proofs.Standing.{first_stays, hears_rest}
-use Rattle.lpd_reader.proofs.law.given_first.Goals as goal
-
-pub returns-clause-first : goal.returns-clause-first
-returns-clause-first c = first_stays
-
-pub returns-clause-rest : goal.returns-clause-rest
-returns-clause-rest c = hears_rest

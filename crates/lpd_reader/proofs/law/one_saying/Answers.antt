@@ -1,9 +1,0 @@
-use Rattle.lpd_reader.specs.declared.reader.Awaited.TheVariants.{Command}
-use Rattle.lpd_reader.proofs.Streams.{says_some, says_one}
-use Rattle.lpd_reader.proofs.law.one_saying.Goals as goal
-
-pub returns-clause-some : goal.returns-clause-some
-returns-clause-some c = λ stream. says_some Command stream
-
-pub returns-clause-one : goal.returns-clause-one
-returns-clause-one c = says_one Command

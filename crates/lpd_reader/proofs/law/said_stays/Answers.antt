@@ -1,8 +1,0 @@
-use Rattle.lpd_reader.proofs.Standing.{all_stays, fault_stays}
-use Rattle.lpd_reader.proofs.law.said_stays.Goals as goal
-
-pub returns-clause-front : goal.returns-clause-front
-returns-clause-front c = all_stays
-
-pub returns-clause-fault : goal.returns-clause-fault
-returns-clause-fault c = fault_stays

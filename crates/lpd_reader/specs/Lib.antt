@@ -1,6 +1,0 @@
-pub mod FileName
-pub mod Session
-pub mod Command
-pub mod Stream
-pub mod Control
-pub mod ControlLine

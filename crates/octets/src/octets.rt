@@ -1,0 +1,83 @@
+//! The octets of a document.
+ghost use Rattle.std.specs.Prelude.{◌≡◌, ◌≤◌, ◌<◌, ◌↔◌, [], IsTrue, IfOk, OnErr, length, drop};
+ghost use Rattle.octets.specs.Document.{IsFrontOf};
+
+use crate::pages::Pages;
+use std::alloc::{AllocError, Global};
+use std::marker::Model;
+use std::mem;
+use std::rc::Rc;
+
+/// The octets of a document, which several may own. In clauses it is their list.
+///
+/// How they lie in memory is no one's business: whoever sends them takes piece after piece, and may
+/// keep them for as long as that takes.
+#[derive(Debug, Drop)]
+pub struct Octets {
+    shared: Rc<Pages>,
+}
+
+impl Model for Octets {
+    ghost use Rattle.std.specs.Prelude.{ℕ, List};
+
+    ghost Value = { List ℕ };
+
+    ghost view = { λ o. o.shared.value };
+}
+
+impl Octets {
+    /// The octets of these pages, which are taken from them. Where there is no memory for an owner, they
+    /// stay.
+    pub fn take(alloc: Global, pages: &mut Pages) -> Result<Octets, AllocError>
+        ensures ok { IfOk result (λ octets. octets ≡ pages.old) }
+        ensures err { OnErr result (pages.new ≡ pages.old) }
+    {
+        let taken = mem::replace(pages, Pages::new(alloc));
+        match Rc::new(alloc, taken) {
+            Ok(shared) => Ok(Octets { shared }),
+            Err(failed) => {
+                *pages = failed.value;
+                Err(AllocError)
+            }
+        }
+    }
+
+    /// A copy of these bytes.
+    pub fn copy_of(alloc: Global, bytes: &[u8]) -> Result<Octets, AllocError>
+        ensures { IfOk result (λ octets. octets ≡ bytes.now) }
+    {
+        let mut pages = Pages::new(alloc);
+        pages.push(bytes)?;
+        Octets::take(alloc, &mut pages)
+    }
+
+    /// The same octets for another owner, without a copy. The error is out of memory.
+    pub fn share(&self) -> Result<Octets, AllocError>
+        ensures { IfOk result (λ octets. octets ≡ self.now) }
+    {
+        let shared = self.shared.clone()?;
+        Ok(Octets { shared })
+    }
+
+    /// How many they are.
+    pub fn len(&self) -> usize
+        ensures { result ≡ length self.now }
+    {
+        self.shared.len()
+    }
+
+    /// Whether there are none.
+    pub fn is_empty(&self) -> bool
+        ensures { IsTrue result ↔ (self.now ≡ []) }
+    {
+        self.shared.is_empty()
+    }
+
+    /// Octets from a place on, as many as lie together: none only at the end.
+    pub fn piece(&self, start: usize) -> &[u8]
+        requires { start ≤ length self.now }
+        ensures { IsFrontOf result.now (drop start self.now) }
+    {
+        self.shared.piece(start)
+    }
+}

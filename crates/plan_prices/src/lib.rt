@@ -1,0 +1,36 @@
+//! Ways to print the jobs of a class, their totals, and prices that make a way's rank plain.
+//!
+//! It promises exact totals, waits and starts, and the laws that make prices a proof: a way with
+//! fair prices is best, and no timetable, whatever its gaps, does better than a best way. What every
+//! [`Planner`] promises of a class is said here too: a print room is generic in one, so that its plans
+//! are best by this law and not by an algorithm. No way is found and none judged here: `plan_solver` finds
+//! one, `plan_checker` judges it.
+//!
+//! Its rows are plans of `play_examples`; tests stand in `unit_tests`.
+#![tactic(auto)]
+
+mod able;
+mod laws;
+mod plan;
+mod planner;
+mod price_lists;
+mod way;
+mod way_facts;
+mod way_start;
+mod way_total;
+mod way_waits;
+
+pub use able::each_able;
+pub use base_types::Stranded;
+pub use laws::{
+    best_at_most_timetables, fair_is_best, fair_prices_bounded, timetable_no_better,
+    way_is_timetable,
+};
+pub use plan::{Plan, PlannedClass};
+pub use planner::Planner;
+pub use price_lists::{PlacePrices, PricedWay, Prices};
+pub use way::{Queue, Way};
+pub use way_facts::{all_able, all_named, is_way, names_known, none_twice};
+pub use way_start::start_of;
+pub use way_total::total;
+pub use way_waits::{leaves_waits, waits_after};

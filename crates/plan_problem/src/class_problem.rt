@@ -1,0 +1,122 @@
+//! The problem of a class: its jobs, their times, and when each device is free.
+ghost use Rattle.std.specs.Prelude.{◌≡◌, ◌↔◌, ◌==◌, ◌<◌, IsTrue, MatchOption, length, position};
+ghost use Rattle.std.specs.List.Sorted.{IsStrictlyIncreasing};
+ghost use Rattle.plan_problem.specs.Class.{IsClass, place_of, time_in, wait_in};
+
+use crate::row::{Row, is_row};
+use base_types::{DeviceId, JobId, Limits};
+use std::marker::Model;
+
+/// The problem of one class: its jobs by rising id, the time of each able pair, and the wait of
+/// each device, in the order of the settings. In clauses it is a record of these lists.
+#[derive(Debug, Drop)]
+pub struct ClassProblem {
+    ids: Vec<JobId>,
+    rows: Vec<Row>,
+    waits: Vec<u64>,
+}
+
+impl Model for ClassProblem {
+    ghost use Rattle.plan_problem.specs.Class.{Class, IsClass};
+
+    ghost Value = { Class };
+
+    ghost view = { λ c. record { ids = c.ids.items; rows = c.rows.items; waits = c.waits.items } };
+
+    ghost invariant = { λ c. IsClass (record { ids = c.ids.items; rows = c.rows.items; waits = c.waits.items }) };
+}
+
+impl ClassProblem {
+    /// The class problem of these jobs, with a row for each, and these waits in ms. [`is_class`]
+    /// tells whether they make one.
+    pub fn from_rows(ids: Vec<JobId>, rows: Vec<Row>, waits: Vec<u64>) -> ClassProblem
+        requires { IsClass (record { ids = ids.items; rows = rows.items; waits = waits.items }) }
+        ensures { result ≡ record { ids = ids.items; rows = rows.items; waits = waits.items } }
+    {
+        ClassProblem { ids, rows, waits }
+    }
+
+    /// Its jobs, by rising id.
+    pub fn ids(&self) -> &[JobId]
+        ensures ids { result.now ≡ self.now.ids }
+        ensures class { IsClass self.now }
+    {
+        &self.ids
+    }
+
+    /// Its rows of times, one for each job.
+    pub fn rows(&self) -> &[Row]
+        ensures rows { result.now ≡ self.now.rows }
+        ensures class { IsClass self.now }
+    {
+        &self.rows
+    }
+
+    /// The wait of each device, in ms.
+    pub fn waits(&self) -> &[u64]
+        ensures waits { result.now ≡ self.now.waits }
+        ensures class { IsClass self.now }
+    {
+        &self.waits
+    }
+
+    /// Where a job stands among its jobs, if it is one of them.
+    pub fn place(&self, job: JobId) -> Option<usize>
+        ensures { MatchOption result (place_of self.now.ids job ≡ length self.now.ids)
+            (λ place. (place_of self.now.ids job ≡ place) × (place < length self.now.ids)) }
+    {
+        self.ids().binary_search(&job).ok()
+    }
+
+    /// The time of a job on a device, in ms; none where the device is not able, or one of the two
+    /// isn't of the class.
+    pub fn time(&self, job: JobId, device: DeviceId) -> Option<u64>
+        ensures time { result ≡ time_in self.now job device }
+        ensures class { IsClass self.now }
+    {
+        let rows = self.rows();
+        let place = self.place(job)?;
+        rows[place].times().get(device.place()).copied().flatten()
+    }
+
+    /// The wait of a device of the class, in ms.
+    pub fn wait(&self, device: DeviceId) -> u64
+        requires { device < length self.now.waits }
+        ensures wait { result ≡ wait_in self.now device }
+        ensures class { IsClass self.now }
+    {
+        self.waits[device.place()]
+    }
+}
+
+/// The first place of a list at which a job stands.
+pub fn place_in(ids: &[JobId], job: JobId) -> Option<usize>
+    ensures { result ≡ position (λ id. id == job) ids.now }
+{
+    ids.iter().position(|id| *id == job)
+}
+
+/// Whether these ids, rows and waits make a class problem: the ids rise, each job has a row and
+/// each row a time for each device, and all is in range.
+pub fn is_class(ids: &[JobId], rows: &[Row], waits: &[u64]) -> bool
+    ensures { IsTrue result ↔ IsClass (record { ids = ids.now; rows = rows.now; waits = waits.now }) }
+{
+    ids.len() <= Limits::UNFINISHED_JOBS
+        && waits.len() <= Limits::DEVICES
+        && rows.len() == ids.len()
+        && rises(ids)
+        && rows.iter().all(|row| is_row(row.times(), waits.len()))
+        && waits.iter().all(|wait| *wait <= Limits::WAIT)
+}
+
+/// Whether each id is above the one before.
+fn rises(ids: &[JobId]) -> bool
+    ensures { IsTrue result ↔ IsStrictlyIncreasing ids.now }
+{
+    for place in 1..ids.len() {
+        if ids[place].number() <= ids[place - 1].number() {
+            return false;
+        }
+    }
+    true
+}

@@ -1,0 +1,157 @@
+//! The times that a planner reads, and how often it looked.
+ghost use Rattle.std.specs.Prelude.{◌≡◌, ℕ, ◌+◌, ◌*◌, ◌^◌, ◌<◌, ◌≤◌, [], IfOk, None, length, slice_index_or};
+ghost use Rattle.plan_problem.specs.Class.{Class, IsClass, place_of, time_in};
+ghost use Rattle.plan_solver.specs.Entries.{IsRead, IsReadRow};
+
+use crate::costs::{Costs, TimeRow, UNABLE};
+use base_types::{DeviceId, JobId};
+use plan_problem::ClassProblem;
+use std::alloc::{AllocError, Global};
+
+/// A class problem whose time entries are read one at a time, and each look counted.
+pub trait Times {
+    ghost use Rattle.std.specs.Prelude.{ℕ};
+    ghost use Rattle.plan_problem.specs.Class.{Class};
+
+    ghost class: { Self → Class };
+
+    ghost looked: { Self → ℕ };
+
+    /// The jobs, by rising id.
+    fn ids(&self) -> &[JobId]
+        ensures ids { result.now ≡ (class self.now).ids }
+        ensures class { IsClass (class self.now) };
+
+    /// The wait of each device, in ms.
+    fn waits(&self) -> &[u64]
+        ensures { result.now ≡ (class self.now).waits };
+
+    /// How often an entry was looked at.
+    fn looks(&self) -> u64
+        ensures { result ≡ looked self.now };
+
+    /// The time of a job on a device in ms, none where the device is not able. It is one look.
+    fn time(&mut self, job: JobId, device: DeviceId) -> Option<u64>
+        requires { looked self.old < 2 ^ 63 }
+        ensures time { result ≡ time_in (class self.old) job device }
+        ensures class { class self.new ≡ class self.old }
+        ensures looked { looked self.new ≡ looked self.old + 1 };
+}
+
+/// A class problem, how often one of its entries was looked at, and where the job of the last look
+/// stands: the next look mostly asks for the same one.
+#[derive(Debug, Drop)]
+pub struct Counted<'a> {
+    class: &'a ClassProblem,
+    looks: u64,
+    near: usize,
+}
+
+impl<'a> Counted<'a> {
+    /// The class problem, not looked at yet.
+    pub fn new(class: &'a ClassProblem) -> Counted<'a>
+        ensures class { result.class.now ≡ class.now }
+        ensures looks { result.looks ≡ 0 }
+    {
+        Counted {
+            class,
+            looks: 0,
+            near: 0,
+        }
+    }
+}
+
+impl<'a> Times for Counted<'a> {
+    ghost class = { λ counted. counted.class.now };
+
+    ghost looked = { λ counted. counted.looks };
+
+    fn ids(&self) -> &[JobId] {
+        self.class.ids()
+    }
+
+    fn waits(&self) -> &[u64] {
+        self.class.waits()
+    }
+
+    fn looks(&self) -> u64 {
+        self.looks
+    }
+
+    fn time(&mut self, job: JobId, device: DeviceId) -> Option<u64> {
+        self.looks += 1;
+        self.near = place_near(self.class, job, self.near);
+        entry(self.class, self.near, device)
+    }
+}
+
+/// Where a job stands in the class, or the number of its jobs where it is none of them. The place
+/// `near` is looked at first.
+fn place_near(class: &ClassProblem, job: JobId, near: usize) -> usize
+    ensures { result ≡ place_of class.now.ids job }
+{
+    let ids = class.ids();
+    if near < ids.len() && ids[near] == job {
+        return near;
+    }
+    match class.place(job) {
+        Some(place) => place,
+        None => ids.len(),
+    }
+}
+
+/// The entry of a row of the class; none where there is no such row.
+fn entry(class: &ClassProblem, place: usize, device: DeviceId) -> Option<u64>
+    ensures { result ≡ slice_index_or (slice_index_or class.now.rows place []) device None }
+{
+    match class.rows().get(place) {
+        Some(row) => row.times().get(device.place()).copied().flatten(),
+        None => None,
+    }
+}
+
+/// The jobs, waits and times of a class problem.
+#[derive(Debug, Drop)]
+pub(crate) struct Entries {
+    pub(crate) ids: Vec<JobId>,
+    pub(crate) costs: Costs,
+}
+
+/// Reads each entry once.
+pub(crate) fn read<T: Times>(alloc: Global, times: &mut T) -> Result<Entries, AllocError>
+    requires room { T.looked times.old < 2 ^ 62 }
+    ensures read { IfOk result (λ entries. IsRead (T.class times.old) entries) }
+    ensures class { IsClass (T.class times.old) }
+    ensures same { T.class times.new ≡ T.class times.old }
+    ensures looked { T.looked times.new ≤ T.looked times.old + length (T.class times.old).ids * length (T.class times.old).waits }
+{
+    let ids = Vec::from_slice(alloc, times.ids())?;
+    let waits = Vec::from_slice(alloc, times.waits())?;
+    let mut rows = Vec::with_capacity(alloc, ids.len())?;
+    for place in 0..ids.len() {
+        rows.push(read_row(alloc, times, ids[place], waits.len())?)?;
+    }
+    Ok(Entries {
+        ids,
+        costs: Costs { waits, rows },
+    })
+}
+
+/// Reads the times of a job.
+fn read_row<T: Times>(
+    alloc: Global,
+    times: &mut T,
+    job: JobId,
+    devices: usize,
+) -> Result<TimeRow, AllocError>
+    requires { T.looked times.old + devices < 2 ^ 63 }
+    ensures read { IfOk result (λ row. IsReadRow (T.class times.old) job devices row) }
+    ensures same { T.class times.new ≡ T.class times.old }
+    ensures looked { T.looked times.new ≤ T.looked times.old + devices }
+{
+    let mut entries = Vec::with_capacity(alloc, devices)?;
+    for place in 0..devices {
+        entries.push(times.time(job, DeviceId::new(place)).unwrap_or(UNABLE))?;
+    }
+    Ok(TimeRow::new(entries))
+}

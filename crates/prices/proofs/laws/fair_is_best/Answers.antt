@@ -1,5 +1,0 @@
-use Rattle.prices.proofs.Duality.{best_from_fair}
-use Rattle.prices.proofs.laws.fair_is_best.Goals as goal
-
-pub returns : goal.returns
-returns c = best_from_fair c.args.class.now c.args.priced.now.way c.args.priced.now.prices c.ids-class.ensures.class c.requires.way c.requires.fair

@@ -1,6 +1,0 @@
-use Rattle.std.proofs.Common.{ℕ, ◌<◌, get_or, length, All, List}
-use Rattle.cost_table.specs.Class.{place_of}
-use Rattle.prices.proofs.way_facts.names_known.Given as goal
-
-abbrev pub invariant-loop-queue : goal.invariant-loop-queue
-invariant-loop-queue l = (k : ℕ) (d : List ℕ) → k < l.queue-index → All (λ job. place_of l.class.ids job < length l.class.ids) (get_or l.way k d)

@@ -1,6 +1,0 @@
-use Rattle.std.proofs.Common.{ℕ, ◌<◌, ◌≤◌, get_or}
-use Rattle.prices.specs.Way.{times_named}
-use Rattle.prices.proofs.way_facts.none_twice.Given as goal
-
-abbrev pub invariant-loop-job : goal.invariant-loop-job
-invariant-loop-job l = (k : ℕ) (d : ℕ) → k < l.job-index → times_named l.way (get_or l.class.ids k d) ≤ 1

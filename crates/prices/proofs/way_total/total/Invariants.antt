@@ -1,6 +1,0 @@
-use Rattle.std.proofs.Common.{◌≡◌, ◌+◌, drop}
-use Rattle.prices.specs.Total.{cost_from, total_by_places}
-use Rattle.prices.proofs.way_total.total.Given as goal
-
-abbrev pub invariant-loop-place : goal.invariant-loop-place
-invariant-loop-place l = l.sum + cost_from l.class l.place (drop l.place l.way) ≡ total_by_places l.class l.way

@@ -1,6 +1,0 @@
-use Rattle.std.proofs.Common.{◌≡◌, ℕ, ◌<◌, get_or}
-use Rattle.prices.specs.Waits.{waits_after}
-use Rattle.prices.proofs.way_waits.leaves_waits.Given as goal
-
-abbrev pub invariant-loop-place : goal.invariant-loop-place
-invariant-loop-place l = (k : ℕ) → k < l.place → get_or l.next k 0 ≡ get_or (waits_after l.class l.way) k 0

@@ -1,0 +1,4 @@
+pub mod Input
+pub mod ExitStatus
+pub mod Said
+pub mod RefusedSettings

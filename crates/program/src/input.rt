@@ -1,0 +1,47 @@
+//! What a program reads.
+ghost use Rattle.std.specs.Prelude.{MatchResult};
+ghost use Rattle.program.specs.Input.{IsWhole, StopsAt};
+
+use std::alloc::Global;
+use std::io::Read;
+
+/// Why an input is not read whole.
+#[derive(Clone, Copy, Debug, PartialEq, Eq)]
+pub enum InputFault {
+    /// It has too many bytes.
+    Size,
+    /// The stream failed, or took too many reads.
+    Stream,
+    OutOfMemory,
+}
+
+/// The input up to its end, unless it has too many bytes or takes too many reads.
+pub fn read_whole<R: Read>(
+    alloc: Global,
+    reader: &mut R,
+    most_bytes: usize,
+    most_reads: u32,
+) -> Result<Vec<u8>, InputFault>
+    ensures { MatchResult result
+        (λ bytes. IsWhole most_bytes (R.remaining reader.old) (R.remaining reader.new) bytes.items)
+        (λ fault. StopsAt most_bytes (R.remaining reader.old) (R.remaining reader.new) fault) }
+{
+    let mut bytes = Vec::new(alloc);
+    let mut buffer = [0u8; 4096];
+    for _ in 0..most_reads {
+        let count = match reader.read(&mut buffer) {
+            Ok(count) => count,
+            Err(_) => return Err(InputFault::Stream),
+        };
+        if count == 0 {
+            return Ok(bytes);
+        }
+        if count > most_bytes - bytes.len() {
+            return Err(InputFault::Size);
+        }
+        if bytes.extend_from_slice(&buffer[..count]).is_err() {
+            return Err(InputFault::OutOfMemory);
+        }
+    }
+    Err(InputFault::Stream)
+}

@@ -1,5 +1,0 @@
-use Rattle.requests.proofs.Hearing.{heard_nothing}
-use Rattle.requests.proofs.request_parser.RequestParser.new.Goals as goal
-
-pub returns : goal.returns
-returns c = heard_nothing c.new.result c.new-2.result c.new.ensures c.new-2.ensures

@@ -1,0 +1,112 @@
+//! Where a fault stands in a text.
+use crate::last_table::LastTable;
+use crate::statement::{Said, Statement, Statements};
+use std::alloc::Global;
+
+/// What a text says of one table and one of its keys, as far as it is found.
+#[derive(Clone, Copy)]
+pub(crate) struct Place<'a> {
+    /// The line of the key; where it has none, of the table's header.
+    pub(crate) line: Option<usize>,
+    /// The value of the key, as it is written.
+    pub(crate) value: Option<&'a str>,
+    /// The table's name, as it is written.
+    pub(crate) name: Option<&'a str>,
+    /// The key has a line.
+    has_key: bool,
+}
+
+/// The table in which statements stand, and how many tables of devices and printers began.
+#[derive(Clone, Copy)]
+struct Position {
+    table: Option<LastTable>,
+    devices: usize,
+    printers: usize,
+}
+
+impl Position {
+    /// A table of this name begins.
+    fn enter(&mut self, name: &str) {
+        self.table = None;
+        if name == "device" {
+            self.table = Some(LastTable::Device(self.devices));
+            self.devices = self.devices.saturating_add(1);
+        } else if name == "printer" {
+            self.table = Some(LastTable::Printer(self.printers));
+            self.printers = self.printers.saturating_add(1);
+        }
+    }
+}
+
+impl<'a> Place<'a> {
+    /// Nothing is found yet.
+    fn new() -> Place<'a> {
+        Place {
+            line: None,
+            value: None,
+            name: None,
+            has_key: false,
+        }
+    }
+
+    /// The key has this line.
+    fn has_line(&mut self, line: usize) {
+        if !self.has_key {
+            self.line = Some(line);
+            self.has_key = true;
+        }
+    }
+
+    /// Heeds an entry of the table.
+    fn add_entry(&mut self, line: usize, is_wanted: bool, is_name: bool, value: &'a str) {
+        if is_wanted {
+            self.has_line(line);
+            self.value = Some(value);
+        }
+        if is_name {
+            self.name = Some(value);
+        }
+    }
+
+    /// Heeds a statement.
+    fn add(&mut self, at: &mut Position, table: LastTable, key: &str, statement: Statement<'a>) {
+        let line = statement.line;
+        match statement.said {
+            Said::Header(name) => {
+                let name = name.as_deref().unwrap_or("");
+                at.enter(name);
+                if at.table == Some(table) {
+                    self.line = Some(line);
+                } else if table == LastTable::Root && name == key {
+                    self.has_line(line);
+                }
+            }
+            Said::Entry {
+                key: written,
+                value,
+            } if at.table == Some(table) => {
+                let written = written.as_deref().unwrap_or("");
+                self.add_entry(line, written == key, written == "name", value);
+            }
+            Said::Entry { .. } => {}
+        }
+    }
+}
+
+/// What a text says of a table and one of its keys.
+pub(crate) fn place_of<'a>(alloc: Global, text: &'a str, table: LastTable, key: &str) -> Place<'a> {
+    let mut place = Place::new();
+    let mut statements = Statements::of(alloc, text);
+    let mut at = Position {
+        table: Some(LastTable::Root),
+        devices: 0,
+        printers: 0,
+    };
+    for _statement in 0..text.len() {
+        match statements.next() {
+            Some(statement) => place.add(&mut at, table, key, statement),
+            None => return place,
+        }
+    }
+    place
+}

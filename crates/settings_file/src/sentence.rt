@@ -1,0 +1,198 @@
+//! The sentence about a fault.
+use crate::fault::SettingsFault;
+use crate::key::Key;
+use crate::last_table::LastTable;
+use crate::place::{Place, place_of};
+use crate::read::read_settings_telling;
+use crate::wanted::wanted;
+use std::alloc::{AllocError, Global};
+use std::str;
+
+/// The longest value that is shown whole, in bytes.
+const MOST_SHOWN: usize = 60;
+
+/// The sentence about the first fault of a settings file, if it has one; it has no line feed. The file is
+/// named as it is given.
+///
+/// # Errors
+///
+/// Out of memory.
+pub fn explain(alloc: Global, file: &str, bytes: &[u8]) -> Result<Option<String>, AllocError> {
+    let text = match str::from_utf8(bytes) {
+        Ok(text) => text,
+        Err(error) => {
+            let line = line_after(bytes, error.valid_up_to());
+            return Ok(Some(format!(in alloc; "{file}: line {line}: this is no UTF-8")?));
+        }
+    };
+    let mut table = LastTable::Root;
+    match read_settings_telling(alloc, text, &mut table) {
+        Ok(_) => Ok(None),
+        Err(fault) => Ok(Some(sentence(alloc, file, text, table, &fault)?)),
+    }
+}
+
+/// The line, from 1 on, behind so many bytes.
+fn line_after(bytes: &[u8], count: usize) -> usize {
+    let front = bytes.get(..count).unwrap_or(bytes);
+    1 + front.iter().filter(|byte| **byte == b'\n').count()
+}
+
+/// The sentence about a fault in a table.
+fn sentence(
+    alloc: Global,
+    file: &str,
+    text: &str,
+    table: LastTable,
+    fault: &SettingsFault,
+) -> Result<String, AllocError> {
+    match fault {
+        SettingsFault::NotToml => no_toml(alloc, file, text),
+        SettingsFault::Missing(key) => {
+            let place = place_of(alloc, text, table, key.name());
+            about_missing(alloc, &at(alloc, file, table, &place)?, *key)
+        }
+        SettingsFault::WrongKind(key) | SettingsFault::OutOfRange(key) => {
+            let place = place_of(alloc, text, table, key.name());
+            about_value(alloc, &at(alloc, file, table, &place)?, *key, place.value)
+        }
+        SettingsFault::Unknown(name) => {
+            let place = place_of(alloc, text, table, name_of(name.as_bytes()));
+            let at = at(alloc, file, table, &place)?;
+            about_unknown(
+                alloc,
+                &at,
+                table,
+                name_of(name.as_bytes()),
+                place.value.is_some(),
+            )
+        }
+        SettingsFault::Twice(name) => {
+            let place = place_of(alloc, text, table, "name");
+            let at = at(alloc, file, table, &place)?;
+            let (name, kind) = (name_of(name.as_bytes()), kind_of(table));
+            format!(in alloc; "{at}: an earlier {kind} has the name \"{name}\"")
+        }
+        SettingsFault::OutOfMemory => Err(AllocError),
+    }
+}
+
+/// The sentence about a text that is no TOML.
+fn no_toml(alloc: Global, file: &str, text: &str) -> Result<String, AllocError> {
+    match toml::table_from_str(alloc, text) {
+        Ok(_) => format!(in alloc; "{file}: this is no TOML"),
+        Err(error) if error.is_memory() => Err(AllocError),
+        Err(error) => {
+            let start = match error.span() {
+                Some(span) => span.start,
+                None => 0,
+            };
+            let line = line_after(text.as_bytes(), start);
+            let column = column_after(text.as_bytes(), start);
+            let why = error.message();
+            format!(in alloc; "{file}: line {line}, column {column}: this is no TOML: {why}")
+        }
+    }
+}
+
+/// The column, from 1 on and in bytes, behind so many bytes.
+fn column_after(bytes: &[u8], count: usize) -> usize {
+    let front = bytes.get(..count).unwrap_or(bytes);
+    let mut column: usize = 1;
+    for byte in front {
+        column = if *byte == b'\n' {
+            1
+        } else {
+            column.saturating_add(1)
+        };
+    }
+    column
+}
+
+/// A name that a fault speaks of, as text; without it, where it is none.
+fn name_of(name: &[u8]) -> &str {
+    str::from_utf8(name).unwrap_or("")
+}
+
+/// What a table describes.
+fn kind_of(table: LastTable) -> &'static str {
+    match table {
+        LastTable::Root => "root",
+        LastTable::Device(_) => "device",
+        LastTable::Printer(_) => "printer",
+    }
+}
+
+/// The file, and in it the line and the table, as far as they are found.
+fn at(
+    alloc: Global,
+    file: &str,
+    table: LastTable,
+    place: &Place<'_>,
+) -> Result<String, AllocError> {
+    let mut at = format!(in alloc; "{file}")?;
+    if let Some(line) = place.line {
+        write!(at, ": line {line}")?;
+    }
+    let kind = kind_of(table);
+    let number = match table {
+        LastTable::Root => return Ok(at),
+        LastTable::Device(number) | LastTable::Printer(number) => number.saturating_add(1),
+    };
+    let joint = if place.line.is_some() { "," } else { ":" };
+    match place.name {
+        Some(name) => write!(at, "{joint} {kind} {name}")?,
+        None => write!(at, "{joint} {kind} {number}")?,
+    }
+    Ok(at)
+}
+
+/// A value as it is written, if it isn't too long for a line.
+fn shown(value: Option<&str>) -> Option<&str> {
+    let value = value?;
+    if value.len() <= MOST_SHOWN && !value.contains('\n') {
+        Some(value)
+    } else {
+        None
+    }
+}
+
+/// The sentence about a key that is missing.
+fn about_missing(alloc: Global, at: &str, key: Key) -> Result<String, AllocError> {
+    let wanted = wanted(alloc, key)?;
+    let key = key.name();
+    format!(in alloc; "{at}: {key} is missing; it is {wanted}")
+}
+
+/// The sentence about a value that may not be.
+fn about_value(
+    alloc: Global,
+    at: &str,
+    key: Key,
+    value: Option<&str>,
+) -> Result<String, AllocError> {
+    let wanted = wanted(alloc, key)?;
+    let key = key.name();
+    match shown(value) {
+        Some(value) => format!(in alloc; "{at}: {key} is {value}, and may be {wanted}"),
+        None => format!(in alloc; "{at}: {key} may be {wanted}"),
+    }
+}
+
+/// The sentence about a name that is not known: of a key of the table, or else of a device.
+fn about_unknown(
+    alloc: Global,
+    at: &str,
+    table: LastTable,
+    name: &str,
+    is_key: bool,
+) -> Result<String, AllocError> {
+    let kind = kind_of(table);
+    if !is_key {
+        return format!(in alloc; "{at}: there is no device \"{name}\"");
+    }
+    match table {
+        LastTable::Root => format!(in alloc; "{at}: {name} is no key of the settings"),
+        _ => format!(in alloc; "{at}: {name} is no key of a {kind}"),
+    }
+}

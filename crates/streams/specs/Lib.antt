@@ -1,3 +1,0 @@
-pub mod Input
-pub mod ExitStatus
-pub mod Said

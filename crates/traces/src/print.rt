@@ -1,0 +1,245 @@
+//! What is printed of an event and of connections.
+ghost use Rattle.std.specs.Prelude.{◌≡◌, ◌++◌, OnOk, Option, codes};
+ghost use Rattle.std.specs.Option.{option_copied};
+ghost use Rattle.std.specs.Fmt.{decimal};
+ghost use Rattle.hex.specs.Hex.{encode_lower};
+ghost use Rattle.plan_text.specs.Writing.{cause_word};
+ghost use Rattle.traces.specs.Printed.{reply_line, cancel_line, class_word, class_words, stranded_word, stranded_words, plan_line, plan_lines, start_line, start_lines, dispatch_lines};
+ghost use Rattle.traces.specs.Connections.{out_line, gone_line, peer_text, connection_text, connections_text};
+
+use crate::peers::Connection;
+use base_types::{Stranded, Text};
+use events::Cancel;
+use plan_prices::{Plan, PlannedClass};
+use plan_text::{cause_word, name_of, write_named_plan};
+use print_room::Started;
+use std::alloc::{AllocError, Global};
+use wires::MemoryPeer;
+
+/// Appends the line of a reply of these bytes.
+pub fn put_reply(alloc: Global, output: &mut Vec<u8>, bytes: &[u8]) -> Result<(), AllocError>
+    ensures { OnOk result (output.new.items ≡ output.old.items ++ reply_line bytes.now) }
+{
+    let digits = hex::encode(alloc, bytes)?;
+    output.extend_from_slice(b"reply ")?;
+    output.extend_from_slice(digits.as_bytes())?;
+    output.extend_from_slice(b"\n")?;
+    Ok(())
+}
+
+/// Appends the line of a cancel that is sent.
+pub fn put_cancel(
+    alloc: Global,
+    output: &mut Vec<u8>,
+    names: &[Text],
+    cancel: Cancel,
+) -> Result<(), AllocError>
+    ensures { OnOk result (output.new.items ≡ output.old.items ++ cancel_line names.now cancel) }
+{
+    let job = cancel.job.number();
+    let words = format!(in alloc; "cancel {job} ")?;
+    output.extend_from_slice(words.as_bytes())?;
+    output.extend_from_slice(name_of(names, cancel.device))?;
+    output.extend_from_slice(b"\n")?;
+    Ok(())
+}
+
+/// Appends what is printed of a dispatch: the plan's line, its text where texts are asked for, and a
+/// line for each job that starts.
+pub fn put_dispatch(
+    alloc: Global,
+    output: &mut Vec<u8>,
+    texts: bool,
+    names: &[Text],
+    plan: Option<&Plan>,
+    started: &[Started],
+) -> Result<(), AllocError>
+    ensures { OnOk result (output.new.items ≡ output.old.items ++ dispatch_lines texts names.now (option_copied plan.entry) started.now) }
+{
+    put_plan_made(alloc, output, texts, names, plan)?;
+    put_starts(alloc, output, names, started)?;
+    Ok(())
+}
+
+fn put_plan_made(
+    alloc: Global,
+    output: &mut Vec<u8>,
+    texts: bool,
+    names: &[Text],
+    plan: Option<&Plan>,
+) -> Result<(), AllocError>
+    ensures { OnOk result (output.new.items ≡ output.old.items ++ plan_lines texts names.now (option_copied plan.entry)) }
+{
+    let Some(plan) = plan else {
+        return Ok(());
+    };
+    put_plan(alloc, output, plan)?;
+    if texts {
+        write_named_plan(alloc, names, plan, output)?;
+    }
+    Ok(())
+}
+
+/// Appends the line of a plan: each class with its total, then each stranded job with its cause.
+fn put_plan(alloc: Global, output: &mut Vec<u8>, plan: &Plan) -> Result<(), AllocError>
+    ensures { OnOk result (output.new.items ≡ output.old.items ++ plan_line plan.now) }
+{
+    output.extend_from_slice(b"plan")?;
+    put_classes(alloc, output, plan.classes())?;
+    put_stranded_jobs(alloc, output, plan.stranded())?;
+    output.extend_from_slice(b"\n")?;
+    Ok(())
+}
+
+fn put_classes(
+    alloc: Global,
+    output: &mut Vec<u8>,
+    classes: &[PlannedClass],
+) -> Result<(), AllocError>
+    ensures { OnOk result (output.new.items ≡ output.old.items ++ class_words classes.now) }
+{
+    for class in classes {
+        put_class(alloc, output, class)?;
+    }
+    Ok(())
+}
+
+fn put_class(alloc: Global, output: &mut Vec<u8>, class: &PlannedClass) -> Result<(), AllocError>
+    ensures { OnOk result (output.new.items ≡ output.old.items ++ class_word class.now) }
+{
+    let priority = class.priority.level();
+    let total = class.priced.total;
+    let word = format!(in alloc; " {priority}:{total}")?;
+    output.extend_from_slice(word.as_bytes())?;
+    Ok(())
+}
+
+fn put_stranded_jobs(
+    alloc: Global,
+    output: &mut Vec<u8>,
+    stranded: &[Stranded],
+) -> Result<(), AllocError>
+    ensures { OnOk result (output.new.items ≡ output.old.items ++ stranded_words stranded.now) }
+{
+    for job in stranded {
+        put_stranded(alloc, output, *job)?;
+    }
+    Ok(())
+}
+
+fn put_stranded(alloc: Global, output: &mut Vec<u8>, stranded: Stranded) -> Result<(), AllocError>
+    ensures { OnOk result (output.new.items ≡ output.old.items ++ stranded_word stranded) }
+{
+    let job = stranded.job.number();
+    let cause = cause_word(stranded.cause);
+    let word = format!(in alloc; " -{job}:{cause}")?;
+    output.extend_from_slice(word.as_bytes())?;
+    Ok(())
+}
+
+fn put_starts(
+    alloc: Global,
+    output: &mut Vec<u8>,
+    names: &[Text],
+    started: &[Started],
+) -> Result<(), AllocError>
+    ensures { OnOk result (output.new.items ≡ output.old.items ++ start_lines names.now started.now) }
+{
+    for start in started {
+        put_start(alloc, output, names, *start)?;
+    }
+    Ok(())
+}
+
+fn put_start(
+    alloc: Global,
+    output: &mut Vec<u8>,
+    names: &[Text],
+    started: Started,
+) -> Result<(), AllocError>
+    ensures { OnOk result (output.new.items ≡ output.old.items ++ start_line names.now started) }
+{
+    let job = started.job.number();
+    let words = format!(in alloc; "start {job} ")?;
+    output.extend_from_slice(words.as_bytes())?;
+    output.extend_from_slice(name_of(names, started.device))?;
+    output.extend_from_slice(b"\n")?;
+    Ok(())
+}
+
+/// Appends what is printed of connections, in their order: what each peer got, if anything, and that
+/// it was closed.
+pub fn put_connections(
+    alloc: Global,
+    output: &mut Vec<u8>,
+    connections: &[Connection],
+    peers: &[MemoryPeer],
+) -> Result<(), AllocError>
+    ensures { OnOk result (output.new.items ≡ output.old.items ++ connections_text peers.now connections.now) }
+{
+    for connection in connections {
+        put_connection(alloc, output, *connection, peers)?;
+    }
+    Ok(())
+}
+
+fn put_connection(
+    alloc: Global,
+    output: &mut Vec<u8>,
+    connection: Connection,
+    peers: &[MemoryPeer],
+) -> Result<(), AllocError>
+    ensures { OnOk result (output.new.items ≡ output.old.items ++ connection_text peers.now connection) }
+{
+    match peers.get(connection.place) {
+        Some(peer) => put_peer(alloc, output, connection, peer),
+        None => Ok(()),
+    }
+}
+
+fn put_peer(
+    alloc: Global,
+    output: &mut Vec<u8>,
+    connection: Connection,
+    peer: &MemoryPeer,
+) -> Result<(), AllocError>
+    ensures { OnOk result (output.new.items ≡ output.old.items ++ peer_text connection peer.now) }
+{
+    put_taken(alloc, output, connection.number, &peer.taken)?;
+    if peer.closed && !connection.gone {
+        put_gone(alloc, output, connection.number)?;
+    }
+    Ok(())
+}
+
+fn put_taken(
+    alloc: Global,
+    output: &mut Vec<u8>,
+    number: u64,
+    taken: &[u8],
+) -> Result<(), AllocError>
+    ensures { OnOk result (output.new.items ≡ output.old.items ++ out_line number taken.now) }
+{
+    if taken.is_empty() {
+        return Ok(());
+    }
+    put_out(alloc, output, number, taken)
+}
+
+fn put_out(alloc: Global, output: &mut Vec<u8>, number: u64, bytes: &[u8]) -> Result<(), AllocError>
+    ensures { OnOk result (output.new.items ≡ output.old.items ++ (codes "out " ++ (decimal number ++ (codes " " ++ (encode_lower bytes.now ++ codes "\n"))))) }
+{
+    let words = format!(in alloc; "out {number} ")?;
+    let digits = hex::encode(alloc, bytes)?;
+    output.extend_from_slice(words.as_bytes())?;
+    output.extend_from_slice(digits.as_bytes())?;
+    output.extend_from_slice(b"\n")?;
+    Ok(())
+}
+
+fn put_gone(alloc: Global, output: &mut Vec<u8>, number: u64) -> Result<(), AllocError>
+    ensures { OnOk result (output.new.items ≡ output.old.items ++ gone_line number) }
+{
+    let line = format!(in alloc; "gone {number}\n")?;
+    output.extend_from_slice(line.as_bytes())
+}

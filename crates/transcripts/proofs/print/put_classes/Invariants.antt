@@ -1,6 +1,0 @@
-use Rattle.std.proofs.Common.{◌≡◌, ◌++◌, drop}
-use Rattle.transcripts.specs.Printed.{class_words}
-use Rattle.transcripts.proofs.print.put_classes.Given as goal
-
-abbrev pub invariant-loop-class : goal.invariant-loop-class
-invariant-loop-class l = l.output.items ++ class_words (drop l.class-index l.classes) ≡ l.initial.output.items ++ class_words l.classes

@@ -1,0 +1,162 @@
+//! What a device hears of the server, what an attachment says, and what a printer tells by PJL.
+use attach_orders::{Order, OrderError, OrderItem, OrderReader, write_report};
+use attach_pjl::{Status, StatusReader};
+use attachment::Attachment;
+use base_types::{JobId, Report};
+use std::alloc::{AllocError, Global};
+use std::test::Fail;
+
+/// A job of five octets, a cancel, and a line that the server never writes.
+const STREAM: &[u8] = b"JOB 7 5 2 L iso_a4_210x297mm SB\nhelloCANCEL 7\nPRINT 8\n";
+
+/// What is heard of it: each order in its words, each octet, and the fault.
+const HEARD: &str = "job 7 5 2 true false true;hello cancel 7;fault";
+
+/// A page, the end of a job, a jam, and a message of another kind.
+const STATUSES: &[u8] =
+    b"@PJL USTATUS PAGE\r\n3\r\n\x0c@PJL USTATUS JOB\r\nEND\r\nPAGES=3\r\n\x0c@PJL USTATUS DEVICE\r\nCODE=42000\r\n\x0cnonsense\x0c";
+
+/// Adds what an order says.
+fn add_order(alloc: Global, order: &Order, text: &mut String) -> Result<(), AllocError> {
+    let line = match order {
+        Order::Job(job) => {
+            let id = job.job.number();
+            let (octets, copies) = (job.octets, job.copies);
+            let (staple, punch, bind) = (
+                job.finishings.staple,
+                job.finishings.punch,
+                job.finishings.bind,
+            );
+            format!(in alloc; "job {id} {octets} {copies} {staple} {punch} {bind};")?
+        }
+        Order::Cancel(job) => {
+            let id = job.number();
+            format!(in alloc; " cancel {id};")?
+        }
+    };
+    text.push_str(&line)
+}
+
+/// Adds what a reader gives for now.
+fn add_items(alloc: Global, reader: &mut OrderReader, text: &mut String) -> Result<(), AllocError> {
+    for _ in 0..4 {
+        match reader.next_item() {
+            Ok(None) => return Ok(()),
+            Ok(Some(OrderItem::Order(order))) => add_order(alloc, &order, text)?,
+            Ok(Some(OrderItem::Octets)) => {
+                for octet in reader.part() {
+                    text.push(char::from(*octet))?;
+                }
+            }
+            Err(OrderError::OutOfMemory) => return Err(AllocError),
+            Err(OrderError::Fault(_)) => return text.push_str("fault"),
+        }
+    }
+    Ok(())
+}
+
+/// What is heard of a stream that comes in two pieces.
+fn heard(alloc: Global, first: &[u8], second: &[u8]) -> Result<String, AllocError> {
+    let mut text = String::new(alloc);
+    let mut reader = OrderReader::new(alloc);
+    reader.feed(first)?;
+    add_items(alloc, &mut reader, &mut text)?;
+    reader.feed(second)?;
+    add_items(alloc, &mut reader, &mut text)?;
+    Ok(text)
+}
+
+#[test]
+fn orders_in_two_pieces(rt: HostRuntime) -> Result<(), Fail> {
+    for count in [0, 5, 32, 35, 40, 46] {
+        let (first, second) = STREAM.split_at(count);
+        let text = heard(rt.alloc(), first, second)?;
+        assert!(rt; text.as_str() == HEARD);
+    }
+    Ok(())
+}
+
+/// What an attachment sends of a job of two copies that comes whole, where the printer takes two octets
+/// at a time, and whether it then says that the job is done.
+fn printed(alloc: Global, job: JobId, cancels: bool) -> Result<(Vec<u8>, bool), AllocError> {
+    let mut sent = Vec::new(alloc);
+    let mut attachment = Attachment::new(alloc);
+    if attachment.job().is_some() {
+        return Ok((sent, false));
+    }
+    attachment.order(job, 5, 2);
+    if attachment.room() == Some(5) {
+        attachment.take(b"hello")?;
+    }
+    if cancels {
+        attachment.cancel(job);
+    }
+    for _ in 0..8 {
+        send_two(&mut attachment, &mut sent)?;
+    }
+    let done = matches!(&attachment.finish(), Some(Report::Done { .. }));
+    Ok((sent, done))
+}
+
+/// Sends two octets at most, and ends a copy.
+fn send_two(attachment: &mut Attachment, sent: &mut Vec<u8>) -> Result<(), AllocError> {
+    let due = attachment.due();
+    let count = due.len().min(2);
+    sent.extend_from_slice(&due[..count])?;
+    if count > 0 {
+        attachment.send(count);
+    }
+    if attachment.is_copy_sent() {
+        attachment.end_copy();
+    }
+    Ok(())
+}
+
+#[test]
+fn copies_one_after_the_other(rt: HostRuntime) -> Result<(), Fail> {
+    let Some(job) = JobId::new(7) else {
+        assert!(rt; false);
+        return Ok(());
+    };
+    let (sent, done) = printed(rt.alloc(), job, false)?;
+    assert!(rt; sent.as_slice() == b"hellohello".as_slice() && done);
+    let (sent, done) = printed(rt.alloc(), job, true)?;
+    assert!(rt; sent.is_empty() && !done);
+    Ok(())
+}
+
+#[test]
+fn reports_as_lines(rt: HostRuntime) -> Result<(), Fail> {
+    let mut text = Vec::new(rt.alloc());
+    write_report(rt.alloc(), &Report::Ready, &mut text)?;
+    write_report(
+        rt.alloc(),
+        &Report::Pages {
+            job: 7,
+            printed: 12,
+        },
+        &mut text,
+    )?;
+    write_report(rt.alloc(), &Report::Done { job: 7 }, &mut text)?;
+    assert!(rt; text.as_slice() == b"READY\nPAGES 7 12\nDONE 7\n".as_slice());
+    Ok(())
+}
+
+#[test]
+fn statuses_of_a_printer(rt: HostRuntime) -> Result<(), Fail> {
+    let mut statuses = Vec::new(rt.alloc());
+    let mut reader = StatusReader::new(rt.alloc());
+    for byte in STATUSES {
+        if let Some(status) = reader.take(*byte)? {
+            statuses.push(status)?;
+        }
+    }
+    let wanted = [
+        Status::Page(3),
+        Status::JobEnded,
+        Status::Device(42_000),
+        Status::Other,
+    ];
+    assert!(rt; statuses.as_slice() == wanted.as_slice());
+    Ok(())
+}

@@ -1,0 +1,170 @@
+//! The words of the program's command line.
+use command_line::{WordsError, read_words};
+use program::ExitStatus;
+use std::alloc::{AllocError, Global};
+use std::test::Fail;
+
+/// Lines of words that are read, and what they ask for.
+const READ: [(&str, &str); 24] = [
+    (
+        "printd replay",
+        "Replay(Replaying { file: None, plans: false, verify: false })",
+    ),
+    (
+        "printd replay --plans",
+        "Replay(Replaying { file: None, plans: true, verify: false })",
+    ),
+    ("printd check", "Check { starts: false }"),
+    ("printd check --starts", "Check { starts: true }"),
+    ("printd draw", "Draw { text: false, trace: None }"),
+    ("printd draw --text", "Draw { text: true, trace: None }"),
+    (
+        "printd draw --trace a.trace --text",
+        "Draw { text: true, trace: Some(\"a.trace\") }",
+    ),
+    (
+        "printd simulate --settings a.toml --jobs b.csv",
+        "Simulate(Simulating { settings: \"a.toml\", jobs: \"b.csv\", noise: 0, seed: 1, without: [], with: [], like: [], draw: None, text: false })",
+    ),
+    (
+        "printd simulate --settings a --jobs b --noise 20 --seed 7 --without A --without B --with C=D --draw first-free --text",
+        "Simulate(Simulating { settings: \"a\", jobs: \"b\", noise: 20, seed: 7, without: [\"A\", \"B\"], with: [\"C\"], like: [\"D\"], draw: Some(\"first-free\"), text: true })",
+    ),
+    ("printd settings", "Settings(BuiltIn)"),
+    (
+        "printd settings lab.toml",
+        "Settings(Judge { file: \"lab.toml\" })",
+    ),
+    (
+        "printd settings --avahi lab.toml",
+        "Settings(Avahi { file: \"lab.toml\", printer: None, lpd: 515 })",
+    ),
+    (
+        "printd settings lab.toml --avahi --printer lab --lpd 8515",
+        "Settings(Avahi { file: \"lab.toml\", printer: Some(\"lab\"), lpd: 8515 })",
+    ),
+    (
+        "printd serve",
+        "Serve(Serving { settings: None, ipp: [127.0.0.1:8631], lpd: [127.0.0.1:8515], devices: [127.0.0.1:8632], turns: 1000000000000, log: None, record: None, record_heads: false })",
+    ),
+    (
+        "printd serve --settings lab.toml --ipp 631 --lpd 515 --devices 0 --log --turns 7",
+        "Serve(Serving { settings: Some(\"lab.toml\"), ipp: [127.0.0.1:631], lpd: [127.0.0.1:515], devices: [127.0.0.1:0], turns: 7, log: Some(StandardError), record: None, record_heads: false })",
+    ),
+    (
+        "printd serve --log printd.log --ipp 631",
+        "Serve(Serving { settings: None, ipp: [127.0.0.1:631], lpd: [127.0.0.1:8515], devices: [127.0.0.1:8632], turns: 1000000000000, log: Some(File(\"printd.log\")), record: None, record_heads: false })",
+    ),
+    (
+        "printd serve --address 0.0.0.0 --ipp 631 --devices 127.0.0.1:8632",
+        "Serve(Serving { settings: None, ipp: [0.0.0.0:631], lpd: [0.0.0.0:8515], devices: [127.0.0.1:8632], turns: 1000000000000, log: None, record: None, record_heads: false })",
+    ),
+    (
+        "printd serve --ipp 10.0.0.1:631 --ipp [::1]:632 --lpd 515 --lpd 516",
+        "Serve(Serving { settings: None, ipp: [10.0.0.1:631, [::1]:632], lpd: [127.0.0.1:515, 127.0.0.1:516], devices: [127.0.0.1:8632], turns: 1000000000000, log: None, record: None, record_heads: false })",
+    ),
+    (
+        "printd serve --address ::",
+        "Serve(Serving { settings: None, ipp: [[::]:8631], lpd: [[::]:8515], devices: [[::]:8632], turns: 1000000000000, log: None, record: None, record_heads: false })",
+    ),
+    (
+        "printd serve --record day.trace --record-heads --turns 7",
+        "Serve(Serving { settings: None, ipp: [127.0.0.1:8631], lpd: [127.0.0.1:8515], devices: [127.0.0.1:8632], turns: 7, log: None, record: Some(\"day.trace\"), record_heads: true })",
+    ),
+    ("printd log day.trace", "Log { file: Some(\"day.trace\") }"),
+    (
+        "printd replay --verify day.trace",
+        "Replay(Replaying { file: Some(\"day.trace\"), plans: false, verify: true })",
+    ),
+    (
+        "printd attach --name window --to file:printed",
+        "Attach(Attaching { name: \"window\", server: \"127.0.0.1:8632\", to: \"file:printed\", format: None, ms_per_page: 0, linger: 30, timeout: 300, pjl: false, turns: 18446744073709551615, log: false, measure: false, until_closed: false })",
+    ),
+    (
+        "printd attach --name a --to lpd://b/c --server d:1 --format application/pdf --ms-per-page 2 --linger 3 --timeout 4 --pjl --turns 5 --log --measure --until-closed",
+        "Attach(Attaching { name: \"a\", server: \"d:1\", to: \"lpd://b/c\", format: Some(\"application/pdf\"), ms_per_page: 2, linger: 3, timeout: 4, pjl: true, turns: 5, log: true, measure: true, until_closed: true })",
+    ),
+];
+
+/// Lines of words that are refused: one that isn't known, a word without the one that it needs, a port
+/// and an address that are none, and turns out of range.
+const REFUSED: [&str; 12] = [
+    "printd",
+    "printd reply",
+    "printd settings --avahi",
+    "printd settings lab.toml --printer lab",
+    "printd serve --devices 65536",
+    "printd serve --ipp localhost:631",
+    "printd serve --address office",
+    "printd serve --record-heads",
+    "printd serve --turns 0",
+    "printd serve --turns 1000000000001",
+    "printd attach --name window",
+    "printd attach --to file:printed",
+];
+
+/// Lines of words that ask for a text.
+const TOLD: [&str; 3] = ["printd --version", "printd --help", "printd serve --help"];
+
+/// How the program ends where it tells this text.
+fn ends_with(text: &str, status: ExitStatus) -> ExitStatus {
+    if text.ends_with('\n') {
+        status
+    } else {
+        ExitStatus::Failed
+    }
+}
+
+/// What became of a line of words: what it asks for, as it is shown, or how the program ends.
+fn outcome(alloc: Global, line: &str) -> Result<Result<String, ExitStatus>, AllocError> {
+    let words: Vec<&str> = line.split(' ').collect(alloc)?;
+    match read_words(alloc, &words) {
+        Ok(asked) => Ok(Ok(format!(in alloc; "{asked:?}")?)),
+        Err(WordsError::Help(text)) => Ok(Err(ends_with(&text, ExitStatus::Done))),
+        Err(WordsError::Fault(text)) => Ok(Err(ends_with(&text, ExitStatus::Refused))),
+        Err(WordsError::OutOfMemory) => Ok(Err(ExitStatus::Failed)),
+    }
+}
+
+/// Whether a line of words asks for this.
+fn is_read(alloc: Global, line: &str, wanted: &str) -> Result<bool, AllocError> {
+    Ok(match outcome(alloc, line)? {
+        Ok(asked) => asked.as_str() == wanted,
+        Err(_) => false,
+    })
+}
+
+/// Whether a line of words ends so.
+fn ends(alloc: Global, line: &str, wanted: ExitStatus) -> Result<bool, AllocError> {
+    Ok(match outcome(alloc, line)? {
+        Ok(_) => false,
+        Err(status) => status == wanted,
+    })
+}
+
+#[test]
+fn words_that_are_read(rt: HostRuntime) -> Result<(), Fail> {
+    for (line, asked) in READ {
+        let read = is_read(rt.alloc(), line, asked)?;
+        assert!(rt; read, "{line}");
+    }
+    Ok(())
+}
+
+#[test]
+fn words_that_are_refused(rt: HostRuntime) -> Result<(), Fail> {
+    for line in REFUSED {
+        let refused = ends(rt.alloc(), line, ExitStatus::Refused)?;
+        assert!(rt; refused, "{line}");
+    }
+    Ok(())
+}
+
+#[test]
+fn words_that_ask_for_a_text(rt: HostRuntime) -> Result<(), Fail> {
+    for line in TOLD {
+        let told = ends(rt.alloc(), line, ExitStatus::Done)?;
+        assert!(rt; told, "{line}");
+    }
+    Ok(())
+}

@@ -1,0 +1,144 @@
+//! What replies of HTTP say, requests to a printer of IPP, and what is found in its replies.
+use attach_http::ReplyReader;
+use attach_ipp::{cancel_job, copies_up_to, is_stopped, lists, loaded_media, reply_in};
+use ipp_codec::GroupTag;
+use std::alloc::{AllocError, Global};
+use std::test::Fail;
+
+/// The bytes of a connection that then ends, and what is read: the status, the body, and the fault.
+const REPLIES: [(&[u8], &str); 12] = [
+    (
+        b"HTTP/1.1 200 OK\r\nContent-Length: 5\r\n\r\nhello, and more",
+        "200 hello",
+    ),
+    (b"HTTP/1.0 200\nCONTENT-LENGTH:  5 \n\nhello", "200 hello"),
+    (
+        b"HTTP/1.1 200 OK\r\nTransfer-Encoding: chunked\r\n\r\n4\r\nWiki\r\n00C ;a=\"b\"\r\npedia\r\nin ch\r\n0\r\nX: y\r\n\r\n",
+        "200 Wikipedia\r\nin ch",
+    ),
+    (
+        b"HTTP/1.1 100 Continue\r\n\r\nHTTP/1.1 401 No\r\nContent-Length: 0\r\n\r\n",
+        "401 ",
+    ),
+    (b"HTTP/1.1 200 OK\r\n\r\nto the end", "200 to the end"),
+    (b"HTTP/1.1 204 Nothing\r\nContent-Length: 5\r\n\r\n", "204 "),
+    (
+        b"HTTP/1.1 200 OK\r\nContent-Length: 5\r\nContent-Length: 6\r\n\r\n",
+        "200  a body of no known length",
+    ),
+    (
+        b"HTTP/1.1 200 OK\r\nContent-Length: 1048577\r\n\r\n",
+        "200  too long a reply",
+    ),
+    (
+        b"HTTP/1.1 200 OK\r\nTransfer-Encoding: gzip\r\n\r\n",
+        "200  a body in an unknown coding",
+    ),
+    (
+        b"HTTP/1.1 200 OK\r\nTransfer-Encoding: chunked\r\n\r\ng\r\n",
+        "200  no reply of HTTP",
+    ),
+    (
+        b"HTTP/1.1 200 OK\r\nContent-Length: 5\r\n\r\nhell",
+        "200 hell closed early",
+    ),
+    (b"220 mail\r\n", "0  no reply of HTTP"),
+];
+
+/// What is read of a connection.
+fn read(alloc: Global, bytes: &[u8]) -> Result<String, AllocError> {
+    let mut reader = ReplyReader::new(alloc);
+    for byte in bytes {
+        reader.take(*byte)?;
+    }
+    reader.end();
+    let status = reader.status();
+    let mut text = format!(in alloc; "{status} ")?;
+    for byte in reader.body() {
+        text.push(char::from(*byte))?;
+    }
+    add_fault(alloc, &reader, &mut text)?;
+    Ok(text)
+}
+
+/// Adds what is wrong with a reply.
+fn add_fault(alloc: Global, reader: &ReplyReader, text: &mut String) -> Result<(), AllocError> {
+    if let Some(fault) = reader.fault() {
+        let said = format!(in alloc; " {fault}")?;
+        text.push_str(&said)?;
+    }
+    Ok(())
+}
+
+/// The first row of which something else is read.
+fn first_missed(alloc: Global) -> Result<Option<usize>, AllocError> {
+    for (place, (bytes, wanted)) in REPLIES.iter().enumerate() {
+        if read(alloc, bytes)?.as_str() != *wanted {
+            return Ok(Some(place));
+        }
+    }
+    Ok(None)
+}
+
+#[test]
+fn replies_of_http(rt: HostRuntime) -> Result<(), Fail> {
+    assert!(rt; first_missed(rt.alloc())?.is_none());
+    Ok(())
+}
+
+/// A Cancel-Job of IPP/1.1 (RFC 8010, section 3; RFC 8011, section 4.3.3).
+const CANCEL: &[u8] =
+    b"\x01\x01\x00\x08\x00\x00\x00\x01\x01\x47\x00\x12attributes-charset\x00\x05utf-8\x48\x00\x1battributes-natural-language\x00\x02en\x45\x00\x0bprinter-uri\x00\x09ipp://h/p\x21\x00\x06job-id\x00\x04\x00\x00\x00\x07\x42\x00\x14requesting-user-name\x00\x06printd\x03";
+
+#[test]
+fn a_request_of_ipp(rt: HostRuntime) -> Result<(), Fail> {
+    let bytes = cancel_job(rt.alloc(), b"ipp://h/p", 7)?;
+    assert!(rt; bytes.as_slice() == CANCEL);
+    Ok(())
+}
+
+/// A printer that is idle and has a warning, two media of which one is no medium's name, and up to 9 copies.
+const IDLE: &[u8] =
+    b"\x01\x01\x00\x00\x00\x00\x00\x01\x01\x47\x00\x12attributes-charset\x00\x05utf-8\x04\x23\x00\x0dprinter-state\x00\x04\x00\x00\x00\x03\x44\x00\x15printer-state-reasons\x00\x11media-jam-warning\x44\x00\x0bmedia-ready\x00\x02a4\x44\x00\x00\x00\x02A5\x33\x00\x10copies-supported\x00\x08\x00\x00\x00\x01\x00\x00\x00\x09\x03";
+
+/// A printer that is idle, and jammed.
+const JAMMED: &[u8] =
+    b"\x01\x01\x00\x00\x00\x00\x00\x01\x04\x23\x00\x0dprinter-state\x00\x04\x00\x00\x00\x03\x44\x00\x15printer-state-reasons\x00\x0dtoner-low-war\x44\x00\x00\x00\x0fmedia-jam-error\x03";
+
+/// A printer that is stopped, without a reason.
+const STOPPED: &[u8] =
+    b"\x01\x01\x00\x00\x00\x00\x00\x01\x04\x23\x00\x0dprinter-state\x00\x04\x00\x00\x00\x05\x03";
+
+/// Whether a printer is stopped, and the most copies that it makes.
+fn state_of(body: &[u8]) -> Option<(bool, u32)> {
+    let reply = reply_in(body)?;
+    Some((is_stopped(&reply), copies_up_to(&reply)))
+}
+
+#[test]
+fn states_of_printers(rt: HostRuntime) -> Result<(), Fail> {
+    assert!(rt; state_of(IDLE) == Some((false, 9)));
+    assert!(rt; state_of(JAMMED) == Some((true, 1)));
+    assert!(rt; state_of(STOPPED) == Some((true, 1)));
+    assert!(rt; state_of(b"\x01\x01").is_none());
+    Ok(())
+}
+
+/// Whether a reply's only loaded medium is this one, and it is listed as ready.
+fn has_one_medium(alloc: Global, body: &[u8], name: &[u8]) -> Result<bool, AllocError> {
+    let Some(reply) = reply_in(body) else {
+        return Ok(false);
+    };
+    let Some(names) = loaded_media(alloc, &reply)? else {
+        return Ok(false);
+    };
+    let is_ready = lists(&reply, GroupTag::PRINTER, b"media-ready", name);
+    Ok(is_ready && names.len() == 1 && names.iter().all(|medium| medium.is(name)))
+}
+
+#[test]
+fn media_of_printers(rt: HostRuntime) -> Result<(), Fail> {
+    assert!(rt; has_one_medium(rt.alloc(), IDLE, b"a4")?);
+    assert!(rt; !has_one_medium(rt.alloc(), JAMMED, b"a4")?);
+    Ok(())
+}

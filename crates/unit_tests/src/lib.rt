@@ -1,0 +1,30 @@
+//! Tests over public calls that make no server: of what reads bytes and words, of plans, and of jobs.
+#![tactic(auto)]
+
+#[cfg(test)]
+mod announced_printers;
+#[cfg(test)]
+mod attached_printers;
+#[cfg(test)]
+mod best_ways;
+#[cfg(test)]
+mod command_words;
+#[cfg(test)]
+mod ipp_messages;
+#[cfg(test)]
+mod ipp_replies;
+#[cfg(test)]
+mod job_ids;
+#[cfg(test)]
+mod job_list_lines;
+#[cfg(test)]
+mod job_states;
+mod measured_jobs;
+#[cfg(test)]
+mod plan_sentences;
+#[cfg(test)]
+mod plan_texts;
+#[cfg(test)]
+mod settings_sentences;
+#[cfg(test)]
+mod text_bytes;
