@@ -9,7 +9,7 @@ use Rattle.http_front.specs.declared.item.HttpItem.{HttpItem}
 use Rattle.http_front.specs.declared.item.HttpItem.TheVariants as item
 use Rattle.http_front.specs.Stream.{Said, HasHead, Invites, HasByte, EndsBody, IsRefused, said_by}
 use Rattle.http_front.specs.Stream as Http
-use Rattle.lpd.specs.Conversation.{CommandRecord, ListsShort, ListsLong, RemovesJobs, ItemRecord, Says, Aborts, Announces, HasFile}
+use Rattle.lpd.specs.Items.{CommandRecord, ListsShort, ListsLong, RemovesJobs, ItemRecord, Says, Aborts, Announces, HasFile}
 use Rattle.lpd.specs.Stream as Lpd
 use Rattle.lpd.specs.Session.{SessionState, SentRecord}
 use Rattle.events.specs.declared.event.Event.{Event}
@@ -30,7 +30,7 @@ use Rattle.connections.specs.declared.step.Step.{Step}
 use Rattle.connections.specs.declared.step.Step.TheVariants as step
 use Rattle.connections.specs.Session.{Hearing, Goes, Stops, Submits, Commands, heard, file_lost, is_queue}
 use Rattle.connections.specs.Commands.{SubmitsJob, IsCommand}
-use Rattle.connections.specs.Entry.{Talk, Http as OfIpp, Queue as OfLpd, Link as OfDevice, Entry, talking, finishing}
+use Rattle.connections.specs.Entry.{PeerRecord, Http as OfIpp, Queue as OfLpd, Link as OfDevice, Entry, talking, finishing}
 use Rattle.connections.specs.Steps.{silent, no_memory, asked_step, EndsBody as EndsSo, StepsIpp, closes_after, body_after, byte_due, refused, AsksAs, AsksForFile, StepsLpd, place_of, StepsHello, StepsDevice, faulty, due_bytes}
 use Rattle.connections.specs.Asking.{HearsIpp, HearsItem, FindsFault, LosesLine, HearsReport, FindsLinkFault, Hears, Owes, StepsTo, AsksNext}
 use Rattle.connections.specs.Choice.{part_taken, part_heard, part_of, Loss, OfGrowth, OfPart, OfBody, lost_of, SameAsk}
@@ -470,7 +470,7 @@ link_agrees laws named e reports device comes comes' mid mid' (inr (inr a)) (inr
 
 -- ---- each peer
 
-hears_agree : Laws → (settings : ServerSettings) (talk : Talk) (e : Entry) (comes comes' : Step) (mid mid' : Entry) (a : Hears settings talk e comes mid) (b : Hears settings talk e comes' mid')
+hears_agree : Laws → (settings : ServerSettings) (talk : PeerRecord) (e : Entry) (comes comes' : Step) (mid mid' : Entry) (a : Hears settings talk e comes mid) (b : Hears settings talk e comes' mid')
     → part_heard settings talk e comes mid a ≡ part_heard settings talk e comes' mid' b → Agree comes mid comes' mid'
 hears_agree laws settings (OfIpp said closes body) e comes comes' mid mid' a b parts = ipp_agrees laws e said closes body comes comes' mid mid' a b parts
 hears_agree laws settings (OfLpd items session) e comes comes' mid mid' a b parts = queue_agrees laws (is_queue settings) e items session comes comes' mid mid' a b

@@ -9,7 +9,7 @@ use Rattle.connections.specs.declared.connection.Fed.TheVariants as how
 use Rattle.connections.specs.declared.peer.Peer.{Peer}
 use Rattle.connections.specs.declared.step.Step.{Step}
 use Rattle.connections.specs.declared.step.Step.TheVariants as step
-use Rattle.connections.specs.Entry.{Talk, Entry, waiting, talking, reading, finishing, broken, owing, needs_memory}
+use Rattle.connections.specs.Entry.{PeerRecord, Entry, waiting, talking, reading, finishing, broken, owing, needs_memory}
 use Rattle.connections.specs.Steps.{due_bytes}
 use Rattle.connections.specs.Asking.{StepsTo, Asking, Feeds}
 use Rattle.connections.specs.Peers.{NextPeer, IsFedPeer}
@@ -41,7 +41,7 @@ more_due e c bytes f = sym (append_assoc e.taken c.output bytes) ∙ ap (λ (o :
 -- ---- a step
 
 -- what a step comes to, of a connection whose peer is this now
-takes : (e : Entry) (talk : Talk) (c d : ConnectionState) (p : Peer) (what : Step) (asked : Ask) → RepresentsConnection e c → e.broken ≡ false → FitsPeer e.read talk true p → (Goes what → FitsPeer e.read talk false p) → Takes what (with_peer p c) asked d
+takes : (e : Entry) (talk : PeerRecord) (c d : ConnectionState) (p : Peer) (what : Step) (asked : Ask) → RepresentsConnection e c → e.broken ≡ false → FitsPeer e.read talk true p → (Goes what → FitsPeer e.read talk false p) → Takes what (with_peer p c) asked d
     → (new : Entry) × StepsTo what (talking talk e) asked new × RepresentsConnection new d
 takes e talk c d p (step.Due due last) asked f whole off on (inl (is, now)) =
     let new : Entry = owing (due_bytes due) (finishing last (talking talk e)) in

@@ -20,7 +20,7 @@ use Rattle.http_front.specs.Stream as Http
 use Rattle.lpd.specs.declared.fault.LpdError.{LpdError}
 use Rattle.lpd.specs.declared.fault.LpdError.TheVariants as lpd
 use Rattle.lpd.specs.declared.item.LpdItem.{LpdItem}
-use Rattle.lpd.specs.Conversation.{ItemRecord, item_record}
+use Rattle.lpd.specs.Items.{ItemRecord, item_record}
 use Rattle.lpd.specs.Stream.{LpdState, LpdItems, Open}
 use Rattle.lpd.specs.Stream as Lpd
 use Rattle.ipp_operations.specs.Reader as Body
@@ -30,7 +30,7 @@ use Rattle.connections.specs.declared.step.Step.{Step}
 use Rattle.connections.specs.declared.step.Step.TheVariants as step
 use Rattle.connections.specs.States.{IppClientState, LpdClientState, DeviceState}
 use Rattle.connections.specs.Session.{is_queue}
-use Rattle.connections.specs.Entry.{Talk, Entry, talking}
+use Rattle.connections.specs.Entry.{PeerRecord, Entry, talking}
 use Rattle.connections.specs.Entry as entry
 use Rattle.connections.specs.Steps.{StepsDevice, StepsHello, place_of, step_of}
 use Rattle.connections.specs.Peers.{with_http, with_lpd, with_link, HearsIpp, HearsWholeItem, HearsWholeReport, NextIpp, NextLpd, NextDevice, NextPeer, IsFedPeer, link_step, Greets, ComesOf}
@@ -71,14 +71,14 @@ Goes (step.Asks ask last) = Unit {0}
 Goes (step.Breaks ask) = ⊥
 
 -- what a broken connection's peer said counts no more
-pub broken_peer : (read : List ℕ) (talk : Talk) (off : Bool) (p : Peer) → FitsPeer read talk off p → FitsPeer read talk true p
+pub broken_peer : (read : List ℕ) (talk : PeerRecord) (off : Bool) (p : Peer) → FitsPeer read talk off p → FitsPeer read talk true p
 broken_peer read talk off (of.Ipp t) f = f
 broken_peer read talk off (of.Lpd t) f = f
 broken_peer read talk off (of.Device t) f = record { reports = f.reports; is = f.is; linked = λ no. let never : true ≡ false = no in cc }
 
 -- the next of a stream was acted on, and the entry says so
 pub record Heard (settings : ServerSettings) (e : Entry) (what : Step) (p : Peer) : Type 0 where
-  pub talk : Talk
+  pub talk : PeerRecord
   pub hears : Hears settings e.talk e what (talking talk e)
   pub broken : FitsPeer e.read talk true p
   pub whole : Goes what → FitsPeer e.read talk false p
@@ -99,7 +99,7 @@ says_first read said reader stands = record { next = reader.awaited; left = stan
 
 -- an item comes to this
 abbrev Comes : Entry → List Said → Bool → List ℕ → Step → IppClientState → Type 0
-Comes e said closes body what u = (talk : Talk) × NextItem e said closes body what (talking talk e) × FitsIpp e.read talk u
+Comes e said closes body what u = (talk : PeerRecord) × NextItem e said closes body what (talking talk e) × FitsIpp e.read talk u
 
 part_comes : (e : Entry) (said : List Said) (t u : IppClientState) (body : List ℕ) (reader : HttpState) (what : Step) → Http.Stands e.read (said ++ said_by item.BodyPart reader.part) reader → Body.Heard body t.body → HearsIpp item.BodyPart what (with_http reader t) u → Comes e said t.closes body what u
 part_comes e said t u body reader (step.Due due last) stands heard it = (
@@ -140,7 +140,7 @@ item_comes e said t u body reader what (item.Refuse refusal) stands heard (is, s
 heard_ipp : (settings : ServerSettings) (e : Entry) (t u : IppClientState) (what : Step) → FitsIpp e.read e.talk t → NextIpp (Some what) t u → Heard settings e what (of.Ipp u)
 heard_ipp settings e t u what f (it, reader, answers, falls, hears) =
     let c = item_comes e f.said t u f.body reader what it (answers.0 e.read f.said f.stands) f.heard hears in
-    record { talk = c.0; hears = subst (λ (k : Talk). Hears settings k e what (talking c.0 e)) (sym f.is) c.1; broken = c.2; whole = λ goes. c.2 }
+    record { talk = c.0; hears = subst (λ (k : PeerRecord). Hears settings k e what (talking c.0 e)) (sym f.is) c.1; broken = c.2; whole = λ goes. c.2 }
 
 -- ---- an LPD client
 
@@ -156,15 +156,15 @@ heard_lpd settings e t u what f (inl (it, reader, answers, falls, (same, comes))
       comes = comes;
       after = refl;
     } in
-    record { talk = entry.Queue (f.items ++ item_record it reader.file ∷ []) u.session; hears = subst (λ (k : Talk). Hears settings k e what (talking (entry.Queue (f.items ++ item_record it reader.file ∷ []) u.session) e)) (sym f.is) (inl next); broken = fits; whole = λ goes. fits }
+    record { talk = entry.Queue (f.items ++ item_record it reader.file ∷ []) u.session; hears = subst (λ (k : PeerRecord). Hears settings k e what (talking (entry.Queue (f.items ++ item_record it reader.file ∷ []) u.session) e)) (sym f.is) (inl next); broken = fits; whole = λ goes. fits }
 heard_lpd settings e t u what f (inr (inl (fault, answers, comes, is))) =
     let found = answers.1 e.read f.items f.stands in
     let fits : FitsLpd e.read e.talk u = record { items = f.items; is = f.is ∙ sym (ap (λ (x : LpdClientState). entry.Queue f.items x.session) is); stands = found.1 } in
     let next : FindsFault e f.items what (talking e.talk e) = record { fault = fault; is = found.0; comes = comes; after = refl } in
-    record { talk = e.talk; hears = subst (λ (k : Talk). Hears settings k e what (talking e.talk e)) (sym f.is) (inr (inl next)); broken = fits; whole = λ goes. fits }
+    record { talk = e.talk; hears = subst (λ (k : PeerRecord). Hears settings k e what (talking e.talk e)) (sym f.is) (inr (inl next)); broken = fits; whole = λ goes. fits }
 heard_lpd settings e t u what f (inr (inr (answers, comes, is))) =
     let fits : FitsLpd e.read e.talk u = record { items = f.items; is = f.is ∙ sym (ap (λ (x : LpdClientState). entry.Queue f.items x.session) is); stands = subst (λ (r : LpdState). Lpd.Stands e.read f.items r) (sym answers.0) f.stands } in
-    record { talk = e.talk; hears = subst (λ (k : Talk). Hears settings k e what (talking e.talk e)) (sym f.is) (inr (inr (comes, refl))); broken = fits; whole = λ goes. fits }
+    record { talk = e.talk; hears = subst (λ (k : PeerRecord). Hears settings k e what (talking e.talk e)) (sym f.is) (inr (inr (comes, refl))); broken = fits; whole = λ goes. fits }
 
 -- ---- a device
 
@@ -235,7 +235,7 @@ heard_device settings e t u what f (inl (it, reader, answers, falls, (same, come
     } in
     record {
       talk = entry.Link (f.reports ++ report_of it ∷ []) u.device;
-      hears = subst (λ (k : Talk). Hears settings k e what (talking (entry.Link (f.reports ++ report_of it ∷ []) u.device) e)) (sym f.is) (inl next);
+      hears = subst (λ (k : PeerRecord). Hears settings k e what (talking (entry.Link (f.reports ++ report_of it ∷ []) u.device) e)) (sym f.is) (inl next);
       broken = off_device e.read (f.reports ++ report_of it ∷ []) u;
       whole = λ goes. record {
         reports = f.reports ++ report_of it ∷ [];
@@ -249,7 +249,7 @@ heard_device settings e t u what f (inr (inl (fault, answers, comes, is))) =
     let next : FindsLinkFault e f.reports t.device what (talking e.talk e) = record { fault = fault; is = found.0; comes = comes; after = refl } in
     record {
       talk = e.talk;
-      hears = subst (λ (k : Talk). Hears settings k e what (talking e.talk e)) (sym f.is) (inr (inl next));
+      hears = subst (λ (k : PeerRecord). Hears settings k e what (talking e.talk e)) (sym f.is) (inr (inl next));
       broken = record { reports = f.reports; is = talk; linked = λ no. let never : true ≡ false = no in cc };
       whole = λ goes. absurd (subst Goes comes goes);
     }
@@ -257,7 +257,7 @@ heard_device settings e t u what f (inr (inr (answers, comes, is))) =
     let talk : e.talk ≡ entry.Link f.reports u.device = f.is ∙ sym (ap (λ (x : DeviceState). entry.Link f.reports x.device) is) in
     record {
       talk = e.talk;
-      hears = subst (λ (k : Talk). Hears settings k e what (talking e.talk e)) (sym f.is) (inr (inr (comes, refl)));
+      hears = subst (λ (k : PeerRecord). Hears settings k e what (talking e.talk e)) (sym f.is) (inr (inr (comes, refl)));
       broken = record { reports = f.reports; is = talk; linked = λ no. let never : true ≡ false = no in cc };
       whole = λ goes. absurd (subst Goes comes goes);
     }
@@ -276,21 +276,21 @@ heard settings e (of.Device t) (of.Ipp u) what f next = absurd next
 heard settings e (of.Device t) (of.Lpd u) what f next = absurd next
 
 -- nothing whole is left
-pub rested : (settings : ServerSettings) (read : List ℕ) (talk : Talk) (x y : Peer) → FitsPeer read talk false x → NextPeer settings None x y → IsHeardAs read talk × FitsPeer read talk false y
+pub rested : (settings : ServerSettings) (read : List ℕ) (talk : PeerRecord) (x y : Peer) → FitsPeer read talk false x → NextPeer settings None x y → IsHeardAs read talk × FitsPeer read talk false y
 rested settings read talk (of.Ipp t) (of.Ipp u) f (answers, is) =
     let all : Exchanges read f.said = answers.1 read f.said f.stands in
     let stands : Http.Stands read f.said u.reader = subst (λ (xs : List Said). Http.Stands read xs u.reader) (append-nil f.said) (answers.0 read f.said f.stands) in
     let same : entry.Http f.said t.closes f.body ≡ entry.Http f.said u.closes f.body = sym (ap (λ (v : IppClientState). entry.Http f.said v.closes f.body) is) in
-    (subst (λ (k : Talk). IsHeardAs read k) (sym f.is) all, record { said = f.said; body = f.body; is = f.is ∙ same; stands = stands; heard = subst (λ (v : IppClientState). Body.Heard f.body v.body) (sym is) f.heard })
+    (subst (λ (k : PeerRecord). IsHeardAs read k) (sym f.is) all, record { said = f.said; body = f.body; is = f.is ∙ same; stands = stands; heard = subst (λ (v : IppClientState). Body.Heard f.body v.body) (sym is) f.heard })
 rested settings read talk (of.Lpd t) (of.Lpd u) f (answers, is) =
     let all : LpdItems read f.items Open = answers.1 read f.items f.stands in
     let same : entry.Queue f.items t.session ≡ entry.Queue f.items u.session = sym (ap (λ (v : LpdClientState). entry.Queue f.items v.session) is) in
-    (subst (λ (k : Talk). IsHeardAs read k) (sym f.is) all, record { items = f.items; is = f.is ∙ same; stands = subst (λ (r : LpdState). Lpd.Stands read f.items r) (sym answers.0) f.stands })
+    (subst (λ (k : PeerRecord). IsHeardAs read k) (sym f.is) all, record { items = f.items; is = f.is ∙ same; stands = subst (λ (r : LpdState). Lpd.Stands read f.items r) (sym answers.0) f.stands })
 rested settings read talk (of.Device t) (of.Device u) f (answers, is) =
     let linked = f.linked refl in
     let all = answers.1 read f.reports linked.stands in
     let same : entry.Link f.reports t.device ≡ entry.Link f.reports u.device = sym (ap (λ (v : DeviceState). entry.Link f.reports v.device) is) in (
-      subst (λ (k : Talk). IsHeardAs read k) (sym f.is) all,
+      subst (λ (k : PeerRecord). IsHeardAs read k) (sym f.is) all,
       record {
         reports = f.reports;
         is = f.is ∙ same;
@@ -305,7 +305,7 @@ rested settings read talk (of.Device t) (of.Ipp u) f it = absurd it
 rested settings read talk (of.Device t) (of.Lpd u) f it = absurd it
 
 -- a piece was fed
-pub fed_peer : (read piece : List ℕ) (talk : Talk) (off : Bool) (x y : Peer) → FitsPeer read talk off x → IsFedPeer piece x y → FitsPeer (read ++ piece) talk off y
+pub fed_peer : (read piece : List ℕ) (talk : PeerRecord) (off : Bool) (x y : Peer) → FitsPeer read talk off x → IsFedPeer piece x y → FitsPeer (read ++ piece) talk off y
 fed_peer read piece talk off (of.Ipp t) (of.Ipp u) f (is, stands) =
     let same : entry.Http f.said t.closes f.body ≡ entry.Http f.said u.closes f.body = sym (ap (λ (v : IppClientState). entry.Http f.said v.closes f.body) is) in
     record { said = f.said; body = f.body; is = f.is ∙ same; stands = stands read f.said f.stands; heard = subst (λ (v : IppClientState). Body.Heard f.body v.body) (sym is) f.heard }

@@ -6,7 +6,7 @@ use Rattle.http_front.specs.Stream.{Said, said_by, Exchanges}
 use Rattle.http_front.specs.Stream as Http
 use Rattle.http_front.specs.declared.item.HttpItem.{HttpItem}
 use Rattle.lpd.specs.declared.fault.LpdFault.{LpdFault}
-use Rattle.lpd.specs.Conversation.{ItemRecord}
+use Rattle.lpd.specs.Items.{ItemRecord}
 use Rattle.lpd.specs.Stream.{LpdItems, Open, Faulty}
 use Rattle.lpd.specs.Stream as Lpd
 use Rattle.lpd.specs.Session.{SessionState}
@@ -21,7 +21,7 @@ use Rattle.connections.specs.declared.ask.Growth.TheVariants as growth
 use Rattle.connections.specs.declared.step.Step.{Step}
 use Rattle.connections.specs.declared.step.Step.TheVariants as step
 use Rattle.connections.specs.Session.{is_queue}
-use Rattle.connections.specs.Entry.{Talk, Http as OfIpp, Queue as OfLpd, Link as OfDevice, Entry, talking, reading, finishing, broken, owing, needs_memory}
+use Rattle.connections.specs.Entry.{PeerRecord, Http as OfIpp, Queue as OfLpd, Link as OfDevice, Entry, talking, reading, finishing, broken, owing, needs_memory}
 use Rattle.connections.specs.Steps.{StepsIpp, closes_after, body_after, StepsLpd, StepsDevice, refused, faulty, no_memory, place_of, due_bytes}
 
 -- ---- the next of a stream, after what was acted on
@@ -69,7 +69,7 @@ pub record FindsLinkFault (e : Entry) (reports : List ReportRecord) (device : Op
   pub after : mid ≡ e
 
 -- the next of a stream comes to this, and is acted on
-abbrev pub Hears : ServerSettings → Talk → Entry → Step → Entry → Type 0
+abbrev pub Hears : ServerSettings → PeerRecord → Entry → Step → Entry → Type 0
 Hears settings (OfIpp said closes body) e what mid = HearsIpp e said closes body what mid
 Hears settings (OfLpd items session) e what mid = HearsItem (is_queue settings) e items session what mid ⊎ (FindsFault e items what mid ⊎ LosesLine e what mid)
 Hears settings (OfDevice reports device) e what mid = HearsReport (place_of settings) e reports device what mid ⊎ (FindsLinkFault e reports device what mid ⊎ LosesLine e what mid)
@@ -90,7 +90,7 @@ StepsTo (step.Breaks asked) e what new = (what ≡ asked) × (new ≡ broken e)
 -- ---- all of it
 
 -- what was acted on is all that was read
-abbrev pub IsHeardAs : List ℕ → Talk → Type 0
+abbrev pub IsHeardAs : List ℕ → PeerRecord → Type 0
 IsHeardAs read (OfIpp said closes body) = Exchanges read said
 IsHeardAs read (OfLpd items session) = LpdItems read items Open
 IsHeardAs read (OfDevice reports device) = device_reports read ≡ record { reports = reports; ending = Unfinished }

@@ -10,7 +10,7 @@ use Rattle.connections.specs.declared.ask.Ask.TheVariants as ask
 use Rattle.connections.specs.declared.ask.Growth.{Growth}
 use Rattle.connections.specs.declared.ask.Part.{Part}
 use Rattle.connections.specs.declared.step.Step.{Step}
-use Rattle.connections.specs.Entry.{Talk, Http as OfIpp, Queue as OfLpd, Link as OfDevice, Entry}
+use Rattle.connections.specs.Entry.{PeerRecord, Http as OfIpp, Queue as OfLpd, Link as OfDevice, Entry}
 use Rattle.connections.specs.Asking.{Hears, AsksNext}
 
 -- ---- the choices
@@ -23,7 +23,7 @@ part_taken item.BodyPart part = Some (length part)
 part_taken item.BodyEnd part = None
 part_taken (item.Refuse refusal) part = None
 
-abbrev pub part_heard : (settings : ServerSettings) (talk : Talk) (e : Entry) (comes : Step) (mid : Entry) → Hears settings talk e comes mid → Option ℕ
+abbrev pub part_heard : (settings : ServerSettings) (talk : PeerRecord) (e : Entry) (comes : Step) (mid : Entry) → Hears settings talk e comes mid → Option ℕ
 part_heard settings (OfIpp said closes body) e comes mid next = part_taken next.item next.part
 part_heard settings (OfLpd items session) e comes mid next = None
 part_heard settings (OfDevice reports device) e comes mid next = None

@@ -1,6 +1,6 @@
 -- Which events of the core an LPD client's jobs and commands are (RFC 1179, sections 5.3 to 5.5 and 6).
 use Rattle.std.specs.Prelude.{◌≡◌}
-use Rattle.lpd.specs.Conversation.{CommandRecord, ListsShort, ListsLong, RemovesJobs}
+use Rattle.lpd.specs.Items.{CommandRecord, ListsShort, ListsLong, RemovesJobs}
 use Rattle.lpd.specs.Session.{SentRecord}
 use Rattle.events.specs.declared.queue.QueueForm.TheVariants.{Short, Long}
 use Rattle.events.specs.declared.event.Event.{Event}

@@ -2,33 +2,33 @@
 use Rattle.std.specs.Prelude.{ℕ, nat_lt, Bool, true, false, List, [], ◌++◌, length, drop, Option, None}
 use Rattle.base_types.specs.Report.{ReportRecord}
 use Rattle.http_front.specs.Stream.{Said}
-use Rattle.lpd.specs.Conversation.{ItemRecord}
+use Rattle.lpd.specs.Items.{ItemRecord}
 use Rattle.lpd.specs.Session.{SessionState}
 use Rattle.send_queues.specs.declared.queue.TheConstants.{RESERVED_BYTES}
 use Rattle.wires.specs.declared.wire.Door.{Door}
 use Rattle.wires.specs.declared.wire.Door.TheVariants.{Ipp, Lpd, Devices}
 
 -- what of a connection's bytes was acted on, and what is kept of it
-pub data Talk : Type 0 where
+pub data PeerRecord : Type 0 where
   -- whether the connection closes after the reply to the request that is coming, and its body so far
-  Http : (said : List Said) (closes : Bool) (body : List ℕ) → Talk
+  Http : (said : List Said) (closes : Bool) (body : List ℕ) → PeerRecord
   -- the files of a queue, once they are received
-  Queue : (items : List ItemRecord) (session : Option SessionState) → Talk
+  Queue : (items : List ItemRecord) (session : Option SessionState) → PeerRecord
   -- the device that said its name
-  Link : (reports : List ReportRecord) (device : Option ℕ) → Talk
+  Link : (reports : List ReportRecord) (device : Option ℕ) → PeerRecord
 
-abbrev pub opening_talk : Door → Talk
-opening_talk Ipp = Http [] false []
-opening_talk Lpd = Queue [] None
-opening_talk Devices = Link [] None
+abbrev pub opening_peer : Door → PeerRecord
+opening_peer Ipp = Http [] false []
+opening_peer Lpd = Queue [] None
+opening_peer Devices = Link [] None
 
-abbrev pub device_of : Talk → Option ℕ
+abbrev pub device_of : PeerRecord → Option ℕ
 device_of (Http said closes body) = None
 device_of (Queue items session) = None
 device_of (Link reports device) = device
 
 -- whether the connection closes after the reply to the request that came last
-abbrev pub closes_of : Talk → Bool
+abbrev pub closes_of : PeerRecord → Bool
 closes_of (Http said closes body) = closes
 closes_of (Queue items session) = false
 closes_of (Link reports device) = false
@@ -39,7 +39,7 @@ pub record Entry : Type 0 where
   pub id : ℕ
   -- all that was read while it counted
   pub read : List ℕ
-  pub talk : Talk
+  pub talk : PeerRecord
   -- its input has ended
   pub ended : Bool
   -- nothing counts that is read from now on; it closes once all that is due was taken
@@ -50,7 +50,7 @@ pub record Entry : Type 0 where
   pub due : List ℕ
 
 abbrev pub opening_entry : Door → ℕ → Entry
-opening_entry door id = record { id = id; read = []; talk = opening_talk door; ended = false; draining = false; broken = false; taken = []; due = [] }
+opening_entry door id = record { id = id; read = []; talk = opening_peer door; ended = false; draining = false; broken = false; taken = []; due = [] }
 
 -- what waits to be taken
 abbrev pub waiting : Entry → List ℕ
@@ -59,7 +59,7 @@ waiting e = drop (length e.taken) e.due
 -- ---- changes
 
 -- this was acted on
-abbrev pub talking : Talk → Entry → Entry
+abbrev pub talking : PeerRecord → Entry → Entry
 talking talk e = record e { talk = talk }
 
 -- a piece was read
@@ -82,7 +82,7 @@ broken e = record e { broken = true }
 abbrev pub owing : List ℕ → Entry → Entry
 owing bytes e = record e { due = e.due ++ bytes }
 
-abbrev pub unnamed : Talk → Talk
+abbrev pub unnamed : PeerRecord → PeerRecord
 unnamed (Http said closes body) = Http said closes body
 unnamed (Queue items session) = Queue items session
 unnamed (Link reports device) = Link reports None

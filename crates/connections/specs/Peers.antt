@@ -12,7 +12,7 @@ use Rattle.device_link.specs.Stream as Link
 use Rattle.lpd.specs.declared.fault.LpdFault.{LpdFault}
 use Rattle.lpd.specs.declared.fault.LpdError.TheVariants as lpd
 use Rattle.lpd.specs.declared.item.LpdItem.{LpdItem}
-use Rattle.lpd.specs.Conversation.{ItemRecord, item_record}
+use Rattle.lpd.specs.Items.{ItemRecord, item_record}
 use Rattle.lpd.specs.Stream.{LpdState}
 use Rattle.lpd.specs.Stream as Lpd
 use Rattle.http_front.specs.declared.item.HttpItem.{HttpItem}

@@ -4,18 +4,18 @@ use Rattle.base_types.specs.Report.{ReportRecord}
 use Rattle.device_link.specs.Stream as Link
 use Rattle.http_front.specs.Stream.{Said}
 use Rattle.http_front.specs.Stream as Http
-use Rattle.lpd.specs.Conversation.{ItemRecord}
+use Rattle.lpd.specs.Items.{ItemRecord}
 use Rattle.lpd.specs.Stream as Lpd
 use Rattle.ipp_operations.specs.Reader as Body
 use Rattle.connections.specs.States.{IppClientState, LpdClientState, DeviceState}
-use Rattle.connections.specs.Entry.{Talk, Entry}
+use Rattle.connections.specs.Entry.{PeerRecord, Entry}
 use Rattle.connections.specs.Entry as entry
 use Rattle.connections.specs.Connections.{ConnectionState}
 use Rattle.connections.specs.declared.peer.Peer.{Peer}
 use Rattle.connections.specs.declared.peer.Peer.TheVariants as of
 
 -- the reader of an IPP client has been fed what was read, and the reader of its body what that said of it
-pub record FitsIpp (read : List ℕ) (talk : Talk) (t : IppClientState) : Type 0 where
+pub record FitsIpp (read : List ℕ) (talk : PeerRecord) (t : IppClientState) : Type 0 where
   pub said : List Said
   pub body : List ℕ
   pub is : talk ≡ entry.Http said t.closes body
@@ -23,7 +23,7 @@ pub record FitsIpp (read : List ℕ) (talk : Talk) (t : IppClientState) : Type 0
   pub heard : Body.Heard body t.body
 
 -- so has that of an LPD client
-pub record FitsLpd (read : List ℕ) (talk : Talk) (t : LpdClientState) : Type 0 where
+pub record FitsLpd (read : List ℕ) (talk : PeerRecord) (t : LpdClientState) : Type 0 where
   pub items : List ItemRecord
   pub is : talk ≡ entry.Queue items t.session
   pub stands : Lpd.Stands read items t.reader
@@ -34,12 +34,12 @@ pub record IsLinked (read : List ℕ) (reports : List ReportRecord) (t : DeviceS
   pub unnamed : t.device ≡ None → reports ≡ []
 
 -- the same of a device, unless its connection is broken
-pub record FitsDevice (read : List ℕ) (talk : Talk) (broken : Bool) (t : DeviceState) : Type 0 where
+pub record FitsDevice (read : List ℕ) (talk : PeerRecord) (broken : Bool) (t : DeviceState) : Type 0 where
   pub reports : List ReportRecord
   pub is : talk ≡ entry.Link reports t.device
   pub linked : broken ≡ false → IsLinked read reports t
 
-abbrev pub FitsPeer : List ℕ → Talk → Bool → Peer → Type 0
+abbrev pub FitsPeer : List ℕ → PeerRecord → Bool → Peer → Type 0
 FitsPeer read talk broken (of.Ipp t) = FitsIpp read talk t
 FitsPeer read talk broken (of.Lpd t) = FitsLpd read talk t
 FitsPeer read talk broken (of.Device t) = FitsDevice read talk broken t

@@ -10,7 +10,7 @@ use Rattle.http_front.specs.declared.item.HttpItem.{HttpItem}
 use Rattle.http_front.specs.declared.item.HttpItem.TheVariants as item
 use Rattle.lpd.specs.declared.fault.LpdError.{LpdError}
 use Rattle.lpd.specs.declared.fault.LpdError.TheVariants as fault
-use Rattle.lpd.specs.Conversation.{ItemRecord, Says, Aborts, Announces, HasFile}
+use Rattle.lpd.specs.Items.{ItemRecord, Says, Aborts, Announces, HasFile}
 use Rattle.lpd.specs.Session.{SessionState}
 use Rattle.events.specs.declared.status.Status.{Status}
 use Rattle.ipp_operations.specs.declared.parsed_request.ParsedRequest.{ParsedRequest}

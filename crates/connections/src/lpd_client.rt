@@ -2,7 +2,7 @@
 ghost use Rattle.std.specs.Prelude.{◌≡◌, OnOk, OnErr, Some, None, true, false};
 ghost use Rattle.std.specs.List.{list_any};
 ghost use Rattle.std.specs.Str.{bytes_eq};
-ghost use Rattle.lpd.specs.Conversation.{item_record, command_record, Says, Aborts, Announces, HasFile, ReceivesJob};
+ghost use Rattle.lpd.specs.Items.{item_record, command_record, Says, Aborts, Announces, HasFile, ReceivesJob};
 ghost use Rattle.lpd.specs.Pending.{first_complete};
 ghost use Rattle.lpd.specs.Session.{sent_at};
 ghost use Rattle.connections.specs.Session.{heard, on_command, on_file, on_complete, on_job, is_queue};

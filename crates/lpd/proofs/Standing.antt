@@ -13,7 +13,7 @@ use Rattle.lpd.specs.declared.item.LpdItem.{LpdItem}
 use Rattle.lpd.specs.declared.item.LpdItem.TheVariants as item
 use Rattle.lpd.specs.declared.reader.Awaited.{Awaited}
 use Rattle.lpd.specs.declared.reader.Awaited.TheVariants.{Command, Subcommand, File, Nothing}
-use Rattle.lpd.specs.Conversation.{ItemRecord, HasFile, item_record, awaited_after}
+use Rattle.lpd.specs.Items.{ItemRecord, HasFile, item_record, awaited_after}
 use Rattle.lpd.specs.Command.{meaning_of, awaits_line}
 use Rattle.lpd.specs.Stream.{Front, Gives, Fails, Waits, by_line, front_of, Ending, Open, Faulty, Hears, HearsOn, Leads, SaysFirst, LpdItems, LpdState, is_over, is_nothing, IsLeft, Stands, Answers}
 use Rattle.lpd.proofs.Streams.{fails_more, leads_then, hears_then, leads_more, hears_first, stays_in}

@@ -12,7 +12,7 @@ use Rattle.lpd.specs.declared.fault.LpdFault.{LpdFault}
 use Rattle.lpd.specs.declared.fault.LpdFault.TheVariants.{MissingZero}
 use Rattle.lpd.specs.declared.reader.Awaited.{Awaited}
 use Rattle.lpd.specs.declared.reader.Awaited.TheVariants.{Command, Subcommand, File, Nothing}
-use Rattle.lpd.specs.Conversation.{ItemRecord, HasFile, awaited_after}
+use Rattle.lpd.specs.Items.{ItemRecord, HasFile, awaited_after}
 use Rattle.lpd.specs.Command.{command_line, subcommand_line}
 use Rattle.lpd.specs.Stream.{Front, Gives, Fails, Waits, line_says, by_line, by_file, front_of, Ending, Open, Faulty, EndsAs, Hears, Leads}
 

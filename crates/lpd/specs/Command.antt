@@ -10,7 +10,7 @@ use Rattle.lpd.specs.declared.item.FileKind.{FileKind}
 use Rattle.lpd.specs.declared.item.FileKind.TheVariants.{Control, Data}
 use Rattle.lpd.specs.declared.reader.Awaited.{Awaited}
 use Rattle.lpd.specs.declared.reader.Awaited.TheVariants as await
-use Rattle.lpd.specs.Conversation.{CommandRecord, PrintsWaiting, ReceivesJob, ListsShort, ListsLong, RemovesJobs, ItemRecord, Says, Aborts, Announces}
+use Rattle.lpd.specs.Items.{CommandRecord, PrintsWaiting, ReceivesJob, ListsShort, ListsLong, RemovesJobs, ItemRecord, Says, Aborts, Announces}
 use Rattle.lpd.specs.FileName.{is_file_name}
 
 -- the first word, which may be empty

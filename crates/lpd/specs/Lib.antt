@@ -1,5 +1,5 @@
 pub mod FileName
-pub mod Conversation
+pub mod Items
 pub mod Command
 pub mod Stream
 pub mod Control

@@ -11,7 +11,7 @@ use Rattle.lpd.specs.declared.fault.LpdError.TheVariants.{Fault, OutOfMemory}
 use Rattle.lpd.specs.declared.item.LpdItem.{LpdItem}
 use Rattle.lpd.specs.declared.reader.Awaited.{Awaited}
 use Rattle.lpd.specs.declared.reader.Awaited.TheVariants.{Command, Subcommand, File, Nothing}
-use Rattle.lpd.specs.Conversation.{ItemRecord, HasFile, item_record, awaited_after}
+use Rattle.lpd.specs.Items.{ItemRecord, HasFile, item_record, awaited_after}
 use Rattle.lpd.specs.Command.{command_line, subcommand_line, awaits_line}
 
 -- what stands at the front of bytes: an item and what follows it, a fault, or nothing that can be told yet

@@ -2,7 +2,7 @@
 ghost use Rattle.std.specs.Prelude.{◌≡◌, ◌<◌, ◌+◌, ◌++◌, [], List, ℕ, None, Some, Err, IsOk, IsSome, IfOk, IfSome, OnOk, OnErr, take, drop, length as length_of, true};
 ghost use Rattle.text.specs.FirstLine.{first_line_of};
 ghost use Rattle.text.specs.declared.line.FirstLine.TheVariants.{Whole};
-ghost use Rattle.lpd.specs.Conversation.{ItemRecord, item_record, awaited_after, told};
+ghost use Rattle.lpd.specs.Items.{ItemRecord, item_record, awaited_after, told};
 ghost use Rattle.lpd.specs.Command.{meaning_of, awaits_line};
 ghost use Rattle.lpd.specs.Stream.{Stands, Answers, is_over, work};
 

@@ -1,7 +1,7 @@
 //! Where a server does something else than was recorded, in lines.
 
 use base_types::Moment;
-use recordings::{Deed, Entry, Sent, Stray, put_entry, put_turn};
+use recordings::{Entry, Sent, ServerCall, Stray, put_entry, put_turn};
 use std::alloc::{AllocError, Global};
 use wires::WireId;
 
@@ -20,13 +20,13 @@ fn connection_of(entry: &Entry) -> Option<WireId> {
     }
 }
 
-/// The connection of which a deed is.
-fn connection_in(did: &Deed) -> Option<WireId> {
+/// The connection of which a call is.
+fn connection_in(did: &ServerCall) -> Option<WireId> {
     match did {
-        Deed::Closes(id) => Some(*id),
-        Deed::Sends { sent, .. } => Some(sent.id),
-        Deed::ReadsLess(id) => Some(*id),
-        Deed::Nothing | Deed::Unknown => None,
+        ServerCall::Closes(id) => Some(*id),
+        ServerCall::Sends { sent, .. } => Some(sent.id),
+        ServerCall::ReadsLess(id) => Some(*id),
+        ServerCall::Nothing | ServerCall::Unknown => None,
     }
 }
 
@@ -68,19 +68,19 @@ fn put_sends(
 }
 
 /// Appends the lines of what the server does.
-fn put_deed(
+fn put_action(
     alloc: Global,
     output: &mut Vec<u8>,
-    did: &Deed,
+    did: &ServerCall,
     moment: Moment,
 ) -> Result<(), AllocError> {
     output.extend_from_slice(b"is ")?;
     match did {
-        Deed::Nothing => put_turn(output, moment),
-        Deed::Closes(id) => put_entry(output, &Entry::Closed(*id)),
-        Deed::Sends { sent, bytes } => put_sends(alloc, output, *sent, bytes),
-        Deed::ReadsLess(_) => output.extend_from_slice(b"fewer bytes\n"),
-        Deed::Unknown => output.extend_from_slice(b"out of memory\n"),
+        ServerCall::Nothing => put_turn(output, moment),
+        ServerCall::Closes(id) => put_entry(output, &Entry::Closed(*id)),
+        ServerCall::Sends { sent, bytes } => put_sends(alloc, output, *sent, bytes),
+        ServerCall::ReadsLess(_) => output.extend_from_slice(b"fewer bytes\n"),
+        ServerCall::Unknown => output.extend_from_slice(b"out of memory\n"),
     }
 }
 
@@ -104,5 +104,5 @@ pub(crate) fn put_difference(
     };
     output.extend_from_slice(head.as_bytes())?;
     put_wanted(output, stray, moment)?;
-    put_deed(alloc, output, &stray.did, moment)
+    put_action(alloc, output, &stray.did, moment)
 }

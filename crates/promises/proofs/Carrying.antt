@@ -39,7 +39,7 @@ use Rattle.connections.specs.declared.ask.Client.TheVariants as client
 use Rattle.connections.specs.declared.step.Step.{Step}
 use Rattle.connections.specs.declared.step.Step.TheVariants as step
 use Rattle.connections.specs.Steps.{http_status, due_bytes}
-use Rattle.connections.specs.Entry.{Talk, Http, Queue, Link, Entry, opening_entry, device_of, closes_of, broken, owing, given_up, talking, finishing, reading, waiting, needs_memory}
+use Rattle.connections.specs.Entry.{PeerRecord, Http, Queue, Link, Entry, opening_entry, device_of, closes_of, broken, owing, given_up, talking, finishing, reading, waiting, needs_memory}
 use Rattle.connections.specs.Asking.{Hears, StepsTo, AsksNext}
 use Rattle.server.specs.Polls.{Happening, Polled, Told, Choice, Found, On, Rested, Looked, Chosen}
 use Rattle.server.specs.Ledger.{Ledger, Fate, Drained, Broken, at_key, with_entry, job_bytes, opening_ledger}
@@ -53,7 +53,7 @@ use Rattle.server.specs.Greeting.{GivesWayAt, GivesWay, SaysName, TakesOver, Gre
 use Rattle.server.specs.Acting.{place_of, place_of_part, Asks, ActsOn, ActsNext}
 use Rattle.server.specs.Polling.{Opens, AcceptsAs, AcceptsOne, AcceptsAt, Acts, Serves, FedWhole, FeedsAt, FeedsOne, Fails, ReadsAs, ReadsOpen, ReadsAt, is_read, ReadsOne, WritesAs, WritesOpen, WritesAt, WritesOne, is_done, EndsAt, EndsOne}
 use Rattle.server.specs.Turn as Between
-use Rattle.server.specs.Turn.{Ticks, Notes, is_tick_due, TicksIfDue, Covers, Round, Turn, BodyAsks, BodyComes, Action, Turned, Served_body, Reported, Ticked, Trace, DoesDeed, Runs}
+use Rattle.server.specs.Turn.{Ticks, Notes, is_tick_due, TicksIfDue, Covers, Round, Turn, BodyAsks, BodyComes, Action, Turned, Served_body, Reported, Ticked, Trace, DoesAction, Runs}
 use Rattle.server.specs.Law.{happenings_of, happenings_in}
 use Rattle.promises.specs.Carried.{Carried, nothing_carried, at_number, carry, carried, IsNew, AreNew, carried_in, NumbersDiffer, IsCarried}
 use Rattle.promises.proofs.Sending.{same_key, other_key, is_key, not_key}
@@ -86,13 +86,13 @@ steady_ended : (e : Entry) → Steady e (record e { ended = true })
 steady_ended e = record { id = refl; taken = refl; more = no_more e (record e { ended = true }) refl; read = λ draining sound. (draining, sound, refl) }
 
 -- what it asks changes it in this way
-steady_talk : (e mid : Entry) (talk : Talk) → mid ≡ talking talk e → (mid.id ≡ e.id) × (mid.taken ≡ e.taken) × (mid.due ≡ e.due) × (mid.read ≡ e.read)
+steady_talk : (e mid : Entry) (talk : PeerRecord) → mid ≡ talking talk e → (mid.id ≡ e.id) × (mid.taken ≡ e.taken) × (mid.due ≡ e.due) × (mid.read ≡ e.read)
 steady_talk e mid talk is = (ap (λ (x : Entry). x.id) is, ap (λ (x : Entry). x.taken) is, ap (λ (x : Entry). x.due) is, ap (λ (x : Entry). x.read) is)
 
 steady_mid : (e mid : Entry) → mid ≡ e → (mid.id ≡ e.id) × (mid.taken ≡ e.taken) × (mid.due ≡ e.due) × (mid.read ≡ e.read)
 steady_mid e mid is = (ap (λ (x : Entry). x.id) is, ap (λ (x : Entry). x.taken) is, ap (λ (x : Entry). x.due) is, ap (λ (x : Entry). x.read) is)
 
-heard_mid : (settings : ServerSettings) (talk : Talk) (e : Entry) (comes : Step) (mid : Entry) → Hears settings talk e comes mid → (mid.id ≡ e.id) × (mid.taken ≡ e.taken) × (mid.due ≡ e.due) × (mid.read ≡ e.read)
+heard_mid : (settings : ServerSettings) (talk : PeerRecord) (e : Entry) (comes : Step) (mid : Entry) → Hears settings talk e comes mid → (mid.id ≡ e.id) × (mid.taken ≡ e.taken) × (mid.due ≡ e.due) × (mid.read ≡ e.read)
 heard_mid settings (Http said closes body) e comes mid next = steady_talk e mid _ next.after
 heard_mid settings (Queue items session) e comes mid (inl next) = steady_talk e mid _ next.after
 heard_mid settings (Queue items session) e comes mid (inr (inl next)) = steady_mid e mid next.after
@@ -818,20 +818,20 @@ body_comes : (moment : ℕ) (body : List ℕ) (served : Between.Outcome) → Car
 body_comes moment body served c l hs l' a new (inl (it, asks, comes)) = carries_then (Chooses Found) (BodyAsks moment it served) (carries_chooses Found) (body_asks moment it served) c l hs l' a new comes
 body_comes moment body served c l hs l' a new (inr it) = carries_tells (Refused At.Event None) c l hs l' a new it
 
-carries_deed : (deed : Action) (c : Carried) (l l' : Ledger) → Agrees c l → AreNew c (happenings_of deed) → DoesDeed deed l l' → Agrees (carried c (happenings_of deed)) l'
-carries_deed (Turned moment hs) c l l' a new it = carries_turn moment c l hs l' a new it
-carries_deed (Served_body moment body answer hs) c l l' a new (served, same, it) = body_comes moment body served c l hs l' a new it
-carries_deed (Reported moment device said hs) c l l' a new (what, same, it) = carries_unanswered moment (Is.Report device what) c l hs l' a new it
-carries_deed (Ticked moment hs) c l l' a new it = carries_ticks moment c l hs l' a new it
+carries_action : (action : Action) (c : Carried) (l l' : Ledger) → Agrees c l → AreNew c (happenings_of action) → DoesAction action l l' → Agrees (carried c (happenings_of action)) l'
+carries_action (Turned moment hs) c l l' a new it = carries_turn moment c l hs l' a new it
+carries_action (Served_body moment body answer hs) c l l' a new (served, same, it) = body_comes moment body served c l hs l' a new it
+carries_action (Reported moment device said hs) c l l' a new (what, same, it) = carries_unanswered moment (Is.Report device what) c l hs l' a new it
+carries_action (Ticked moment hs) c l l' a new it = carries_ticks moment c l hs l' a new it
 
 -- ---- traces
 
 carries_trace : (trace : Trace) (c : Carried) (l l' : Ledger) → Agrees c l → AreNew c (happenings_in trace) → Runs trace l l' → Agrees (carried c (happenings_in trace)) l'
 carries_trace [] c l l' a new same = subst (Agrees c) (sym same) a
-carries_trace (deed ∷ deeds) c l l' a new (mid, does, runs) =
-    let both = new_append c (happenings_of deed) (happenings_in deeds) new in
-    subst (λ (x : Carried). Agrees x l') (sym (carried_append c (happenings_of deed) (happenings_in deeds)))
-    (carries_trace deeds (carried c (happenings_of deed)) mid l' (carries_deed deed c l mid a both.0 does) both.1 runs)
+carries_trace (action ∷ actions) c l l' a new (mid, does, runs) =
+    let both = new_append c (happenings_of action) (happenings_in actions) new in
+    subst (λ (x : Carried). Agrees x l') (sym (carried_append c (happenings_of action) (happenings_in actions)))
+    (carries_trace actions (carried c (happenings_of action)) mid l' (carries_action action c l mid a both.0 does) both.1 runs)
 
 nothing_agrees : (opening : State) → Agrees nothing_carried (opening_ledger opening)
 nothing_agrees opening = record { there = λ key e is. cc; one = λ key other e d is its same. cc; taken = λ key e is. cc; front = λ key e is. cc; read = λ key e is draining sound. cc }

@@ -16,7 +16,7 @@ use Rattle.connections.specs.declared.ask.Growth.TheVariants as growth
 use Rattle.connections.specs.declared.step.Step.{Step}
 use Rattle.connections.specs.declared.step.Step.TheVariants as step
 use Rattle.connections.specs.Steps.{no_memory, due_bytes}
-use Rattle.connections.specs.Entry.{Talk, Http, Queue, Link, Entry, closes_of}
+use Rattle.connections.specs.Entry.{PeerRecord, Http, Queue, Link, Entry, closes_of}
 use Rattle.connections.specs.Asking.{Hears, StepsTo}
 use Rattle.server.specs.Polls.{Happening, Rested}
 use Rattle.server.specs.Ledger.{Ledger}
@@ -120,7 +120,7 @@ acted_event moment key id who event last new l hs l' own good there client (outc
             sym gave.2 ∙ sym talk,
             (
               gave.4.0,
-              (h, ap (λ (t : Bool). (if t then h ∷ [] else []) ++ []) (is_key key), refl, given (closes_of new.talk) who (reply_of outcome) gave.4.0 (typed who moment event l.core outcome (core_notes it.front) it.mid.core own one.handles) (subst (λ (x : Talk). Loose (closes_of x) who (reply_of outcome) gave.4.0) (sym talk) gave.4.1)),
+              (h, ap (λ (t : Bool). (if t then h ∷ [] else []) ++ []) (is_key key), refl, given (closes_of new.talk) who (reply_of outcome) gave.4.0 (typed who moment event l.core outcome (core_notes it.front) it.mid.core own one.handles) (subst (λ (x : PeerRecord). Loose (closes_of x) who (reply_of outcome) gave.4.0) (sym talk) gave.4.1)),
               gave.4.2 ∙ ap (λ (due : List ℕ). due ++ gave.4.0) (sym was.4 ∙ ap (λ (x : Entry). x.due) (sym this)),
             ),
           );
@@ -173,7 +173,7 @@ acted_by moment key id (step.Breaks asked) m new what l hs l' fine (is, after) c
     (λ bytes sound none. absurd (no_true new.broken (ap (λ (x : Entry). x.broken) after) sound)) (inl (ap (λ (x : Entry). x.due) after)) (gave_still key (Just_these []) l hs l' (ap core_notes told.0 ∙ silent_growth growth.Input id) told.1 (λ closes. refl))
 
 -- the next of a client's stream, as an act has it
-pub next_of : (settings : ServerSettings) (talk : Talk) (e : Entry) (comes : Step) (mid : Entry) → ClientTalk talk → e.talk ≡ talk → IsClientStep comes → Hears settings talk e comes mid → (mid.due ≡ e.due) × (((comes ≡ no_memory) × (mid.talk ≡ talk)) ⊎ IsNext settings talk comes mid.talk)
+pub next_of : (settings : ServerSettings) (talk : PeerRecord) (e : Entry) (comes : Step) (mid : Entry) → ClientTalk talk → e.talk ≡ talk → IsClientStep comes → Hears settings talk e comes mid → (mid.due ≡ e.due) × (((comes ≡ no_memory) × (mid.talk ≡ talk)) ⊎ IsNext settings talk comes mid.talk)
 next_of settings (Http said closes body) e comes mid client is fine next = (ap (λ (x : Entry). x.due) next.after, inr (record { item = next.item; part = next.part; read = e.read; first = next.next; comes = next.comes; is = ap (λ (x : Entry). x.talk) next.after }))
 next_of settings (Queue items session) e comes mid client is fine (inl next) =
     (ap (λ (x : Entry). x.due) next.after, inr (inl (record { said = next.said; session_after = next.session_after; comes = next.comes; is = ap (λ (x : Entry). x.talk) next.after })))
@@ -299,7 +299,7 @@ client_acts moment key id what l front mid back l' hs whole good a client does =
           client = client;
           sound = not_broken a.entry.draining a.entry.broken a.asks.counts;
           acts = act ∷ [];
-          are = (refl, record { next = subst (λ (t : Talk). IsNext l.core.settings a.entry.talk a.asks.comes t) (sym new_talk) next; owed = it.1.1 }, it.0);
+          are = (refl, record { next = subst (λ (t : PeerRecord). IsNext l.core.settings a.entry.talk a.asks.comes t) (sym new_talk) next; owed = it.1.1 }, it.0);
           states = All-cons (λ (x : Act). IsStateOf x.state l.core acted.handled) act [] (same_state l.core acted.handled) (All-nil (λ (x : Act). IsStateOf x.state l.core acted.handled));
           asked = sym (append-nil (asked_by key acted.handled));
           due = it.1.2 ∙ (ap (λ (bytes : List ℕ). bytes ++ it.1.0) due ∙ ap (λ (bytes : List ℕ). a.entry.due ++ bytes) (sym (append-nil it.1.0)));
@@ -325,14 +325,14 @@ client_acts moment key id what l front mid back l' hs whole good a client does =
       where
         by : ((a.asks.comes ≡ no_memory) × (a.asks.mid.talk ≡ a.entry.talk)) ⊎ IsNext l.core.settings a.entry.talk a.asks.comes a.asks.mid.talk → IsLast l.core acted.handled a.entry.talk e.talk
         by (inl (none, still)) = inl (sym (talk ∙ (new_talk ∙ still)))
-        by (inr comes) = inr (l.core, a.asks.comes, same_state l.core acted.handled, subst (λ (t : Talk). IsNext l.core.settings a.entry.talk a.asks.comes t) (sym (talk ∙ new_talk)) comes)
+        by (inr comes) = inr (l.core, a.asks.comes, same_state l.core acted.handled, subst (λ (t : PeerRecord). IsNext l.core.settings a.entry.talk a.asks.comes t) (sym (talk ∙ new_talk)) comes)
     broke e talk (inl (none, still)) due (inr (bytes, owed, is)) = absurd (not_given (closes_of a.new.talk) (asked_by key acted.handled) bytes a.asks.comes none owed)
     broke e talk (inr next) due (inr (bytes, owed, is)) =
         let act : Act = record { before = a.entry.talk; after = a.new.talk; what = a.asks.comes; asked = asked_by key acted.handled; bytes = bytes; state = l.core } in
         record {
           acts = act ∷ [];
           after = a.new.talk;
-          are = (refl, record { next = subst (λ (t : Talk). IsNext l.core.settings a.entry.talk a.asks.comes t) (sym new_talk) next; owed = owed }, refl);
+          are = (refl, record { next = subst (λ (t : PeerRecord). IsNext l.core.settings a.entry.talk a.asks.comes t) (sym new_talk) next; owed = owed }, refl);
           states = All-cons (λ (x : Act). IsStateOf x.state l.core acted.handled) act [] (same_state l.core acted.handled) (All-nil (λ (x : Act). IsStateOf x.state l.core acted.handled));
           unanswered = [];
           one = inl refl;
@@ -367,12 +367,12 @@ device_acts moment key id what l front mid back l' hs whole good a (inr names) d
     greets moment key id names.device names.name a.entry a.new l front mid back l' hs whole just (subst (λ (it : Ask). ActsOn moment key id it mid back l') names.asks does)
 
 pub acts_by : (moment key id : ℕ) (what : Ask) (l : Ledger) (front : List Happening) (mid : Ledger) (back : List Happening) (l' : Ledger) (hs : List Happening) → hs ≡ front ++ back → Good l
-    → (a : Asks key id what l front mid) → (talk : Talk) → a.entry.talk ≡ talk → ActsOn moment key id what mid back l' → Goes moment l hs l'
+    → (a : Asks key id what l front mid) → (talk : PeerRecord) → a.entry.talk ≡ talk → ActsOn moment key id what mid back l' → Goes moment l hs l'
 acts_by moment key id what l front mid back l' hs whole good a (Http said closes body) is does = client_acts moment key id what l front mid back l' hs whole good a (subst ClientTalk (sym is) tt) does
 acts_by moment key id what l front mid back l' hs whole good a (Queue items session) is does = client_acts moment key id what l front mid back l' hs whole good a (subst ClientTalk (sym is) tt) does
 acts_by moment key id what l front mid back l' hs whole good a (Link reports device) is does =
     device_acts moment key id what l front mid back l' hs whole good a
-    (device_hears l.core.settings reports device a.entry a.asks.comes a.asks.mid what a.new is (subst (λ (t : Talk). Hears l.core.settings t a.entry a.asks.comes a.asks.mid) is a.asks.hears) a.asks.steps) does
+    (device_hears l.core.settings reports device a.entry a.asks.comes a.asks.mid what a.new is (subst (λ (t : PeerRecord). Hears l.core.settings t a.entry a.asks.comes a.asks.mid) is a.asks.hears) a.asks.steps) does
 
 pub moves_acts_next : (moment key : ℕ) → Moves moment (ActsNext moment key)
 moves_acts_next moment key l hs l' good (id, what, it) = acts_by moment key id what l it.front it.mid it.back l' hs it.whole good it.first it.first.entry.talk refl it.second

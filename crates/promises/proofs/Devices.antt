@@ -15,7 +15,7 @@ use Rattle.connections.specs.declared.ask.Ask.TheVariants as ask
 use Rattle.connections.specs.declared.ask.Growth.TheVariants as growth
 use Rattle.connections.specs.declared.step.Step.{Step}
 use Rattle.connections.specs.declared.step.Step.TheVariants as step
-use Rattle.connections.specs.Entry.{Talk, Http, Queue, Link, Entry, device_of, talking, finishing, broken}
+use Rattle.connections.specs.Entry.{PeerRecord, Http, Queue, Link, Entry, device_of, talking, finishing, broken}
 use Rattle.connections.specs.Asking.{Hears, StepsTo}
 use Rattle.connections.specs.Steps.{StepsHello, StepsDevice, place_of as named_place}
 use Rattle.promises.specs.Answers.{ClientTalk}
@@ -64,12 +64,12 @@ step_talk (step.Due due last) mid what new (inr it) = ap (λ (x : Entry). x.talk
 step_talk (step.Asks it last) mid what new steps = ap (λ (x : Entry). x.talk) steps.1
 step_talk (step.Breaks it) mid what new steps = ap (λ (x : Entry). x.talk) steps.1
 
-pub client_nameless : (talk : Talk) → ClientTalk talk → device_of talk ≡ None
+pub client_nameless : (talk : PeerRecord) → ClientTalk talk → device_of talk ≡ None
 client_nameless (Http said closes body) client = refl
 client_nameless (Queue items session) client = refl
 client_nameless (Link reports device) client = absurd client
 
-pub client_said : (talk : Talk) → ClientTalk talk → said_on talk ≡ []
+pub client_said : (talk : PeerRecord) → ClientTalk talk → said_on talk ≡ []
 client_said (Http said closes body) client = refl
 client_said (Queue items session) client = refl
 client_said (Link reports device) client = absurd client

@@ -63,7 +63,7 @@ use Rattle.server.specs.Greeting as Greeting
 use Rattle.server.specs.Acting as Acting
 use Rattle.server.specs.Polling.{Opens, AcceptsAs, AcceptsOne, AcceptsAt, Acts, Serves, FedWhole, FedOpen, FeedsAt, FeedsOne, Fails, ReadsAs, ReadsOpen, ReadsAt, is_read, ReadsOne, WritesAs, WritesOpen, WritesAt, WritesOne, is_done, EndsAt, EndsOne}
 use Rattle.server.specs.Turn as Between
-use Rattle.server.specs.Turn.{Ticks, is_tick_due, TicksIfDue, Covers, Round, Turn, has_refusal, Action, Turned, Served_body, Reported, Ticked, DoesDeed, Trace, Runs}
+use Rattle.server.specs.Turn.{Ticks, is_tick_due, TicksIfDue, Covers, Round, Turn, has_refusal, Action, Turned, Served_body, Reported, Ticked, DoesAction, Trace, Runs}
 use Rattle.server.specs.Law.{core_note, core_notes, Collects, moment_of, happenings_of, happenings_in, AreAt, AreEventsOf, IsWhole}
 use Rattle.server.proofs.Steps.{refusals_append}
 use Rattle.server.proofs.Happening.{refused_of}
@@ -405,7 +405,7 @@ light_from : (came : Bool) (moment : ℕ) (event : Event) → ((s : State) → T
 light_from came moment event light l hs l' (outcome, it) =
     kept_then came moment event outcome Nothing (light_kept moment event outcome l hs l' (light l.core) it) quiet_nothing l hs l' (nothing_behind (Happens moment event outcome) l hs l' it)
 
--- ---- parts of a deed
+-- ---- parts of an action
 
 module _ (moment : ℕ) where
   -- whatever came before
@@ -638,12 +638,12 @@ module _ (moment : ℕ) where
       (from_then false moment l (mark ∷ []) it.mid it.back l' found (body_from asked served it.mid it.back l' it.second))
   body_comes body served l hs l' (inr it) = unread_from l hs l' (refuses_alone None l hs l' it)
 
--- a deed is a run of events, of which it tells
-deed_told : (deed : Action) (l l' : Ledger) → DoesDeed deed l l' → ToldFrom (begins_event deed) (moment_of deed) l (happenings_of deed) l'
-deed_told (Turned moment hs) l l' it = turn_in moment l hs l' it true
-deed_told (Served_body moment body answer hs) l l' (served, is, it) = body_comes moment body served l hs l' it
-deed_told (Reported moment device said hs) l l' it = tells_in moment device said l hs l' it true
-deed_told (Ticked moment hs) l l' it = ticks_in moment l hs l' it true
+-- an action is a run of events, of which it tells
+action_told : (action : Action) (l l' : Ledger) → DoesAction action l l' → ToldFrom (begins_event action) (moment_of action) l (happenings_of action) l'
+action_told (Turned moment hs) l l' it = turn_in moment l hs l' it true
+action_told (Served_body moment body answer hs) l l' (served, is, it) = body_comes moment body served l hs l' it
+action_told (Reported moment device said hs) l l' it = tells_in moment device said l hs l' it true
+action_told (Ticked moment hs) l l' it = ticks_in moment l hs l' it true
 
 -- ---- a trace
 
@@ -655,14 +655,14 @@ record TraceTold (trace : Trace) (old new : State) : Type 0 where
 
 trace_told : (trace : Trace) (old new : Ledger) → Runs trace old new → TraceTold trace old.core new.core
 trace_told [] old new same = record { events = []; outcomes = []; timed = refl; told = (ap (λ (x : Ledger). x.core) same, refl) }
-trace_told (deed ∷ deeds) old new (mid, does, runs) =
-    let first = deed_told deed old mid does in
-    let later = trace_told deeds mid new runs in
+trace_told (action ∷ actions) old new (mid, does, runs) =
+    let first = action_told action old mid does in
+    let later = trace_told actions mid new runs in
     record {
       events = first.events ++ later.events;
       outcomes = first.outcomes ++ later.outcomes;
       timed = (first.events, later.events, refl, first.timed, later.timed);
-      told = run_then old.core mid.core new.core first.events later.events first.outcomes later.outcomes (event_notes (begins_event deed) (happenings_of deed)) (events_told deeds) first.told later.told;
+      told = run_then old.core mid.core new.core first.events later.events first.outcomes later.outcomes (event_notes (begins_event action) (happenings_of action)) (events_told actions) first.told later.told;
     }
 
 -- ---- that is the one run of the core
@@ -697,10 +697,10 @@ notes_core came (h ∷ hs) =
 
 trace_core : (trace : Trace) → core_notes (map Told (events_told trace)) ≡ core_notes (happenings_in trace)
 trace_core [] = refl
-trace_core (deed ∷ deeds) =
-    told_append (event_notes (begins_event deed) (happenings_of deed)) (events_told deeds)
-    ∙ (both_parts (core_notes (map Told (event_notes (begins_event deed) (happenings_of deed)))) (core_notes (map Told (events_told deeds))) (core_notes (happenings_of deed)) (core_notes (happenings_in deeds)) (notes_core (begins_event deed) (happenings_of deed)) (trace_core deeds)
-    ∙ sym (notes_append (happenings_of deed) (happenings_in deeds)))
+trace_core (action ∷ actions) =
+    told_append (event_notes (begins_event action) (happenings_of action)) (events_told actions)
+    ∙ (both_parts (core_notes (map Told (event_notes (begins_event action) (happenings_of action)))) (core_notes (map Told (events_told actions))) (core_notes (happenings_of action)) (core_notes (happenings_in actions)) (notes_core (begins_event action) (happenings_of action)) (trace_core actions)
+    ∙ sym (notes_append (happenings_of action) (happenings_in actions)))
 
 -- of one event
 core_last : (cancels : List Cancel) (last : List Note) → core_notes (map Told last) ≡ last → core_notes (map Told (map Canceled cancels ++ last)) ≡ map Canceled cancels ++ last
@@ -760,10 +760,10 @@ free_append ms ns p q =
 
 trace_free : (trace : Trace) → has_refusal (happenings_in trace) ≡ false → has_refusal (map Told (events_told trace)) ≡ false
 trace_free [] none = refl
-trace_free (deed ∷ deeds) none =
-    free_append (event_notes (begins_event deed) (happenings_of deed)) (events_told deeds)
-    (notes_free (begins_event deed) (happenings_of deed) (none_before (happenings_of deed ++ happenings_in deeds) (happenings_of deed) (happenings_in deeds) refl none))
-    (trace_free deeds (none_after (happenings_of deed ++ happenings_in deeds) (happenings_of deed) (happenings_in deeds) refl none))
+trace_free (action ∷ actions) none =
+    free_append (event_notes (begins_event action) (happenings_of action)) (events_told actions)
+    (notes_free (begins_event action) (happenings_of action) (none_before (happenings_of action ++ happenings_in actions) (happenings_of action) (happenings_in actions) refl none))
+    (trace_free actions (none_after (happenings_of action ++ happenings_in actions) (happenings_of action) (happenings_in actions) refl none))
 
 event_whole : (timed : Timed) (old : State) (outcome : Outcome) (told : List Note) (new : State) → IsToldOf timed old outcome told new → has_refusal (map Told told) ≡ false → IsWhole outcome
 event_whole timed old Dropped told new (id, is, it) none = never (has_refusal (map Told told)) (ap (λ (ns : List Note). has_refusal (map Told ns)) is) none

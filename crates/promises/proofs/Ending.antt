@@ -34,10 +34,10 @@ use Rattle.server.specs.Greeting.{GivesWayAt, GivesWay, Greets}
 use Rattle.server.specs.Acting.{place_of, place_of_part, ActsOn, ActsNext}
 use Rattle.server.specs.Polling.{Opens, AcceptsAs, AcceptsOne, AcceptsAt, Acts, Serves, FedWhole, FeedsAt, FeedsOne, Fails, ReadsAs, ReadsOpen, ReadsAt, is_read, ReadsOne, WritesAs, WritesOpen, WritesAt, WritesOne, is_done, EndsAt, EndsOne}
 use Rattle.server.specs.Turn as Between
-use Rattle.server.specs.Turn.{Ticks, is_tick_due, TicksIfDue, Covers, Round, Turn, BodyAsks, BodyComes, Action, Turned, Served_body, Reported, Ticked, Trace, DoesDeed, Runs}
+use Rattle.server.specs.Turn.{Ticks, is_tick_due, TicksIfDue, Covers, Round, Turn, BodyAsks, BodyComes, Action, Turned, Served_body, Reported, Ticked, Trace, DoesAction, Runs}
 use Rattle.promises.proofs.Stepping.{silent_growth, silent_part}
 use Rattle.promises.proofs.Calms.{Calms, calms_nothing, calms_tells, calms_choice, calms_polls, calms_breaks, calms_dropped, calms_declines, calms_answers, body_answers, happened}
-use Rattle.promises.proofs.Hearing.{AllHeard, broken_heard, there, hears_same, hears_settles, hears_each, hears_reads, hears_writes, hears_ends, hears_tick, hears_accepts, hears_deed}
+use Rattle.promises.proofs.Hearing.{AllHeard, broken_heard, there, hears_same, hears_settles, hears_each, hears_reads, hears_writes, hears_ends, hears_tick, hears_accepts, hears_action}
 
 -- of each closed connection
 abbrev pub EndHeard : Ledger → Type 0
@@ -243,15 +243,15 @@ module _ (moment : ℕ) where
   ends_comes body served l hs l' (inl (it, asks, comes)) = ends_then (calmly (calms_choice Found)) (ends_body it served) l hs l' comes
   ends_comes body served l hs l' (inr it) = calmly (calms_tells (Refused At.Event None) refl) l hs l' it
 
-ends_deed : (deed : Action) (l l' : Ledger) → AllHeard l → DoesDeed deed l l' → EndHeard l → EndHeard l'
-ends_deed (Turned moment hs) l l' heard it = ends_turn moment l hs l' heard it
-ends_deed (Served_body moment body answer hs) l l' heard (served, same, it) = ends_comes moment body served l hs l' it
-ends_deed (Reported moment device said hs) l l' heard (what, same, it) = ends_unanswered moment (Is.Report device what) l hs l' it
-ends_deed (Ticked moment hs) l l' heard it = ends_ticks moment l hs l' it
+ends_action : (action : Action) (l l' : Ledger) → AllHeard l → DoesAction action l l' → EndHeard l → EndHeard l'
+ends_action (Turned moment hs) l l' heard it = ends_turn moment l hs l' heard it
+ends_action (Served_body moment body answer hs) l l' heard (served, same, it) = ends_comes moment body served l hs l' it
+ends_action (Reported moment device said hs) l l' heard (what, same, it) = ends_unanswered moment (Is.Report device what) l hs l' it
+ends_action (Ticked moment hs) l l' heard it = ends_ticks moment l hs l' it
 
 ends_trace : (trace : Trace) (l l' : Ledger) → AllHeard l → Runs trace l l' → EndHeard l → EndHeard l'
 ends_trace [] l l' heard same ended = ends_same l l' (ap (λ (x : Ledger). x.closed) same) ended
-ends_trace (deed ∷ deeds) l l' heard (mid, does, runs) ended = ends_trace deeds mid l' (hears_deed deed l mid heard does) runs (ends_deed deed l mid heard does ended)
+ends_trace (action ∷ actions) l l' heard (mid, does, runs) ended = ends_trace actions mid l' (hears_action action l mid heard does) runs (ends_action action l mid heard does ended)
 
 pub all_ended : (opening : State) (trace : Trace) (l : Ledger) → Runs trace (opening_ledger opening) l → EndHeard l
 all_ended opening trace l runs = ends_trace trace (opening_ledger opening) l (λ key. tt) runs (All-nil (λ (it : Entry × Fate). IsHeard it.0))

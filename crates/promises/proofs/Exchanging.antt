@@ -18,8 +18,8 @@ use Rattle.wires.specs.declared.wire.Door.{Door}
 use Rattle.wires.specs.declared.wire.Door.TheVariants.{Ipp, Lpd, Devices}
 use Rattle.connections.specs.declared.step.Step.{Step}
 use Rattle.connections.specs.Steps.{StepsIpp, EndsBody as Ends, asked_step, closes_after, body_after, grown}
-use Rattle.connections.specs.Entry.{Talk, Http, Queue, Link, Entry, opening_talk, closes_of}
-use Rattle.lpd.specs.Conversation.{ItemRecord}
+use Rattle.connections.specs.Entry.{PeerRecord, Http, Queue, Link, Entry, opening_peer, closes_of}
+use Rattle.lpd.specs.Items.{ItemRecord}
 use Rattle.lpd.specs.Session.{SessionState}
 use Rattle.settings_file.specs.Settings.{ServerSettings}
 use Rattle.server.specs.Ledger.{Ledger, Fate}
@@ -373,15 +373,15 @@ module _ (ordered : SaysInOrder) (some : SaysSome) (stays : FirstStays) where
   walk : (acts : List Act) (mode : Mode) (said : List Said) (closes : Bool) (body : List ℕ) (heard : List Said) (ends : Bool) (left : List ℕ) → Leads mode said → Fits mode closes body → in_order Between said ≡ true → AreActs (Http said closes body) acts (Http heard ends left) → Walked mode said acts heard
   walk [] mode said closes body heard ends left leads fits order are = walked_none mode said heard (same_said heard said ends closes left body are) order
   walk (a ∷ acts) mode said closes body heard ends left leads fits now (before, is, later) =
-      let next : NextIpp said closes body a.what a.after = subst (λ (t : Talk). IsNext a.state.settings t a.what a.after) before is.next in
+      let next : NextIpp said closes body a.what a.after = subst (λ (t : PeerRecord). IsNext a.state.settings t a.what a.after) before is.next in
       let more : List Said = said_by next.item next.part in
-      let owed : IsOwed (closes_after next.item closes) a.what a.asked a.bytes = subst (λ (t : Talk). IsOwed (closes_of t) a.what a.asked a.bytes) next.is is.owed in
+      let owed : IsOwed (closes_after next.item closes) a.what a.asked a.bytes = subst (λ (t : PeerRecord). IsOwed (closes_of t) a.what a.asked a.bytes) next.is is.owed in
       let order : in_order Between (said ++ said_by next.item next.part) ≡ true = first_ordered ordered some stays next.read (said ++ said_by next.item next.part) next.first in
       let s : Stepped mode said (said_by next.item next.part) (closes_after next.item closes) (body_after next.item a.what next.part body) a.asked a.bytes =
       stepped next.item next.part mode said closes body a.what a.asked a.bytes leads fits (sym (leads (said_by next.item next.part)) ∙ order) next.comes owed in
       walked_more mode said (said_by next.item next.part) (closes_after next.item closes) (body_after next.item a.what next.part body) a acts heard s
       (walk acts s.now (said ++ said_by next.item next.part) (closes_after next.item closes) (body_after next.item a.what next.part body) heard ends left s.leads s.fits
-      order (subst (λ (t : Talk). AreActs t acts (Http heard ends left)) next.is later))
+      order (subst (λ (t : PeerRecord). AreActs t acts (Http heard ends left)) next.is later))
 
   pub acts_are_exchanges : ActsAreExchanges
   acts_are_exchanges acts said closes body are =
@@ -400,34 +400,34 @@ module _ (ordered : SaysInOrder) (some : SaysSome) (stays : FirstStays) where
   -- ---- the connections of a trace
 
   -- an LPD client's acts, and those of a device, come to no talk of an IPP client
-  no_lpd : (settings : ServerSettings) (items : List ItemRecord) (session : Option SessionState) (what : Step) (after : Talk) → IsNext settings (Queue items session) what after → (items' : List ItemRecord) × (session' : Option SessionState) × (after ≡ Queue items' session')
+  no_lpd : (settings : ServerSettings) (items : List ItemRecord) (session : Option SessionState) (what : Step) (after : PeerRecord) → IsNext settings (Queue items session) what after → (items' : List ItemRecord) × (session' : Option SessionState) × (after ≡ Queue items' session')
   no_lpd settings items session what after (inl next) = (items ++ next.said ∷ [], next.session_after, next.is)
   no_lpd settings items session what after (inr is) = (items, session, is.1)
 
   no_queue : (said : List Said) (closes : Bool) (body : List ℕ) (items : List ItemRecord) (session : Option SessionState) → Http said closes body ≡ Queue items session → ⊥
   no_queue said closes body items session is = cc
 
-  no_link : (said : List Said) (closes : Bool) (body : List ℕ) (talk : Talk) → Http said closes body ≡ talk → talk ≡ opening_talk Devices → ⊥
+  no_link : (said : List Said) (closes : Bool) (body : List ℕ) (talk : PeerRecord) → Http said closes body ≡ talk → talk ≡ opening_peer Devices → ⊥
   no_link said closes body talk is its = cc
 
   lpd_acts : (acts : List Act) (items : List ItemRecord) (session : Option SessionState) (said : List Said) (closes : Bool) (body : List ℕ) → AreActs (Queue items session) acts (Http said closes body) → ⊥
   lpd_acts [] items session said closes body are = no_queue said closes body items session are
   lpd_acts (a ∷ acts) items session said closes body (before, is, later) =
-      let next = no_lpd a.state.settings items session a.what a.after (subst (λ (t : Talk). IsNext a.state.settings t a.what a.after) before is.next) in
-      lpd_acts acts next.0 next.1 said closes body (subst (λ (t : Talk). AreActs t acts (Http said closes body)) next.2 later)
+      let next = no_lpd a.state.settings items session a.what a.after (subst (λ (t : PeerRecord). IsNext a.state.settings t a.what a.after) before is.next) in
+      lpd_acts acts next.0 next.1 said closes body (subst (λ (t : PeerRecord). AreActs t acts (Http said closes body)) next.2 later)
 
-  device_acts : (acts : List Act) (said : List Said) (closes : Bool) (body : List ℕ) → AreActs (opening_talk Devices) acts (Http said closes body) → ⊥
-  device_acts [] said closes body are = no_link said closes body (opening_talk Devices) are refl
-  device_acts (a ∷ acts) said closes body (before, is, later) = subst (λ (t : Talk). IsNext a.state.settings t a.what a.after) before is.next
+  device_acts : (acts : List Act) (said : List Said) (closes : Bool) (body : List ℕ) → AreActs (opening_peer Devices) acts (Http said closes body) → ⊥
+  device_acts [] said closes body are = no_link said closes body (opening_peer Devices) are refl
+  device_acts (a ∷ acts) said closes body (before, is, later) = subst (λ (t : PeerRecord). IsNext a.state.settings t a.what a.after) before is.next
 
-  by_door : (door : Door) (acts : List Act) (said : List Said) (closes : Bool) (body : List ℕ) → AreActs (opening_talk door) acts (Http said closes body) → AreExchanges said (flat_map (λ (a : Act). a.asked) acts) (flat_map (λ (a : Act). a.bytes) acts)
+  by_door : (door : Door) (acts : List Act) (said : List Said) (closes : Bool) (body : List ℕ) → AreActs (opening_peer door) acts (Http said closes body) → AreExchanges said (flat_map (λ (a : Act). a.asked) acts) (flat_map (λ (a : Act). a.bytes) acts)
   by_door Ipp acts said closes body are = acts_are_exchanges acts said closes body are
   by_door Lpd acts said closes body are = absurd (lpd_acts acts [] None said closes body are)
   by_door Devices acts said closes body are = absurd (device_acts acts said closes body are)
 
   answered_so : (opening : State) (key : ℕ) (handled : List Handled) (e : Entry) (said : List Said) (closes : Bool) (body : List ℕ) → e.talk ≡ Http said closes body → IsAnswered opening key handled e → ByExchanges key handled said e
   answered_so opening key handled e said closes body is a =
-      let are = by_door a.door a.acts said closes body (subst (λ (t : Talk). AreActs (opening_talk a.door) a.acts t) is a.are) in
+      let are = by_door a.door a.acts said closes body (subst (λ (t : PeerRecord). AreActs (opening_peer a.door) a.acts t) is a.are) in
       record {
         earlier = a.earlier;
         since = a.since;
@@ -436,7 +436,7 @@ module _ (ordered : SaysInOrder) (some : SaysSome) (stays : FirstStays) where
       }
 
   -- what an IPP client's acts led to before it broke
-  last_http : (opening : State) (handled : List Handled) (after : Talk) (said : List Said) (closes : Bool) (body : List ℕ) → IsLast opening handled after (Http said closes body) → (until : List Said) × (last : Bool) × (left : List ℕ) × (after ≡ Http until last left) × IsOneMore until said
+  last_http : (opening : State) (handled : List Handled) (after : PeerRecord) (said : List Said) (closes : Bool) (body : List ℕ) → IsLast opening handled after (Http said closes body) → (until : List Said) × (last : Bool) × (left : List ℕ) × (after ≡ Http until last left) × IsOneMore until said
   last_http opening handled (Http until last left) said closes body (inl is) = (until, last, left, refl, inl (sym (same_said until said last closes left body is)))
   last_http opening handled (Http until last left) said closes body (inr (state, what, of, next)) =
       (until, last, left, refl, inr (next.item, next.part, same_said said (until ++ said_by next.item next.part) closes (closes_after next.item last) body (body_after next.item what next.part left) next.is))
@@ -449,7 +449,7 @@ module _ (ordered : SaysInOrder) (some : SaysSome) (stays : FirstStays) where
   cut_so : (opening : State) (key : ℕ) (handled : List Handled) (e : Entry) (said : List Said) (closes : Bool) (body : List ℕ) → e.talk ≡ Http said closes body → IsCutOff opening key handled e → UntilBroken key handled said e
   cut_so opening key handled e said closes body is cut =
       let b = cut.until in
-      let it = last_http opening handled b.after said closes body (subst (λ (t : Talk). IsLast opening handled b.after t) is b.last) in
+      let it = last_http opening handled b.after said closes body (subst (λ (t : PeerRecord). IsLast opening handled b.after t) is b.last) in
       record {
         earlier = cut.earlier;
         since = cut.since;
@@ -460,24 +460,24 @@ module _ (ordered : SaysInOrder) (some : SaysSome) (stays : FirstStays) where
         unanswered = b.unanswered;
         asked = b.asked;
         one = b.one;
-        are = subst (λ (bytes : List ℕ). AreExchanges it.0 (flat_map (λ (x : Act). x.asked) b.acts) bytes) (sym b.due) (by_door cut.door b.acts it.0 it.1 it.2 (subst (λ (t : Talk). AreActs (opening_talk cut.door) b.acts t) it.3 b.are));
+        are = subst (λ (bytes : List ℕ). AreExchanges it.0 (flat_map (λ (x : Act). x.asked) b.acts) bytes) (sym b.due) (by_door cut.door b.acts it.0 it.1 it.2 (subst (λ (t : PeerRecord). AreActs (opening_peer cut.door) b.acts t) it.3 b.are));
       }
 
-  so : (opening : State) (key : ℕ) (handled : List Handled) (e : Entry) (talk : Talk) → e.talk ≡ talk → (ClientTalk talk → e.broken ≡ false → IsAnswered opening key handled e) → (ClientTalk talk → e.broken ≡ true → IsCutOff opening key handled e) → IsByExchanges key handled talk e
+  so : (opening : State) (key : ℕ) (handled : List Handled) (e : Entry) (talk : PeerRecord) → e.talk ≡ talk → (ClientTalk talk → e.broken ≡ false → IsAnswered opening key handled e) → (ClientTalk talk → e.broken ≡ true → IsCutOff opening key handled e) → IsByExchanges key handled talk e
   so opening key handled e (Http said closes body) is answered cut = (λ sound. answered_so opening key handled e said closes body is (answered tt sound), λ broken. cut_so opening key handled e said closes body is (cut tt broken))
   so opening key handled e (Queue items session) is answered cut = tt
   so opening key handled e (Link reports device) is answered cut = tt
 
   -- of a connection that was closed
-  was_so : (opening : State) (handled : List Handled) (e : Entry) (talk : Talk) → e.talk ≡ talk → (t : Bool) → e.broken ≡ t → WasAnswered opening handled e → WasCutOff opening handled e → WasByExchanges handled e
+  was_so : (opening : State) (handled : List Handled) (e : Entry) (talk : PeerRecord) → e.talk ≡ talk → (t : Bool) → e.broken ≡ t → WasAnswered opening handled e → WasCutOff opening handled e → WasByExchanges handled e
   was_so opening handled e (Http said closes body) is false sound answered cut =
       let it = answered (subst ClientTalk (sym is) tt) sound in
       (it.0, it.1, it.2, it.3, so opening it.0 it.1 e e.talk refl (λ client unbroken. it.4) (λ client broken. absurd (no_false (sym sound ∙ broken))))
   was_so opening handled e (Http said closes body) is true broke answered cut =
       let it = cut (subst ClientTalk (sym is) tt) broke in
       (it.0, it.1, it.2, it.3, so opening it.0 it.1 e e.talk refl (λ client unbroken. absurd (no_false (sym unbroken ∙ broke))) (λ client broken. it.4))
-  was_so opening handled e (Queue items session) is t broke answered cut = (0, [], handled, refl, subst (λ (talk : Talk). IsByExchanges 0 [] talk e) (sym is) tt)
-  was_so opening handled e (Link reports device) is t broke answered cut = (0, [], handled, refl, subst (λ (talk : Talk). IsByExchanges 0 [] talk e) (sym is) tt)
+  was_so opening handled e (Queue items session) is t broke answered cut = (0, [], handled, refl, subst (λ (talk : PeerRecord). IsByExchanges 0 [] talk e) (sym is) tt)
+  was_so opening handled e (Link reports device) is t broke answered cut = (0, [], handled, refl, subst (λ (talk : PeerRecord). IsByExchanges 0 [] talk e) (sym is) tt)
 
   all_so : (opening : State) (handled : List Handled) (closed : List (Entry × Fate)) → All (λ (it : Entry × Fate). WasAnswered opening handled it.0) closed → All (λ (it : Entry × Fate). WasCutOff opening handled it.0) closed → All (λ (it : Entry × Fate). WasByExchanges handled it.0) closed
   all_so opening handled [] answered cut = All-nil (λ (it : Entry × Fate). WasByExchanges handled it.0)

@@ -24,7 +24,7 @@ use Rattle.dispatcher.specs.declared.outcome.Outcome.TheVariants.{Dropped, Queri
 use Rattle.dispatcher.specs.declared.listener.AllocationSite.TheVariants as At
 use Rattle.dispatcher.specs.Notes.{Note, Planned, Canceled, Refused}
 use Rattle.dispatcher.specs.Run.{cancels_told, Handles}
-use Rattle.connections.specs.Entry.{Talk, Entry, opening_talk, device_of}
+use Rattle.connections.specs.Entry.{PeerRecord, Entry, opening_peer, device_of}
 use Rattle.server.specs.Polls.{Happening, Told}
 use Rattle.server.specs.Ledger.{Ledger, at_key, job_bytes, Fate}
 use Rattle.server.specs.Enqueuing.{IsDevice}
@@ -147,8 +147,8 @@ pub record Went (core : State) (key : ℕ) (handled : List Handled) (x : Option 
 abbrev pub TalkedAs : State → ℕ → List Handled → Option Entry → Entry → Type 0
 TalkedAs core key handled x e = Went core key handled x e ⊎ IsAnswered core key handled e
 
-acts_append : (before mid after : Talk) (acts more : List Act) → AreActs before acts mid → AreActs mid more after → AreActs before (acts ++ more) after
-acts_append before mid after [] more same are = subst (λ (t : Talk). AreActs t more after) same are
+acts_append : (before mid after : PeerRecord) (acts more : List Act) → AreActs before acts mid → AreActs mid more after → AreActs before (acts ++ more) after
+acts_append before mid after [] more same are = subst (λ (t : PeerRecord). AreActs t more after) same are
 acts_append before mid after (a ∷ acts) more (is, act, rest) are = (is, act, acts_append a.after mid after acts more rest are)
 
 asked_append : (key : ℕ) (first later : List Handled) → asked_by key (first ++ later) ≡ asked_by key first ++ asked_by key later
@@ -213,7 +213,7 @@ talked_then core mid key first later x y e run (inl w) before = by (before w.bef
       whole = ap (λ (its : List Handled). its ++ later) b.whole ∙ append_assoc b.earlier b.since later;
       door = b.door;
       acts = b.acts ++ w.acts;
-      are = acts_append (opening_talk b.door) w.before.talk e.talk b.acts w.acts b.are w.are;
+      are = acts_append (opening_peer b.door) w.before.talk e.talk b.acts w.acts b.are w.are;
       states = All-append (λ (a : Act). IsStateOf a.state core (first ++ later)) b.acts w.acts (states_more core first later b.acts b.states) (states_behind core mid first later w.acts run w.states);
       asked = asked_joined key b.since later b.acts w.acts b.asked w.asked;
       due = due_joined [] w.before.due e.due b.acts w.acts b.due w.due;
@@ -227,16 +227,16 @@ StopsAs core key handled x e =
     ((d : Entry) × (x ≡ Some d) × (d.broken ≡ true) × (d.talk ≡ e.talk) × (d.due ≡ e.due) × (asked_by key handled ≡ []))
     ⊎ (((d : Entry) × (x ≡ Some d) × ClientTalk d.talk × (d.broken ≡ false) × BrokeAfter core key handled handled d.talk d.due e) ⊎ IsCutOff core key handled e)
 
-last_more : (core : State) (first later : List Handled) (after talk : Talk) → IsLast core first after talk → IsLast core (first ++ later) after talk
+last_more : (core : State) (first later : List Handled) (after talk : PeerRecord) → IsLast core first after talk → IsLast core (first ++ later) after talk
 last_more core first later after talk (inl is) = inl is
 last_more core first later after talk (inr (state, what, of, next)) = inr (state, what, state_more state core first later of, next)
 
-last_behind : (core mid : State) (first later : List Handled) (after talk : Talk) → AreHandled core first mid → IsLast mid later after talk → IsLast core (first ++ later) after talk
+last_behind : (core mid : State) (first later : List Handled) (after talk : PeerRecord) → AreHandled core first mid → IsLast mid later after talk → IsLast core (first ++ later) after talk
 last_behind core mid first later after talk run (inl is) = inl is
 last_behind core mid first later after talk run (inr (state, what, of, next)) = inr (state, what, state_behind state core mid first later run of, next)
 
 -- more comes, which it doesn't ask for
-broke_more : (core : State) (key : ℕ) (first later since : List Handled) (before : Talk) (base : List ℕ) (d e : Entry) → BrokeAfter core key first since before base d → d.talk ≡ e.talk → d.due ≡ e.due → asked_by key later ≡ [] → BrokeAfter core key (first ++ later) (since ++ later) before base e
+broke_more : (core : State) (key : ℕ) (first later since : List Handled) (before : PeerRecord) (base : List ℕ) (d e : Entry) → BrokeAfter core key first since before base d → d.talk ≡ e.talk → d.due ≡ e.due → asked_by key later ≡ [] → BrokeAfter core key (first ++ later) (since ++ later) before base e
 broke_more core key first later since before base d e b talk due none = record {
   acts = b.acts;
   after = b.after;
@@ -245,12 +245,12 @@ broke_more core key first later since before base d e b talk due none = record {
   unanswered = b.unanswered;
   one = b.one;
   asked = asked_append key since later ∙ (ap (λ (its : List Handled). asked_by key since ++ its) none ∙ (append-nil (asked_by key since) ∙ b.asked));
-  last = subst (λ (t : Talk). IsLast core (first ++ later) b.after t) talk (last_more core first later b.after d.talk b.last);
+  last = subst (λ (t : PeerRecord). IsLast core (first ++ later) b.after t) talk (last_more core first later b.after d.talk b.last);
   due = sym due ∙ b.due;
 }
 
 -- it had gone on by other acts before
-broke_behind : (core mid : State) (key : ℕ) (first later since : List Handled) (before : Talk) (base : List ℕ) (d e : Entry) (acts : List Act) → AreHandled core first mid → AreActs before acts d.talk → All (λ (a : Act). IsStateOf a.state core first) acts → asked_by key since ≡ flat_map (λ (a : Act). a.asked) acts
+broke_behind : (core mid : State) (key : ℕ) (first later since : List Handled) (before : PeerRecord) (base : List ℕ) (d e : Entry) (acts : List Act) → AreHandled core first mid → AreActs before acts d.talk → All (λ (a : Act). IsStateOf a.state core first) acts → asked_by key since ≡ flat_map (λ (a : Act). a.asked) acts
     → d.due ≡ base ++ flat_map (λ (a : Act). a.bytes) acts → BrokeAfter mid key later later d.talk d.due e → BrokeAfter core key (first ++ later) (since ++ later) before base e
 broke_behind core mid key first later since before base d e acts run are states asked due b = record {
   acts = acts ++ b.acts;
@@ -279,7 +279,7 @@ stops_then core mid key first later x y e run client (inl (d, there, broken, tal
       since = c.since ++ later;
       whole = ap (λ (its : List Handled). its ++ later) c.whole ∙ append_assoc c.earlier c.since later;
       door = c.door;
-      until = broke_more core key first later c.since (opening_talk c.door) [] d e c.until talk due none;
+      until = broke_more core key first later c.since (opening_peer c.door) [] d e c.until talk due none;
     }))
 stops_then core mid key first later x y e run client (inr (inl (d, there, of, sound, b))) talked stopped = by (talked d there of sound)
   where
@@ -290,7 +290,7 @@ stops_then core mid key first later x y e run client (inr (inl (d, there, of, so
       since = a.since ++ later;
       whole = ap (λ (its : List Handled). its ++ later) a.whole ∙ append_assoc a.earlier a.since later;
       door = a.door;
-      until = broke_behind core mid key first later a.since (opening_talk a.door) [] d e a.acts run a.are a.states a.asked a.due b;
+      until = broke_behind core mid key first later a.since (opening_peer a.door) [] d e a.acts run a.are a.states a.asked a.due b;
     }))
 stops_then core mid key first later x y e run client (inr (inr c)) talked stopped = inr (inr (record {
   earlier = first ++ c.earlier;

@@ -25,7 +25,7 @@ use Rattle.server.specs.Happening.{now_at, Happens, Unanswered}
 use Rattle.server.specs.Closing.{Leaves, IsGone, ClosesAs, Settles}
 use Rattle.server.specs.Polling.{Opens, AcceptsAs, AcceptsOne, AcceptsAt, IsHeardAt, FedWhole, FeedsAt, Fails, ReadsAs, ReadsOpen, ReadsAt, is_read, ReadsOne, WritesAs, WritesOpen, WritesAt, WritesOne, is_done, EndsAt, EndsOne}
 use Rattle.server.specs.Turn as Between
-use Rattle.server.specs.Turn.{Ticks, Notes, is_tick_due, TicksIfDue, Covers, Round, Turn, BodyAsks, BodyComes, Action, Turned, Served_body, Reported, Ticked, Trace, DoesDeed, Runs}
+use Rattle.server.specs.Turn.{Ticks, Notes, is_tick_due, TicksIfDue, Covers, Round, Turn, BodyAsks, BodyComes, Action, Turned, Served_body, Reported, Ticked, Trace, DoesAction, Runs}
 use Rattle.promises.proofs.Sending.{same_key, other_key}
 use Rattle.promises.proofs.Sparing.{IsOut, Left, Leaves_it, left_unanswered, left_settles, left_happens, left_reads, left_writes}
 
@@ -250,15 +250,15 @@ body_comes moment body served l hs l' heard (inl (it, asks, comes)) =
     hears_then (Chooses Found) (BodyAsks moment it served) (λ a ks b all is. hears_same a b (ap (λ (x : Ledger). x.entries) is.1) all) (body_asks moment it served) l hs l' heard comes
 body_comes moment body served l hs l' heard (inr it) = hears_same l l' (ap (λ (x : Ledger). x.entries) it.1) heard
 
-pub hears_deed : (deed : Action) (l l' : Ledger) → AllHeard l → DoesDeed deed l l' → AllHeard l'
-hears_deed (Turned moment hs) l l' heard it = hears_turn moment l hs l' heard it
-hears_deed (Served_body moment body answer hs) l l' heard (served, same, it) = body_comes moment body served l hs l' heard it
-hears_deed (Reported moment device said hs) l l' heard (what, same, it) = hears_unanswered moment (Is.Report device what) l hs l' heard it
-hears_deed (Ticked moment hs) l l' heard it = hears_ticks moment l hs l' heard it
+pub hears_action : (action : Action) (l l' : Ledger) → AllHeard l → DoesAction action l l' → AllHeard l'
+hears_action (Turned moment hs) l l' heard it = hears_turn moment l hs l' heard it
+hears_action (Served_body moment body answer hs) l l' heard (served, same, it) = body_comes moment body served l hs l' heard it
+hears_action (Reported moment device said hs) l l' heard (what, same, it) = hears_unanswered moment (Is.Report device what) l hs l' heard it
+hears_action (Ticked moment hs) l l' heard it = hears_ticks moment l hs l' heard it
 
 hears_trace : (trace : Trace) (l l' : Ledger) → AllHeard l → Runs trace l l' → AllHeard l'
 hears_trace [] l l' heard same = hears_same l l' (ap (λ (x : Ledger). x.entries) same) heard
-hears_trace (deed ∷ deeds) l l' heard (mid, does, runs) = hears_trace deeds mid l' (hears_deed deed l mid heard does) runs
+hears_trace (action ∷ actions) l l' heard (mid, does, runs) = hears_trace actions mid l' (hears_action action l mid heard does) runs
 
 pub all_heard : (opening : State) (trace : Trace) (l : Ledger) → Runs trace (opening_ledger opening) l → (key : ℕ) (e : Entry) → l.entries key ≡ Some e → IsHeard e
 all_heard opening trace l runs key e is = there l key e (hears_trace trace (opening_ledger opening) l (λ k. tt) runs) is

@@ -29,7 +29,7 @@ use Rattle.server.specs.Happening.{now_at, Happens, Unanswered}
 use Rattle.server.specs.Closing.{ClosesAs, Settles}
 use Rattle.server.specs.Polling.{Opens, AcceptsAs, AcceptsOne, AcceptsAt, FedWhole, FeedsAt, FeedsOne, Fails, ReadsAs, ReadsOpen, ReadsAt, is_read, ReadsOne, WritesAs, WritesOpen, WritesAt, WritesOne, is_done, EndsAt, EndsOne}
 use Rattle.server.specs.Turn as Between
-use Rattle.server.specs.Turn.{Ticks, Notes, is_tick_due, TicksIfDue, Covers, Rounds, Round, Turn, BodyAsks, BodyComes, Action, Turned, Served_body, Reported, Ticked, Trace, DoesDeed, Runs}
+use Rattle.server.specs.Turn.{Ticks, Notes, is_tick_due, TicksIfDue, Covers, Rounds, Round, Turn, BodyAsks, BodyComes, Action, Turned, Served_body, Reported, Ticked, Trace, DoesAction, Runs}
 use Rattle.server.specs.Law.{core_notes, moment_of, happenings_of, happenings_in}
 use Rattle.promises.specs.Orders.{Handled, AreHandled, AreOf, due_by, AreSent, WasSent, IsFrontSent, WasHalted}
 use Rattle.promises.specs.Answers.{Act, ClientTalk, IsStateOf, IsAnswered, WasAnswered, AreAnswered, IsCutOff, WasCutOff}
@@ -229,11 +229,11 @@ body_comes moment body served l hs l' good (inl (it, asks, comes)) =
     moves_then moment (Chooses Found) (BodyAsks moment it served) (moves_calm moment (Chooses Found) (calms_chooses Found)) (body_asks moment it served) l hs l' good comes
 body_comes moment body served l hs l' good (inr it) = goes_calm moment l hs l' good (calms_refusal At.Event None refl l hs l' it)
 
-pub moves_deed : (deed : Action) (l l' : Ledger) → Good l → DoesDeed deed l l' → Goes (moment_of deed) l (happenings_of deed) l'
-moves_deed (Turned moment hs) l l' good it = moves_turn moment l hs l' good it
-moves_deed (Served_body moment body answer hs) l l' good (served, same, it) = body_comes moment body served l hs l' good it
-moves_deed (Reported moment device said hs) l l' good (what, same, it) = moves_unanswered moment (Is.Report device what) l hs l' good it
-moves_deed (Ticked moment hs) l l' good it = moves_ticks moment l hs l' good it
+pub moves_action : (action : Action) (l l' : Ledger) → Good l → DoesAction action l l' → Goes (moment_of action) l (happenings_of action) l'
+moves_action (Turned moment hs) l l' good it = moves_turn moment l hs l' good it
+moves_action (Served_body moment body answer hs) l l' good (served, same, it) = body_comes moment body served l hs l' good it
+moves_action (Reported moment device said hs) l l' good (what, same, it) = moves_unanswered moment (Is.Report device what) l hs l' good it
+moves_action (Ticked moment hs) l l' good it = moves_ticks moment l hs l' good it
 
 -- ---- traces
 
@@ -262,16 +262,16 @@ goes_on [] l l' good same = record {
   stops = λ key. stops_still l.core key [] (l.entries key) (l'.entries key) (λ f is of. (f, subst (λ (x : Ledger). x.entries key ≡ Some f) same is, refl, λ sound. sound, refl)) refl;
   closed = none_closed l [] l' (ap (λ (x : Ledger). x.closed) same);
 }
-goes_on (deed ∷ deeds) l l' good (mid, does, runs) =
-    let first = moves_deed deed l mid good does in
-    let later = goes_on deeds mid l' first.good runs in
+goes_on (action ∷ actions) l l' good (mid, does, runs) =
+    let first = moves_action action l mid good does in
+    let later = goes_on actions mid l' first.good runs in
     record {
       handled = first.handled ++ later.handled;
       good = later.good;
       timed = (first.handled, later.handled, refl, first.timed, later.timed);
       run = handled_append l.core mid.core l'.core first.handled later.handled first.run later.run;
-      told = notes_append (happenings_of deed) (happenings_in deeds)
-          ∙ (ap (λ (ns : List Note). ns ++ core_notes (happenings_in deeds)) first.told ∙ (ap (λ (ns : List Note). flat_map (λ (it : Handled). it.notes) first.handled ++ ns) later.told ∙ sym (flat_map-append (λ (it : Handled). it.notes) first.handled later.handled)));
+      told = notes_append (happenings_of action) (happenings_in actions)
+          ∙ (ap (λ (ns : List Note). ns ++ core_notes (happenings_in actions)) first.told ∙ (ap (λ (ns : List Note). flat_map (λ (it : Handled). it.notes) first.handled ++ ns) later.told ∙ sym (flat_map-append (λ (it : Handled). it.notes) first.handled later.handled)));
       came = λ key device counts. came_then device first.handled later.handled (l.entries key) (mid.entries key) (l'.entries key) (later.came key device counts) (first.came key device);
       lost = λ key device is. lost_then device first.handled later.handled (l.entries key) (mid.entries key) (l'.entries key) (later.lost key device is) (first.lost key device) (first.came key device);
       talks = λ key e is of sound. talked_then l.core mid.core key first.handled later.handled (l.entries key) (mid.entries key) e first.run (later.talks key e is of sound) (λ d there client unbroken. first.talks key d there client unbroken);

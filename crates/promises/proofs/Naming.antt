@@ -6,7 +6,7 @@ use Rattle.base_types.specs.declared.report.Report.TheVariants as report
 use Rattle.events.specs.declared.event.Event.TheVariants as Is
 use Rattle.dispatcher.specs.Notes.{Note}
 use Rattle.connections.specs.Steps.{silent}
-use Rattle.connections.specs.Entry.{Talk, Http, Queue, Link, Entry, device_of, given_up, unnamed}
+use Rattle.connections.specs.Entry.{PeerRecord, Http, Queue, Link, Entry, device_of, given_up, unnamed}
 use Rattle.server.specs.Polls.{Happening}
 use Rattle.server.specs.Ledger.{Ledger, at_key, with_entry}
 use Rattle.server.specs.Enqueuing.{IsDevice}
@@ -94,12 +94,12 @@ awaits moment device key e new l hs l' good silent named fresh due alone = recor
     stops other f is of broken (inl (here, its)) = absurd (client_none new.talk device (subst ClientTalk (sym (ap (λ (x : Entry). x.talk) (one_entry new f (sym its ∙ is)))) of) named)
     stops other f is of broken (inr (aside, sent, none)) = stops_still l.core other [] (l.entries other) (l'.entries other) sent.stays refl f is of broken
 
-pub unnamed_device : (talk : Talk) (device : ℕ) → device_of (unnamed talk) ≡ Some device → ⊥
+pub unnamed_device : (talk : PeerRecord) (device : ℕ) → device_of (unnamed talk) ≡ Some device → ⊥
 unnamed_device (Http said closes body) device is = cc
 unnamed_device (Queue items session) device is = cc
 unnamed_device (Link reports other) device is = cc
 
-named_client : (talk : Talk) (device : ℕ) → device_of talk ≡ Some device → ClientTalk (unnamed talk) → ⊥
+named_client : (talk : PeerRecord) (device : ℕ) → device_of talk ≡ Some device → ClientTalk (unnamed talk) → ⊥
 named_client (Http said closes body) device is client = cc
 named_client (Queue items session) device is client = cc
 named_client (Link reports other) device is client = client

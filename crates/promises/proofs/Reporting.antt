@@ -29,7 +29,7 @@ use Rattle.connections.specs.declared.ask.Ask.{Ask}
 use Rattle.connections.specs.declared.ask.Ask.TheVariants as ask
 use Rattle.connections.specs.declared.ask.Client.{Client}
 use Rattle.connections.specs.declared.ask.Client.TheVariants as client
-use Rattle.connections.specs.Entry.{Talk, Http, Queue, Link, Entry, opening_entry, device_of, given_up, broken, reading, unnamed, waiting}
+use Rattle.connections.specs.Entry.{PeerRecord, Http, Queue, Link, Entry, opening_entry, device_of, given_up, broken, reading, unnamed, waiting}
 use Rattle.connections.specs.Asking.{Hears, IsHeard}
 use Rattle.server.specs.Polls.{Happening, Choice, Found, On, Rested, Looked}
 use Rattle.server.specs.Ledger.{Ledger, Fate, Drained, Broken, opening_ledger, at_key, with_entry, without}
@@ -42,7 +42,7 @@ use Rattle.server.specs.Greeting.{IsDeviceAs, IsAlone, HasOther, GivesWayAt, Giv
 use Rattle.server.specs.Acting.{place_of, place_of_part, Asks, ActsOn, ActsNext}
 use Rattle.server.specs.Polling.{Opens, AcceptsAs, AcceptsOne, AcceptsAt, Acts, Serves, FedWhole, FeedsAt, FeedsOne, Fails, ReadsAs, ReadsOpen, ReadsAt, is_read, ReadsOne, WritesAs, WritesOpen, WritesAt, WritesOne, is_done, EndsAt, EndsOne}
 use Rattle.server.specs.Turn as Between
-use Rattle.server.specs.Turn.{Ticks, Notes, is_tick_due, TicksIfDue, Covers, Round, Turn, BodyAsks, BodyComes, Action, Turned, Served_body, Reported, Ticked, Trace, DoesDeed, Runs}
+use Rattle.server.specs.Turn.{Ticks, Notes, is_tick_due, TicksIfDue, Covers, Round, Turn, BodyAsks, BodyComes, Action, Turned, Served_body, Reported, Ticked, Trace, DoesAction, Runs}
 use Rattle.server.specs.Law.{core_notes, moment_of, happenings_of, happenings_in}
 use Rattle.promises.specs.Answers.{ClientTalk}
 use Rattle.promises.specs.Heard.{Came, AreRun, is_turn, ComeAt, ComeOf, report_in, report_by, reports_by, said_on, IsReported, IsStateIn, IsNameIn, IsGreeted, IsRead, AreHeard}
@@ -156,7 +156,7 @@ goes_event turn moment event outcome none l hs l' it =
     (λ s device before r.
     reported_as device before (before ++ (if turn then report_in device event else [])) l' (sym (ap (λ (reports : List ReportRecord). before ++ reports) (none device) ∙ append-nil before)) (reported_kept device before l l' one.kept r)) (λ Name names s all. greeted_kept Name l l' one.kept all)
 
--- ---- parts of a deed
+-- ---- parts of an action
 
 module _ (turn : Bool) (moment : ℕ) where
   abbrev Within : Rel → Type 1
@@ -381,7 +381,7 @@ open_as ended device (Some e) is = (e, refl, is.0)
 gives_way_at : (key : ℕ) (e : Entry) (o : Option Entry) (l : Ledger) (hs : List Happening) (l' : Ledger) → o ≡ Some e → GivesWayAt key o l hs l' → (hs ≡ []) × (l' ≡ with_entry key (given_up e) l)
 gives_way_at key e o l hs l' there it = subst (λ (x : Option Entry). GivesWayAt key x l hs l') there it
 
-unnamed_said : (talk : Talk) → said_on (unnamed talk) ≡ said_on talk
+unnamed_said : (talk : PeerRecord) → said_on (unnamed talk) ≡ said_on talk
 unnamed_said (Http said closes body) = refl
 unnamed_said (Queue items session) = refl
 unnamed_said (Link reports device) = refl
@@ -545,12 +545,12 @@ device_acts moment key id what l front m back l' hs whole a (inr (inl s)) does =
 device_acts moment key id what l front m back l' hs whole a (inr (inr s)) does =
     reports_on moment key what a.entry a.new l front m back l' hs whole (ap core_notes a.chosen) a.there a.after s (subst (λ (it : Ask). ActsOn moment key id it m back l') s.asks does)
 
-acts_by : (moment key id : ℕ) (what : Ask) (l : Ledger) (front : List Happening) (m : Ledger) (back : List Happening) (l' : Ledger) (hs : List Happening) → hs ≡ front ++ back → (a : Asks key id what l front m) → (talk : Talk) → a.entry.talk ≡ talk → ActsOn moment key id what m back l' → Goes true moment l hs l'
+acts_by : (moment key id : ℕ) (what : Ask) (l : Ledger) (front : List Happening) (m : Ledger) (back : List Happening) (l' : Ledger) (hs : List Happening) → hs ≡ front ++ back → (a : Asks key id what l front m) → (talk : PeerRecord) → a.entry.talk ≡ talk → ActsOn moment key id what m back l' → Goes true moment l hs l'
 acts_by moment key id what l front m back l' hs whole a (Http said closes body) is does = client_acts moment key id what l front m back l' hs whole a (subst ClientTalk (sym is) tt) does
 acts_by moment key id what l front m back l' hs whole a (Queue items session) is does = client_acts moment key id what l front m back l' hs whole a (subst ClientTalk (sym is) tt) does
 acts_by moment key id what l front m back l' hs whole a (Link reports device) is does =
     device_acts moment key id what l front m back l' hs whole a
-    (device_step l.core.settings reports device a.entry a.asks.comes a.asks.mid what a.new is (not_broken a.entry.draining a.entry.broken a.asks.counts) (subst (λ (t : Talk). Hears l.core.settings t a.entry a.asks.comes a.asks.mid) is a.asks.hears) a.asks.steps) does
+    (device_step l.core.settings reports device a.entry a.asks.comes a.asks.mid what a.new is (not_broken a.entry.draining a.entry.broken a.asks.counts) (subst (λ (t : PeerRecord). Hears l.core.settings t a.entry a.asks.comes a.asks.mid) is a.asks.hears) a.asks.steps) does
 
 acts_next_in : (moment key : ℕ) → Within true moment (ActsNext moment key)
 acts_next_in moment key l hs l' (id, what, it) = acts_by moment key id what l it.front it.mid it.back l' hs it.whole it.first it.first.entry.talk refl it.second
@@ -693,11 +693,11 @@ module _ (moment : ℕ) where
   body_comes_in body served l hs l' (inl (it, asks, comes)) = then_in false moment (chooses_in false moment Found) (body_in it served) l hs l' comes
   body_comes_in body served l hs l' (inr it) = calmly_in false moment (calms_tells (Refused At.Event None) refl) l hs l' it
 
-goes_deed : (deed : Action) (l l' : Ledger) → DoesDeed deed l l' → Goes (is_turn deed) (moment_of deed) l (happenings_of deed) l'
-goes_deed (Turned moment hs) l l' it = turn_in moment l hs l' it
-goes_deed (Served_body moment body answer hs) l l' (served, same, it) = body_comes_in moment body served l hs l' it
-goes_deed (Reported moment device said hs) l l' (what, same, (outcome, it)) = goes_event false moment (Is.Report device what) outcome (λ of. refl) l hs l' it
-goes_deed (Ticked moment hs) l l' it = ticks_in false moment l hs l' it
+goes_action : (action : Action) (l l' : Ledger) → DoesAction action l l' → Goes (is_turn action) (moment_of action) l (happenings_of action) l'
+goes_action (Turned moment hs) l l' it = turn_in moment l hs l' it
+goes_action (Served_body moment body answer hs) l l' (served, same, it) = body_comes_in moment body served l hs l' it
+goes_action (Reported moment device said hs) l l' (what, same, (outcome, it)) = goes_event false moment (Is.Report device what) outcome (λ of. refl) l hs l' it
+goes_action (Ticked moment hs) l l' it = ticks_in false moment l hs l' it
 
 -- ---- a trace
 
@@ -720,14 +720,14 @@ goes_on [] l l' same = record {
   reported = λ s device before r. reported_as device before (before ++ []) l' (sym (append-nil before)) (subst (λ (x : Ledger). IsReported device before x) (sym same) r);
   greeted = λ Name names s all. subst (AllGreeted Name) (sym same) all;
 }
-goes_on (deed ∷ deeds) l l' (mid, does, runs) =
-    let first = goes_deed deed l mid does in
-    let later = goes_on deeds mid l' runs in
+goes_on (action ∷ actions) l l' (mid, does, runs) =
+    let first = goes_action action l mid does in
+    let later = goes_on actions mid l' runs in
     record {
       came = first.came ++ later.came;
       timed = (first.came, later.came, refl, first.timed, later.timed);
       run = run_then l.core mid.core l'.core first.came later.came first.run later.run;
-      told = told_then (happenings_of deed ++ happenings_in deeds) (happenings_of deed) (happenings_in deeds) first.came later.came refl first.told later.told;
+      told = told_then (happenings_of action ++ happenings_in actions) (happenings_of action) (happenings_in actions) first.came later.came refl first.told later.told;
       sound = λ s. later.sound (first.sound s);
       reported = λ s device before r.
           reported_as device ((before ++ reports_by device first.came) ++ reports_by device later.came) (before ++ reports_by device (first.came ++ later.came)) l' (reports_then device before first.came later.came)

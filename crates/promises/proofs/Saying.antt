@@ -15,7 +15,7 @@ use Rattle.wires.specs.declared.wire.Progress.{Progress as WireAnswer}
 use Rattle.wires.specs.declared.wire.Progress.TheVariants as wire
 use Rattle.wires.specs.declared.wire.Door.{Door}
 use Rattle.wires.specs.declared.wire.Door.TheVariants.{Ipp, Lpd, Devices}
-use Rattle.connections.specs.Entry.{Talk, Http, Queue, Link, Entry, opening_entry, device_of, closes_of, broken, owing, given_up, unnamed, reading, waiting, needs_memory}
+use Rattle.connections.specs.Entry.{PeerRecord, Http, Queue, Link, Entry, opening_entry, device_of, closes_of, broken, owing, given_up, unnamed, reading, waiting, needs_memory}
 use Rattle.connections.specs.Asking.{Hears, StepsTo, AsksNext}
 use Rattle.connections.specs.declared.ask.Ask.{Ask}
 use Rattle.connections.specs.declared.ask.Ask.TheVariants as ask
@@ -55,7 +55,7 @@ use Rattle.server.specs.Happening.{now_at, Decides, Sends, Starts, StartsAll, Se
 use Rattle.server.specs.Closing.{Leaves, IsGone, ClosesAs, ClosesFirst, Settles}
 use Rattle.server.specs.Polling.{Opens, AcceptsAs, AcceptsOne, AcceptsAt, Acts, Serves, FedWhole, FeedsAt, Fails, ReadsAs, ReadsOpen, ReadsAt, is_read, ReadsOne, WritesAs, WritesOpen, WritesAt, WritesOne, is_done, EndsAt, EndsOne}
 use Rattle.server.specs.Turn as Between
-use Rattle.server.specs.Turn.{Ticks, Notes, is_tick_due, TicksIfDue, Covers, Round, Turn, BodyAsks, BodyComes, Action, Turned, Served_body, Reported, Ticked, Trace, DoesDeed, Runs}
+use Rattle.server.specs.Turn.{Ticks, Notes, is_tick_due, TicksIfDue, Covers, Round, Turn, BodyAsks, BodyComes, Action, Turned, Served_body, Reported, Ticked, Trace, DoesAction, Runs}
 use Rattle.promises.specs.Exchanges.{IsFirst}
 
 abbrev First : Entry → Type 0
@@ -124,18 +124,18 @@ breaks_all key l hs l' first it = breaks_at key (l.entries key) l hs l' first (f
 -- ---- what a connection asks, and what comes of it
 
 -- more was read
-first_more : (read bytes : List ℕ) (talk : Talk) → IsFirst read talk → IsFirst (read ++ bytes) talk
+first_more : (read bytes : List ℕ) (talk : PeerRecord) → IsFirst read talk → IsFirst (read ++ bytes) talk
 first_more read bytes (Http said closes body) is = record { next = is.next; left = is.left ++ bytes; leads = (is.leads.0, leads_more is.leads.0 Head read bytes said is.next is.left is.leads.1) }
 first_more read bytes (Queue items session) is = tt
 first_more read bytes (Link reports device) is = tt
 
-first_unnamed : (read : List ℕ) (talk : Talk) → IsFirst read talk → IsFirst read (unnamed talk)
+first_unnamed : (read : List ℕ) (talk : PeerRecord) → IsFirst read talk → IsFirst read (unnamed talk)
 first_unnamed read (Http said closes body) is = is
 first_unnamed read (Queue items session) is = tt
 first_unnamed read (Link reports device) is = tt
 
 -- the next of its stream
-first_mid : (settings : ServerSettings) (talk : Talk) (e : Entry) (comes : Step) (mid : Entry) → IsFirst e.read e.talk → Hears settings talk e comes mid → IsFirst mid.read mid.talk
+first_mid : (settings : ServerSettings) (talk : PeerRecord) (e : Entry) (comes : Step) (mid : Entry) → IsFirst e.read e.talk → Hears settings talk e comes mid → IsFirst mid.read mid.talk
 first_mid settings (Http said closes body) e comes mid is next = subst (λ (x : Entry). IsFirst x.read x.talk) (sym next.after) next.next
 first_mid settings (Queue items session) e comes mid is (inl next) = subst (λ (x : Entry). IsFirst x.read x.talk) (sym next.after) tt
 first_mid settings (Queue items session) e comes mid is (inr (inl next)) = subst (λ (x : Entry). IsFirst x.read x.talk) (sym next.after) is
@@ -467,15 +467,15 @@ body_comes moment body served l hs l' first (inl (it, asks, comes)) =
     keeps_then (Chooses Found) (BodyAsks moment it served) (λ a ks b all is. keeps_same a b (ap (λ (x : Ledger). x.entries) is.1) (ap (λ (x : Ledger). x.closed) is.1) all) (body_asks moment it served) l hs l' first comes
 body_comes moment body served l hs l' first (inr it) = keeps_same l l' (ap (λ (x : Ledger). x.entries) it.1) (ap (λ (x : Ledger). x.closed) it.1) first
 
-keeps_deed : (deed : Action) (l l' : Ledger) → AllFirst l → DoesDeed deed l l' → AllFirst l'
-keeps_deed (Turned moment hs) l l' first it = keeps_turn moment l hs l' first it
-keeps_deed (Served_body moment body answer hs) l l' first (served, same, it) = body_comes moment body served l hs l' first it
-keeps_deed (Reported moment device said hs) l l' first (what, same, it) = keeps_unanswered moment (Is.Report device what) l hs l' first it
-keeps_deed (Ticked moment hs) l l' first it = keeps_ticks moment l hs l' first it
+keeps_action : (action : Action) (l l' : Ledger) → AllFirst l → DoesAction action l l' → AllFirst l'
+keeps_action (Turned moment hs) l l' first it = keeps_turn moment l hs l' first it
+keeps_action (Served_body moment body answer hs) l l' first (served, same, it) = body_comes moment body served l hs l' first it
+keeps_action (Reported moment device said hs) l l' first (what, same, it) = keeps_unanswered moment (Is.Report device what) l hs l' first it
+keeps_action (Ticked moment hs) l l' first it = keeps_ticks moment l hs l' first it
 
 keeps_trace : (trace : Trace) (l l' : Ledger) → AllFirst l → Runs trace l l' → AllFirst l'
 keeps_trace [] l l' first same = keeps_same l l' (ap (λ (x : Ledger). x.entries) same) (ap (λ (x : Ledger). x.closed) same) first
-keeps_trace (deed ∷ deeds) l l' first (mid, does, runs) = keeps_trace deeds mid l' (keeps_deed deed l mid first does) runs
+keeps_trace (action ∷ actions) l l' first (mid, does, runs) = keeps_trace actions mid l' (keeps_action action l mid first does) runs
 
 opening_all : (opening : State) → AllFirst (opening_ledger opening)
 opening_all opening = record { here = λ key. tt; gone = All-nil (λ (it : Entry × Fate). First it.0) }

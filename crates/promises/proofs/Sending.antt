@@ -11,7 +11,7 @@ use Rattle.events.specs.declared.effects.Cancel.{Cancel}
 use Rattle.dispatcher.specs.declared.outcome.Outcome.{Outcome}
 use Rattle.dispatcher.specs.declared.outcome.Outcome.TheVariants.{Dropped, Queried, Undispatched, Idle, Dispatched}
 use Rattle.dispatcher.specs.Notes.{Note}
-use Rattle.connections.specs.Entry.{Talk, Http, Queue, Link, Entry, device_of, broken, owing, given_up, needs_memory, unnamed}
+use Rattle.connections.specs.Entry.{PeerRecord, Http, Queue, Link, Entry, device_of, broken, owing, given_up, needs_memory, unnamed}
 use Rattle.server.specs.Polls.{Happening}
 use Rattle.server.specs.Ledger.{Ledger, at_key, with_entry, job_bytes}
 use Rattle.server.specs.Rel.{Rel, Nothing, If, EachOf}
@@ -38,7 +38,7 @@ due_at None = []
 due_at (Some e) = e.due
 
 -- before a device says its name nothing is due
-abbrev pub FreshTalk : Talk → Entry → Type 0
+abbrev pub FreshTalk : PeerRecord → Entry → Type 0
 FreshTalk (Http said closes body) e = Unit {0}
 FreshTalk (Queue items session) e = Unit {0}
 FreshTalk (Link reports None) e = e.broken ≡ false → e.due ≡ []
@@ -148,17 +148,17 @@ pub no_true : (t : Bool) → t ≡ true → t ≡ false → ⊥
 no_true true p q = cc
 no_true false p q = cc
 
-pub client_none : (talk : Talk) (device : ℕ) → ClientTalk talk → device_of talk ≡ Some device → ⊥
+pub client_none : (talk : PeerRecord) (device : ℕ) → ClientTalk talk → device_of talk ≡ Some device → ⊥
 client_none (Http said closes body) device client is = cc
 client_none (Queue items session) device client is = cc
 client_none (Link reports other) device client is = client
 
-pub client_fresh : (talk : Talk) (e : Entry) → ClientTalk talk → FreshTalk talk e
+pub client_fresh : (talk : PeerRecord) (e : Entry) → ClientTalk talk → FreshTalk talk e
 client_fresh (Http said closes body) e client = tt
 client_fresh (Queue items session) e client = tt
 client_fresh (Link reports device) e client = absurd client
 
-broken_fresh : (talk : Talk) (e : Entry) → e.broken ≡ true → FreshTalk talk e
+broken_fresh : (talk : PeerRecord) (e : Entry) → e.broken ≡ true → FreshTalk talk e
 broken_fresh (Http said closes body) e is = tt
 broken_fresh (Queue items session) e is = tt
 broken_fresh (Link reports None) e is = λ not_broken. absurd (no_true e.broken is not_broken)
@@ -182,7 +182,7 @@ ordered_broken sent d e is of_device of_client same_client = record {
     by device (named, due) true was = inl ((named, was), due)
     by device (named, due) false was = inr ((named, was), sent device, ap (λ (bytes : List ℕ). bytes ++ sent device) due)
 
-still_fresh : (talk : Talk) (d e : Entry) → e.broken ≡ d.broken → e.due ≡ d.due → FreshTalk talk d → FreshTalk talk e
+still_fresh : (talk : PeerRecord) (d e : Entry) → e.broken ≡ d.broken → e.due ≡ d.due → FreshTalk talk d → FreshTalk talk e
 still_fresh (Http said closes body) d e same due fresh = tt
 still_fresh (Queue items session) d e same due fresh = tt
 still_fresh (Link reports None) d e same due fresh = λ is. due ∙ fresh (sym same ∙ is)
@@ -194,22 +194,22 @@ ordered_keeps d e talk same due = record {
   counts = λ device is. ((ap device_of (sym talk) ∙ is.0, sym same ∙ is.1), due ∙ sym (append-nil d.due));
   breaks = λ device is. inl ((ap device_of (sym talk) ∙ is.0, sym same ∙ is.1), due);
   device = λ device is. ap device_of (sym talk) ∙ is;
-  fresh = λ fresh. subst (λ (t : Talk). FreshTalk t e) (sym talk) (still_fresh d.talk d e same due fresh);
+  fresh = λ fresh. subst (λ (t : PeerRecord). FreshTalk t e) (sym talk) (still_fresh d.talk d e same due fresh);
   client = λ client. subst ClientTalk (sym talk) client;
   stays = λ f is client. let this = one_entry e f is in (d, refl, sym talk ∙ ap (λ (x : Entry). x.talk) this, λ sound. sym same ∙ (ap (λ (x : Entry). x.broken) this ∙ sound), sym due ∙ ap (λ (x : Entry). x.due) this);
 }
 
-unnamed_none : (talk : Talk) (device : ℕ) → device_of (unnamed talk) ≡ Some device → device_of talk ≡ Some device
+unnamed_none : (talk : PeerRecord) (device : ℕ) → device_of (unnamed talk) ≡ Some device → device_of talk ≡ Some device
 unnamed_none (Http said closes body) device is = is
 unnamed_none (Queue items session) device is = is
 unnamed_none (Link reports other) device is = cc
 
-unnamed_client : (talk : Talk) → ClientTalk talk → ClientTalk (unnamed talk)
+unnamed_client : (talk : PeerRecord) → ClientTalk talk → ClientTalk (unnamed talk)
 unnamed_client (Http said closes body) client = tt
 unnamed_client (Queue items session) client = tt
 unnamed_client (Link reports device) client = absurd client
 
-unnamed_talk : (talk : Talk) → ClientTalk (unnamed talk) → talk ≡ unnamed talk
+unnamed_talk : (talk : PeerRecord) → ClientTalk (unnamed talk) → talk ≡ unnamed talk
 unnamed_talk (Http said closes body) client = refl
 unnamed_talk (Queue items session) client = refl
 unnamed_talk (Link reports device) client = absurd client
@@ -346,7 +346,7 @@ owing_to device bytes e is unbroken = record {
   stays = λ f same client. absurd (client_none e.talk device (subst ClientTalk (sym (ap (λ (x : Entry). x.talk) (one_entry (owing bytes e) f same))) client) is);
 }
   where
-    named_fresh : (talk : Talk) (it : Entry) → device_of talk ≡ Some device → FreshTalk talk it
+    named_fresh : (talk : PeerRecord) (it : Entry) → device_of talk ≡ Some device → FreshTalk talk it
     named_fresh (Http said closes body) it named = tt
     named_fresh (Queue items session) it named = tt
     named_fresh (Link reports None) it named = cc

@@ -7,7 +7,7 @@ use Rattle.std.proofs.lemmas.List.{map-append}
 use Rattle.std.proofs.lemmas.List.Elements.{All-append, All-cons, All-nil, All-weaker, filter-append}
 use Rattle.base_types.specs.Report.{ReportRecord, SaysHello, IsGone as SaysGone}
 use Rattle.device_link.specs.Stream.{SaysFirst}
-use Rattle.connections.specs.Entry.{Talk, Http, Queue, Link, Entry, device_of, reading, unnamed}
+use Rattle.connections.specs.Entry.{PeerRecord, Http, Queue, Link, Entry, device_of, reading, unnamed}
 use Rattle.server.specs.Ledger.{Ledger, Fate, at_key, without}
 use Rattle.server.specs.Enqueuing.{IsDevice}
 use Rattle.server.specs.Greeting.{IsAlone}
@@ -202,17 +202,17 @@ now_keeps device now l l' keeps (inr (key, e, there, talk, alone)) =
     let it = (keeps key).named now e there talk in
     inr (key, it.0, it.1, it.2, λ k apart is. alone k apart ((keeps k).was is))
 
-pub broken_passes : (talk : Talk) (l l' : Ledger) → device_of talk ≡ None → l'.closed ≡ l.closed → ((k : ℕ) → Passes (l.entries k) (l'.entries k)) → HasBroken talk l → HasBroken talk l'
+pub broken_passes : (talk : PeerRecord) (l l' : Ledger) → device_of talk ≡ None → l'.closed ≡ l.closed → ((k : ℕ) → Passes (l.entries k) (l'.entries k)) → HasBroken talk l → HasBroken talk l'
 broken_passes talk l l' nameless closed passes (inl (key, e, there, is, broken)) =
     let it = passes key e there (ap device_of is ∙ nameless) broken in
     inl (key, it.0, it.1, it.2 ∙ is, it.3)
 broken_passes talk l l' nameless closed passes (inr (before, it, behind, whole, is, broken)) = inr (before, it, behind, closed ∙ whole, is, broken)
 
-pub given_passes : (device : ℕ) (past : List Talk) (l l' : Ledger) → l'.closed ≡ l.closed → ((k : ℕ) → Passes (l.entries k) (l'.entries k)) → All (λ (talk : Talk). is_of device talk ≡ false → IsGivenUp talk l) past → All (λ (talk : Talk). is_of device talk ≡ false → IsGivenUp talk l') past
+pub given_passes : (device : ℕ) (past : List PeerRecord) (l l' : Ledger) → l'.closed ≡ l.closed → ((k : ℕ) → Passes (l.entries k) (l'.entries k)) → All (λ (talk : PeerRecord). is_of device talk ≡ false → IsGivenUp talk l) past → All (λ (talk : PeerRecord). is_of device talk ≡ false → IsGivenUp talk l') past
 given_passes device past l l' closed passes all =
-    All-weaker (λ (talk : Talk). is_of device talk ≡ false → IsGivenUp talk l) (λ (talk : Talk). is_of device talk ≡ false → IsGivenUp talk l') (λ talk up isnt. let it = up isnt in (it.0, broken_passes talk l l' it.0 closed passes it.1)) past all
+    All-weaker (λ (talk : PeerRecord). is_of device talk ≡ false → IsGivenUp talk l) (λ (talk : PeerRecord). is_of device talk ≡ false → IsGivenUp talk l') (λ talk up isnt. let it = up isnt in (it.0, broken_passes talk l l' it.0 closed passes it.1)) past all
 
-closed_same : (device : ℕ) (past : List Talk) (l l' : Ledger) → l'.closed ≡ l.closed → filter (is_of device) past ≡ filter (is_of device) (map talk_of l.closed) → filter (is_of device) past ≡ filter (is_of device) (map talk_of l'.closed)
+closed_same : (device : ℕ) (past : List PeerRecord) (l l' : Ledger) → l'.closed ≡ l.closed → filter (is_of device) past ≡ filter (is_of device) (map talk_of l.closed) → filter (is_of device) past ≡ filter (is_of device) (map talk_of l'.closed)
 closed_same device past l l' same is = is ∙ ap (λ (closed : List (Entry × Fate)). filter (is_of device) (map talk_of closed)) (sym same)
 
 pub reported_keeps : (device : ℕ) (told : List ReportRecord) (l l' : Ledger) → l'.closed ≡ l.closed → ((k : ℕ) → Keeps device (l.entries k) (l'.entries k)) → IsReported device told l → IsReported device told l'
@@ -234,7 +234,7 @@ reported_as device told other l same r = subst (λ (reports : List ReportRecord)
 -- ---- a connection's end
 
 -- a connection ended on which this was said
-past_more : (past : List Talk) (talk : Talk) (now told : List ReportRecord) → told ≡ flat_map life_of past ++ now → said_on talk ≡ now → told ++ SaysGone ∷ [] ≡ flat_map life_of (past ++ talk ∷ []) ++ []
+past_more : (past : List PeerRecord) (talk : PeerRecord) (now told : List ReportRecord) → told ≡ flat_map life_of past ++ now → said_on talk ≡ now → told ++ SaysGone ∷ [] ≡ flat_map life_of (past ++ talk ∷ []) ++ []
 past_more past talk now told whole said =
     ap (λ (reports : List ReportRecord). reports ++ SaysGone ∷ []) whole
     ∙ (append_assoc (flat_map life_of past) now (SaysGone ∷ [])
@@ -245,7 +245,7 @@ closed_more : (device : ℕ) (closed : List (Entry × Fate)) (it : Entry × Fate
 closed_more device closed it = ap (filter (is_of device)) (map-append talk_of closed (it ∷ [])) ∙ filter-append (is_of device) (map talk_of closed) (talk_of it ∷ [])
 
 -- one that broke is closed, or still open
-broken_left : (talk : Talk) (key : ℕ) (e : Entry) (fate : Fate) (l : Ledger) → l.entries key ≡ Some e → HasBroken talk l → HasBroken talk (without key e fate l)
+broken_left : (talk : PeerRecord) (key : ℕ) (e : Entry) (fate : Fate) (l : Ledger) → l.entries key ≡ Some e → HasBroken talk l → HasBroken talk (without key e fate l)
 broken_left talk key e fate l there (inl (k, d, at, is, broken)) =
     by_key k key
     (λ same.
@@ -255,9 +255,9 @@ broken_left talk key e fate l there (inl (k, d, at, is, broken)) =
 broken_left talk key e fate l there (inr (before, it, behind, whole, is, broken)) =
     inr (before, it, behind ++ (e, fate) ∷ [], ap (λ (closed : List (Entry × Fate)). closed ++ (e, fate) ∷ []) whole ∙ append_assoc before (it ∷ behind) ((e, fate) ∷ []), is, broken)
 
-given_left : (device key : ℕ) (e : Entry) (fate : Fate) (past : List Talk) (l : Ledger) → l.entries key ≡ Some e → All (λ (talk : Talk). is_of device talk ≡ false → IsGivenUp talk l) past → All (λ (talk : Talk). is_of device talk ≡ false → IsGivenUp talk (without key e fate l)) past
+given_left : (device key : ℕ) (e : Entry) (fate : Fate) (past : List PeerRecord) (l : Ledger) → l.entries key ≡ Some e → All (λ (talk : PeerRecord). is_of device talk ≡ false → IsGivenUp talk l) past → All (λ (talk : PeerRecord). is_of device talk ≡ false → IsGivenUp talk (without key e fate l)) past
 given_left device key e fate past l there all =
-    All-weaker (λ (talk : Talk). is_of device talk ≡ false → IsGivenUp talk l) (λ (talk : Talk). is_of device talk ≡ false → IsGivenUp talk (without key e fate l))
+    All-weaker (λ (talk : PeerRecord). is_of device talk ≡ false → IsGivenUp talk l) (λ (talk : PeerRecord). is_of device talk ≡ false → IsGivenUp talk (without key e fate l))
     (λ talk up isnt. let it = up isnt in (it.0, broken_left talk key e fate l there it.1)) past all
 
 -- what the core is told as a connection ends
@@ -288,9 +288,9 @@ left_named device key e fate told l there named r = record {
   past = r.past ++ e.talk ∷ [];
   now = [];
   whole = past_more r.past e.talk r.now told r.whole (ap said_on one.talk);
-  closed = filter-append (is_of device) r.past (e.talk ∷ []) ∙ (ap (λ (talks : List Talk). talks ++ filter (is_of device) (e.talk ∷ [])) r.closed ∙ sym (closed_more device l.closed (e, fate)));
-  given_up = All-append (λ (talk : Talk). is_of device talk ≡ false → IsGivenUp talk (without key e fate l)) r.past (e.talk ∷ []) (given_left device key e fate r.past l there r.given_up)
-      (All-cons (λ (talk : Talk). is_of device talk ≡ false → IsGivenUp talk (without key e fate l)) e.talk [] (λ isnt. absurd (no_true (is_of device e.talk) this isnt)) (All-nil (λ (talk : Talk). is_of device talk ≡ false → IsGivenUp talk (without key e fate l))));
+  closed = filter-append (is_of device) r.past (e.talk ∷ []) ∙ (ap (λ (talks : List PeerRecord). talks ++ filter (is_of device) (e.talk ∷ [])) r.closed ∙ sym (closed_more device l.closed (e, fate)));
+  given_up = All-append (λ (talk : PeerRecord). is_of device talk ≡ false → IsGivenUp talk (without key e fate l)) r.past (e.talk ∷ []) (given_left device key e fate r.past l there r.given_up)
+      (All-cons (λ (talk : PeerRecord). is_of device talk ≡ false → IsGivenUp talk (without key e fate l)) e.talk [] (λ isnt. absurd (no_true (is_of device e.talk) this isnt)) (All-nil (λ (talk : PeerRecord). is_of device talk ≡ false → IsGivenUp talk (without key e fate l))));
   is_now = inl (λ k is. by_key k key (λ same. subst (IsDevice device) (here key None l.entries k same) is) (λ apart. one.alone k apart (subst (IsDevice device) (aside key None l.entries k apart) is)), refl);
 }
   where
@@ -305,7 +305,7 @@ left_other device key e fate told l there isnt r = record {
   past = r.past;
   now = r.now;
   whole = r.whole;
-  closed = r.closed ∙ (sym (append-nil (filter (is_of device) (map talk_of l.closed))) ∙ (ap (λ (talks : List Talk). filter (is_of device) (map talk_of l.closed) ++ talks) (sym none) ∙ sym (closed_more device l.closed (e, fate))));
+  closed = r.closed ∙ (sym (append-nil (filter (is_of device) (map talk_of l.closed))) ∙ (ap (λ (talks : List PeerRecord). filter (is_of device) (map talk_of l.closed) ++ talks) (sym none) ∙ sym (closed_more device l.closed (e, fate))));
   given_up = given_left device key e fate r.past l there r.given_up;
   is_now = by r.is_now;
 }
@@ -345,7 +345,7 @@ reported_closed device key e fate told l m l' there after kept r =
 abbrev pub told_if : ℕ → ℕ → List ReportRecord → List ReportRecord
 told_if device dev reports = if dev == device then reports else []
 
-more_told : (past : List Talk) (now told : List ReportRecord) (said : ReportRecord) → told ≡ flat_map life_of past ++ now → told ++ said ∷ [] ≡ flat_map life_of past ++ (now ++ said ∷ [])
+more_told : (past : List PeerRecord) (now told : List ReportRecord) (said : ReportRecord) → told ≡ flat_map life_of past ++ now → told ++ said ∷ [] ≡ flat_map life_of past ++ (now ++ said ∷ [])
 more_told past now told said whole = ap (λ (reports : List ReportRecord). reports ++ said ∷ []) whole ∙ append_assoc (flat_map life_of past) now (said ∷ [])
 
 -- the other device's
@@ -476,7 +476,7 @@ pub record Over (dev key other : ℕ) (l l' : Ledger) : Type 0 where
   pub broke : g.broken ≡ true
   pub others : (k : ℕ) → k ≢ key → k ≢ other → Kept (l.entries k) (l'.entries k)
 
-pub unnamed_nameless : (talk : Talk) → device_of (unnamed talk) ≡ None
+pub unnamed_nameless : (talk : PeerRecord) → device_of (unnamed talk) ≡ None
 unnamed_nameless (Http said closes body) = refl
 unnamed_nameless (Queue items session) = refl
 unnamed_nameless (Link reports device) = refl
@@ -502,8 +502,8 @@ reported_over device dev key other name told l l' m v r = by (dev == device) ref
           whole = sym (append_assoc told (SaysGone ∷ []) (SaysHello name ∷ []))
               ∙ ap (λ (reports : List ReportRecord). reports ++ SaysHello name ∷ []) (past_more r.past (Link r.now None) r.now told r.whole refl ∙ append-nil (flat_map life_of (r.past ++ Link r.now None ∷ [])));
           closed = filter-append (is_of device) r.past (Link r.now None ∷ []) ∙ (append-nil (filter (is_of device) r.past) ∙ closed_same device r.past l l' m.closed r.closed);
-          given_up = All-append (λ (it : Talk). is_of device it ≡ false → IsGivenUp it l') r.past (Link r.now None ∷ []) (given_passes device r.past l l' m.closed passes r.given_up)
-              (All-cons (λ (it : Talk). is_of device it ≡ false → IsGivenUp it l') (Link r.now None) [] (λ isnt. (refl, inl (other, v.g, v.now, talk, v.broke))) (All-nil (λ (it : Talk). is_of device it ≡ false → IsGivenUp it l')));
+          given_up = All-append (λ (it : PeerRecord). is_of device it ≡ false → IsGivenUp it l') r.past (Link r.now None ∷ []) (given_passes device r.past l l' m.closed passes r.given_up)
+              (All-cons (λ (it : PeerRecord). is_of device it ≡ false → IsGivenUp it l') (Link r.now None) [] (λ isnt. (refl, inl (other, v.g, v.now, talk, v.broke))) (All-nil (λ (it : PeerRecord). is_of device it ≡ false → IsGivenUp it l')));
           is_now = inr (
             key,
             m.f,

@@ -4,7 +4,7 @@ use Rattle.base_types.specs.Report.{ReportRecord, SaysHello, SaysMedia, SaysRead
 use Rattle.settings_file.specs.Settings.{ServerSettings}
 use Rattle.http_front.specs.declared.item.HttpItem.{HttpItem}
 use Rattle.http_front.specs.declared.item.HttpItem.TheVariants as item
-use Rattle.lpd.specs.Conversation.{ItemRecord, Says as SaysCommand, Aborts, Announces, HasFile}
+use Rattle.lpd.specs.Items.{ItemRecord, Says as SaysCommand, Aborts, Announces, HasFile}
 use Rattle.lpd.specs.Session.{SessionState}
 use Rattle.events.specs.declared.event.Event.TheVariants as Is
 use Rattle.dispatcher.specs.declared.listener.DeviceRefusal.TheVariants as why
@@ -23,7 +23,7 @@ use Rattle.connections.specs.declared.step.Step.{Step}
 use Rattle.connections.specs.declared.step.Step.TheVariants as step
 use Rattle.connections.specs.Session.{Hearing, Goes as GoesOn, Stops, Submits, Commands, heard}
 use Rattle.connections.specs.Steps.{asked_step, EndsBody, StepsIpp, AsksAs, StepsLpd, StepsHello, StepsDevice, place_of as named_place, silent, no_memory}
-use Rattle.connections.specs.Entry.{Talk, Http, Queue, Link, Entry, device_of, broken, talking, finishing}
+use Rattle.connections.specs.Entry.{PeerRecord, Http, Queue, Link, Entry, device_of, broken, talking, finishing}
 use Rattle.connections.specs.Asking.{Hears, StepsTo}
 use Rattle.server.specs.Polls.{Happening, Told}
 use Rattle.server.specs.Ledger.{Ledger}
@@ -167,7 +167,7 @@ lpd_client queues before (SaysCommand command) comes after is = asks_client (hea
 lpd_client queues before Aborts comes after is = asks_client (heard queues before Aborts) comes after is
 lpd_client queues before (Announces head) comes after is = asks_client (heard queues before (Announces head)) comes after is
 
-pub client_hears : (settings : ServerSettings) (talk : Talk) (e : Entry) (comes : Step) (mid : Entry) → ClientTalk talk → ClientTalk e.talk → Hears settings talk e comes mid → IsClientStep comes × ClientTalk mid.talk
+pub client_hears : (settings : ServerSettings) (talk : PeerRecord) (e : Entry) (comes : Step) (mid : Entry) → ClientTalk talk → ClientTalk e.talk → Hears settings talk e comes mid → IsClientStep comes × ClientTalk mid.talk
 client_hears settings (Http said closes body) e comes mid client here next = (ipp_client next.item closes body comes next.comes, subst (λ (x : Entry). ClientTalk x.talk) (sym next.after) tt)
 client_hears settings (Queue items session) e comes mid client here (inl next) = (lpd_client _ session next.said comes next.session_after next.comes, subst (λ (x : Entry). ClientTalk x.talk) (sym next.after) tt)
 client_hears settings (Queue items session) e comes mid client here (inr (inl next)) = (subst IsClientStep (sym next.comes) tt, subst (λ (x : Entry). ClientTalk x.talk) (sym next.after) here)
@@ -193,18 +193,18 @@ pub record Names (what : Ask) (e new : Entry) : Type 0 where
 abbrev pub DeviceAsks : Ask → Entry → Entry → Type 0
 DeviceAsks what e new = (IsDeviceAsk what × Ordered (λ device. []) (Some e) (Some new)) ⊎ Names what e new
 
-pub talk_none : (talk : Talk) (reports : List ReportRecord) → talk ≡ Link reports None → device_of talk ≡ None
+pub talk_none : (talk : PeerRecord) (reports : List ReportRecord) → talk ≡ Link reports None → device_of talk ≡ None
 talk_none talk reports is = ap device_of is
 
-pub link_fresh : (talk : Talk) (reports : List ReportRecord) (e : Entry) → talk ≡ Link reports None → FreshTalk talk e → e.broken ≡ false → e.due ≡ []
-link_fresh talk reports e is fresh = subst (λ (t : Talk). FreshTalk t e) is fresh
+pub link_fresh : (talk : PeerRecord) (reports : List ReportRecord) (e : Entry) → talk ≡ Link reports None → FreshTalk talk e → e.broken ≡ false → e.due ≡ []
+link_fresh talk reports e is fresh = subst (λ (t : PeerRecord). FreshTalk t e) is fresh
 
 -- it breaks
 pub link_breaks : (what it : Ask) (e mid new : Entry) → what ≡ it → IsDeviceAsk it → new ≡ broken mid → mid.due ≡ e.due → ((device : ℕ) → device_of mid.talk ≡ Some device → device_of e.talk ≡ Some device) → (ClientTalk e.talk → ClientTalk mid.talk) → (ClientTalk mid.talk → ⊥) → DeviceAsks what e new
 link_breaks what it e mid new asks fine after due of_device of_client never =
     inl (subst IsDeviceAsk (sym asks) fine, subst (λ (x : Entry). Ordered (λ device. []) (Some e) (Some x)) (sym after) (ordered_broken (λ device. []) e (broken mid) refl (λ device named. (of_device device named, due)) of_client (λ client. absurd (never client))))
 
-pub not_client : (talk : Talk) (reports : List ReportRecord) (device : Option ℕ) → talk ≡ Link reports device → ClientTalk talk → ⊥
+pub not_client : (talk : PeerRecord) (reports : List ReportRecord) (device : Option ℕ) → talk ≡ Link reports device → ClientTalk talk → ⊥
 not_client talk reports device is client = subst ClientTalk is client
 
 pub named_hears : (settings : ServerSettings) (reports : List ReportRecord) (name : List ℕ) (place : Option ℕ) (device_after : Option ℕ) (e : Entry) (comes : Step) (mid : Entry) (what : Ask) (new : Entry) → e.talk ≡ Link reports None

@@ -22,7 +22,7 @@ use Rattle.server.specs.Happening.{now_at, Unanswered}
 use Rattle.server.specs.Closing.{Settles}
 use Rattle.server.specs.Polling.{Opens, AcceptsAs, AcceptsOne, AcceptsAt, Acts, Serves, FedWhole, FeedsAt, FeedsOne, Fails, ReadsAs, is_read, ReadsOpen, ReadsAt, ReadsOne, WritesAs, WritesOpen, WritesAt, WritesOne, is_done, EndsAt, EndsOne}
 use Rattle.server.specs.Turn as Between
-use Rattle.server.specs.Turn.{Notes, Ticks, is_tick_due, TicksIfDue, Covers, Rounds, Round, Turn, BodyAsks, BodyComes, Action, Turned, Served_body, Reported, Ticked, Trace, DoesDeed, Runs}
+use Rattle.server.specs.Turn.{Notes, Ticks, is_tick_due, TicksIfDue, Covers, Rounds, Round, Turn, BodyAsks, BodyComes, Action, Turned, Served_body, Reported, Ticked, Trace, DoesAction, Runs}
 use Rattle.promises.specs.OneLedger.{StepsOnce, SameQueries, AsksOnce, LeadsToOne}
 use Rattle.promises.proofs.Alike.{Alike, Fixed, fixed_just, fixed_nothing, fixed_polls, fixed_tells, fixed_chooses, alike_then, first_one, same_choice, apart, BeginsAs, begins_append, begins_just, Begins, begins_then, begins_chooses, begins_tells, is_choice, fixed_or, alike_if, fixed_each, times_cons, fixed_many_then}
 use Rattle.promises.proofs.Due.{fixed_sets, fixed_drops, drops_tells, fixed_breaks}
@@ -238,12 +238,12 @@ module _ (steps : StepsOnce) (queries : SameQueries) (asks : AsksOne) (bodies : 
   all_one : (R : Rel) → Fixed R → (l : Ledger) (hs : List Happening) (a b : Ledger) → R l hs a → R l hs b → a ≡ b
   all_one R r l hs a b p q = let it = r.one l hs [] a hs [] b refl p q in it.1
 
-  deed_one : (deed : Action) (l a b : Ledger) → DoesDeed deed l a → DoesDeed deed l b → a ≡ b
-  deed_one (Turned moment hs) l a b p q = all_one (Turn moment) (fixed_turn moment) l hs a b p q
-  deed_one (Served_body moment body answer hs) l a b (served, is, p) (other, its, q) = let it = body_comes moment body served other l hs [] a hs [] b refl p q in it.1
-  deed_one (Reported moment device said hs) l a b p q = all_one (Between.Reports moment device said) (fixed_reports steps queries asks moment device said) l hs a b p q
-  deed_one (Ticked moment hs) l a b p q = all_one (Ticks moment) (fixed_ticks moment) l hs a b p q
+  action_one : (action : Action) (l a b : Ledger) → DoesAction action l a → DoesAction action l b → a ≡ b
+  action_one (Turned moment hs) l a b p q = all_one (Turn moment) (fixed_turn moment) l hs a b p q
+  action_one (Served_body moment body answer hs) l a b (served, is, p) (other, its, q) = let it = body_comes moment body served other l hs [] a hs [] b refl p q in it.1
+  action_one (Reported moment device said hs) l a b p q = all_one (Between.Reports moment device said) (fixed_reports steps queries asks moment device said) l hs a b p q
+  action_one (Ticked moment hs) l a b p q = all_one (Ticks moment) (fixed_ticks moment) l hs a b p q
 
   pub leads_to_one : LeadsToOne
   leads_to_one [] old one other p q = p ∙ sym q
-  leads_to_one (deed ∷ deeds) old one other (mid, does, runs) (next, did, ran) = leads_to_one deeds mid one other runs (subst (λ (l : Ledger). Runs deeds l other) (sym (deed_one deed old mid next does did)) ran)
+  leads_to_one (action ∷ actions) old one other (mid, does, runs) (next, did, ran) = leads_to_one actions mid one other runs (subst (λ (l : Ledger). Runs actions l other) (sym (action_one action old mid next does did)) ran)

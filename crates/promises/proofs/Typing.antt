@@ -6,7 +6,7 @@ use Rattle.ipp_codec.specs.Message.{IppAttribute, IppGroup}
 use Rattle.printer_objects.specs.declared.operation.Operation.{Operation}
 use Rattle.printer_objects.specs.declared.operation.Operation.TheVariants as operation
 use Rattle.print_room.specs.State.{State}
-use Rattle.lpd.specs.Conversation.{CommandRecord, PrintsWaiting, ReceivesJob, ListsShort, ListsLong, RemovesJobs}
+use Rattle.lpd.specs.Items.{CommandRecord, PrintsWaiting, ReceivesJob, ListsShort, ListsLong, RemovesJobs}
 use Rattle.lpd.specs.Session.{SentRecord}
 use Rattle.events.specs.declared.event.Event.{Event}
 use Rattle.events.specs.declared.event.Event.TheVariants as Is

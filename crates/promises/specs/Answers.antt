@@ -4,7 +4,7 @@ use Rattle.std.specs.List.{flat_map}
 use Rattle.settings_file.specs.Settings.{ServerSettings}
 use Rattle.http_front.specs.declared.item.HttpItem.{HttpItem}
 use Rattle.http_front.specs.Stream.{Said, said_by, SaysFirst}
-use Rattle.lpd.specs.Conversation.{ItemRecord}
+use Rattle.lpd.specs.Items.{ItemRecord}
 use Rattle.lpd.specs.Session.{SessionState}
 use Rattle.wires.specs.declared.wire.Door.{Door}
 use Rattle.print_room.specs.State.{State}
@@ -25,7 +25,7 @@ use Rattle.connections.specs.declared.step.Step.{Step}
 use Rattle.connections.specs.declared.step.Step.TheVariants as step
 use Rattle.connections.specs.Session.{is_queue}
 use Rattle.connections.specs.Steps.{StepsIpp, closes_after, body_after, StepsLpd, refused, due_bytes, http_status}
-use Rattle.connections.specs.Entry.{Talk, Http, Queue, Link, Entry, opening_talk, closes_of}
+use Rattle.connections.specs.Entry.{PeerRecord, Http, Queue, Link, Entry, opening_peer, closes_of}
 use Rattle.connections.specs.Asking.{IsHeard}
 use Rattle.server.specs.Ledger.{Ledger, Fate}
 use Rattle.server.specs.Law.{core_notes, happenings_in}
@@ -36,15 +36,15 @@ use Rattle.promises.specs.Orders.{Handled, AreHandled, AreOf}
 
 -- what was acted on before and after it, what it comes to, the event of it that the core handled, the bytes that are due by it, and the core's state at that moment
 pub record Act : Type 0 where
-  pub before : Talk
-  pub after : Talk
+  pub before : PeerRecord
+  pub after : PeerRecord
   pub what : Step
   pub asked : List Handled
   pub bytes : List ℕ
   pub state : State
 
 -- the next item of an IPP client, as what was read by then says it
-pub record NextIpp (said : List Said) (closes : Bool) (body : List ℕ) (what : Step) (after : Talk) : Type 0 where
+pub record NextIpp (said : List Said) (closes : Bool) (body : List ℕ) (what : Step) (after : PeerRecord) : Type 0 where
   pub item : HttpItem
   pub part : List ℕ
   pub read : List ℕ
@@ -53,14 +53,14 @@ pub record NextIpp (said : List Said) (closes : Bool) (body : List ℕ) (what : 
   pub is : after ≡ Http (said ++ said_by item part) (closes_after item closes) (body_after item what part body)
 
 -- the next item of an LPD client
-pub record NextLpd (queues : List ℕ → Bool) (items : List ItemRecord) (session : Option SessionState) (what : Step) (after : Talk) : Type 0 where
+pub record NextLpd (queues : List ℕ → Bool) (items : List ItemRecord) (session : Option SessionState) (what : Step) (after : PeerRecord) : Type 0 where
   pub said : ItemRecord
   pub session_after : Option SessionState
   pub comes : StepsLpd queues session said what session_after
   pub is : after ≡ Queue (items ++ said ∷ []) session_after
 
 -- or a fault in what it sends, which is refused, and nothing more counts
-abbrev pub IsNext : ServerSettings → Talk → Step → Talk → Type 0
+abbrev pub IsNext : ServerSettings → PeerRecord → Step → PeerRecord → Type 0
 IsNext settings (Http said closes body) what after = NextIpp said closes body what after
 IsNext settings (Queue items session) what after = NextLpd (is_queue settings) items session what after ⊎ ((what ≡ refused) × (after ≡ Queue items session))
 IsNext settings (Link reports device) what after = ⊥
@@ -112,7 +112,7 @@ pub record IsAct (a : Act) : Type 0 where
   pub owed : IsOwed (closes_of a.after) a.what a.asked a.bytes
 
 -- one after the other
-abbrev pub AreActs : Talk → List Act → Talk → Type 0
+abbrev pub AreActs : PeerRecord → List Act → PeerRecord → Type 0
 AreActs before [] after = after ≡ before
 AreActs before (a ∷ acts) after = (a.before ≡ before) × IsAct a × AreActs a.after acts after
 
@@ -142,13 +142,13 @@ pub record IsAnswered (opening : State) (key : ℕ) (handled : List Handled) (e 
   pub whole : handled ≡ earlier ++ since
   pub door : Door
   pub acts : List Act
-  pub are : AreActs (opening_talk door) acts e.talk
+  pub are : AreActs (opening_peer door) acts e.talk
   pub states : All (λ (a : Act). IsStateOf a.state opening handled) acts
   pub asked : asked_by key since ≡ flat_map (λ (a : Act). a.asked) acts
   pub due : e.due ≡ flat_map (λ (a : Act). a.bytes) acts
 
 -- nothing is due by what comes next, if anything does: the connection broke at it
-abbrev pub IsLast : State → List Handled → Talk → Talk → Type 0
+abbrev pub IsLast : State → List Handled → PeerRecord → PeerRecord → Type 0
 IsLast opening handled after talk = (after ≡ talk) ⊎ ((state : State) × (what : Step) × IsStateOf state opening handled × IsNext state.settings after what talk)
 
 -- none, or just one
@@ -157,9 +157,9 @@ IsOneAtMost handled = (handled ≡ []) ⊎ ((it : Handled) × (handled ≡ it �
 
 -- A connection went on by these acts and then broke. Its events are those of these acts, and at most one more,
 -- which was handled, and isn't answered.
-pub record BrokeAfter (opening : State) (key : ℕ) (handled since : List Handled) (before : Talk) (base : List ℕ) (e : Entry) : Type 0 where
+pub record BrokeAfter (opening : State) (key : ℕ) (handled since : List Handled) (before : PeerRecord) (base : List ℕ) (e : Entry) : Type 0 where
   pub acts : List Act
-  pub after : Talk
+  pub after : PeerRecord
   pub are : AreActs before acts after
   pub states : All (λ (a : Act). IsStateOf a.state opening handled) acts
   pub unanswered : List Handled
@@ -174,10 +174,10 @@ pub record IsCutOff (opening : State) (key : ℕ) (handled : List Handled) (e : 
   pub since : List Handled
   pub whole : handled ≡ earlier ++ since
   pub door : Door
-  pub until : BrokeAfter opening key handled since (opening_talk door) [] e
+  pub until : BrokeAfter opening key handled since (opening_peer door) [] e
 
 -- a client's, and no device's
-abbrev pub ClientTalk : Talk → Type 0
+abbrev pub ClientTalk : PeerRecord → Type 0
 ClientTalk (Http said closes body) = Unit {0}
 ClientTalk (Queue items session) = Unit {0}
 ClientTalk (Link reports device) = ⊥

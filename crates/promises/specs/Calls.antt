@@ -31,7 +31,7 @@ abbrev pub AreMade : {W N : Type 0} → (W → Poll → W → Type 0) → (N →
 AreMade polled told [] u old v new = (v ≡ u) × (new ≡ old)
 AreMade {W} {N} polled told (call ∷ calls) u old v new = (w : W × N) × (mid : EngineState) × ByContract polled told call u old w mid × AreMade polled told calls w mid v new
 
--- a deed is of this call
+-- an action is of this call
 abbrev pub IsOf : Call → Action → Type 0
 IsOf (TakesTurn moment) (Turned at hs) = at ≡ moment
 IsOf (Serves moment body) (Served_body at bytes answer hs) = (at ≡ moment) × (bytes ≡ body)
@@ -41,8 +41,8 @@ IsOf _ _ = ⊥
 
 abbrev pub AreOf : List Call → Trace → Type 0
 AreOf [] [] = Unit {0}
-AreOf (call ∷ calls) (deed ∷ deeds) = IsOf call deed × AreOf calls deeds
-AreOf [] (deed ∷ deeds) = ⊥
+AreOf (call ∷ calls) (action ∷ actions) = IsOf call action × AreOf calls actions
+AreOf [] (action ∷ actions) = ⊥
 AreOf (call ∷ calls) [] = ⊥
 
 -- There is a trace of just these calls. It leads the wire and the listener from where they were to where

@@ -44,14 +44,14 @@ abbrev pub event_notes : Bool → List Happening → List Note
 event_notes came [] = []
 event_notes came (h ∷ hs) = event_note came h ++ event_notes (brings_event h) hs
 
--- whether a refusal with which a deed begins may be of an event: not where a body is served, which is read first
+-- whether a refusal with which an action begins may be of an event: not where a body is served, which is read first
 abbrev pub begins_event : Action → Bool
 begins_event (Served_body moment body answer hs) = false
 begins_event _ = true
 
--- all of a trace, deed by deed
+-- all of a trace, action by action
 abbrev pub events_told : Trace → List Note
-events_told trace = flat_map (λ (deed : Action). event_notes (begins_event deed) (happenings_of deed)) trace
+events_told trace = flat_map (λ (action : Action). event_notes (begins_event action) (happenings_of action)) trace
 
 -- ---- the law
 

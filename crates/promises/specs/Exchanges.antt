@@ -16,7 +16,7 @@ use Rattle.ipp_operations.specs.ParsedRequest.{Asks, request_id_of}
 use Rattle.send_queues.specs.Reply.{refusal_head}
 use Rattle.connections.specs.declared.ask.Client.TheVariants as client
 use Rattle.connections.specs.Steps.{http_status}
-use Rattle.connections.specs.Entry.{Talk, Http, Entry, opening_talk}
+use Rattle.connections.specs.Entry.{PeerRecord, Http, Entry, opening_peer}
 use Rattle.connections.specs.Asking.{IsHeard}
 use Rattle.server.specs.Ledger.{Ledger, Fate}
 use Rattle.server.specs.Turn.{Trace}
@@ -107,7 +107,7 @@ pub record AreExchanges (heard : List Said) (handled : List Handled) (bytes : Li
 -- so it is with all acts of an IPP client
 abbrev pub ActsAreExchanges : Type 0
 ActsAreExchanges =
-    (acts : List Act) (said : List Said) (closes : Bool) (body : List ℕ) → AreActs (opening_talk Ipp) acts (Http said closes body)
+    (acts : List Act) (said : List Said) (closes : Bool) (body : List ℕ) → AreActs (opening_peer Ipp) acts (Http said closes body)
     → AreExchanges said (flat_map (λ (a : Act). a.asked) acts) (flat_map (λ (a : Act). a.bytes) acts)
 
 -- what was asked on a connection since it was accepted, and is due on it
@@ -134,7 +134,7 @@ pub record UntilBroken (key : ℕ) (handled : List Handled) (said : List Said) (
   pub one : IsOneAtMost unanswered
   pub are : AreExchanges until answered e.due
 
-abbrev pub IsByExchanges : ℕ → List Handled → Talk → Entry → Type 0
+abbrev pub IsByExchanges : ℕ → List Handled → PeerRecord → Entry → Type 0
 IsByExchanges key handled (Http said closes body) e = (e.broken ≡ false → ByExchanges key handled said e) × (e.broken ≡ true → UntilBroken key handled said e)
 IsByExchanges key handled talk e = Unit {0}
 
@@ -143,7 +143,7 @@ abbrev pub WasByExchanges : List Handled → Entry → Type 0
 WasByExchanges handled e = (key : ℕ) × (before : List Handled) × (behind : List Handled) × (handled ≡ before ++ behind) × IsByExchanges key before e.talk e
 
 -- what was acted on is what the bytes that were read say first, as HTTP has it
-abbrev pub IsFirst : List ℕ → Talk → Type 0
+abbrev pub IsFirst : List ℕ → PeerRecord → Type 0
 IsFirst read (Http said closes body) = SaysFirst read said
 IsFirst read talk = Unit {0}
 

@@ -10,7 +10,7 @@ use Rattle.events.specs.declared.event.Event.TheVariants as Is
 use Rattle.dispatcher.specs.declared.outcome.Outcome.{Outcome}
 use Rattle.dispatcher.specs.Notes.{Note}
 use Rattle.dispatcher.specs.Run.{Handles}
-use Rattle.connections.specs.Entry.{Talk, Http, Queue, Link, Entry, device_of}
+use Rattle.connections.specs.Entry.{PeerRecord, Http, Queue, Link, Entry, device_of}
 use Rattle.connections.specs.Asking.{IsHeard}
 use Rattle.server.specs.Ledger.{Ledger, Fate}
 use Rattle.server.specs.Enqueuing.{IsAbsent}
@@ -46,10 +46,10 @@ is_turn (Ticked moment hs) = false
 abbrev pub ComeAt : Bool → ℕ → List Came → Type 0
 ComeAt turn moment came = All (λ (it : Came). (it.moment ≡ moment) × (it.in_turn ≡ turn)) came
 
--- those of the first deed, then those of the next, and so on
+-- those of the first action, then those of the next, and so on
 abbrev pub ComeOf : Trace → List Came → Type 0
 ComeOf [] came = came ≡ []
-ComeOf (deed ∷ deeds) came = (first : List Came) × (later : List Came) × (came ≡ first ++ later) × ComeAt (is_turn deed) (moment_of deed) first × ComeOf deeds later
+ComeOf (action ∷ actions) came = (first : List Came) × (later : List Came) × (came ≡ first ++ later) × ComeAt (is_turn action) (moment_of action) first × ComeOf actions later
 
 -- ---- what the core is told of a device
 
@@ -68,30 +68,30 @@ reports_by device came = flat_map (report_by device) came
 -- ---- what a device says
 
 -- what was said on a device's connection, by whole lines
-abbrev pub said_on : Talk → List ReportRecord
+abbrev pub said_on : PeerRecord → List ReportRecord
 said_on (Http said closes body) = []
 said_on (Queue items session) = []
 said_on (Link reports device) = reports
 
 -- a connection from its beginning to its end: what was said on it, and then that the device is gone
-abbrev pub life_of : Talk → List ReportRecord
+abbrev pub life_of : PeerRecord → List ReportRecord
 life_of talk = said_on talk ++ IsGone ∷ []
 
 -- this device said its name on it, and has not come again on another one
-abbrev pub is_of : ℕ → Talk → Bool
+abbrev pub is_of : ℕ → PeerRecord → Bool
 is_of device talk = names device (device_of talk)
 
-abbrev pub talk_of : Entry × Fate → Talk
+abbrev pub talk_of : Entry × Fate → PeerRecord
 talk_of it = it.0.talk
 
 -- a connection on which this was said broke: it is to be closed, or was
-abbrev pub HasBroken : Talk → Ledger → Type 0
+abbrev pub HasBroken : PeerRecord → Ledger → Type 0
 HasBroken talk l =
     ((key : ℕ) × (e : Entry) × (l.entries key ≡ Some e) × (e.talk ≡ talk) × (e.broken ≡ true))
     ⊎ ((before : List (Entry × Fate)) × (it : Entry × Fate) × (behind : List (Entry × Fate)) × (l.closed ≡ before ++ it ∷ behind) × (it.0.talk ≡ talk) × (it.0.broken ≡ true))
 
 -- the device came again on another connection: this one bears its name no more, and broke
-abbrev pub IsGivenUp : Talk → Ledger → Type 0
+abbrev pub IsGivenUp : PeerRecord → Ledger → Type 0
 IsGivenUp talk l = (device_of talk ≡ None) × HasBroken talk l
 
 -- what a device has said on the one open connection that bears its name, if there is one
@@ -107,11 +107,11 @@ IsNow device now l =
 -- closed ones that bear its name, in the order of their ends, and between them those that it gave up as it
 -- came again.
 pub record IsReported (device : ℕ) (told : List ReportRecord) (l : Ledger) : Type 0 where
-  pub past : List Talk
+  pub past : List PeerRecord
   pub now : List ReportRecord
   pub whole : told ≡ flat_map life_of past ++ now
   pub closed : filter (is_of device) past ≡ filter (is_of device) (map talk_of l.closed)
-  pub given_up : All (λ (talk : Talk). is_of device talk ≡ false → IsGivenUp talk l) past
+  pub given_up : All (λ (talk : PeerRecord). is_of device talk ≡ false → IsGivenUp talk l) past
   pub is_now : IsNow device now l
 
 -- a front of what was read on a connection says first what was acted on

@@ -46,10 +46,10 @@ AreHandled old (it ∷ later) new =
 abbrev pub AreAt : ℕ → List Handled → Type 0
 AreAt moment handled = All (λ (it : Handled). it.moment ≡ moment) handled
 
--- those of the first deed, each at its moment, then those of the next, and so on
+-- those of the first action, each at its moment, then those of the next, and so on
 abbrev pub AreOf : Trace → List Handled → Type 0
 AreOf [] handled = handled ≡ []
-AreOf (deed ∷ deeds) handled = (first : List Handled) × (later : List Handled) × (handled ≡ first ++ later) × AreAt (moment_of deed) first × AreOf deeds later
+AreOf (action ∷ actions) handled = (first : List Handled) × (later : List Handled) × (handled ≡ first ++ later) × AreAt (moment_of action) first × AreOf actions later
 
 -- ---- what a device is sent
 

@@ -30,5 +30,5 @@ mod write;
 pub use blanker::Blanker;
 pub use entry::{Accepted, Came, Entry, Sent, octets_behind, read_entry};
 pub use noted::{NoteText, Noted};
-pub use script::{Moved, Script, Scripted, Deed, Stray};
+pub use script::{Moved, Script, Scripted, ServerCall, Stray};
 pub use write::{GOES_ON, put_entry, put_goes_on, put_start, put_turn};

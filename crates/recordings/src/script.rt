@@ -27,7 +27,7 @@ pub enum Moved {
 
 /// What a server did in the place of what was recorded.
 #[derive(Drop)]
-pub enum Deed {
+pub enum ServerCall {
     /// Nothing with it, by the end of the turn.
     Nothing,
     /// It closes a connection.
@@ -45,7 +45,7 @@ pub enum Deed {
 pub struct Stray {
     /// The next line, if the turn has one more.
     pub wanted: Option<Scripted>,
-    pub did: Deed,
+    pub did: ServerCall,
 }
 
 /// A wire that answers each call by the next line of a turn, if that is of such a call, and else waits.
@@ -59,7 +59,7 @@ pub struct Script {
     /// What became of connections.
     moved: Vec<Moved>,
     /// The first that wasn't as recorded.
-    did: Option<Deed>,
+    did: Option<ServerCall>,
     faults: u64,
 }
 
@@ -107,7 +107,7 @@ impl Script {
             Some(did) => Some(Stray { wanted, did }),
             None if wanted.is_some() => Some(Stray {
                 wanted,
-                did: Deed::Nothing,
+                did: ServerCall::Nothing,
             }),
             None => None,
         }
@@ -132,7 +132,7 @@ impl Script {
     }
 
     /// The server strays.
-    fn strays(&mut self, did: Deed)
+    fn strays(&mut self, did: ServerCall)
         ensures { self.new.faults ≡ self.old.faults }
     {
         if self.did.is_none() {
@@ -157,7 +157,7 @@ impl Script {
         ensures { self.new.faults ≡ self.old.faults }
     {
         if self.moved.push(moved).is_err() {
-            self.strays(Deed::Unknown);
+            self.strays(ServerCall::Unknown);
         }
     }
 
@@ -168,7 +168,7 @@ impl Script {
     {
         let mut bytes = Vec::new(self.alloc);
         let Ok(count) = put_front(&mut bytes, parts, wanted.count) else {
-            self.strays(Deed::Unknown);
+            self.strays(ServerCall::Unknown);
             return Progress::Waiting;
         };
         let sum = match wanted.sum {
@@ -177,7 +177,7 @@ impl Script {
         };
         let sent = Sent { id, count, sum };
         if sent != wanted || count == 0 {
-            self.strays(Deed::Sends { sent, bytes });
+            self.strays(ServerCall::Sends { sent, bytes });
             return Progress::Waiting;
         }
         self.pass();
@@ -226,7 +226,7 @@ impl Wire for Script {
             Some(Entry::Came(came) | Entry::Octets(came)) if came.id == id => {
                 let count = came.bytes.len();
                 if count == 0 || count > buffer.len() {
-                    self.strays(Deed::ReadsLess(id));
+                    self.strays(ServerCall::ReadsLess(id));
                     return Progress::Waiting;
                 }
                 buffer[..count].copy_from_slice(&came.bytes);
@@ -263,7 +263,7 @@ impl Wire for Script {
                 self.pass();
                 self.keep(Moved::Gone(id));
             }
-            _ => self.strays(Deed::Closes(id)),
+            _ => self.strays(ServerCall::Closes(id)),
         }
     }
 

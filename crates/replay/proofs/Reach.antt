@@ -22,40 +22,40 @@ moves_then a b c first later p q opening trace stands = subst (λ t. StandsAt op
 
 -- What the lines before gave; what any lines give after them is, with that, what all give.
 pub record Reached (texts : Bool) (names : List (List ℕ)) (first : ℕ) (all : List (List ℕ)) (begun : Standing) (start : EngineState) (done : List ℕ) (number : ℕ) (rest : List (List ℕ)) (now : Standing) (engine : EngineState) : Type 0 where
-  pub deeds : Trace
+  pub actions : Trace
   pub passed : List (List ℕ)
   pub whole : all ≡ passed ++ rest
-  pub moves : Moves start deeds engine
-  pub gives : (tail : List (List ℕ)) (later : Trace) (said : Said) → LinesPlay texts names number tail now later said → LinesPlay texts names first (passed ++ tail) begun (deeds ++ later) (said_after done said)
+  pub moves : Moves start actions engine
+  pub gives : (tail : List (List ℕ)) (later : Trace) (said : Said) → LinesPlay texts names number tail now later said → LinesPlay texts names first (passed ++ tail) begun (actions ++ later) (said_after done said)
 
 -- before the first line
 pub reached_start : (texts : Bool) (names : List (List ℕ)) (number : ℕ) (lines : List (List ℕ)) (now : Standing) (engine : EngineState) → Reached texts names number lines now engine [] number lines now engine
-reached_start texts names number lines now engine = record { deeds = []; passed = []; whole = refl; moves = moves_nothing engine; gives = λ tail later said h. h }
+reached_start texts names number lines now engine = record { actions = []; passed = []; whole = refl; moves = moves_nothing engine; gives = λ tail later said h. h }
 
 -- one line more
 reached_next : (texts : Bool) (names : List (List ℕ)) (first : ℕ) (all : List (List ℕ)) (begun : Standing) (start : EngineState) (done : List ℕ) (number : ℕ) (bytes : List ℕ) (more : List (List ℕ)) (now : Standing) (engine : EngineState) (line : Line) (here : Trace) (text : List ℕ) (new : Standing) (after : EngineState)
     → Reached texts names first all begun start done number (bytes ∷ more) now engine → IsLine names bytes line → may_come line now ≡ true → Plays texts names line now here text new → Moves engine here after
     → Reached texts names first all begun start (done ++ text) (suc number) more new after
 reached_next texts names first all begun start done number bytes more now engine line here text new after r is comes plays moves = record {
-  deeds = r.deeds ++ here;
+  actions = r.actions ++ here;
   passed = r.passed ++ bytes ∷ [];
   whole = r.whole ∙ sym (append_assoc r.passed (bytes ∷ []) more);
-  moves = moves_then start engine after r.deeds here r.moves moves;
+  moves = moves_then start engine after r.actions here r.moves moves;
   gives = λ tail later said h.
       let step = r.gives (bytes ∷ tail) (here ++ later) (said_after text said) (inr (line, here, text, new, later, said, is, comes, plays, h, refl, refl)) in
-      subst (λ ls. LinesPlay texts names first ls begun ((r.deeds ++ here) ++ later) (record said { text = (done ++ text) ++ said.text })) (sym (append_assoc r.passed (bytes ∷ []) tail))
-      (subst (λ ds. LinesPlay texts names first (r.passed ++ bytes ∷ tail) begun ds (record said { text = (done ++ text) ++ said.text })) (sym (append_assoc r.deeds here later))
-      (subst (λ t. LinesPlay texts names first (r.passed ++ bytes ∷ tail) begun (r.deeds ++ (here ++ later)) (record said { text = t })) (sym (append_assoc done text said.text)) step));
+      subst (λ ls. LinesPlay texts names first ls begun ((r.actions ++ here) ++ later) (record said { text = (done ++ text) ++ said.text })) (sym (append_assoc r.passed (bytes ∷ []) tail))
+      (subst (λ ds. LinesPlay texts names first (r.passed ++ bytes ∷ tail) begun ds (record said { text = (done ++ text) ++ said.text })) (sym (append_assoc r.actions here later))
+      (subst (λ t. LinesPlay texts names first (r.passed ++ bytes ∷ tail) begun (r.actions ++ (here ++ later)) (record said { text = t })) (sym (append_assoc done text said.text)) step));
 }
 
 -- after the last line
 at_end : (texts : Bool) (names : List (List ℕ)) (first : ℕ) (all : List (List ℕ)) (begun : Standing) (start : EngineState) (done : List ℕ) (number : ℕ) (rest : List (List ℕ)) (now : Standing) (engine : EngineState)
-    → (r : Reached texts names first all begun start done number rest now engine) → LinesPlay texts names first r.passed begun r.deeds (record { text = done; status = Ends.Done })
+    → (r : Reached texts names first all begun start done number rest now engine) → LinesPlay texts names first r.passed begun r.actions (record { text = done; status = Ends.Done })
 at_end texts names first all begun start done number rest now engine r =
     let step = r.gives [] [] (record { text = []; status = Ends.Done }) (refl, refl) in
-    subst (λ ls. LinesPlay texts names first ls begun r.deeds (record { text = done; status = Ends.Done })) (append-nil r.passed)
-    (subst (λ ds. LinesPlay texts names first (r.passed ++ []) begun ds (record { text = done; status = Ends.Done })) (append-nil r.deeds)
-    (subst (λ t. LinesPlay texts names first (r.passed ++ []) begun (r.deeds ++ []) (record { text = t; status = Ends.Done })) (append-nil done) step))
+    subst (λ ls. LinesPlay texts names first ls begun r.actions (record { text = done; status = Ends.Done })) (append-nil r.passed)
+    (subst (λ ds. LinesPlay texts names first (r.passed ++ []) begun ds (record { text = done; status = Ends.Done })) (append-nil r.actions)
+    (subst (λ t. LinesPlay texts names first (r.passed ++ []) begun (r.actions ++ []) (record { text = t; status = Ends.Done })) (append-nil done) step))
 
 -- memory was refused
 pub left_off : (play now : Play) (number next : ℕ) (lines rest : List (List ℕ)) (before done left : List ℕ)
@@ -65,7 +65,7 @@ left_off play now number next lines rest before done left r is = record {
   others = rest;
   cut = r.whole;
   plays = record {
-    deeds = r.deeds;
+    actions = r.actions;
     said = record { text = done; status = Ends.Done };
     new = now.engine;
     plays = at_end _ _ _ _ _ _ _ _ _ _ _ r;
@@ -80,10 +80,10 @@ pub all_done : (play now : Play) (number next : ℕ) (lines rest : List (List �
 all_done play now number next lines rest before done left r none is =
     let passed : r.passed ≡ lines = sym (append-nil r.passed) ∙ ap (λ ls. r.passed ++ ls) (sym none) ∙ sym r.whole in
     record {
-      deeds = r.deeds;
+      actions = r.actions;
       said = record { text = done; status = Ends.Done };
       new = now.engine;
-      plays = subst (λ ls. LinesPlay play.log.texts play.log.names number ls (standing play) r.deeds (record { text = done; status = Ends.Done })) passed (at_end _ _ _ _ _ _ _ _ _ _ _ r);
+      plays = subst (λ ls. LinesPlay play.log.texts play.log.names number ls (standing play) r.actions (record { text = done; status = Ends.Done })) passed (at_end _ _ _ _ _ _ _ _ _ _ _ r);
       moves = r.moves;
       printed = ap (λ t. record { text = t; status = Ends.Done }) is;
     }
@@ -97,11 +97,11 @@ at_bad play now number next printed lines rest before done left bytes more statu
     let step = r.gives (bytes ∷ more) [] refused (inl (bad, refl, refl)) in
     let whole : r.passed ++ bytes ∷ more ≡ lines = ap (λ ls. r.passed ++ ls) (sym cut) ∙ sym r.whole in
     record {
-      deeds = r.deeds ++ [];
+      actions = r.actions ++ [];
       said = said_after done refused;
       new = now.engine;
-      plays = subst (λ ls. LinesPlay play.log.texts play.log.names number ls (standing play) (r.deeds ++ []) (said_after done refused)) whole step;
-      moves = subst (λ ds. Moves play.engine ds now.engine) (sym (append-nil r.deeds)) r.moves;
+      plays = subst (λ ls. LinesPlay play.log.texts play.log.names number ls (standing play) (r.actions ++ []) (said_after done refused)) whole step;
+      moves = subst (λ ds. Moves play.engine ds now.engine) (sym (append-nil r.actions)) r.moves;
       printed = rw (is, ends, same) refl;
     }
 
@@ -116,11 +116,11 @@ went_on play old new number next after lines rest before done out1 out2 bytes mo
     let text : List ℕ = did.1 in
     let does = did.4 in
     let known : IsLine play.log.names bytes line = subst (λ (l : LogRecord). IsLine l.names bytes line) same did.2 in
-    let plays : Plays play.log.texts play.log.names line (standing old) does.deeds text (standing new) = subst (λ (l : LogRecord). Plays l.texts l.names line (standing old) does.deeds text (standing new)) same does.is in
+    let plays : Plays play.log.texts play.log.names line (standing old) does.actions text (standing new) = subst (λ (l : LogRecord). Plays l.texts l.names line (standing old) does.actions text (standing new)) same does.is in
     let here : Reached play.log.texts play.log.names number lines (standing play) play.engine done next (bytes ∷ more) (standing old) old.engine = subst (λ ls. Reached play.log.texts play.log.names number lines (standing play) play.engine done next ls (standing old) old.engine) cut r in (
       done ++ text,
       did.5 ∙ ap (λ o. o ++ text) out ∙ append_assoc before done text,
-      subst (λ n. Reached play.log.texts play.log.names number lines (standing play) play.engine (done ++ text) n more (standing new) new.engine) (sym one) (reached_next _ _ _ _ _ _ _ _ _ _ _ _ line does.deeds text _ _ here known did.3 plays does.moves),
+      subst (λ n. Reached play.log.texts play.log.names number lines (standing play) play.engine (done ++ text) n more (standing new) new.engine) (sym one) (reached_next _ _ _ _ _ _ _ _ _ _ _ _ line does.actions text _ _ here known did.3 plays does.moves),
       does.log ∙ same,
       record { silent = ap (λ (l : LogRecord). l.heard) does.log ∙ ready.silent; prompt = does.prompt },
     )

@@ -51,11 +51,11 @@ lines_give : (texts : Bool) (read : ServerSettings) (play : Play) (number : ℕ)
 lines_give texts read play number lines before all starts none plays =
     let stands = plays.moves (opening read 1) [] starts.stands in
     let as_printed : plays.said ≡ all = sym (plays.printed ∙ alone before plays.said none) in
-    let named : LinesPlay texts (device_names read) number lines (standing play) plays.deeds plays.said = subst (λ (l : LogRecord). LinesPlay l.texts l.names number lines (standing play) plays.deeds plays.said) starts.log plays.plays in
+    let named : LinesPlay texts (device_names read) number lines (standing play) plays.actions plays.said = subst (λ (l : LogRecord). LinesPlay l.texts l.names number lines (standing play) plays.actions plays.said) starts.log plays.plays in
     record {
-      deeds = plays.deeds;
+      actions = plays.actions;
       ledger = stands.0;
-      plays = subst (λ s. LinesPlay texts (device_names read) number lines start plays.deeds s) as_printed (subst (λ s. LinesPlay texts (device_names read) number lines s plays.deeds plays.said) starts.starts named);
+      plays = subst (λ s. LinesPlay texts (device_names read) number lines start plays.actions s) as_printed (subst (λ s. LinesPlay texts (device_names read) number lines s plays.actions plays.said) starts.starts named);
       runs = stands.1;
     }
 

@@ -24,7 +24,7 @@ use Rattle.server.specs.Law.{IsOneEvent, IsNoEvent, IsServed, IsAtMostOne}
 use Rattle.dispatcher.specs.Notes.{Note, Tells}
 use Rattle.server.specs.Polls.{Happening, Polled, Told, Chosen, seen}
 use Rattle.server.specs.Turn.{Outcome as Given, Replied, BadRequest, OutOfMemory, Action, Served_body, Reported, Ticked, Trace, Allows}
-use Rattle.server.proofs.Laws.{deed_seen, none_seen, seen_apart}
+use Rattle.server.proofs.Laws.{action_seen, none_seen, seen_apart}
 use Rattle.program.specs.Said.{Said, said_after}
 use Rattle.traces.specs.declared.line.Line.{Line}
 use Rattle.traces.specs.declared.line.Line.TheVariants as Form
@@ -162,27 +162,27 @@ unanswered texts names bytes event line reply old new before hs after text is pr
 says_same : (names : List (List ℕ)) (text : List ℕ) (place : ℕ) (one other : Report) → report_of other ≡ report_of one → IsDeviceIn names text place one → IsDeviceIn names text place other
 says_same names text place one other same is = record { name = is.name; line = is.line; cut = is.cut; known = is.known; heard = is.heard ∙ ap (λ (r : ReportRecord). Some r) (sym same) }
 
--- the one deed of a line
-deed_of : (deeds : Trace) (deed : Action) (old new : Ledger) → deeds ≡ deed ∷ [] → Allows deeds old new → IsAtMostOne deed old.core new.core
-deed_of deeds deed old new is runs = deed_seen deed old new (subst (λ d. Allows d old new) is runs)
+-- the one action of a line
+action_of : (actions : Trace) (action : Action) (old new : Ledger) → actions ≡ action ∷ [] → Allows actions old new → IsAtMostOne action old.core new.core
+action_of actions action old new is runs = action_seen action old new (subst (λ d. Allows d old new) is runs)
 
-line_meant : (texts : Bool) (names : List (List ℕ)) (bytes : List ℕ) (line : Line) (old : Standing) (deeds : Trace) (text : List ℕ) (new : Standing) (a b : Ledger) → IsOfNoConnection line → IsLine names bytes line → Plays texts names line old deeds text new → Allows deeds a b → IsMeant texts names bytes old a.core text new b.core
-line_meant texts names bytes (Form.At moment) old deeds text new a b plain is (none, empty, next) runs =
+line_meant : (texts : Bool) (names : List (List ℕ)) (bytes : List ℕ) (line : Line) (old : Standing) (actions : Trace) (text : List ℕ) (new : Standing) (a b : Ledger) → IsOfNoConnection line → IsLine names bytes line → Plays texts names line old actions text new → Allows actions a b → IsMeant texts names bytes old a.core text new b.core
+line_meant texts names bytes (Form.At moment) old actions text new a b plain is (none, empty, next) runs =
     let same : b ≡ a = none_seen a b (subst (λ d. Allows d a b) none runs) in
     record { line = Form.At moment; is = is; part = nothing; answer = []; means = (refl, refl); does = (ap (λ (l : Ledger). l.core) same, refl); moment = ap (λ (s : Standing). s.moment) next; printed = empty }
-line_meant texts names bytes (Form.Ipp body) old deeds text new a b plain is (serves, same) runs =
-    let served = deed_of deeds (Served_body old.moment body.items serves.answer serves.happenings) a b serves.does runs (some_line serves.answer serves.line serves.replies) in
+line_meant texts names bytes (Form.Ipp body) old actions text new a b plain is (serves, same) runs =
+    let served = action_of actions (Served_body old.moment body.items serves.answer serves.happenings) a b serves.does runs (some_line serves.answer serves.line serves.replies) in
     let meant = body_meant texts names body.items served.0 old.moment serves.answer serves.line a.core serves.happenings b.core served.1 serves.replies served.2 in
     record { line = Form.Ipp body; is = is; part = meant.part; answer = meant.answer; means = (served.0, served.1, meant.means); does = meant.does; moment = ap (λ (s : Standing). s.moment) same; printed = serves.printed ∙ meant.printed }
-line_meant texts names bytes (Form.Device device report) old deeds text new a b plain (said, cut, is) (calls, same) runs =
-    let did = deed_of deeds (Reported old.moment device (report_of report) calls.happenings) a b calls.does runs calls.unrefused in
+line_meant texts names bytes (Form.Device device report) old actions text new a b plain (said, cut, is) (calls, same) runs =
+    let did = action_of actions (Reported old.moment device (report_of report) calls.happenings) a b calls.does runs calls.unrefused in
     unanswered texts names bytes (Is.Report device did.0) (Form.Device device did.0) did.2 old new a.core calls.happenings b.core text (said, cut, says_same names said device report did.0 did.1 is) calls.printed did.3 (λ part one. (did.2, one, refl)) (ap (λ (s : Standing). s.moment) same)
-line_meant texts names bytes Form.Tick old deeds text new a b plain is (calls, same) runs =
-    let did = deed_of deeds (Ticked old.moment calls.happenings) a b calls.does runs calls.unrefused in
+line_meant texts names bytes Form.Tick old actions text new a b plain is (calls, same) runs =
+    let did = action_of actions (Ticked old.moment calls.happenings) a b calls.does runs calls.unrefused in
     unanswered texts names bytes Is.Tick Form.Tick did.0 old new a.core calls.happenings b.core text is calls.printed did.1 (λ part one. (did.0, one, refl)) (ap (λ (s : Standing). s.moment) same)
-line_meant texts names bytes (Form.Open connection) old deeds text new a b none is plays runs = absurd none
-line_meant texts names bytes (Form.In input) old deeds text new a b none is plays runs = absurd none
-line_meant texts names bytes (Form.End number) old deeds text new a b none is plays runs = absurd none
+line_meant texts names bytes (Form.Open connection) old actions text new a b none is plays runs = absurd none
+line_meant texts names bytes (Form.In input) old actions text new a b none is plays runs = absurd none
+line_meant texts names bytes (Form.End number) old actions text new a b none is plays runs = absurd none
 
 -- a line without a connection may come at any time
 comes : (line : Line) (s : Standing) → IsOfNoConnection line → may_come line s ≡ true
@@ -214,11 +214,11 @@ record AreMeant (texts : Bool) (names : List (List ℕ)) (number : ℕ) (lines :
 abbrev IsPlain : List (List ℕ) → List ℕ → Type 0
 IsPlain names bytes = (line : Line) → IsLine names bytes line → IsOfNoConnection line
 
-lines_meant : (texts : Bool) (names : List (List ℕ)) (number : ℕ) (lines : List (List ℕ)) (old : Standing) (deeds : Trace) (said : Said) (a b : Ledger) → SpeaksOfNoConnection names lines → LinesPlay texts names number lines old deeds said → Allows deeds a b → AreMeant texts names number lines old.moment a.core said
-lines_meant texts names number [] old deeds said a b plain (none, ends) runs = record { part = nothing; new = a.core; run = (refl, refl); printed = (refl, ends) }
-lines_meant texts names number (bytes ∷ more) old deeds said a b plain (inl (bad, none, refused)) runs =
+lines_meant : (texts : Bool) (names : List (List ℕ)) (number : ℕ) (lines : List (List ℕ)) (old : Standing) (actions : Trace) (said : Said) (a b : Ledger) → SpeaksOfNoConnection names lines → LinesPlay texts names number lines old actions said → Allows actions a b → AreMeant texts names number lines old.moment a.core said
+lines_meant texts names number [] old actions said a b plain (none, ends) runs = record { part = nothing; new = a.core; run = (refl, refl); printed = (refl, ends) }
+lines_meant texts names number (bytes ∷ more) old actions said a b plain (inl (bad, none, refused)) runs =
     record { part = nothing; new = a.core; run = (refl, refl); printed = inl (is_none names bytes old (All-head (IsPlain names) bytes more plain) bad, refl, refused) }
-lines_meant texts names number (bytes ∷ more) old deeds said a b plain (inr (line, here, text, new, there, rest, is, may, plays, later, whole, printed)) runs =
+lines_meant texts names number (bytes ∷ more) old actions said a b plain (inr (line, here, text, new, there, rest, is, may, plays, later, whole, printed)) runs =
     let parts = seen_apart here there a b (subst (λ d. Allows d a b) whole runs) in
     let meant = line_meant texts names bytes line old here text new a parts.0 (All-head (IsPlain names) bytes more plain line is) is plays parts.1 in
     let run = lines_meant texts names (suc number) more new there rest parts.0 b (All-tail (IsPlain names) bytes more plain) later parts.2 in
@@ -242,5 +242,5 @@ lines_meant texts names number (bytes ∷ more) old deeds said a b plain (inr (l
 
 pub lines_run : (texts : Bool) (settings : ServerSettings) (number : ℕ) (lines : List (List ℕ)) (said : Said) → SpeaksOfNoConnection (device_names settings) lines → LinesGive texts settings number lines said → IsOneRun texts settings number lines said
 lines_run texts settings number lines said plain gives =
-    let run = lines_meant texts (device_names settings) number lines start gives.deeds said (opening_ledger (opening settings 1)) gives.ledger plain gives.plays gives.runs in
+    let run = lines_meant texts (device_names settings) number lines start gives.actions said (opening_ledger (opening settings 1)) gives.ledger plain gives.plays gives.runs in
     record { part = run.part; new = run.new; run = run.run; printed = run.printed }

@@ -22,9 +22,9 @@ use Rattle.replay.specs.Wire.{PeersSee, any_stirs, all_turns}
 abbrev pub standing : Play → Standing
 standing p = record { moment = p.moment; connections = p.connections.items; peers = p.wire.memory.peers.items }
 
--- wherever the old engine stands, the new one stands after these deeds
+-- wherever the old engine stands, the new one stands after these actions
 abbrev pub Moves : EngineState → Trace → EngineState → Type 0
-Moves old deeds new = (opening : State) (trace : Trace) → StandsAt opening trace old → StandsAt opening (trace ++ deeds) new
+Moves old actions new = (opening : State) (trace : Trace) → StandsAt opening trace old → StandsAt opening (trace ++ actions) new
 
 -- all that was heard was printed, and no poll of the wire has failed
 pub record IsReady (p : Play) : Type 0 where
@@ -45,11 +45,11 @@ pub record Becomes (old new : Play) (s : Standing) : Type 0 where
   pub prompt : new.wire.failed ≡ old.wire.failed
   pub stands : standing new ≡ s
 
--- deeds are done, which have this property, and all is printed
+-- actions are done, which have this property, and all is printed
 pub record Does (old new : Play) (Is : Trace → Type 0) : Type 0 where
-  pub deeds : Trace
-  pub is : Is deeds
-  pub moves : Moves old.engine deeds new.engine
+  pub actions : Trace
+  pub is : Is actions
+  pub moves : Moves old.engine actions new.engine
   pub log : new.log ≡ old.log
   pub prompt : new.wire.failed ≡ false
 
@@ -81,16 +81,16 @@ TakesTillQuiet old new = (turns : List (List Happening)) × AreTillQuiet turns �
 abbrev pub Acts : Play → List ℕ → List ℕ → Bool → Play → List ℕ → Type 0
 Acts old bytes output true new output' =
     (line : Line) × (text : List ℕ) × IsLine old.log.names bytes line × (may_come line (standing old) ≡ true)
-    × Does old new (λ deeds. Plays old.log.texts old.log.names line (standing old) deeds text (standing new)) × (output' ≡ output ++ text)
+    × Does old new (λ actions. Plays old.log.texts old.log.names line (standing old) actions text (standing new)) × (output' ≡ output ++ text)
 Acts old bytes output false new output' = IsBad old.log.names bytes (standing old) × (output' ≡ output)
 
--- what lines give, the first of which has this number, wherever the server stood before: the deeds that they are, up to here
+-- what lines give, the first of which has this number, wherever the server stood before: the actions that they are, up to here
 pub record PlaysAll (old : Play) (number : ℕ) (lines : List (List ℕ)) (before : List ℕ) (all : Said) : Type 0 where
-  pub deeds : Trace
+  pub actions : Trace
   pub said : Said
   pub new : EngineState
-  pub plays : LinesPlay old.log.texts old.log.names number lines (standing old) deeds said
-  pub moves : Moves old.engine deeds new
+  pub plays : LinesPlay old.log.texts old.log.names number lines (standing old) actions said
+  pub moves : Moves old.engine actions new
   pub printed : all ≡ said_after before said
 
 -- what the first of them give, where memory was refused

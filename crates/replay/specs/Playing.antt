@@ -27,10 +27,10 @@ pub record Standing : Type 0 where
 -- ---- lines without a connection
 
 -- a call between turns in which no growth is refused, and what it tells
-pub record Calls (texts : Bool) (names : List (List ℕ)) (deed : List Happening → Action) (deeds : Trace) (text : List ℕ) : Type 0 where
+pub record Calls (texts : Bool) (names : List (List ℕ)) (action : List Happening → Action) (actions : Trace) (text : List ℕ) : Type 0 where
   pub happenings : List Happening
   pub unrefused : has_refusal happenings ≡ false
-  pub does : deeds ≡ deed happenings ∷ []
+  pub does : actions ≡ action happenings ∷ []
   pub printed : text ≡ happenings_text texts names happenings
 
 -- the line of a reply
@@ -40,12 +40,12 @@ IsReplyLine BadRequest line = line ≡ codes "http 400\n"
 IsReplyLine OutOfMemory line = ⊥
 
 -- a body is served: the line of its reply, and what that tells
-pub record Serves (texts : Bool) (names : List (List ℕ)) (moment : ℕ) (body : List ℕ) (deeds : Trace) (text : List ℕ) : Type 0 where
+pub record Serves (texts : Bool) (names : List (List ℕ)) (moment : ℕ) (body : List ℕ) (actions : Trace) (text : List ℕ) : Type 0 where
   pub answer : Outcome
   pub line : List ℕ
   pub happenings : List Happening
   pub replies : IsReplyLine answer line
-  pub does : deeds ≡ Served_body moment body answer happenings ∷ []
+  pub does : actions ≡ Served_body moment body answer happenings ∷ []
   pub printed : text ≡ line ++ happenings_text texts names happenings
 
 -- ---- lines of a connection
@@ -62,12 +62,12 @@ pub record AreTillQuiet (turns : List (List Happening)) : Type 0 where
       ⊎ ((length busy ≡ most_turns) × (turns ≡ busy))
 
 -- turns are taken until all is quiet: what they tell, and then what each peer got, and which connections were closed
-pub record Turns (texts : Bool) (names : List (List ℕ)) (old : Standing) (deeds : Trace) (text : List ℕ) (new : Standing) : Type 0 where
+pub record Turns (texts : Bool) (names : List (List ℕ)) (old : Standing) (actions : Trace) (text : List ℕ) (new : Standing) : Type 0 where
   pub turns : List (List Happening)
   pub till : AreTillQuiet turns
   pub peers : List PeerState
   pub sees : Leads PeersSee old.peers (all_turns turns) peers
-  pub does : deeds ≡ map (Turned old.moment) turns
+  pub does : actions ≡ map (Turned old.moment) turns
   pub printed : text ≡ happenings_text texts names (all_turns turns) ++ connections_text peers old.connections
   pub after : new ≡ record old { connections = map (seen peers) old.connections; peers = map emptied peers }
 
@@ -84,13 +84,13 @@ on_peer number change s = record s { peers = option_map_or (λ c. changed_at c.p
 
 -- what a line does to the server, and what is printed of it
 abbrev pub Plays : Bool → List (List ℕ) → Line → Standing → Trace → List ℕ → Standing → Type 0
-Plays texts names (Form.At moment) old deeds text new = (deeds ≡ []) × (text ≡ []) × (new ≡ record old { moment = moment })
-Plays texts names (Form.Ipp body) old deeds text new = Serves texts names old.moment body.items deeds text × (new ≡ old)
-Plays texts names (Form.Device device report) old deeds text new = Calls texts names (Reported old.moment device (report_of report)) deeds text × (new ≡ old)
-Plays texts names Form.Tick old deeds text new = Calls texts names (Ticked old.moment) deeds text × (new ≡ old)
-Plays texts names (Form.Open opening) old deeds text new = Turns texts names (opened opening.number opening.door old) deeds text new
-Plays texts names (Form.In input) old deeds text new = Turns texts names (on_peer input.number (sending input.bytes.items) old) deeds text new
-Plays texts names (Form.End number) old deeds text new = Turns texts names (on_peer number ending old) deeds text new
+Plays texts names (Form.At moment) old actions text new = (actions ≡ []) × (text ≡ []) × (new ≡ record old { moment = moment })
+Plays texts names (Form.Ipp body) old actions text new = Serves texts names old.moment body.items actions text × (new ≡ old)
+Plays texts names (Form.Device device report) old actions text new = Calls texts names (Reported old.moment device (report_of report)) actions text × (new ≡ old)
+Plays texts names Form.Tick old actions text new = Calls texts names (Ticked old.moment) actions text × (new ≡ old)
+Plays texts names (Form.Open opening) old actions text new = Turns texts names (opened opening.number opening.door old) actions text new
+Plays texts names (Form.In input) old actions text new = Turns texts names (on_peer input.number (sending input.bytes.items) old) actions text new
+Plays texts names (Form.End number) old actions text new = Turns texts names (on_peer number ending old) actions text new
 
 -- a number is opened once, and nothing comes under it before that or after its end
 abbrev pub is_opened : ℕ → Standing → Bool
@@ -116,9 +116,9 @@ IsBad names bytes s = ((line : Line) → IsLine names bytes line → ⊥) ⊎ ((
 
 -- each line in turn, the first of which has this number, up to a bad one
 abbrev pub LinesPlay : Bool → List (List ℕ) → ℕ → List (List ℕ) → Standing → Trace → Said → Type 0
-LinesPlay texts names number [] old deeds said = (deeds ≡ []) × (said ≡ record { text = []; status = Ends.Done })
-LinesPlay texts names number (bytes ∷ more) old deeds said =
-    (IsBad names bytes old × (deeds ≡ []) × (said ≡ refused_as (codes "line " ++ decimal number)))
+LinesPlay texts names number [] old actions said = (actions ≡ []) × (said ≡ record { text = []; status = Ends.Done })
+LinesPlay texts names number (bytes ∷ more) old actions said =
+    (IsBad names bytes old × (actions ≡ []) × (said ≡ refused_as (codes "line " ++ decimal number)))
     ⊎ ((line : Line) × (here : Trace) × (text : List ℕ) × (new : Standing) × (there : Trace) × (rest : Said)
     × IsLine names bytes line × (may_come line old ≡ true) × Plays texts names line old here text new × LinesPlay texts names (suc number) more new there rest
-    × (deeds ≡ here ++ there) × (said ≡ said_after text rest))
+    × (actions ≡ here ++ there) × (said ≡ said_after text rest))

@@ -25,10 +25,10 @@ start = record { moment = 0; connections = []; peers = [] }
 
 -- What some lines give, the first of which has this number: a server with these settings does what they say from its start on, and this is what is printed of that.
 pub record LinesGive (texts : Bool) (settings : ServerSettings) (number : ℕ) (lines : List (List ℕ)) (said : Said) : Type 0 where
-  pub deeds : Trace
+  pub actions : Trace
   pub ledger : Ledger
-  pub plays : LinesPlay texts (device_names settings) number lines start deeds said
-  pub runs : Allows deeds (opening_ledger (opening settings 1)) ledger
+  pub plays : LinesPlay texts (device_names settings) number lines start actions said
+  pub runs : Allows actions (opening_ledger (opening settings 1)) ledger
 
 -- ---- a trace
 

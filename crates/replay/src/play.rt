@@ -141,7 +141,7 @@ impl Play {
     /// What is printed of a line.
     fn give(&mut self, line: Line) -> Result<Vec<u8>, AllocError>
         requires { IsReady self.old }
-        ensures { IfOk result (λ text. Does self.old self.new (λ deeds. Plays self.old.log.texts self.old.log.names line (standing self.old) deeds text.items (standing self.new))) }
+        ensures { IfOk result (λ text. Does self.old self.new (λ actions. Plays self.old.log.texts self.old.log.names line (standing self.old) actions text.items (standing self.new))) }
     {
         match line {
             Line::At(moment) => {
@@ -160,7 +160,7 @@ impl Play {
     /// What is printed of a body.
     fn serve(&mut self, body: &[u8]) -> Result<Vec<u8>, AllocError>
         requires { IsReady self.old }
-        ensures { IfOk result (λ text. Does self.old self.new (λ deeds. Serves self.old.log.texts self.old.log.names self.old.moment body.now deeds text.items × (standing self.new ≡ standing self.old))) }
+        ensures { IfOk result (λ text. Does self.old self.new (λ actions. Serves self.old.log.texts self.old.log.names self.old.moment body.now actions text.items × (standing self.new ≡ standing self.old))) }
     {
         let served = self.engine.serve_body(body, &mut self.log, self.moment)?;
         let mut text = reply_line(self.alloc, &served)?;
@@ -172,7 +172,7 @@ impl Play {
     /// What is printed of what a device reports.
     fn report(&mut self, device: DeviceId, report: Report) -> Result<Vec<u8>, AllocError>
         requires { IsReady self.old }
-        ensures { IfOk result (λ text. Does self.old self.new (λ deeds. Calls self.old.log.texts self.old.log.names (Reported self.old.moment device (report_of report)) deeds text.items × (standing self.new ≡ standing self.old))) }
+        ensures { IfOk result (λ text. Does self.old self.new (λ actions. Calls self.old.log.texts self.old.log.names (Reported self.old.moment device (report_of report)) actions text.items × (standing self.new ≡ standing self.old))) }
     {
         self.engine
             .report(device, report, &mut self.log, self.moment)?;
@@ -183,7 +183,7 @@ impl Play {
     /// What is printed of a tick.
     fn tick(&mut self) -> Result<Vec<u8>, AllocError>
         requires { IsReady self.old }
-        ensures { IfOk result (λ text. Does self.old self.new (λ deeds. Calls self.old.log.texts self.old.log.names (Ticked self.old.moment) deeds text.items × (standing self.new ≡ standing self.old))) }
+        ensures { IfOk result (λ text. Does self.old self.new (λ actions. Calls self.old.log.texts self.old.log.names (Ticked self.old.moment) actions text.items × (standing self.new ≡ standing self.old))) }
     {
         self.engine.tick(&mut self.log, self.moment)?;
         let heard = self.log.take()?;
@@ -193,7 +193,7 @@ impl Play {
     /// What is printed of a connection that comes in.
     fn open(&mut self, opening: Opening) -> Result<Vec<u8>, AllocError>
         requires { IsReady self.old }
-        ensures { IfOk result (λ text. Does self.old self.new (λ deeds. Turns self.old.log.texts self.old.log.names (opened opening.number opening.door (standing self.old)) deeds text.items (standing self.new))) }
+        ensures { IfOk result (λ text. Does self.old self.new (λ actions. Turns self.old.log.texts self.old.log.names (opened opening.number opening.door (standing self.old)) actions text.items (standing self.new))) }
     {
         self.add(opening)?;
         self.run()
@@ -220,7 +220,7 @@ impl Play {
     /// What is printed of bytes that come on a connection.
     fn bring(&mut self, input: &Input) -> Result<Vec<u8>, AllocError>
         requires { IsReady self.old }
-        ensures { IfOk result (λ text. Does self.old self.new (λ deeds. Turns self.old.log.texts self.old.log.names (on_peer input.now.number (sending input.now.bytes.items) (standing self.old)) deeds text.items (standing self.new))) }
+        ensures { IfOk result (λ text. Does self.old self.new (λ actions. Turns self.old.log.texts self.old.log.names (on_peer input.now.number (sending input.now.bytes.items) (standing self.old)) actions text.items (standing self.new))) }
     {
         self.send(input)?;
         self.run()
@@ -239,7 +239,7 @@ impl Play {
     /// What is printed of the end of what comes on a connection.
     fn end(&mut self, number: u64) -> Result<Vec<u8>, AllocError>
         requires { IsReady self.old }
-        ensures { IfOk result (λ text. Does self.old self.new (λ deeds. Turns self.old.log.texts self.old.log.names (on_peer number ending (standing self.old)) deeds text.items (standing self.new))) }
+        ensures { IfOk result (λ text. Does self.old self.new (λ actions. Turns self.old.log.texts self.old.log.names (on_peer number ending (standing self.old)) actions text.items (standing self.new))) }
     {
         self.finish(number);
         self.run()
@@ -257,7 +257,7 @@ impl Play {
     /// What is printed of turns until all is quiet.
     fn run(&mut self) -> Result<Vec<u8>, AllocError>
         requires { IsReady self.old }
-        ensures { IfOk result (λ text. Does self.old self.new (λ deeds. Turns self.old.log.texts self.old.log.names (standing self.old) deeds text.items (standing self.new))) }
+        ensures { IfOk result (λ text. Does self.old self.new (λ actions. Turns self.old.log.texts self.old.log.names (standing self.old) actions text.items (standing self.new))) }
     {
         self.take_turns();
         if self.wire.failed {

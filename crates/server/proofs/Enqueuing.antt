@@ -8,7 +8,7 @@ use Rattle.dispatcher.specs.declared.listener.AllocationSite.TheVariants.{Enqueu
 use Rattle.dispatcher.specs.Notes.{Note, Refused}
 use Rattle.connections.specs.declared.peer.Peer.{Peer}
 use Rattle.connections.specs.declared.peer.Peer.TheVariants as of
-use Rattle.connections.specs.Entry.{Talk, Entry, waiting, broken, owing, needs_memory, unnamed, given_up, closes_of}
+use Rattle.connections.specs.Entry.{PeerRecord, Entry, waiting, broken, owing, needs_memory, unnamed, given_up, closes_of}
 use Rattle.connections.specs.Peers.{work, closes_of as closes_in, unnamed as has_no_name}
 use Rattle.connections.specs.Connections.{ConnectionState, EnqueuesAs, is_kept, is_broken, gives_way, load}
 use Rattle.connections.specs.Representation.{FitsPeer, RepresentsConnection}
@@ -35,7 +35,7 @@ fits_kept e c bytes f = record {
 }
 
 -- what a broken connection brought counts no more
-broken_peer : (read : List ℕ) (talk : Talk) (off : Bool) (p : Peer) → FitsPeer read talk off p → FitsPeer read talk true p
+broken_peer : (read : List ℕ) (talk : PeerRecord) (off : Bool) (p : Peer) → FitsPeer read talk off p → FitsPeer read talk true p
 broken_peer read talk off (of.Ipp t) f = f
 broken_peer read talk off (of.Lpd t) f = f
 broken_peer read talk off (of.Device t) f = record { reports = f.reports; is = f.is; linked = λ no. let never : true ≡ false = no in cc }
@@ -43,7 +43,7 @@ broken_peer read talk off (of.Device t) f = record { reports = f.reports; is = f
 pub fits_broken : (e : Entry) (c : ConnectionState) → RepresentsConnection e c → RepresentsConnection (broken e) (is_broken c)
 fits_broken e c f = record { id = f.id; peer = broken_peer e.read e.talk e.broken c.peer f.peer; ended = f.ended; draining = f.draining; broken = refl; due = f.due }
 
-given_peer : (read : List ℕ) (talk : Talk) (off : Bool) (p : Peer) → FitsPeer read talk off p → FitsPeer read (unnamed talk) true (has_no_name p)
+given_peer : (read : List ℕ) (talk : PeerRecord) (off : Bool) (p : Peer) → FitsPeer read talk off p → FitsPeer read (unnamed talk) true (has_no_name p)
 given_peer read talk off (of.Ipp t) f = record { said = f.said; body = f.body; is = ap unnamed f.is; stands = f.stands; heard = f.heard }
 given_peer read talk off (of.Lpd t) f = record { items = f.items; is = ap unnamed f.is; stands = f.stands }
 given_peer read talk off (of.Device t) f = record { reports = f.reports; is = ap unnamed f.is; linked = λ no. let never : true ≡ false = no in cc }
@@ -167,7 +167,7 @@ enqueues told n n' a slots key bytes broke enqueue full tells = enqueues_where t
 
 -- ---- a reply, by what its request said of closing
 
-closes_by : (read : List ℕ) (talk : Talk) (off : Bool) (p : Peer) → FitsPeer read talk off p → closes_in p ≡ closes_of talk
+closes_by : (read : List ℕ) (talk : PeerRecord) (off : Bool) (p : Peer) → FitsPeer read talk off p → closes_in p ≡ closes_of talk
 closes_by read talk off (of.Ipp t) f = sym (ap closes_of f.is)
 closes_by read talk off (of.Lpd t) f = sym (ap closes_of f.is)
 closes_by read talk off (of.Device t) f = sym (ap closes_of f.is)

@@ -21,12 +21,12 @@ use Rattle.server.specs.Ledger.{Ledger, Fate, opening_ledger}
 use Rattle.server.specs.Rel.{Rel}
 use Rattle.server.specs.Closing.{IsTaken}
 use Rattle.server.specs.Turn as Between
-use Rattle.server.specs.Turn.{has_refusal, Outcome as Given, Replied, OutOfMemory, IsBytes, Answers, BodyAsks, BodyComes, Action, Turned, Served_body, Reported, Ticked, seen_of, seen_in, DoesDeed, Trace, Runs, Allows}
+use Rattle.server.specs.Turn.{has_refusal, Outcome as Given, Replied, OutOfMemory, IsBytes, Answers, BodyAsks, BodyComes, Action, Turned, Served_body, Reported, Ticked, seen_of, seen_in, DoesAction, Trace, Runs, Allows}
 use Rattle.server.specs.Law.{core_notes, Collects, moment_of, happenings_of, happenings_in, AreAt, IsWhole, IsOneRun, IsOneEvent, IsServed, IsAtMostOne, AllTaken}
 use Rattle.dispatcher.specs.declared.listener.AllocationSite.TheVariants as At
 use Rattle.server.proofs.Steps.{seen_refusal}
 use Rattle.server.proofs.Speaking.{notes_append, no_refusal_told, none_before, none_after, Happened, happened_whole, happened, happened_then, whole_light, whole_told}
-use Rattle.server.proofs.Parts.{calm_answers, ticked, Holds, deed_in}
+use Rattle.server.proofs.Parts.{calm_answers, ticked, Holds, action_in}
 use Rattle.connections.specs.Entry.{Entry}
 
 -- ---- what closed connections were given
@@ -51,7 +51,7 @@ stays_taken moment = record {
 
 taken_on : (trace : Trace) (old new : Ledger) → Runs trace old new → AllTaken old.closed → AllTaken new.closed
 taken_on [] old new same all = same_closed old new (ap (λ (x : Ledger). x.closed) same) all
-taken_on (deed ∷ deeds) old new (mid, does, runs) all = taken_on deeds mid new runs (deed_in StaysTaken deed (stays_taken (moment_of deed)) old mid does all)
+taken_on (action ∷ actions) old new (mid, does, runs) all = taken_on actions mid new runs (action_in StaysTaken action (stays_taken (moment_of action)) old mid does all)
 
 pub all_taken : (opening : State) (trace : Trace) (ledger : Ledger) → Runs trace (opening_ledger opening) ledger → AllTaken ledger.closed
 all_taken opening trace ledger runs = taken_on trace (opening_ledger opening) ledger runs (All-nil (λ (it : Entry × Fate). IsTaken it.1 it.0))
@@ -129,19 +129,19 @@ is_run moment = record {
 
 pub one_run : (trace : Trace) (old new : Ledger) → Runs trace old new → IsOneRun trace old.core new.core
 one_run [] old new same = record { events = []; outcomes = []; timed = refl; run = (ap (λ (x : Ledger). x.core) same, refl); whole = λ none. All-nil IsWhole }
-one_run (deed ∷ deeds) old new (mid, does, runs) =
-    let first = deed_in (IsRunAt (moment_of deed)) deed (is_run (moment_of deed)) old mid does in
-    let later = one_run deeds mid new runs in
+one_run (action ∷ actions) old new (mid, does, runs) =
+    let first = action_in (IsRunAt (moment_of action)) action (is_run (moment_of action)) old mid does in
+    let later = one_run actions mid new runs in
     record {
       events = first.events ++ later.events;
       outcomes = first.outcomes ++ later.outcomes;
       timed = (first.events, later.events, refl, first.timed, later.timed);
-      run = subst (λ (ns : List Note). Run Collects old.core [] (first.events ++ later.events) (first.outcomes ++ later.outcomes) new.core ns) (sym (notes_append (happenings_of deed) (happenings_in deeds)))
-          (run_then [] (core_notes (happenings_of deed)) (core_notes (happenings_in deeds)) old.core mid.core new.core first.events later.events first.outcomes later.outcomes first.run later.run);
-      whole = λ none. whole_then (happenings_of deed) (happenings_in deeds) first.outcomes later.outcomes first.whole later.whole none;
+      run = subst (λ (ns : List Note). Run Collects old.core [] (first.events ++ later.events) (first.outcomes ++ later.outcomes) new.core ns) (sym (notes_append (happenings_of action) (happenings_in actions)))
+          (run_then [] (core_notes (happenings_of action)) (core_notes (happenings_in actions)) old.core mid.core new.core first.events later.events first.outcomes later.outcomes first.run later.run);
+      whole = λ none. whole_then (happenings_of action) (happenings_in actions) first.outcomes later.outcomes first.whole later.whole none;
     }
 
--- ---- one event a deed
+-- ---- one event an action
 
 one_event : (moment : ℕ) (event : Event) (outcome : Outcome) (reply : Effects) (l : Ledger) (hs : List Happening) (l' : Ledger) → has_refusal hs ≡ false → IsWhole outcome → reply_of outcome ≡ Some reply → Happened moment event outcome l hs l' → IsOneEvent moment event reply l.core hs l'.core
 one_event moment event outcome reply l hs l' none whole is it =
@@ -201,7 +201,7 @@ body_served moment body served answer l hs l' none same (inl (asked, are, it)) =
     (asked, are, served_seen moment asked answer l.core it.back hs l'.core sight (subst (λ (s : State). IsServed moment asked answer s it.back l'.core) core after))
 body_served moment body served answer l hs l' none same (inr it) = no_refusal_told hs At.Event None none it.0
 
-pub at_most_one : (deed : Action) (old new : Ledger) → DoesDeed deed old new → IsAtMostOne deed old.core new.core
+pub at_most_one : (action : Action) (old new : Ledger) → DoesAction action old new → IsAtMostOne action old.core new.core
 at_most_one (Turned moment hs) old new it = tt
 at_most_one (Served_body moment body answer hs) old new (served, is, it) =
     λ some. let known = not_refused (has_refusal hs) served answer is some in body_served moment body served answer old hs new known.0 known.1 it
@@ -220,20 +220,20 @@ seen_again (Chosen choice ∷ hs) = seen_again hs
 event_seen : (moment : ℕ) (event : Event) (reply : Effects) (old : State) (hs : List Happening) (new : State) → IsOneEvent moment event reply old hs new → IsOneEvent moment event reply old (seen hs) new
 event_seen moment event reply old hs new one = record { outcome = one.outcome; notes = one.notes; answered = one.answered; whole = one.whole; handled = one.handled; told = seen_again hs ∙ one.told }
 
-one_seen : (deed : Action) (old new : State) → IsAtMostOne deed old new → IsAtMostOne (seen_of deed) old new
+one_seen : (action : Action) (old new : State) → IsAtMostOne action old new → IsAtMostOne (seen_of action) old new
 one_seen (Turned moment hs) old new one = tt
 one_seen (Served_body moment body answer hs) old new one = λ some. let it = one some in (it.0, it.1, served_seen moment it.0 answer old hs (seen hs) new (seen_again hs) it.2)
 one_seen (Reported moment device said hs) old new one = λ none. let it = one (sym (seen_refusal hs) ∙ none) in (it.0, it.1, it.2, event_seen moment (Is.Report device it.0) it.2 old hs new it.3)
 one_seen (Ticked moment hs) old new one = λ none. let it = one (sym (seen_refusal hs) ∙ none) in (it.0, event_seen moment Is.Tick it.0 old hs new it.1)
 
--- the one deed that is seen
-pub deed_seen : (deed : Action) (old new : Ledger) → Allows (deed ∷ []) old new → IsAtMostOne deed old.core new.core
-deed_seen deed old new ([], is, runs) = let never : [] ≡ deed ∷ [] = is in cc
-deed_seen deed old new (whole ∷ [], is, (mid, does, same)) =
+-- the one action that is seen
+pub action_seen : (action : Action) (old new : Ledger) → Allows (action ∷ []) old new → IsAtMostOne action old.core new.core
+action_seen action old new ([], is, runs) = let never : [] ≡ action ∷ [] = is in cc
+action_seen action old new (whole ∷ [], is, (mid, does, same)) =
     let one = one_seen whole old.core mid.core (at_most_one whole old mid does) in
-    let deed_is : seen_of whole ≡ deed = let both : seen_of whole ∷ [] ≡ deed ∷ [] = is in cc in
-    subst (λ (d : Action). IsAtMostOne d old.core new.core) deed_is (subst (λ (l : Ledger). IsAtMostOne (seen_of whole) old.core l.core) (sym same) one)
-deed_seen deed old new (whole ∷ (next ∷ more), is, runs) = let never : seen_of whole ∷ (seen_of next ∷ seen_in more) ≡ deed ∷ [] = is in cc
+    let action_is : seen_of whole ≡ action = let both : seen_of whole ∷ [] ≡ action ∷ [] = is in cc in
+    subst (λ (d : Action). IsAtMostOne d old.core new.core) action_is (subst (λ (l : Ledger). IsAtMostOne (seen_of whole) old.core l.core) (sym same) one)
+action_seen action old new (whole ∷ (next ∷ more), is, runs) = let never : seen_of whole ∷ (seen_of next ∷ seen_in more) ≡ action ∷ [] = is in cc
 
 -- nothing is seen, and nothing happened
 pub none_seen : (old new : Ledger) → Allows [] old new → new ≡ old
@@ -243,9 +243,9 @@ none_seen old new (whole ∷ more, is, runs) = let never : seen_of whole ∷ see
 -- what is seen first, and what is seen then
 pub seen_apart : (here there : Trace) (old new : Ledger) → Allows (here ++ there) old new → (mid : Ledger) × Allows here old mid × Allows there mid new
 seen_apart [] there old new allows = (old, ([], refl, refl), allows)
-seen_apart (deed ∷ here) there old new ([], is, runs) = let never : [] ≡ deed ∷ (here ++ there) = is in cc
-seen_apart (deed ∷ here) there old new (whole ∷ more, is, (next, does, runs)) =
-    let head : seen_of whole ≡ deed = let both : seen_of whole ∷ seen_in more ≡ deed ∷ (here ++ there) = is in cc in
-    let tail : seen_in more ≡ here ++ there = let both : seen_of whole ∷ seen_in more ≡ deed ∷ (here ++ there) = is in cc in
+seen_apart (action ∷ here) there old new ([], is, runs) = let never : [] ≡ action ∷ (here ++ there) = is in cc
+seen_apart (action ∷ here) there old new (whole ∷ more, is, (next, does, runs)) =
+    let head : seen_of whole ≡ action = let both : seen_of whole ∷ seen_in more ≡ action ∷ (here ++ there) = is in cc in
+    let tail : seen_in more ≡ here ++ there = let both : seen_of whole ∷ seen_in more ≡ action ∷ (here ++ there) = is in cc in
     let parts = seen_apart here there next new (more, tail, runs) in
-    (parts.0, (whole ∷ parts.1.0, ap (λ (d : Action). d ∷ seen_in parts.1.0) head ∙ ap (λ (t : Trace). deed ∷ t) parts.1.1, (next, does, parts.1.2)), parts.2)
+    (parts.0, (whole ∷ parts.1.0, ap (λ (d : Action). d ∷ seen_in parts.1.0) head ∙ ap (λ (t : Trace). action ∷ t) parts.1.1, (next, does, parts.1.2)), parts.2)

@@ -1,4 +1,4 @@
--- What deeds are made of: events, closings, and what concerns neither the core nor what was closed.
+-- What actions are made of: events, closings, and what concerns neither the core nor what was closed.
 use Rattle.std.proofs.Common.{◌≡◌, ℕ, zero, suc, Bool, true, false, List, [], ◌∷◌, ◌++◌, refl, sym, ◌∙◌, ap, subst, Option, Some, None, inl, inr}
 use Rattle.std.specs.Prelude.{nat_lt, length, take}
 use Rattle.base_types.specs.declared.limits.TheConstants.Limits.{CONNECTIONS}
@@ -56,7 +56,7 @@ use Rattle.server.specs.Greeting as Greeting
 use Rattle.server.specs.Acting as Acting
 use Rattle.server.specs.Polling.{Opens, AcceptsAs, AcceptsOne, AcceptsAt, Acts, Serves, FedWhole, FedOpen, FeedsAt, FeedsOne, Fails, ReadsAs, ReadsOpen, ReadsAt, is_read, ReadsOne, WritesAs, WritesOpen, WritesAt, WritesOne, is_done, EndsAt, EndsOne}
 use Rattle.server.specs.Turn as Between
-use Rattle.server.specs.Turn.{Ticks, is_tick_due, TicksIfDue, Covers, Round, Turn, has_refusal, Action, Turned, Served_body, Reported, Ticked, DoesDeed}
+use Rattle.server.specs.Turn.{Ticks, is_tick_due, TicksIfDue, Covers, Round, Turn, has_refusal, Action, Turned, Served_body, Reported, Ticked, DoesAction}
 use Rattle.server.specs.Law.{core_notes, IsWhole, moment_of, happenings_of}
 use Rattle.server.proofs.Speaking.{only_notes, Calmly, calm_nothing, calm_choice, calm_then, calm_if, calm_or, calm_refusal, calm_sets, calm_drops, calm_breaks, calm_enqueues, IsOther, Happened, happened_notes, happened, happened_then, whole_light, whole_told}
 
@@ -200,7 +200,7 @@ dropped_told key id (client.Ipp request) query = refused_first At.Event (Some id
 dropped_told key id client.LpdJob query = refused_first At.Event (Some id) (Enqueues key (1 ∷ []))
 dropped_told key id client.LpdCommand query = refused_first At.Event (Some id) (Breaks key)
 
--- ---- deeds
+-- ---- actions
 
 module _ (moment : ℕ) (P : Rel) (k : Holds moment P) where
   calmly_in : {R : Rel} → Calmly R → Within P R
@@ -425,9 +425,9 @@ module _ (moment : ℕ) (P : Rel) (k : Holds moment P) where
   reports_in : (device : ℕ) (said : ReportRecord) → Within P (Between.Reports moment device said)
   reports_in device said = tells_in device said
 
--- of whatever holds of all its parts: it holds of a deed
-pub deed_in : (P : Rel) (deed : Action) → Holds (moment_of deed) P → (l l' : Ledger) → DoesDeed deed l l' → P l (happenings_of deed) l'
-deed_in P (Turned moment hs) k l l' it = turn_in moment P k l hs l' it
-deed_in P (Served_body moment body answer hs) k l l' it = serves_body_in moment P k body answer l hs l' it
-deed_in P (Reported moment device said hs) k l l' it = reports_in moment P k device said l hs l' it
-deed_in P (Ticked moment hs) k l l' it = ticks_in moment P k l hs l' it
+-- of whatever holds of all its parts: it holds of an action
+pub action_in : (P : Rel) (action : Action) → Holds (moment_of action) P → (l l' : Ledger) → DoesAction action l l' → P l (happenings_of action) l'
+action_in P (Turned moment hs) k l l' it = turn_in moment P k l hs l' it
+action_in P (Served_body moment body answer hs) k l l' it = serves_body_in moment P k body answer l hs l' it
+action_in P (Reported moment device said hs) k l l' it = reports_in moment P k device said l hs l' it
+action_in P (Ticked moment hs) k l l' it = ticks_in moment P k l hs l' it

@@ -72,10 +72,10 @@ happenings_in trace = flat_map happenings_of trace
 abbrev pub AreAt : ℕ → List Timed → Type 0
 AreAt moment events = All (λ (timed : Timed). timed.moment ≡ moment) events
 
--- those of the first deed, each at its moment, then those of the next, and so on
+-- those of the first action, each at its moment, then those of the next, and so on
 abbrev pub AreEventsOf : Trace → List Timed → Type 0
 AreEventsOf [] events = events ≡ []
-AreEventsOf (deed ∷ deeds) events = (first : List Timed) × (later : List Timed) × (events ≡ first ++ later) × AreAt (moment_of deed) first × AreEventsOf deeds later
+AreEventsOf (action ∷ actions) events = (first : List Timed) × (later : List Timed) × (events ≡ first ++ later) × AreAt (moment_of action) first × AreEventsOf actions later
 
 -- no memory was refused for the event or its dispatch
 abbrev pub IsWhole : Outcome → Type 0
@@ -94,7 +94,7 @@ pub record IsOneRun (trace : Trace) (old new : State) : Type 0 where
   pub run : Run Collects old [] events outcomes new (core_notes (happenings_in trace))
   pub whole : has_refusal (happenings_in trace) ≡ false → All IsWhole outcomes
 
--- ---- a deed between turns
+-- ---- an action between turns
 
 -- One event came, was answered this, and nothing else happened: the listener is told its cancels, and then
 -- the dispatch, unless it is a query. No memory was refused.
@@ -117,7 +117,7 @@ IsServed moment (asks.Refused status request) answer old hs new = (answer ≡ Re
 IsServed moment (asks.Event request event) answer old hs new =
     (reply : Effects) × (bytes : List ℕ) × (answer ≡ Replied bytes) × IsBytes request reply.answer bytes × IsOneEvent moment event reply old hs new
 
--- What a deed between turns is to the core where no growth is refused: one event at its moment, or none
+-- What an action between turns is to the core where no growth is refused: one event at its moment, or none
 -- where a body is no request. A turn brings as many as it does (`IsOneRun`).
 abbrev pub IsAtMostOne : Action → State → State → Type 0
 IsAtMostOne (Turned moment hs) old new = Unit {0}

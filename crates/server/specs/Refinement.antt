@@ -103,10 +103,10 @@ pub record RefinesTurn {S : Type 0} (moves : S → Happening → S → Type 0) (
   pub stands : (opening : State) (trace : Trace) → StandsAt opening trace old → StandsAt opening (trace ++ Turned moment happenings ∷ []) new
 
 -- a call between turns: the engine stands after it, and the call fails exactly where a growth was refused
-pub record RefinesCall {S : Type 0} (moves : S → Happening → S → Type 0) (deed : List Happening → Action) (world : S) (old : EngineState) (world' : S) (new : EngineState) (result : Result (Unit {0}) AllocError) : Type 0 where
+pub record RefinesCall {S : Type 0} (moves : S → Happening → S → Type 0) (action : List Happening → Action) (world : S) (old : EngineState) (world' : S) (new : EngineState) (result : Result (Unit {0}) AllocError) : Type 0 where
   pub happenings : List Happening
   pub leads : Leads moves world happenings world'
-  pub stands : (opening : State) (trace : Trace) → StandsAt opening trace old → StandsAt opening (trace ++ deed happenings ∷ []) new
+  pub stands : (opening : State) (trace : Trace) → StandsAt opening trace old → StandsAt opening (trace ++ action happenings ∷ []) new
   pub ok : IsOk result → has_refusal happenings ≡ false
   pub err : IsErr result → has_refusal happenings ≡ true
 

@@ -8,10 +8,10 @@ ghost use Rattle.server.specs.Ledger.{Ledger, opening_ledger};
 ghost use Rattle.send_queues.specs.Reply.{refusal_head};
 ghost use Rattle.connections.specs.Steps.{http_status};
 ghost use Rattle.server.specs.Law.{IsOneRun, IsAtMostOne, AllTaken, AreKept, AreOwed};
-ghost use Rattle.server.specs.Turn.{Action, DoesDeed, Trace, Runs};
+ghost use Rattle.server.specs.Turn.{Action, DoesAction, Trace, Runs};
 
-/// What happens in a trace is one run of the core: the events of its deeds, in order and each at its
-/// deed's moment, lead the core from where the trace found it to where it leaves it. What that run tells
+/// What happens in a trace is one run of the core: the events of its actions, in order and each at its
+/// action's moment, lead the core from where the trace found it to where it leaves it. What that run tells
 /// is just what the listener is told of the core, in the same order: the cancels of its replies, its plans
 /// with what began, and the dispatches that were refused memory. Where no growth is refused, each event is
 /// answered, and each that is no query is followed by a dispatch.
@@ -19,12 +19,12 @@ pub fn trace_is_one_run()
     ensures { (trace : Trace) (old new : Ledger) → Runs trace old new → IsOneRun trace old.core new.core }
 {}
 
-/// A deed between turns is one event, where no growth was refused: a report or a tick, or what a body
+/// An action between turns is one event, where no growth was refused: a report or a tick, or what a body
 /// asks, answered with the bytes of its reply. A body that is too short, or is refused, is none, and
 /// changes nothing. The listener is told the cancels of the reply and then, unless it is a query, the
 /// dispatch that follows; and nothing else.
 pub fn action_is_one_event()
-    ensures { (deed : Action) (old new : Ledger) → DoesDeed deed old new → IsAtMostOne deed old.core new.core }
+    ensures { (action : Action) (old new : Ledger) → DoesAction action old new → IsAtMostOne action old.core new.core }
 {}
 
 /// Of each connection that was closed after its output went out, all that was due on it was taken; of

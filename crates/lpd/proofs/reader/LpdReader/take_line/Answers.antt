@@ -1,5 +1,5 @@
 use Rattle.std.proofs.Common.{rules, [], subst, drop, ◌+◌, None, Some, ◌≡◌, sym, take, Ok, Err}
-use Rattle.lpd.specs.Conversation.{item_record, awaited_after}
+use Rattle.lpd.specs.Items.{item_record, awaited_after}
 use Rattle.lpd.specs.Stream.{Answers}
 use Rattle.lpd.specs.Command.{meaning_of}
 use Rattle.lpd.proofs.Standing.{answers_line, answers_bad_line}
