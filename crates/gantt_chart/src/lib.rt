@@ -2,7 +2,8 @@
 //!
 //! A [`Chart`] has the starts and ends of its bars; whoever makes one knows them. [`draw_charts`] draws
 //! charts below one another over one scale, as a picture in SVG or for a terminal. It promises that it is
-//! safe and ends. Nothing here says when a job starts.
+//! safe and ends. Nothing here says when a job starts. A [`Page`] is a text under way, for what is written
+//! beside a chart too.
 //!
 //! Its rows are plans and days of `play_examples`.
 #![tactic(auto)]
@@ -30,3 +31,4 @@ pub use chart::{Bar, Chart, ChartJob, Ending, Lane, Mark};
 pub use day::{Arrival, Day, Print, chart_of_day};
 pub use form::{Form, draw_charts};
 pub use length::ShortTime;
+pub use page::Page;

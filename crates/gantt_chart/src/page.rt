@@ -7,14 +7,14 @@ use std::fmt;
 ///
 /// What appends to it takes it and gives it back, so that calls stand behind one another.
 #[derive(Drop)]
-pub(crate) struct Page {
+pub struct Page {
     text: String,
     is_refused: bool,
 }
 
 impl Page {
     /// A page without any text.
-    pub(crate) fn new(alloc: Global) -> Page {
+    pub fn new(alloc: Global) -> Page {
         Page {
             text: String::new(alloc),
             is_refused: false,
@@ -22,28 +22,28 @@ impl Page {
     }
 
     /// The page to which nothing more is appended, as memory was refused.
-    pub(crate) fn refused(self) -> Page {
+    pub fn refused(self) -> Page {
         let mut page = self;
         page.is_refused = true;
         page
     }
 
     /// Appends a text.
-    pub(crate) fn put(self, text: &str) -> Page {
+    pub fn put(self, text: &str) -> Page {
         let mut page = self;
         page.is_refused = page.is_refused || page.text.push_str(text).is_err();
         page
     }
 
     /// Appends a letter.
-    pub(crate) fn put_letter(self, letter: char) -> Page {
+    pub fn put_letter(self, letter: char) -> Page {
         let mut page = self;
         page.is_refused = page.is_refused || page.text.push(letter).is_err();
         page
     }
 
     /// Appends a value as it is shown.
-    pub(crate) fn put_shown<T: fmt::Display + Drop>(self, value: T) -> Page {
+    pub fn put_shown<T: fmt::Display + Drop>(self, value: T) -> Page {
         let mut page = self;
         page.is_refused = page.is_refused || write!(page.text, "{value}").is_err();
         page
@@ -72,7 +72,7 @@ impl Page {
     }
 
     /// The text. The only error is out of memory.
-    pub(crate) fn finish(self) -> Result<String, AllocError> {
+    pub fn finish(self) -> Result<String, AllocError> {
         if self.is_refused {
             Err(AllocError)
         } else {

@@ -72,7 +72,7 @@ fn job_of(
     draft.job(alloc, settings)
 }
 
-/// Adds the job of a line, which comes no earlier than the last one.
+/// Adds the job of a line, which comes no earlier than the last one, unless there are as many as may be.
 fn add_job(
     alloc: Global,
     jobs: &mut Vec<ListedJob>,
@@ -80,6 +80,9 @@ fn add_job(
     row: &ByteRecord,
     settings: &Settings,
 ) -> Result<(), LineError> {
+    if jobs.len() >= MOST_JOBS {
+        return Err(LineError::Fault(ListFault::TooMany));
+    }
     let job = job_of(alloc, columns, row, settings)?;
     if let Some(before) = jobs.last()
         && job.moment < before.moment
@@ -88,6 +91,39 @@ fn add_job(
     }
     jobs.push(job)?;
     Ok(())
+}
+
+/// Reads the jobs behind the first line.
+fn read_jobs(
+    alloc: Global,
+    reader: &mut Reader<&[u8]>,
+    row: &mut ByteRecord,
+    columns: &[Column],
+    settings: &Settings,
+) -> Result<Vec<ListedJob>, ListError> {
+    let mut jobs = Vec::new(alloc);
+    for _ in 0..=MOST_JOBS {
+        if !read_row(reader, row)? {
+            break;
+        }
+        let line = line_of(row);
+        add_job(alloc, &mut jobs, columns, row, settings).map_err(|error| error.at(line))?;
+    }
+    Ok(jobs)
+}
+
+/// Reads the first line, and the jobs behind it.
+fn read_lines(
+    alloc: Global,
+    reader: &mut Reader<&[u8]>,
+    settings: &Settings,
+) -> Result<Vec<ListedJob>, ListError> {
+    let mut row = ByteRecord::new(alloc);
+    if !read_row(reader, &mut row)? {
+        return Ok(Vec::new(alloc));
+    }
+    let columns = columns_of(alloc, &row).map_err(|error| error.at(1))?;
+    read_jobs(alloc, reader, &mut row, &columns, settings)
 }
 
 /// The jobs of a text, in their order: its first line names the columns, and each further one is a job.
@@ -103,22 +139,5 @@ pub fn read_list(
     let mut reader = ReaderBuilder::new()
         .has_headers(false)
         .from_reader(alloc, text);
-    let mut row = ByteRecord::new(alloc);
-    let mut jobs = Vec::new(alloc);
-    if !read_row(&mut reader, &mut row)? {
-        return Ok(jobs);
-    }
-    let columns = columns_of(alloc, &row).map_err(|error| error.at(1))?;
-    for _ in 0..MOST_JOBS {
-        if !read_row(&mut reader, &mut row)? {
-            return Ok(jobs);
-        }
-        let line = line_of(&row);
-        add_job(alloc, &mut jobs, &columns, &row, settings).map_err(|error| error.at(line))?;
-    }
-    if read_row(&mut reader, &mut row)? {
-        let line = line_of(&row);
-        return Err(LineError::Fault(ListFault::TooMany).at(line));
-    }
-    Ok(jobs)
+    read_lines(alloc, &mut reader, settings)
 }

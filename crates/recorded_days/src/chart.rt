@@ -4,7 +4,7 @@ use crate::fault::DayFault;
 use crate::job::{RecordedJob, RecordedPrint};
 use crate::read::{RecordedDay, read_day};
 use base_types::{JobId, Stranded};
-use gantt_chart::{Arrival, Day, Ending, Form, Print, chart_of_day, draw_charts};
+use gantt_chart::{Arrival, Chart, Day, Ending, Form, Print, chart_of_day, draw_charts};
 use job_objects::JobState;
 use std::alloc::{AllocError, Global};
 use std::slice;
@@ -137,6 +137,32 @@ fn title_of(alloc: Global, day: &RecordedDay, prints: &[Print]) -> Result<String
     format!(in alloc; "a day of {devices}: {jobs} came, {printed} printed")
 }
 
+/// The chart of a day.
+fn chart_of(alloc: Global, day: &RecordedDay) -> Result<Chart, AllocError> {
+    let arrivals = arrivals_of(alloc, &day.jobs)?;
+    let prints = prints_of(alloc, day)?;
+    let title = title_of(alloc, day, &prints)?;
+    let stranded = stranded_of(alloc, day)?;
+    let notes = notes_of(alloc, day)?;
+    chart_of_day(
+        alloc,
+        Day {
+            title,
+            devices: &day.devices,
+            arrivals: &arrivals,
+            prints: &prints,
+            stranded,
+            notes,
+        },
+    )
+}
+
+/// A picture of a day.
+fn draw(alloc: Global, day: &RecordedDay, form: Form) -> Result<String, AllocError> {
+    let chart = chart_of(alloc, day)?;
+    draw_charts(alloc, slice::from_ref(&chart), form)
+}
+
 /// A picture of the day that a trace tells of, which is the text of a file of this name.
 ///
 /// # Errors
@@ -144,18 +170,5 @@ fn title_of(alloc: Global, day: &RecordedDay, prints: &[Print]) -> Result<String
 /// Those of [`read_day`].
 pub fn draw_day(alloc: Global, file: &str, text: &[u8], form: Form) -> Result<String, DayFault> {
     let day = read_day(alloc, file, text)?;
-    let arrivals = arrivals_of(alloc, &day.jobs)?;
-    let prints = prints_of(alloc, &day)?;
-    let chart = chart_of_day(
-        alloc,
-        Day {
-            title: title_of(alloc, &day, &prints)?,
-            devices: &day.devices,
-            arrivals: &arrivals,
-            prints: &prints,
-            stranded: stranded_of(alloc, &day)?,
-            notes: notes_of(alloc, &day)?,
-        },
-    )?;
-    Ok(draw_charts(alloc, slice::from_ref(&chart), form)?)
+    Ok(draw(alloc, &day, form)?)
 }

@@ -123,6 +123,20 @@ fn play_trace(
     Ok(day_of(&mut player, names))
 }
 
+/// What became of the jobs of a trace, as a server of its settings plays it.
+fn play_day(
+    alloc: Global,
+    file: &str,
+    trace: CutTrace<'_>,
+    settings: Settings,
+) -> Result<RecordedDay, DayFault>
+    requires { MeetsLimits settings }
+{
+    let names = names_of(alloc, &settings)?;
+    let mut engine = Engine::new(alloc, settings, AugmentingPaths::new(alloc))?;
+    play_trace(alloc, file, &mut engine, trace, names)
+}
+
 /// What became of the jobs of a trace, which is the text of a file of this name (`docs/TRACES.md`).
 ///
 /// # Errors
@@ -136,7 +150,5 @@ pub fn read_day(alloc: Global, file: &str, text: &[u8]) -> Result<RecordedDay, D
         )));
     };
     let settings = settings_of(alloc, file, trace.settings)?;
-    let names = names_of(alloc, &settings)?;
-    let mut engine = Engine::new(alloc, settings, AugmentingPaths::new(alloc))?;
-    play_trace(alloc, file, &mut engine, trace, names)
+    play_day(alloc, file, trace, settings)
 }

@@ -12,6 +12,7 @@
 //! Its rows are days of `play_examples`.
 #![tactic(auto)]
 
+mod bytes;
 mod cause;
 mod day;
 mod day_job;
@@ -25,6 +26,7 @@ mod queue;
 mod request;
 mod room;
 mod run;
+mod settings_text;
 mod summary;
 mod table;
 

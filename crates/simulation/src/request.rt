@@ -1,5 +1,6 @@
 //! A job of a list as the body of a Print-Job request (RFC 8010, section 3; RFC 8011, section 4.2.1).
 
+use crate::bytes::Bytes;
 use base_types::{Finishings, Sides, Text};
 use job_lists::ListedJob;
 use settings_file::Settings;
@@ -31,20 +32,18 @@ const JOB_ATTRIBUTES: u8 = 2;
 const END_OF_ATTRIBUTES: u8 = 3;
 
 /// Appends bytes behind their number.
-fn put_counted(body: &mut Vec<u8>, bytes: &[u8]) -> Result<(), AllocError> {
+fn put_counted(body: Bytes, bytes: &[u8]) -> Bytes {
     let count = u16::try_from(bytes.len()).unwrap_or(u16::MAX);
-    body.extend_from_slice(&count.to_be_bytes())?;
-    body.extend_from_slice(bytes)
+    body.put(&count.to_be_bytes()).put(bytes)
 }
 
 /// Appends a value under a name; without one it is one more of the attribute before.
-fn put_value(body: &mut Vec<u8>, tag: u8, name: &str, value: &[u8]) -> Result<(), AllocError> {
-    body.push(tag)?;
-    put_counted(body, name.as_bytes())?;
+fn put_value(body: Bytes, tag: u8, name: &str, value: &[u8]) -> Bytes {
+    let body = put_counted(body.put(&[tag]), name.as_bytes());
     put_counted(body, value)
 }
 
-fn put_number(body: &mut Vec<u8>, tag: u8, name: &str, value: u32) -> Result<(), AllocError> {
+fn put_number(body: Bytes, tag: u8, name: &str, value: u32) -> Bytes {
     put_value(body, tag, name, &value.to_be_bytes())
 }
 
@@ -57,73 +56,89 @@ fn sides_keyword(sides: Sides) -> &'static str {
     }
 }
 
-/// Appends the finishings, where there are any (RFC 8011, section 5.2.6).
-fn put_finishings(body: &mut Vec<u8>, finishings: Finishings) -> Result<(), AllocError> {
-    let wanted = [
-        (finishings.staple, 4),
-        (finishings.punch, 5),
-        (finishings.bind, 7),
-    ];
-    let mut name = "finishings";
-    for (is_wanted, number) in wanted {
-        if is_wanted {
-            put_number(body, ENUM, name, number)?;
-            name = "";
-        }
+/// Appends a finishing that is wanted.
+fn put_finishing(body: Bytes, is_wanted: bool, name: &str, number: u32) -> Bytes {
+    if is_wanted {
+        put_number(body, ENUM, name, number)
+    } else {
+        body
     }
-    Ok(())
+}
+
+/// The name of the attribute, unless a value of it is there.
+fn finishings_name(is_there: bool) -> &'static str {
+    if is_there { "" } else { "finishings" }
+}
+
+/// Appends the finishings, where there are any (RFC 8011, section 5.2.6).
+fn put_finishings(body: Bytes, finishings: Finishings) -> Bytes {
+    let stapled = finishings.staple;
+    let body = put_finishing(body, stapled, finishings_name(false), 4);
+    let body = put_finishing(body, finishings.punch, finishings_name(stapled), 5);
+    let is_there = stapled || finishings.punch;
+    put_finishing(body, finishings.bind, finishings_name(is_there), 7)
+}
+
+/// Appends the format of the document, where it has one.
+fn put_format(body: Bytes, format: Option<&Text>) -> Bytes {
+    match format {
+        Some(format) => put_value(body, MIME_MEDIA_TYPE, "document-format", format.as_bytes()),
+        None => body,
+    }
 }
 
 /// Appends the attributes of the operation.
-fn put_operation(
-    body: &mut Vec<u8>,
-    uri: &[u8],
-    format: Option<&Text>,
-    impressions: u32,
-) -> Result<(), AllocError> {
-    put_value(body, CHARSET, "attributes-charset", b"utf-8")?;
-    put_value(body, NATURAL_LANGUAGE, "attributes-natural-language", b"en")?;
-    put_value(body, URI, "printer-uri", uri)?;
-    put_value(body, BOOLEAN, "ipp-attribute-fidelity", &[1])?;
-    if let Some(format) = format {
-        put_value(body, MIME_MEDIA_TYPE, "document-format", format.as_bytes())?;
-    }
-    put_number(body, INTEGER, "job-impressions", impressions)
+fn put_operation(body: Bytes, uri: &[u8], format: Option<&Text>, impressions: u32) -> Bytes {
+    let body = put_value(body, CHARSET, "attributes-charset", b"utf-8");
+    let body = put_value(body, NATURAL_LANGUAGE, "attributes-natural-language", b"en");
+    let body = put_value(body, URI, "printer-uri", uri);
+    let body = put_value(body, BOOLEAN, "ipp-attribute-fidelity", &[1]);
+    put_number(
+        put_format(body, format),
+        INTEGER,
+        "job-impressions",
+        impressions,
+    )
 }
 
 /// Appends the attributes of the job.
-fn put_job(body: &mut Vec<u8>, job: &ListedJob) -> Result<(), AllocError> {
+fn put_job(body: Bytes, job: &ListedJob) -> Bytes {
     let needs = &job.needs;
-    put_number(body, INTEGER, "copies", needs.copies)?;
-    put_value(body, KEYWORD, "media", needs.media.as_bytes())?;
-    put_value(
+    let body = put_number(body, INTEGER, "copies", needs.copies);
+    let body = put_value(body, KEYWORD, "media", needs.media.as_bytes());
+    let body = put_value(
         body,
         KEYWORD,
         "sides",
         sides_keyword(needs.sides).as_bytes(),
-    )?;
-    put_number(body, INTEGER, "job-priority", u32::from(job.priority))?;
+    );
+    let body = put_number(body, INTEGER, "job-priority", u32::from(job.priority));
     put_finishings(body, needs.finishings)
 }
 
 /// The URI of the printer at a place of the settings; an empty one where there is none.
 fn printer_uri(alloc: Global, settings: &Settings, place: usize) -> Result<Vec<u8>, AllocError> {
-    let mut uri = Vec::new(alloc);
-    if let Some(printer) = settings.printers.get(place) {
-        uri.extend_from_slice(settings.uri_base.as_bytes())?;
-        uri.extend_from_slice(b"/printers/")?;
-        uri.extend_from_slice(printer.name.as_bytes())?;
+    let uri = Bytes::new(alloc);
+    match settings.printers.get(place) {
+        Some(printer) => uri
+            .put(settings.uri_base.as_bytes())
+            .put(b"/printers/")
+            .put(printer.name.as_bytes())
+            .finish(),
+        None => uri.finish(),
     }
-    Ok(uri)
 }
 
-/// Appends all behind the begin of a body.
-fn put_request(body: &mut Vec<u8>, uri: &[u8], job: &ListedJob) -> Result<(), AllocError> {
-    put_operation(body, uri, job.needs.formats.first(), job.needs.impressions)?;
-    body.push(JOB_ATTRIBUTES)?;
-    put_job(body, job)?;
-    body.push(END_OF_ATTRIBUTES)?;
-    Ok(())
+/// Appends a whole body.
+fn put_request(body: Bytes, uri: &[u8], job: &ListedJob) -> Bytes {
+    let needs = &job.needs;
+    let body = put_operation(
+        body.put(&BEGIN),
+        uri,
+        needs.formats.first(),
+        needs.impressions,
+    );
+    put_job(body.put(&[JOB_ATTRIBUTES]), job).put(&[END_OF_ATTRIBUTES])
 }
 
 /// The body of a Print-Job for a job of a list, without octets of its document.
@@ -133,7 +148,5 @@ pub(crate) fn print_job(
     job: &ListedJob,
 ) -> Result<Vec<u8>, AllocError> {
     let uri = printer_uri(alloc, settings, job.needs.printer.place())?;
-    let mut body = Vec::from_slice(alloc, &BEGIN)?;
-    put_request(&mut body, &uri, job)?;
-    Ok(body)
+    put_request(Bytes::new(alloc), &uri, job).finish()
 }

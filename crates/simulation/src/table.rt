@@ -4,7 +4,7 @@ use crate::day::Day;
 use crate::outcome::Outcome;
 use crate::summary::{Waits, last_end, printed_on, waits_of};
 use base_types::{Stranded, Text};
-use gantt_chart::ShortTime;
+use gantt_chart::{Page, ShortTime};
 use std::alloc::{AllocError, Global};
 
 /// The columns of a name at the beginning of a row, so that no row is longer than 80.
@@ -25,60 +25,50 @@ const PAIR: usize = 16;
 /// How many jobs that no device can print are told by their numbers.
 const STRANDED: usize = 10;
 
-fn put_spaces(output: &mut String, count: usize) -> Result<(), AllocError> {
+/// Appends so many spaces.
+fn put_spaces(page: Page, count: usize) -> Page {
+    let mut page = page;
     for _ in 0..count {
-        output.push(' ')?;
+        page = page.put_letter(' ');
     }
-    Ok(())
+    page
 }
 
 /// Appends a text that ends behind so many columns.
-fn put_right(output: &mut String, text: &str, columns: usize) -> Result<(), AllocError> {
-    put_spaces(output, columns.saturating_sub(text.len()))?;
-    output.push_str(text)?;
-    Ok(())
+fn put_right(page: Page, text: &str, columns: usize) -> Page {
+    put_spaces(page, columns.saturating_sub(text.len())).put(text)
 }
 
 /// Appends a text, filled up to so many columns.
-fn put_left(output: &mut String, text: &str, columns: usize) -> Result<(), AllocError> {
-    output.push_str(text)?;
-    put_spaces(output, columns.saturating_sub(text.len()))
+fn put_left(page: Page, text: &str, columns: usize) -> Page {
+    put_spaces(page.put(text), columns.saturating_sub(text.len()))
+}
+
+/// Appends a text that ends behind so many columns, or learns that there was no memory for it.
+fn put_made(page: Page, text: Result<String, AllocError>, columns: usize) -> Page {
+    match text {
+        Ok(text) => put_right(page, &text, columns),
+        Err(_) => page.refused(),
+    }
 }
 
 /// Appends the head of the rows of waits.
-fn put_waits_head(output: &mut String) -> Result<(), AllocError> {
-    put_left(output, "time to paper", NAME)?;
-    put_right(output, "jobs", JOBS)?;
-    put_right(output, "mean", TIME)?;
-    put_right(output, "of planned", PERCENT)?;
-    put_right(output, "median", TIME)?;
-    put_right(output, "95 of 100", LATE)?;
-    put_right(output, "worst", TIME)?;
-    output.push('\n')?;
-    Ok(())
+fn put_waits_head(page: Page) -> Page {
+    let page = put_right(put_left(page, "time to paper", NAME), "jobs", JOBS);
+    let page = put_right(put_right(page, "mean", TIME), "of planned", PERCENT);
+    let page = put_right(put_right(page, "median", TIME), "95 of 100", LATE);
+    put_right(page, "worst", TIME).put_letter('\n')
 }
 
 /// Appends a time that ends behind so many columns.
-fn put_time(
-    alloc: Global,
-    output: &mut String,
-    millis: u64,
-    columns: usize,
-) -> Result<(), AllocError> {
+fn put_time(alloc: Global, page: Page, millis: u64, columns: usize) -> Page {
     let time = ShortTime(millis);
-    let text = format!(in alloc; "{time}")?;
-    put_right(output, &text, columns)
+    put_made(page, format!(in alloc; "{time}"), columns)
 }
 
 /// Appends a number of things that ends behind so many columns.
-fn put_count(
-    alloc: Global,
-    output: &mut String,
-    count: usize,
-    columns: usize,
-) -> Result<(), AllocError> {
-    let text = format!(in alloc; "{count}")?;
-    put_right(output, &text, columns)
+fn put_count(alloc: Global, page: Page, count: usize, columns: usize) -> Page {
+    put_made(page, format!(in alloc; "{count}"), columns)
 }
 
 /// A part of a whole in per cent, cut off.
@@ -90,117 +80,100 @@ fn percent_of(part: u64, whole: u64) -> u128 {
 }
 
 /// Appends a part of a whole in per cent, which ends behind so many columns.
-fn put_percent(
-    alloc: Global,
-    output: &mut String,
-    part: u64,
-    whole: u64,
-    columns: usize,
-) -> Result<(), AllocError> {
+fn put_percent(alloc: Global, page: Page, part: u64, whole: u64, columns: usize) -> Page {
     let percent = percent_of(part, whole);
-    let text = format!(in alloc; "{percent} %")?;
-    put_right(output, &text, columns)
+    put_made(page, format!(in alloc; "{percent} %"), columns)
 }
 
 /// Appends the row of a day; its mean is compared with another.
-fn put_waits(
-    alloc: Global,
-    output: &mut String,
-    name: &str,
-    waits: Waits,
-    planned: u64,
-) -> Result<(), AllocError> {
-    put_left(output, name, NAME)?;
-    put_count(alloc, output, waits.jobs, JOBS)?;
-    put_time(alloc, output, waits.mean, TIME)?;
-    put_percent(alloc, output, waits.mean, planned, PERCENT)?;
-    put_time(alloc, output, waits.median, TIME)?;
-    put_time(alloc, output, waits.late, LATE)?;
-    put_time(alloc, output, waits.worst, TIME)?;
-    output.push('\n')?;
-    Ok(())
+fn put_waits(alloc: Global, page: Page, name: &str, waits: Waits, planned: u64) -> Page {
+    let page = put_count(alloc, put_left(page, name, NAME), waits.jobs, JOBS);
+    let page = put_time(alloc, page, waits.mean, TIME);
+    let page = put_percent(alloc, page, waits.mean, planned, PERCENT);
+    let page = put_time(alloc, page, waits.median, TIME);
+    let page = put_time(alloc, page, waits.late, LATE);
+    put_time(alloc, page, waits.worst, TIME).put_letter('\n')
 }
 
 /// Appends the rows of all days; the first is what they are compared with.
 fn put_all_waits(
     alloc: Global,
-    output: &mut String,
+    page: Page,
     day: &Day,
     outcomes: &[Outcome],
-) -> Result<(), AllocError> {
-    put_waits_head(output)?;
+) -> Result<Page, AllocError> {
+    let mut page = put_waits_head(page);
     let mut planned = None;
     for outcome in outcomes {
         let waits = waits_of(alloc, day, &outcome.prints)?;
         let first = planned.unwrap_or(waits.mean);
         planned = Some(first);
-        put_waits(alloc, output, outcome.name, waits, first)?;
+        page = put_waits(alloc, page, outcome.name, waits, first);
     }
-    Ok(())
+    Ok(page)
 }
 
 /// Appends how long a device printed and how long it stood idle until the last job of the day ended.
-fn put_use(
-    alloc: Global,
-    output: &mut String,
-    outcome: &Outcome,
-    device: usize,
-) -> Result<(), AllocError> {
+fn put_use(alloc: Global, page: Page, outcome: &Outcome, device: usize) -> Page {
     let printed = printed_on(&outcome.prints, device);
     let idle = last_end(&outcome.prints).saturating_sub(printed);
     let (printed, idle) = (ShortTime(printed), ShortTime(idle));
-    let text = format!(in alloc; "{printed}, {idle}")?;
-    put_right(output, &text, PAIR)
+    put_made(page, format!(in alloc; "{printed}, {idle}"), PAIR)
+}
+
+/// Appends the name of a device, filled up to the columns of a name.
+fn put_name(page: Page, name: &[u8]) -> Page {
+    let mut page = page;
+    for byte in name {
+        page = page.put_letter(char::from(*byte));
+    }
+    put_spaces(page, NAME.saturating_sub(name.len()))
 }
 
 /// Appends the row of a device.
-fn put_device(
-    alloc: Global,
-    output: &mut String,
-    name: &Text,
-    outcomes: &[Outcome],
-    device: usize,
-) -> Result<(), AllocError> {
-    for byte in name.as_bytes() {
-        output.push(char::from(*byte))?;
-    }
-    put_spaces(output, NAME.saturating_sub(name.as_bytes().len()))?;
+fn put_device(alloc: Global, page: Page, name: &Text, outcomes: &[Outcome], device: usize) -> Page {
+    let mut page = put_name(page, name.as_bytes());
     for outcome in outcomes {
-        put_use(alloc, output, outcome, device)?;
+        page = put_use(alloc, page, outcome, device);
     }
-    output.push('\n')?;
-    Ok(())
+    page.put_letter('\n')
+}
+
+/// Appends the head of the rows of devices.
+fn put_devices_head(page: Page, outcomes: &[Outcome]) -> Page {
+    let mut page = put_left(page, "printed, idle", NAME);
+    for outcome in outcomes {
+        page = put_right(page, outcome.name, PAIR);
+    }
+    page.put_letter('\n')
 }
 
 /// Appends the rows of all devices.
-fn put_devices(
-    alloc: Global,
-    output: &mut String,
-    names: &[Text],
-    outcomes: &[Outcome],
-) -> Result<(), AllocError> {
-    put_left(output, "printed, idle", NAME)?;
-    for outcome in outcomes {
-        put_right(output, outcome.name, PAIR)?;
-    }
-    output.push('\n')?;
+fn put_devices(alloc: Global, page: Page, names: &[Text], outcomes: &[Outcome]) -> Page {
+    let mut page = put_devices_head(page, outcomes);
     for (device, name) in names.iter().enumerate() {
-        put_device(alloc, output, name, outcomes, device)?;
+        page = put_device(alloc, page, name, outcomes, device);
     }
-    Ok(())
+    page
+}
+
+/// Appends the number of a job that no device can print, with its cause.
+fn put_stranded_job(alloc: Global, page: Page, place: usize, stranded: Stranded) -> Page {
+    let mark = if place == 0 { ':' } else { ',' };
+    let (number, cause) = (stranded.job.number(), stranded.cause);
+    put_made(page, format!(in alloc; "{mark} {number} {cause:?}"), 0)
 }
 
 /// Appends how many jobs no device can print, and the numbers of the first of them, each with its cause.
-fn put_stranded(output: &mut String, stranded: &[Stranded]) -> Result<(), AllocError> {
-    let count = stranded.len();
-    write!(output, "\nno device can print {count} of the jobs")?;
+fn put_stranded(alloc: Global, page: Page, stranded: &[Stranded]) -> Page {
+    let mut page = page
+        .put("\nno device can print ")
+        .put_shown(stranded.len())
+        .put(" of the jobs");
     for (place, one) in stranded.iter().take(STRANDED).enumerate() {
-        let mark = if place == 0 { ':' } else { ',' };
-        let (number, cause) = (one.job.number(), one.cause);
-        write!(output, "{mark} {number} {cause:?}")?;
+        page = put_stranded_job(alloc, page, place, *one);
     }
-    output.push('\n')?;
-    Ok(())
+    page.put_letter('\n')
 }
 
 /// The numbers of a day, as it was played in several ways: whole lines.
@@ -210,10 +183,7 @@ pub(crate) fn table_of(
     day: &Day,
     outcomes: &[Outcome],
 ) -> Result<String, AllocError> {
-    let mut table = String::new(alloc);
-    put_all_waits(alloc, &mut table, day, outcomes)?;
-    table.push('\n')?;
-    put_devices(alloc, &mut table, names, outcomes)?;
-    put_stranded(&mut table, &day.stranded)?;
-    Ok(table)
+    let page = put_all_waits(alloc, Page::new(alloc), day, outcomes)?;
+    let page = put_devices(alloc, page.put_letter('\n'), names, outcomes);
+    put_stranded(alloc, page, &day.stranded).finish()
 }

@@ -1,0 +1,203 @@
+//! The text of settings (`docs/SETTINGS.md`), with one more device.
+
+use crate::bytes::Bytes;
+use base_types::{Finishings, Text};
+use settings_file::{DeviceSettings, PrinterSettings, Settings};
+use std::alloc::{AllocError, Global};
+use std::slice;
+
+/// Appends the letters of a text as TOML writes them.
+fn append_letters(output: &mut Bytes, text: &[u8]) {
+    for byte in text {
+        if *byte == b'"' || *byte == b'\\' {
+            output.append(b"\\");
+        }
+        output.append(slice::from_ref(byte));
+    }
+}
+
+/// Appends a text as TOML writes it.
+fn put_text(output: Bytes, text: &[u8]) -> Bytes {
+    let mut all = output.put(b"\"");
+    append_letters(&mut all, text);
+    all.put(b"\"")
+}
+
+/// Appends a key with its text.
+fn put_named(output: Bytes, key: &str, text: &[u8]) -> Bytes {
+    let output = output.put(key.as_bytes()).put(b" = ");
+    put_text(output, text).put(b"\n")
+}
+
+/// Appends a key with its number.
+fn put_number(output: Bytes, key: &str, number: u32) -> Bytes {
+    output
+        .put(key.as_bytes())
+        .put(b" = ")
+        .put_decimal(number)
+        .put(b"\n")
+}
+
+/// Appends a text of a list.
+fn put_listed(output: Bytes, text: &[u8]) -> Bytes {
+    put_text(output, text).put(b",")
+}
+
+/// Appends a key with a list of texts.
+fn put_texts(output: Bytes, key: &str, texts: &[Text]) -> Bytes {
+    let mut output = output.put(key.as_bytes()).put(b" = [");
+    for text in texts {
+        output = put_listed(output, text.as_bytes());
+    }
+    output.put(b"]\n")
+}
+
+/// Appends a word of a list where it is there.
+fn put_where(output: Bytes, is_there: bool, word: &[u8]) -> Bytes {
+    if is_there {
+        put_listed(output, word)
+    } else {
+        output
+    }
+}
+
+/// Appends the finishings that a device has.
+fn put_finishings(output: Bytes, finishings: Finishings) -> Bytes {
+    let output = put_where(output.put(b"finishings = ["), finishings.staple, b"staple");
+    let output = put_where(output, finishings.punch, b"punch");
+    put_where(output, finishings.bind, b"bind").put(b"]\n")
+}
+
+/// Appends the rate for two sides, where there is one.
+fn put_rate_two(output: Bytes, rate: Option<u32>) -> Bytes {
+    match rate {
+        Some(rate) => put_number(output, "rate_two", rate),
+        None => output,
+    }
+}
+
+/// Appends the table of a device under a name.
+fn put_device(output: Bytes, name: &[u8], device: &DeviceSettings) -> Bytes {
+    let output = put_named(output.put(b"[[device]]\n"), "name", name);
+    let output = put_number(output, "rate_one", device.rate_one);
+    let output = put_rate_two(output, device.rate_two);
+    let output = put_number(output, "setup", device.setup);
+    let output = put_texts(output, "media", &device.media);
+    let output = put_texts(output, "formats", &device.formats);
+    put_finishings(output, device.finishings)
+}
+
+/// Appends the tables of the devices.
+fn put_devices(output: Bytes, devices: &[DeviceSettings]) -> Bytes {
+    let mut output = output;
+    for device in devices {
+        output = put_device(output, device.name.as_bytes(), device);
+    }
+    output
+}
+
+/// A device that there is one more of: the one that it is like, and that one's place.
+#[derive(Clone, Copy)]
+struct Like<'a> {
+    place: usize,
+    device: &'a DeviceSettings,
+    /// Its own name.
+    name: &'a [u8],
+}
+
+/// Appends the name of a printer's device, and behind that to which one more is alike the name of this.
+fn put_member(output: Bytes, settings: &Settings, place: usize, like: Like<'_>) -> Bytes {
+    let output = match settings.devices.get(place) {
+        Some(device) => put_listed(output, device.name.as_bytes()),
+        None => output,
+    };
+    if place == like.place {
+        put_listed(output, like.name)
+    } else {
+        output
+    }
+}
+
+/// Appends the names of a printer's devices, and that of the one more where it has the device that this is
+/// like.
+fn put_members(
+    output: Bytes,
+    settings: &Settings,
+    printer: &PrinterSettings,
+    like: Like<'_>,
+) -> Bytes {
+    let mut output = output.put(b"devices = [");
+    for member in printer.devices.devices() {
+        output = put_member(output, settings, member.place(), like);
+    }
+    output.put(b"]\n")
+}
+
+/// Appends the table of a printer.
+fn put_printer(
+    output: Bytes,
+    settings: &Settings,
+    printer: &PrinterSettings,
+    like: Like<'_>,
+) -> Bytes {
+    let output = put_named(
+        output.put(b"[[printer]]\n"),
+        "name",
+        printer.name.as_bytes(),
+    );
+    let output = put_members(output, settings, printer, like);
+    let output = put_named(output, "media_default", printer.media_default.as_bytes());
+    put_named(output, "format_default", printer.format_default.as_bytes())
+}
+
+/// Appends the tables of the printers.
+fn put_printers(output: Bytes, settings: &Settings, like: Like<'_>) -> Bytes {
+    let mut output = output;
+    for printer in &settings.printers {
+        output = put_printer(output, settings, printer, like);
+    }
+    output
+}
+
+/// Appends what stands in front of the tables.
+fn put_head(output: Bytes, settings: &Settings) -> Bytes {
+    let output = put_named(
+        output.put(b"version = 2\n"),
+        "uri_base",
+        settings.uri_base.as_bytes(),
+    );
+    put_texts(output, "operators", &settings.operators)
+}
+
+/// Appends all of the settings, with the device more.
+fn put_settings(output: Bytes, settings: &Settings, like: Like<'_>) -> Bytes {
+    let output = put_devices(put_head(output, settings), &settings.devices);
+    let output = put_device(output, like.name, like.device);
+    put_printers(output, settings, like)
+}
+
+/// The text of settings with one more device, like the one at a place; without it where there is none.
+pub(crate) fn text_with(
+    alloc: Global,
+    settings: &Settings,
+    place: usize,
+    name: &str,
+) -> Result<Vec<u8>, AllocError> {
+    let output = Bytes::new(alloc);
+    match settings.devices.get(place) {
+        Some(device) => {
+            let name = name.as_bytes();
+            put_settings(
+                output,
+                settings,
+                Like {
+                    place,
+                    device,
+                    name,
+                },
+            )
+            .finish()
+        }
+        None => output.finish(),
+    }
+}
