@@ -55,6 +55,15 @@ abbrev pub body_by : Framing → Bool → Awaited
 body_by (Length count) closes = Body count (Close (is_last closes count))
 body_by Chunked closes = Size HTTP_BODY_BYTES closes
 
+-- the bytes that are left of a body, or of a chunk, before anything else is read
+abbrev pub body_left : Awaited → ℕ
+body_left (Body count following) = count
+body_left Head = 0
+body_left (Invitation framing closes) = 0
+body_left (Size room closes) = 0
+body_left (Trailer last) = 0
+body_left Nothing = 0
+
 abbrev pub after_head : Request → Awaited
 after_head request = if request.invites then Invitation request.framing request.closes else body_by request.framing request.closes
 

@@ -1,6 +1,6 @@
 //! The reader of a client's stream.
 ghost use Rattle.std.specs.Prelude.{◌≡◌, ◌≤◌, ◌<◌, ◌+◌, ◌++◌, [], List, ℕ, OnOk, OnErr, IsOk, IsSome, None, true, take, drop, length as length_of};
-ghost use Rattle.http_front.specs.Stream.{Said, Stands, Answers, Steps, IsOver, work, after_body, body_by, after_head, begins_head};
+ghost use Rattle.http_front.specs.Stream.{Said, Stands, Answers, Steps, IsOver, work, after_body, body_by, body_left, after_head, begins_head};
 ghost use Rattle.text.specs.FirstLine.{first_line_of};
 ghost use Rattle.text.specs.declared.line.FirstLine.TheVariants.{Whole};
 ghost use Rattle.http_front.specs.Section.{section_in};
@@ -100,6 +100,21 @@ impl HttpReader {
         ensures { result.now ≡ self.now.part }
     {
         &self.unread.bytes()[..self.lent]
+    }
+
+    /// How many bytes of a body come next at least, before anything else is read: what is left of a body that
+    /// has a length, or of a chunk; 0 where no body comes.
+    pub fn body_left(&self) -> u32
+        ensures { result ≡ body_left self.now.awaited }
+    {
+        match self.awaited {
+            Awaited::Body(count, _) => count,
+            Awaited::Head
+            | Awaited::Invitation(_, _)
+            | Awaited::Size(_, _)
+            | Awaited::Trailer(_)
+            | Awaited::Nothing => 0,
+        }
     }
 
     /// One step: at most one item.

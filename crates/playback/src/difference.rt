@@ -10,6 +10,7 @@ fn connection_of(entry: &Entry) -> Option<WireId> {
     match entry {
         Entry::Accepted(accepted) => Some(accepted.id),
         Entry::Came(came) | Entry::Octets(came) => Some(came.id),
+        Entry::Zeros(came) => Some(came.id),
         Entry::Sent(sent) => Some(sent.id),
         Entry::Ended(id)
         | Entry::Failed(id)

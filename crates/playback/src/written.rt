@@ -53,6 +53,7 @@ impl Writer {
         match entry {
             Entry::Accepted(accepted) => self.open(accepted.id, accepted.door),
             Entry::Came(came) | Entry::Octets(came) => self.put_input(came.id, &came.bytes),
+            Entry::Zeros(came) => self.put_input(came.id, &came.octets(self.alloc)?),
             Entry::Ended(id) | Entry::Failed(id) | Entry::Shut(id) | Entry::Broken(id) => {
                 self.end(*id)
             }

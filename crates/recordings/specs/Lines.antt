@@ -4,7 +4,7 @@ use Rattle.std.specs.Fmt.{decimal}
 use Rattle.wires.specs.declared.wire.Door.{Door}
 use Rattle.wires.specs.declared.wire.Door.TheVariants.{Ipp, Lpd, Devices}
 use Rattle.recordings.specs.declared.entry.Entry.{Entry}
-use Rattle.recordings.specs.declared.entry.Entry.TheVariants.{Accepted, Came, Octets, Ended, Failed, Sent, Shut, Broken, Closed, Refused, Turn}
+use Rattle.recordings.specs.declared.entry.Entry.TheVariants.{Accepted, Came, Octets, Zeros, Ended, Failed, Sent, Shut, Broken, Closed, Refused, Turn}
 use Rattle.recordings.specs.Data.{escaped}
 
 abbrev pub door_word : Door → List ℕ
@@ -36,6 +36,10 @@ octets_head id count = about (codes "octets") id ++ (codes " " ++ decimal count)
 abbrev pub octets_line : ℕ → List ℕ → List ℕ
 octets_line id bytes = octets_head id (length bytes) ++ (codes "\n" ++ (bytes ++ codes "\n"))
 
+-- bytes were read, and behind them so many octets that are left out
+abbrev pub zeros_line : ℕ → ℕ → List ℕ → List ℕ
+zeros_line id zeros bytes = about (codes "zeros") id ++ (codes " " ++ (decimal zeros ++ (codes " " ++ (escaped bytes ++ codes "\n"))))
+
 -- few bytes stand in their line, many behind it
 abbrev pub came_line : ℕ → List ℕ → List ℕ
 came_line id bytes = if nat_lt (length bytes) 1024 then read_line id bytes else octets_line id bytes
@@ -58,6 +62,7 @@ abbrev pub entry_line : Entry → List ℕ
 entry_line (Accepted accepted) = accept_line accepted.door accepted.id
 entry_line (Came came) = read_line came.id came.bytes.items
 entry_line (Octets came) = octets_line came.id came.bytes.items
+entry_line (Zeros came) = zeros_line came.id came.zeros came.bytes.items
 entry_line (Ended id) = line_about (codes "end") id
 entry_line (Failed id) = line_about (codes "fail") id
 entry_line (Sent sent) = sent_line sent.id sent.count sent.sum

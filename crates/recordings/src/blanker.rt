@@ -1,6 +1,7 @@
 //! The connections of clients.
-ghost use Rattle.std.specs.Prelude.{◌≡◌, ◌<◌, ◌≤◌, length};
+ghost use Rattle.std.specs.Prelude.{◌≡◌, ◌<◌, ◌≤◌, ◌+◌, OnOk, length};
 
+use crate::blanked::Blanked;
 use crate::http_stream::HttpStream;
 use crate::lpd_stream::LpdStream;
 use memchr::memchr;
@@ -25,7 +26,7 @@ struct Heard {
 
 /// The connections that are open, with what was read on each.
 #[derive(Drop)]
-pub struct Blanker {
+pub(crate) struct Blanker {
     alloc: Global,
     heard: Vec<Heard>,
 }
@@ -43,26 +44,40 @@ fn line_end(bytes: &[u8]) -> usize
 }
 
 impl Stream {
-    /// Reads bytes up to a line feed, and replaces those of documents by zeros.
-    fn blank(&mut self, bytes: &mut [u8]) -> Result<(), AllocError>
-        ensures { length bytes.new ≡ length bytes.old }
+    /// How many bytes at the front are read at once: of a body or a data file, or a line.
+    fn piece(&self, bytes: &[u8]) -> usize
+        requires { 0 < length bytes.now }
+        ensures low { 0 < result }
+        ensures high { result ≤ length bytes.now }
+    {
+        let body = match self {
+            Stream::Http(http) => http.body_front(bytes),
+            Stream::Lpd(lpd) => lpd.body_front(bytes),
+            Stream::Device => bytes.len(),
+        };
+        if body > 0 { body } else { line_end(bytes) }
+    }
+
+    /// Reads a piece, and leaves out what is of documents.
+    fn blank(&mut self, bytes: &[u8], output: &mut Blanked) -> Result<(), AllocError>
+        ensures { OnOk result (output.new ≡ output.old + length bytes.now) }
     {
         match self {
-            Stream::Http(http) => http.blank(bytes),
-            Stream::Lpd(lpd) => lpd.blank(bytes),
-            Stream::Device => Ok(()),
+            Stream::Http(http) => http.blank(bytes, output),
+            Stream::Lpd(lpd) => lpd.blank(bytes, output),
+            Stream::Device => output.keep(bytes),
         }
     }
 
-    /// Reads bytes, line by line.
-    fn blank_all(&mut self, bytes: &mut [u8]) -> Result<(), AllocError>
-        ensures { length bytes.new ≡ length bytes.old }
+    /// Reads bytes, piece by piece.
+    fn blank_all(&mut self, bytes: &[u8], output: &mut Blanked) -> Result<(), AllocError>
+        ensures { OnOk result (output.new ≡ output.old + length bytes.now) }
     {
-        let mut start = 0usize;
-        while start < bytes.len() {
-            let end = start + line_end(&bytes[start..]);
-            self.blank(&mut bytes[start..end])?;
-            start = end;
+        let mut rest = bytes;
+        while !rest.is_empty() {
+            let (piece, later) = rest.split_at(self.piece(rest));
+            self.blank(piece, output)?;
+            rest = later;
         }
         Ok(())
     }
@@ -70,7 +85,7 @@ impl Stream {
 
 impl Blanker {
     /// No connection is open.
-    pub fn new(alloc: Global) -> Blanker {
+    pub(crate) fn new(alloc: Global) -> Blanker {
         Blanker {
             alloc,
             heard: Vec::new(alloc),
@@ -78,7 +93,7 @@ impl Blanker {
     }
 
     /// A connection comes in at a door.
-    pub fn open(&mut self, id: WireId, door: Door) -> Result<(), AllocError> {
+    pub(crate) fn open(&mut self, id: WireId, door: Door) -> Result<(), AllocError> {
         let stream = match door {
             Door::Ipp => Stream::Http(HttpStream::new(self.alloc)),
             Door::Lpd => Stream::Lpd(LpdStream::new(self.alloc)),
@@ -89,7 +104,7 @@ impl Blanker {
     }
 
     /// A connection is given up.
-    pub fn close(&mut self, id: WireId) {
+    pub(crate) fn close(&mut self, id: WireId) {
         self.heard.retain(|heard| heard.id != id);
     }
 
@@ -99,7 +114,7 @@ impl Blanker {
     }
 
     /// Whether a connection is a device's.
-    pub fn is_device(&self, id: WireId) -> bool {
+    pub(crate) fn is_device(&self, id: WireId) -> bool {
         match self.place_of(id) {
             Some(place) if place < self.heard.len() => {
                 matches!(&self.heard[place].stream, Stream::Device)
@@ -108,16 +123,20 @@ impl Blanker {
         }
     }
 
-    /// These bytes were read on a connection: those of documents become zeros.
-    pub fn blank(&mut self, id: WireId, bytes: &mut [u8]) -> Result<(), AllocError>
-        ensures { length bytes.new ≡ length bytes.old }
+    /// These bytes were read on a connection: those of documents are left out.
+    pub(crate) fn blank(
+        &mut self,
+        id: WireId,
+        bytes: &[u8],
+        output: &mut Blanked,
+    ) -> Result<(), AllocError>
+        ensures { OnOk result (output.new ≡ output.old + length bytes.now) }
     {
         match self.place_of(id) {
-            Some(place) if place < self.heard.len() => { self.heard[place].stream.blank_all(bytes) }
-            _ => {
-                bytes.fill(0);
-                Ok(())
+            Some(place) if place < self.heard.len() => {
+                self.heard[place].stream.blank_all(bytes, output)
             }
+            _ => output.leave_out(bytes.len()),
         }
     }
 }

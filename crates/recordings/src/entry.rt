@@ -18,6 +18,8 @@ pub enum Entry {
     Came(Came),
     /// Bytes were read, and stand behind the line as they are.
     Octets(Came),
+    /// Bytes were read, and behind them octets that are left out.
+    Zeros(CameZeros),
     /// Nothing more came on the connection of a number.
     Ended(WireId),
     /// A read of it failed.
@@ -50,6 +52,23 @@ pub struct Came {
     pub bytes: Vec<u8>,
 }
 
+/// Bytes that came on a connection, and so many zeros behind them, in the place of octets that are left out.
+#[derive(Drop)]
+pub struct CameZeros {
+    pub id: WireId,
+    pub bytes: Vec<u8>,
+    pub zeros: usize,
+}
+
+impl CameZeros {
+    /// The bytes, and the zeros behind them.
+    pub fn octets(&self, alloc: Global) -> Result<Vec<u8>, AllocError> {
+        let mut octets = Vec::from_slice(alloc, &self.bytes)?;
+        octets.resize(self.bytes.len().saturating_add(self.zeros), 0)?;
+        Ok(octets)
+    }
+}
+
 /// So many bytes that were taken on a connection, by their sum, if it was noted.
 #[derive(Clone, Copy, PartialEq, Eq)]
 pub struct Sent {
@@ -60,6 +79,17 @@ pub struct Sent {
 
 /// The greatest number of a connection, and of bytes.
 const LAST_NUMBER: u64 = 4_294_967_295;
+
+/// The most zeros of a line, which are more than the server reads at once.
+const MOST_ZEROS: u64 = 1_048_576;
+
+/// How many zeros there are, one at least, in decimal digits.
+fn read_count(digits: &[u8]) -> Option<usize> {
+    match number_up_to(digits, MOST_ZEROS) {
+        Some(count) if count > 0 => usize::try_from(count).ok(),
+        _ => None,
+    }
+}
 
 /// The number of a connection in decimal digits.
 fn read_id(digits: &[u8]) -> Option<WireId> {
@@ -121,6 +151,21 @@ fn read_octets(alloc: Global, said: &[u8]) -> Result<Option<Entry>, AllocError> 
         return Ok(None);
     }
     Ok(Some(Entry::Octets(Came { id, bytes })))
+}
+
+/// A number, how many zeros, one at least, and the bytes in front of them.
+fn read_zeros(alloc: Global, said: &[u8]) -> Result<Option<Entry>, AllocError> {
+    let Some((digits, more)) = cut_at(said, b' ') else {
+        return Ok(None);
+    };
+    let Some((count, written)) = cut_at(more, b' ') else {
+        return Ok(None);
+    };
+    let (Some(id), Some(zeros)) = (read_id(digits), read_count(count)) else {
+        return Ok(None);
+    };
+    let bytes = read_data(alloc, written)?;
+    Ok(bytes.map(|bytes| Entry::Zeros(CameZeros { id, bytes, zeros })))
 }
 
 /// How many octets follow this line as they are, and a line feed, before what it says is whole; nothing where
@@ -200,6 +245,9 @@ fn read_any(alloc: Global, line: &[u8]) -> Result<Option<Entry>, AllocError> {
     }
     if let Some(said) = line.strip_prefix(b"octets ") {
         return read_octets(alloc, said);
+    }
+    if let Some(said) = line.strip_prefix(b"zeros ") {
+        return read_zeros(alloc, said);
     }
     Ok(read_plain(line))
 }

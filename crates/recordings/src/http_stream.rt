@@ -1,9 +1,11 @@
 //! What a client of IPP sends.
-ghost use Rattle.std.specs.Prelude.{◌≡◌, length};
+ghost use Rattle.std.specs.Prelude.{◌≡◌, ◌≤◌, ◌+◌, OnOk, IfOk, length};
 
+use crate::blanked::Blanked;
 use crate::message::Message;
 use http_front::{HttpItem, HttpReader};
 use std::alloc::{AllocError, Global};
+use std::cmp::min;
 
 /// What a client sends over HTTP, read as the server does.
 #[derive(Drop)]
@@ -24,41 +26,70 @@ impl HttpStream {
         }
     }
 
-    /// Reads bytes up to a line feed, and replaces those of documents by zeros.
+    /// How many of these bytes are of a body, or are read no more; the others are read by lines.
+    pub(crate) fn body_front(&self, bytes: &[u8]) -> usize
+        ensures { result ≤ length bytes.now }
+    {
+        if self.over {
+            return bytes.len();
+        }
+        min(self.reader.body_left() as usize, bytes.len())
+    }
+
+    /// Reads bytes of a body, or up to a line feed, and leaves out those of documents.
     ///
     /// A part of a body stands at their front, since a head and the line of a chunk's size end with a line
     /// feed.
-    pub(crate) fn blank(&mut self, bytes: &mut [u8]) -> Result<(), AllocError>
-        ensures { length bytes.new ≡ length bytes.old }
+    pub(crate) fn blank(&mut self, bytes: &[u8], output: &mut Blanked) -> Result<(), AllocError>
+        ensures { OnOk result (output.new ≡ output.old + length bytes.now) }
     {
         if self.over {
-            bytes.fill(0);
-            return Ok(());
+            return output.leave_out(bytes.len());
         }
         self.reader.feed(bytes)?;
-        for _ in 0..u64::MAX {
-            match self.reader.next_item() {
-                None => return Ok(()),
-                Some(item) => self.take(item, bytes),
-            }
-        }
-        Ok(())
+        let count = self.blank_parts(bytes, output)?;
+        output.keep(&bytes[count..])
     }
 
-    /// Takes an item that these bytes brought.
-    fn take(&mut self, item: HttpItem, bytes: &mut [u8])
-        ensures { length bytes.new ≡ length bytes.old }
+    /// Reads what was fed, and leaves out what is of documents in the parts of a body: how many bytes these
+    /// are.
+    fn blank_parts(&mut self, bytes: &[u8], output: &mut Blanked) -> Result<usize, AllocError>
+        ensures { IfOk result (λ count. count ≤ length bytes.now × (output.new ≡ output.old + count)) }
+    {
+        let mut count = 0usize;
+        for _ in 0..u64::MAX {
+            match self.reader.next_item() {
+                None => return Ok(count),
+                Some(item) => count += self.take(item, &bytes[count..], output)?,
+            }
+        }
+        Ok(count)
+    }
+
+    /// Takes an item that these bytes brought: how many of them are its part of a body.
+    fn take(
+        &mut self,
+        item: HttpItem,
+        bytes: &[u8],
+        output: &mut Blanked,
+    ) -> Result<usize, AllocError>
+        ensures { IfOk result (λ count. count ≤ length bytes.now × (output.new ≡ output.old + count)) }
     {
         match item {
             HttpItem::Head { .. } => self.message = Message::new(),
-            HttpItem::BodyPart => {
-                let count = self.reader.part().len();
-                if count <= bytes.len() {
-                    self.message.blank(&mut bytes[..count]);
-                }
-            }
+            HttpItem::BodyPart => return self.take_part(bytes, output),
             HttpItem::Continue | HttpItem::BodyEnd => {}
             HttpItem::Refuse(_) => self.over = true,
         }
+        Ok(0)
+    }
+
+    /// Takes the part of a body at the front of bytes: how many these are.
+    fn take_part(&mut self, bytes: &[u8], output: &mut Blanked) -> Result<usize, AllocError>
+        ensures { IfOk result (λ count. count ≤ length bytes.now × (output.new ≡ output.old + count)) }
+    {
+        let count = min(self.reader.part().len(), bytes.len());
+        self.message.blank(&bytes[..count], output)?;
+        Ok(count)
     }
 }

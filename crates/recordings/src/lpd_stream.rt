@@ -1,6 +1,7 @@
 //! What a client of LPD sends.
-ghost use Rattle.std.specs.Prelude.{◌≡◌, length};
+ghost use Rattle.std.specs.Prelude.{◌≡◌, ◌+◌, ◌≤◌, OnOk, IfOk, length};
 
+use crate::blanked::Blanked;
 use lpd::{FileKind, LpdError, LpdItem, LpdReader};
 use std::alloc::{AllocError, Global};
 use std::cmp::min;
@@ -50,58 +51,81 @@ impl LpdStream {
         }
     }
 
-    /// Reads bytes up to a line feed, and replaces those of data files by zeros.
-    pub(crate) fn blank(&mut self, bytes: &mut [u8]) -> Result<(), AllocError>
-        ensures { length bytes.new ≡ length bytes.old }
+    /// How many of these bytes are octets of a data file; the others are read by lines.
+    pub(crate) fn body_front(&self, bytes: &[u8]) -> usize
+        ensures { result ≤ length bytes.now }
     {
-        let place = self.pass(bytes);
-        if place >= bytes.len() {
+        match self.next {
+            Next::Data(left) => min(left, bytes.len()),
+            Next::Read | Next::Zero | Next::Over => 0,
+        }
+    }
+
+    /// Reads bytes up to a line feed, or of a data file, and leaves out those of data files.
+    pub(crate) fn blank(&mut self, bytes: &[u8], output: &mut Blanked) -> Result<(), AllocError>
+        ensures { OnOk result (output.new ≡ output.old + length bytes.now) }
+    {
+        let count = self.pass_data(bytes, output)?;
+        self.blank_line(&bytes[count..], output)
+    }
+
+    /// Leaves out the bytes of a data file at the front: how many they are.
+    fn pass_data(&mut self, bytes: &[u8], output: &mut Blanked) -> Result<usize, AllocError>
+        ensures { IfOk result (λ count. count ≤ length bytes.now × (output.new ≡ output.old + count)) }
+    {
+        let count = self.body_front(bytes);
+        if let Next::Data(left) = self.next {
+            self.next = if count < left {
+                Next::Data(left.saturating_sub(count))
+            } else {
+                Next::Zero
+            };
+        }
+        output.leave_out(count)?;
+        Ok(count)
+    }
+
+    /// Reads bytes of no data file.
+    fn blank_line(&mut self, bytes: &[u8], output: &mut Blanked) -> Result<(), AllocError>
+        ensures { OnOk result (output.new ≡ output.old + length bytes.now) }
+    {
+        if bytes.is_empty() {
             return Ok(());
         }
-        self.read(&bytes[place..])
-    }
-
-    /// Passes what of these bytes isn't for the reader: how many they are.
-    fn pass(&mut self, bytes: &mut [u8]) -> usize
-        ensures { length bytes.new ≡ length bytes.old }
-    {
-        let place = self.pass_data(bytes);
-        if place >= bytes.len() {
-            return place;
-        }
         match self.next {
-            Next::Over => {
-                bytes.fill(0);
-                bytes.len()
+            Next::Zero => self.end_data(bytes, output),
+            Next::Over => output.leave_out(bytes.len()),
+            Next::Read | Next::Data(_) => {
+                output.keep(bytes)?;
+                self.read(bytes)
             }
-            Next::Zero if bytes[place] == 0 => {
-                self.next = Next::Read;
-                place.saturating_add(1)
-            }
-            Next::Zero => {
-                self.next = Next::Over;
-                bytes[place..].fill(0);
-                bytes.len()
-            }
-            Next::Read | Next::Data(_) => place,
         }
     }
 
-    /// Replaces the bytes of a data file at the front: how many they are.
-    fn pass_data(&mut self, bytes: &mut [u8]) -> usize
-        ensures { length bytes.new ≡ length bytes.old }
+    /// Reads the zero byte behind a data file, which is left out with the file, and what follows it.
+    fn end_data(&mut self, bytes: &[u8], output: &mut Blanked) -> Result<(), AllocError>
+        ensures { OnOk result (output.new ≡ output.old + length bytes.now) }
     {
-        let Next::Data(left) = self.next else {
-            return 0;
-        };
-        let count = min(left, bytes.len());
-        bytes[..count].fill(0);
-        self.next = if count < left {
-            Next::Data(left - count)
-        } else {
-            Next::Zero
-        };
-        count
+        match bytes.split_first() {
+            Some((first, later)) if *first == 0 => {
+                self.next = Next::Read;
+                output.leave_out(1)?;
+                output.keep(later)?;
+                self.read_some(later)
+            }
+            _ => {
+                self.next = Next::Over;
+                output.leave_out(bytes.len())
+            }
+        }
+    }
+
+    /// Reads bytes of commands, subcommands and control files, if there are any.
+    fn read_some(&mut self, bytes: &[u8]) -> Result<(), AllocError> {
+        if bytes.is_empty() {
+            return Ok(());
+        }
+        self.read(bytes)
     }
 
     /// Reads bytes of commands, subcommands and control files.

@@ -1,5 +1,8 @@
 //! Where a message of IPP ends and its document begins.
-ghost use Rattle.std.specs.Prelude.{◌≡◌, length};
+ghost use Rattle.std.specs.Prelude.{◌≡◌, ◌+◌, ◌≤◌, OnOk, length};
+
+use crate::blanked::Blanked;
+use std::alloc::AllocError;
 
 /// What comes next of a message (RFC 8010, section 3.1).
 #[derive(Clone, Copy)]
@@ -77,18 +80,19 @@ impl Message {
         }
     }
 
-    /// Reads some bytes, and replaces those of the document by zeros.
-    pub(crate) fn blank(&mut self, bytes: &mut [u8])
-        ensures { length bytes.new ≡ length bytes.old }
+    /// Reads some bytes, and leaves out those of the document.
+    pub(crate) fn blank(&mut self, bytes: &[u8], output: &mut Blanked) -> Result<(), AllocError>
+        ensures { OnOk result (output.new ≡ output.old + length bytes.now) }
     {
         let place = self.read(bytes);
-        if place < bytes.len() {
-            bytes[place..].fill(0);
-        }
+        output.keep(&bytes[..place])?;
+        output.leave_out(bytes.len() - place)
     }
 
     /// Reads some bytes: where the document begins, if it does.
-    fn read(&mut self, bytes: &[u8]) -> usize {
+    fn read(&mut self, bytes: &[u8]) -> usize
+        ensures { result ≤ length bytes.now }
+    {
         for place in 0..bytes.len() {
             if let Next::Document = self.next {
                 return place;

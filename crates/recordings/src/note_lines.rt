@@ -3,8 +3,9 @@ ghost use Rattle.std.specs.Prelude.{◌≡◌, ◌⊎◌, ℕ, List, Some, None,
 ghost use Rattle.wires.specs.Poll.{Accepts, Reads, Writes, Closes, bytes_read, IsCount};
 ghost use Rattle.recordings.specs.Noting.{note_of, written_note, end_of, with_note, NotesLine, EndsTurn};
 
+use crate::blanked::Blanked;
 use crate::note::{put_accept, put_end, put_read, put_write};
-use crate::write::{put_came, put_line};
+use crate::write::{put_blanked, put_line};
 use base_types::Moment;
 use std::alloc::{AllocError, Global};
 use std::marker::Model;
@@ -119,9 +120,9 @@ impl NoteLines {
         }
     }
 
-    /// These bytes are noted in the place of those that were read.
-    pub(crate) fn came(&mut self, id: WireId, bytes: &[u8]) {
-        if self.keeps && put_came(&mut self.text, id, bytes).is_err() {
+    /// What was read is noted without documents.
+    pub(crate) fn came(&mut self, id: WireId, blanked: &Blanked) {
+        if self.keeps && put_blanked(&mut self.text, id, blanked).is_err() {
             self.stop();
         }
     }

@@ -4,6 +4,7 @@ ghost use Rattle.std.specs.Io.Slices.{io_slices_bytes};
 ghost use Rattle.wires.specs.Poll.{Accepts, Reads, Writes, Closes, bytes_read, IsCount};
 ghost use Rattle.recordings.specs.Noting.{NoteState, Notes, EndsTurn, with_note};
 
+use crate::blanked::Blanked;
 use crate::blanker::Blanker;
 use crate::note_lines::NoteLines;
 use crate::sum::sum_of_front;
@@ -18,9 +19,9 @@ use wires::{Door, Progress, Wire, WireId};
 #[derive(Drop)]
 pub struct NoteText {
     lines: NoteLines,
-    /// The bytes of a read without those of documents, where heads are noted.
-    blanked: Vec<u8>,
-    /// The octets of documents are noted as zeros, and of what devices get no sums.
+    /// What was read last, without documents, where heads are noted.
+    blanked: Blanked,
+    /// The octets of documents are left out, and so are the sums of what devices get.
     heads: bool,
     /// The connections, where heads are noted.
     blanker: Blanker,
@@ -49,14 +50,14 @@ impl NoteText {
     {
         NoteText {
             lines: NoteLines::new(alloc),
-            blanked: Vec::new(alloc),
+            blanked: Blanked::new(alloc),
             heads: false,
             blanker: Blanker::new(alloc),
         }
     }
 
     /// Keeps lines from now on, when no connection is open yet. With heads alone the octets of documents are
-    /// noted as so many zeros.
+    /// left out.
     pub fn begin(&mut self, heads: bool)
         ensures { self.new ≡ record { lines = Some []; heads = heads } }
     {
@@ -151,13 +152,12 @@ impl NoteText {
         self.lines.came(id, &self.blanked);
     }
 
-    /// Keeps bytes that were read, those of documents as zeros.
+    /// Keeps bytes that were read, without those of documents.
     fn blank(&mut self, id: WireId, bytes: &[u8]) -> Result<(), AllocError>
         ensures { self.new ≡ self.old }
     {
         self.blanked.clear();
-        self.blanked.extend_from_slice(bytes)?;
-        self.blanker.blank(id, &mut self.blanked)
+        self.blanker.blank(id, bytes, &mut self.blanked)
     }
 
     /// A write was answered so.

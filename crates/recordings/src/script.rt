@@ -185,6 +185,19 @@ impl Script {
         Progress::Done(count)
     }
 
+    /// So many bytes are read of a connection, if there was room for what was read then.
+    fn read(&mut self, id: WireId, count: usize) -> Progress<usize>
+        ensures count { (room : ℕ) → count ≤ room → IsCount result room }
+        ensures cause { HasCause self.old.faults self.new.faults result }
+    {
+        if count == 0 {
+            self.strays(ServerCall::ReadsLess(id));
+            return Progress::Waiting;
+        }
+        self.pass();
+        Progress::Done(count)
+    }
+
     /// A call that failed.
     fn fault(&mut self) -> Progress<usize>
         ensures count { (room : ℕ) → IsCount result room }
@@ -197,6 +210,20 @@ impl Script {
             Progress::Waiting
         }
     }
+}
+
+/// Reads bytes and so many zeros behind them into a buffer: how many, or 0 where there is no room for them.
+fn read_into(buffer: &mut [u8], bytes: &[u8], zeros: usize) -> usize
+    ensures count { result ≤ length buffer.old }
+    ensures room { length buffer.new ≡ length buffer.old }
+{
+    let count = bytes.len().saturating_add(zeros);
+    if count > buffer.len() {
+        return 0;
+    }
+    buffer[..bytes.len()].copy_from_slice(bytes);
+    buffer[bytes.len()..count].fill(0);
+    count
 }
 
 /// The element at a place.
@@ -224,14 +251,12 @@ impl Wire for Script {
     fn poll_read(&mut self, id: WireId, buffer: &mut [u8]) -> Progress<usize> {
         match self.next() {
             Some(Entry::Came(came) | Entry::Octets(came)) if came.id == id => {
-                let count = came.bytes.len();
-                if count == 0 || count > buffer.len() {
-                    self.strays(ServerCall::ReadsLess(id));
-                    return Progress::Waiting;
-                }
-                buffer[..count].copy_from_slice(&came.bytes);
-                self.pass();
-                Progress::Done(count)
+                let count = read_into(buffer, &came.bytes, 0);
+                self.read(id, count)
+            }
+            Some(Entry::Zeros(came)) if came.id == id => {
+                let count = read_into(buffer, &came.bytes, came.zeros);
+                self.read(id, count)
             }
             Some(Entry::Ended(ended)) if *ended == id => {
                 self.pass();

@@ -1,8 +1,9 @@
 //! The lines of a recording, written.
 ghost use Rattle.std.specs.Prelude.{◌≡◌, ◌++◌, ℕ, OnOk, codes};
 ghost use Rattle.std.specs.Fmt.{decimal};
-ghost use Rattle.recordings.specs.Lines.{door_word, about, line_about, accept_line, read_line, octets_line, came_line, sent_line, sum_words, turn_line, entry_line};
+ghost use Rattle.recordings.specs.Lines.{door_word, about, line_about, accept_line, read_line, octets_line, zeros_line, came_line, sent_line, sum_words, turn_line, entry_line};
 
+use crate::blanked::Blanked;
 use crate::data::put_data;
 use crate::entry::{Accepted, Entry, Sent};
 use base_types::Moment;
@@ -97,6 +98,31 @@ pub(crate) fn put_came(output: &mut Vec<u8>, id: WireId, bytes: &[u8]) -> Result
     }
 }
 
+/// Appends the line of bytes that were read, behind which so many octets are left out.
+fn put_zeros(output: &mut Vec<u8>, id: WireId, zeros: usize, bytes: &[u8]) -> Result<(), AllocError>
+    ensures { OnOk result (output.new.items ≡ output.old.items ++ zeros_line id zeros bytes.now) }
+{
+    put_about(output, b"zeros", u64::from(id))?;
+    put_about(output, b"", zeros as u64)?;
+    output.extend_from_slice(b" ")?;
+    put_data(output, bytes)?;
+    output.extend_from_slice(b"\n")?;
+    Ok(())
+}
+
+/// Appends what is noted of what was read, without documents.
+pub(crate) fn put_blanked(
+    output: &mut Vec<u8>,
+    id: WireId,
+    blanked: &Blanked,
+) -> Result<(), AllocError> {
+    if blanked.zeros() == 0 {
+        put_came(output, id, blanked.bytes())
+    } else {
+        put_zeros(output, id, blanked.zeros(), blanked.bytes())
+    }
+}
+
 /// Appends the line of bytes that were taken.
 pub(crate) fn put_sent(output: &mut Vec<u8>, sent: Sent) -> Result<(), AllocError>
     ensures { OnOk result (output.new.items ≡ output.old.items ++ sent_line sent.id sent.count sent.sum) }
@@ -141,6 +167,7 @@ pub fn put_entry(output: &mut Vec<u8>, entry: &Entry) -> Result<(), AllocError>
         Entry::Accepted(Accepted { door, id }) => put_accepted(output, *door, *id),
         Entry::Came(came) => put_read(output, came.id, &came.bytes),
         Entry::Octets(came) => put_octets(output, came.id, &came.bytes),
+        Entry::Zeros(came) => put_zeros(output, came.id, came.zeros, &came.bytes),
         Entry::Ended(id) => put_line(output, b"end", u64::from(*id)),
         Entry::Failed(id) => put_line(output, b"fail", u64::from(*id)),
         Entry::Sent(sent) => put_sent(output, *sent),

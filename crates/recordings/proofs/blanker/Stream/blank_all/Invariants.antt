@@ -1,8 +1,8 @@
-use Rattle.std.proofs.Common.{length, ◌-◌, ◌≡◌, ◌≤◌}
+use Rattle.std.proofs.Common.{length, ◌+◌, ◌≡◌}
 use Rattle.recordings.proofs.blanker.Stream.blank_all.Given as goal
 
-abbrev pub invariant-loop-start : goal.invariant-loop-start
-invariant-loop-start l = (length l.bytes ≡ length l.initial.bytes) × (l.start ≤ length l.bytes)
+abbrev pub invariant-loop-rest : goal.invariant-loop-rest
+invariant-loop-rest l = l.output + length l.rest ≡ l.initial.output + length l.bytes
 
-abbrev pub decreases-loop-start : goal.decreases-loop-start
-decreases-loop-start l = length l.initial.bytes - l.start
+abbrev pub decreases-loop-rest : goal.decreases-loop-rest
+decreases-loop-rest l = length l.rest
