@@ -69,7 +69,7 @@ fn put_sends(
 }
 
 /// Appends the lines of what the server does.
-fn put_action(
+fn put_call(
     alloc: Global,
     output: &mut Vec<u8>,
     did: &ServerCall,
@@ -105,5 +105,5 @@ pub(crate) fn put_difference(
     };
     output.extend_from_slice(head.as_bytes())?;
     put_wanted(output, stray, moment)?;
-    put_action(alloc, output, &stray.did, moment)
+    put_call(alloc, output, &stray.did, moment)
 }

@@ -1,4 +1,4 @@
-//! Whoever gives jobs to devices.
+//! What gives jobs to devices: a core, or a policy.
 
 use crate::queue::{Queue, Start};
 use std::alloc::AllocError;
