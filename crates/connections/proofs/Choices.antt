@@ -3,7 +3,7 @@ use Rattle.std.proofs.Common.{◌≡◌, ◌⊎◌, ℕ, ◌+◌, Bool, true, fa
 use Rattle.std.proofs.lemmas.List.{append_cancel_left, length-append, length-map}
 use Rattle.base_types.specs.declared.report.Report.{Report}
 use Rattle.base_types.specs.Report.{ReportRecord, SaysHello, report_of}
-use Rattle.settings_file.specs.Settings.{ServerSettings}
+use Rattle.settings_file.specs.Settings.{ServerSettings, device_named}
 use Rattle.device_link.specs.Stream as Link
 use Rattle.http_front.specs.declared.item.HttpItem.{HttpItem}
 use Rattle.http_front.specs.declared.item.HttpItem.TheVariants as item
@@ -31,7 +31,7 @@ use Rattle.connections.specs.declared.step.Step.TheVariants as step
 use Rattle.connections.specs.Session.{Hearing, Goes, Stops, Submits, Commands, heard, file_lost, is_queue}
 use Rattle.connections.specs.Commands.{SubmitsJob, IsCommand}
 use Rattle.connections.specs.Entry.{PeerRecord, Http as OfIpp, Queue as OfLpd, Link as OfDevice, Entry, talking, finishing}
-use Rattle.connections.specs.Steps.{silent, no_memory, asked_step, EndsBody as EndsSo, StepsIpp, closes_after, body_after, byte_due, refused, AsksAs, AsksForFile, StepsLpd, place_of, StepsHello, StepsDevice, faulty, due_bytes}
+use Rattle.connections.specs.Steps.{silent, no_memory, asked_step, EndsBody as EndsSo, StepsIpp, closes_after, body_after, byte_due, refused, AsksAs, AsksForFile, StepsLpd, StepsHello, StepsDevice, faulty, due_bytes}
 use Rattle.connections.specs.Asking.{HearsIpp, HearsItem, FindsFault, LosesLine, HearsReport, FindsLinkFault, Hears, Owes, StepsTo, AsksNext}
 use Rattle.connections.specs.Choice.{part_taken, part_heard, part_of, Loss, OfGrowth, OfPart, OfBody, lost_of, SameAsk}
 
@@ -474,7 +474,7 @@ hears_agree : Laws → (settings : ServerSettings) (talk : PeerRecord) (e : Entr
     → part_heard settings talk e comes mid a ≡ part_heard settings talk e comes' mid' b → Agree comes mid comes' mid'
 hears_agree laws settings (OfIpp said closes body) e comes comes' mid mid' a b parts = ipp_agrees laws e said closes body comes comes' mid mid' a b parts
 hears_agree laws settings (OfLpd items session) e comes comes' mid mid' a b parts = queue_agrees laws (is_queue settings) e items session comes comes' mid mid' a b
-hears_agree laws settings (OfDevice reports device) e comes comes' mid mid' a b parts = link_agrees laws (place_of settings) e reports device comes comes' mid mid' a b
+hears_agree laws settings (OfDevice reports device) e comes comes' mid mid' a b parts = link_agrees laws (device_named settings) e reports device comes comes' mid mid' a b
 
 pub asks_one : Laws → (settings : ServerSettings) (e : Entry) (what said : Ask) (new after : Entry) (one : AsksNext settings what e new) (other : AsksNext settings said e after)
     → part_of one ≡ part_of other → lost_of what ≡ lost_of said → SameAsk what said × (new ≡ after)

@@ -7,7 +7,7 @@ use Rattle.text.specs.Parts.{words_of}
 use Rattle.base_types.specs.declared.report.Report.{Report}
 use Rattle.base_types.specs.declared.report.Report.TheVariants as reported
 use Rattle.base_types.specs.Report.{ReportRecord, SaysHello, SaysMedia, SaysReady, SaysStop, SaysBusy, SaysPages, SaysDone, SaysFail, IsGone, report_of}
-use Rattle.settings_file.specs.Settings.{ServerSettings}
+use Rattle.settings_file.specs.Settings.{ServerSettings, device_named}
 use Rattle.device_link.specs.Line.{in_turn, said}
 use Rattle.device_link.specs.declared.fault.LinkError.{LinkError}
 use Rattle.device_link.specs.declared.fault.LinkError.TheVariants as link
@@ -32,7 +32,7 @@ use Rattle.connections.specs.States.{IppClientState, LpdClientState, DeviceState
 use Rattle.connections.specs.Session.{is_queue}
 use Rattle.connections.specs.Entry.{PeerRecord, Entry, talking}
 use Rattle.connections.specs.Entry as entry
-use Rattle.connections.specs.Steps.{StepsDevice, StepsHello, place_of, step_of}
+use Rattle.connections.specs.Steps.{StepsDevice, StepsHello, step_of}
 use Rattle.connections.specs.Peers.{with_http, with_lpd, with_link, HearsIpp, HearsWholeItem, HearsWholeReport, NextIpp, NextLpd, NextDevice, NextPeer, IsFedPeer, link_step, Greets, ComesOf}
 use Rattle.connections.specs.Asking.{HearsIpp as NextItem, HearsItem, FindsFault, HearsReport, FindsLinkFault, Hears, IsHeardAs}
 use Rattle.connections.specs.Representation.{FitsIpp, FitsLpd, FitsDevice, FitsPeer}
@@ -221,12 +221,12 @@ report_comes named read given (Some device) it reader what after unnamed stands 
 off_device : (read : List ℕ) (reports : List ReportRecord) (u : DeviceState) → FitsDevice read (entry.Link reports u.device) true u
 off_device read reports u = record { reports = reports; is = refl; linked = λ no. let never : true ≡ false = no in cc }
 
-heard_device : (settings : ServerSettings) (e : Entry) (t u : DeviceState) (what : Step) → FitsDevice e.read e.talk false t → NextDevice (place_of settings) (Some what) t u → Heard settings e what (of.Device u)
+heard_device : (settings : ServerSettings) (e : Entry) (t u : DeviceState) (what : Step) → FitsDevice e.read e.talk false t → NextDevice (device_named settings) (Some what) t u → Heard settings e what (of.Device u)
 heard_device settings e t u what f (inl (it, reader, answers, falls, (same, comes))) =
     let linked = f.linked refl in
     let stands : Link.Stands e.read (f.reports ++ report_of it ∷ []) reader = answers e.read f.reports linked.stands in
-    let c = report_comes (place_of settings) e.read f.reports t.device it reader what u.device linked.unnamed stands comes in
-    let next : HearsReport (place_of settings) e f.reports t.device what (talking (entry.Link (f.reports ++ report_of it ∷ []) u.device) e) = record {
+    let c = report_comes (device_named settings) e.read f.reports t.device it reader what u.device linked.unnamed stands comes in
+    let next : HearsReport (device_named settings) e f.reports t.device what (talking (entry.Link (f.reports ++ report_of it ∷ []) u.device) e) = record {
       said = report_of it;
       device_after = u.device;
       next = record { next = reader.greeted; left = stands.left; leads = stands.leads };

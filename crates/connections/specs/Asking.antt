@@ -1,7 +1,7 @@
 -- What a connection asks next, by all that it has read and what of that was acted on.
 use Rattle.std.specs.Prelude.{ℕ, ◌≡◌, ◌⊎◌, ◌||◌, Bool, true, false, List, [], ◌∷◌, ◌++◌, Option, Some, None}
 use Rattle.base_types.specs.Report.{ReportRecord}
-use Rattle.settings_file.specs.Settings.{ServerSettings}
+use Rattle.settings_file.specs.Settings.{ServerSettings, device_named}
 use Rattle.http_front.specs.Stream.{Said, said_by, Exchanges}
 use Rattle.http_front.specs.Stream as Http
 use Rattle.http_front.specs.declared.item.HttpItem.{HttpItem}
@@ -22,7 +22,7 @@ use Rattle.connections.specs.declared.step.Step.{Step}
 use Rattle.connections.specs.declared.step.Step.TheVariants as step
 use Rattle.connections.specs.Session.{is_queue}
 use Rattle.connections.specs.Entry.{PeerRecord, Http as OfIpp, Queue as OfLpd, Link as OfDevice, Entry, talking, reading, finishing, broken, owing, needs_memory}
-use Rattle.connections.specs.Steps.{StepsIpp, closes_after, body_after, StepsLpd, StepsDevice, refused, faulty, no_memory, place_of, due_bytes}
+use Rattle.connections.specs.Steps.{StepsIpp, closes_after, body_after, StepsLpd, StepsDevice, refused, faulty, no_memory, due_bytes}
 
 -- ---- the next of a stream, after what was acted on
 
@@ -72,7 +72,7 @@ pub record FindsLinkFault (e : Entry) (reports : List ReportRecord) (device : Op
 abbrev pub Hears : ServerSettings → PeerRecord → Entry → Step → Entry → Type 0
 Hears settings (OfIpp said closes body) e what mid = HearsIpp e said closes body what mid
 Hears settings (OfLpd items session) e what mid = HearsItem (is_queue settings) e items session what mid ⊎ (FindsFault e items what mid ⊎ LosesLine e what mid)
-Hears settings (OfDevice reports device) e what mid = HearsReport (place_of settings) e reports device what mid ⊎ (FindsLinkFault e reports device what mid ⊎ LosesLine e what mid)
+Hears settings (OfDevice reports device) e what mid = HearsReport (device_named settings) e reports device what mid ⊎ (FindsLinkFault e reports device what mid ⊎ LosesLine e what mid)
 
 -- ---- what comes of it
 

@@ -3,7 +3,7 @@ use Rattle.std.specs.Prelude.{ℕ, ◌≡◌, ◌⊎◌, ◌<◌, ◌++◌, Bool
 use Rattle.base_types.specs.declared.report.Report.{Report}
 use Rattle.base_types.specs.declared.report.Report.TheVariants as report
 use Rattle.base_types.specs.Report.{ReportRecord}
-use Rattle.settings_file.specs.Settings.{ServerSettings}
+use Rattle.settings_file.specs.Settings.{ServerSettings, device_named}
 use Rattle.device_link.specs.declared.fault.LinkFault.{LinkFault}
 use Rattle.device_link.specs.declared.fault.LinkError.{LinkError}
 use Rattle.device_link.specs.declared.fault.LinkError.TheVariants as link
@@ -23,7 +23,7 @@ use Rattle.ipp_operations.specs.Reader.{ReaderState}
 use Rattle.ipp_operations.specs.Reader as Body
 use Rattle.connections.specs.States.{IppClientState, LpdClientState, DeviceState}
 use Rattle.connections.specs.Session.{is_queue}
-use Rattle.connections.specs.Steps.{EndsBody, StepsLpd, StepsHello, silent, no_memory, refused, faulty, place_of}
+use Rattle.connections.specs.Steps.{EndsBody, StepsLpd, StepsHello, silent, no_memory, refused, faulty}
 use Rattle.connections.specs.declared.ask.Ask.TheVariants as ask
 use Rattle.connections.specs.declared.step.Due.TheVariants as due
 use Rattle.connections.specs.declared.step.Step.{Step}
@@ -170,7 +170,7 @@ IsFedPeer piece _ _ = ⊥
 abbrev pub NextPeer : ServerSettings → Option Step → Peer → Peer → Type 0
 NextPeer settings what (of.Ipp t) (of.Ipp u) = NextIpp what t u
 NextPeer settings what (of.Lpd t) (of.Lpd u) = NextLpd (is_queue settings) what t u
-NextPeer settings what (of.Device t) (of.Device u) = NextDevice (place_of settings) what t u
+NextPeer settings what (of.Device t) (of.Device u) = NextDevice (device_named settings) what t u
 NextPeer settings what _ _ = ⊥
 
 -- how much it can bring, at most

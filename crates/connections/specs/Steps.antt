@@ -1,9 +1,7 @@
 -- What the next of a peer's stream comes to: for an IPP client the items of HTTP (RFC 9112), for an LPD client those of RFC 1179, for a device its reports.
-use Rattle.std.specs.Prelude.{ℕ, ◌≡◌, ◌⊎◌, Bool, true, false, List, [], ◌∷◌, ◌++◌, position, Option, Some, None}
-use Rattle.std.specs.Str.{bytes_eq}
+use Rattle.std.specs.Prelude.{ℕ, ◌≡◌, ◌⊎◌, Bool, true, false, List, [], ◌∷◌, ◌++◌, Option, Some, None}
 use Rattle.base_types.specs.declared.report.Report.{Report}
 use Rattle.base_types.specs.Report.{ReportRecord, SaysHello, report_of}
-use Rattle.settings_file.specs.Settings.{ServerSettings}
 use Rattle.http_front.specs.Reply.{continue_head}
 use Rattle.http_front.specs.declared.refusal.HttpRejection.TheVariants.{BadRequest}
 use Rattle.http_front.specs.declared.item.HttpItem.{HttpItem}
@@ -132,10 +130,6 @@ StepsLpd is_queue before Aborts what after = AsksAs (heard is_queue before Abort
 StepsLpd is_queue before (Announces head) what after = AsksAs (heard is_queue before (Announces head)) what after
 
 -- ---- a device
-
--- the place of the device of a name
-abbrev pub place_of : ServerSettings → List ℕ → Option ℕ
-place_of settings name = position (λ entry. bytes_eq name entry.name) settings.devices
 
 -- it says its name, which is a device's, or no device's
 abbrev pub StepsHello : List ℕ → Option ℕ → Step → Option ℕ → Type 0

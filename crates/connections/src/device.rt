@@ -1,6 +1,7 @@
 //! A device: its name, and then reports.
 ghost use Rattle.std.specs.Prelude.{◌≡◌, OnOk, OnErr, Some, None, false};
-ghost use Rattle.connections.specs.Steps.{StepsHello, place_of};
+ghost use Rattle.settings_file.specs.Settings.{device_named};
+ghost use Rattle.connections.specs.Steps.{StepsHello};
 ghost use Rattle.connections.specs.Peers.{IsNewDevice, IsFedDevice, NextDevice, HearsDevice, HearsWholeReport, link_step};
 
 use crate::ask::{Ask, Growth};
@@ -63,7 +64,7 @@ impl Device {
     /// What the next report of its stream comes to, if one is whole; or its first fault.
     #[tactic(auto, using(crate::proofs::Readers::report_heard))]
     pub fn next(&mut self, settings: &Settings) -> Option<Step>
-        ensures { NextDevice (place_of settings.now) result self.old self.new }
+        ensures { NextDevice (device_named settings.now) result self.old self.new }
     {
         match self.reader.next_report() {
             Ok(report) => self.hear_whole(report, settings),
@@ -73,7 +74,7 @@ impl Device {
 
     /// What a report comes to that was just taken off, if one is whole.
     fn hear_whole(&mut self, report: Option<Report>, settings: &Settings) -> Option<Step>
-        ensures { HearsWholeReport (place_of settings.now) report result self.old self.new }
+        ensures { HearsWholeReport (device_named settings.now) report result self.old self.new }
     {
         match report {
             Some(report) => Some(self.hear(report, settings)),
@@ -83,7 +84,7 @@ impl Device {
 
     /// What a report comes to.
     fn hear(&mut self, report: Report, settings: &Settings) -> Step
-        ensures { HearsDevice (place_of settings.now) report result self.old self.new }
+        ensures { HearsDevice (device_named settings.now) report result self.old self.new }
     {
         match self.device {
             Some(device) => asks(Ask::Report(device, report)),
@@ -94,7 +95,7 @@ impl Device {
     /// What the first report comes to.
     fn greet(&mut self, report: Report, settings: &Settings) -> Step
         requires { self.old.device ≡ None }
-        ensures { HearsDevice (place_of settings.now) report result self.old self.new }
+        ensures { HearsDevice (device_named settings.now) report result self.old self.new }
     {
         match report {
             Report::Hello(name) => self.meet(name, settings),
@@ -106,9 +107,9 @@ impl Device {
     fn meet(&mut self, name: Text, settings: &Settings) -> Step
         requires { self.old.device ≡ None }
         ensures reader { self.new.reader ≡ self.old.reader }
-        ensures comes { StepsHello name (place_of settings.now name) result self.new.device }
+        ensures comes { StepsHello name (device_named settings.now name) result self.new.device }
     {
-        match device_named(settings, &name) {
+        match settings.device_named(name.as_bytes()) {
             Some(device) => {
                 self.device = Some(device);
                 asks(Ask::Hello(device, name))
@@ -133,24 +134,4 @@ fn link_step(error: LinkError, device: Option<DeviceId>) -> Step
         LinkError::Fault(_) => Step::Breaks(Ask::Fault(device)),
         LinkError::OutOfMemory => Step::Breaks(Ask::Broke(Growth::Input)),
     }
-}
-
-/// The device of a name.
-fn device_named(settings: &Settings, name: &Text) -> Option<DeviceId>
-    ensures { result ≡ place_of settings.now name.now }
-{
-    match place_named(settings, name) {
-        Some(place) => Some(DeviceId::new(place)),
-        None => None,
-    }
-}
-
-/// The place of the device of a name.
-fn place_named(settings: &Settings, name: &Text) -> Option<usize>
-    ensures { result ≡ place_of settings.now name.now }
-{
-    settings
-        .devices
-        .iter()
-        .position(|device| name.as_bytes() == device.name.as_bytes())
 }

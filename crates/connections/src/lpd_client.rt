@@ -1,7 +1,5 @@
 //! An LPD client: commands, and the files of jobs (RFC 1179).
 ghost use Rattle.std.specs.Prelude.{◌≡◌, OnOk, OnErr, Some, None, true, false};
-ghost use Rattle.std.specs.List.{list_any};
-ghost use Rattle.std.specs.Str.{bytes_eq};
 ghost use Rattle.lpd.specs.Items.{item_record, command_record, Says, Aborts, Announces, HasFile, ReceivesJob};
 ghost use Rattle.lpd.specs.Pending.{first_complete};
 ghost use Rattle.lpd.specs.Session.{sent_at};
@@ -15,7 +13,7 @@ use crate::step::{Due, Step};
 use base_types::Text;
 use events::{Event, ListQueue, QueueForm, RemoveJobs, SubmitFiles};
 use lpd::{FileHead, LpdCommand, LpdError, LpdItem, LpdReader, SentJob, Session};
-use settings_file::{PrinterSettings, Settings};
+use settings_file::Settings;
 use std::alloc::{AllocError, Global};
 use std::marker::Model;
 
@@ -139,7 +137,7 @@ impl LpdClient {
         ensures asks { AsksAs (on_command (is_queue settings.now) (ReceivesJob queue)) result self.new.session }
         ensures reader { self.new.reader ≡ self.old.reader }
     {
-        if is_queue(&settings.printers, &queue) {
+        if is_queue(settings, &queue) {
             self.session = Some(Session::new(self.alloc, queue));
             goes(Some(ACCEPTED))
         } else {
@@ -258,12 +256,10 @@ fn listing(queue: Text, form: QueueForm, operands: Vec<Text>) -> Event
 }
 
 /// Whether a printer of this name is there.
-fn is_queue(printers: &[PrinterSettings], name: &Text) -> bool
-    ensures { result ≡ list_any (λ printer. bytes_eq name.now printer.name) printers.now }
+fn is_queue(settings: &Settings, name: &Text) -> bool
+    ensures { result ≡ is_queue settings.now name.now }
 {
-    printers
-        .iter()
-        .any(|printer| name.as_bytes() == printer.name.as_bytes())
+    settings.printer_named(name.as_bytes()).is_some()
 }
 
 /// Keeps the file that has come.

@@ -8,7 +8,7 @@ use Rattle.std.proofs.lemmas.Option.{slice_get-get_or}
 use Rattle.std.proofs.lemmas.List.{length-map, get_or-map}
 use Rattle.std.proofs.lemmas.List.Quantifiers.{position-Some}
 use Rattle.std.proofs.lemmas.Slice.Eq.{bytes_eq-Decides}
-use Rattle.settings_file.specs.Settings.{ServerSettings, DeviceEntry, device_names}
+use Rattle.settings_file.specs.Settings.{ServerSettings, DeviceEntry, device_names, device_named}
 use Rattle.device_link.specs.Stream.{SaysFirst}
 use Rattle.connections.specs.declared.ask.Ask.{Ask}
 use Rattle.connections.specs.declared.ask.Ask.TheVariants as ask
@@ -17,7 +17,7 @@ use Rattle.connections.specs.declared.step.Step.{Step}
 use Rattle.connections.specs.declared.step.Step.TheVariants as step
 use Rattle.connections.specs.Entry.{PeerRecord, Http, Queue, Link, Entry, device_of, talking, finishing, broken}
 use Rattle.connections.specs.Asking.{Hears, StepsTo}
-use Rattle.connections.specs.Steps.{StepsHello, StepsDevice, place_of as named_place}
+use Rattle.connections.specs.Steps.{StepsHello, StepsDevice}
 use Rattle.promises.specs.Answers.{ClientTalk}
 use Rattle.promises.specs.Heard.{said_on, IsRead}
 use Rattle.promises.proofs.Typing.{EventOf}
@@ -84,7 +84,7 @@ client_grows d e sound before after = record {
 -- ---- steps of a device
 
 -- the device of a name bears it in the settings
-pub place_named : (settings : ServerSettings) (name : List ℕ) (device : ℕ) → named_place settings name ≡ Some device → slice_get (device_names settings) device ≡ Some name
+pub place_named : (settings : ServerSettings) (name : List ℕ) (device : ℕ) → device_named settings name ≡ Some device → slice_get (device_names settings) device ≡ Some name
 place_named settings name device is = by settings.devices is
   where
     by : (entries : List DeviceEntry) → position (λ entry. bytes_eq name entry.name) entries ≡ Some device → slice_get (map (λ entry. entry.name) entries) device ≡ Some name
@@ -132,7 +132,7 @@ stranger_grows e new reports more talk sound says whole = record {
   reads = λ is. first_read new e.read more says (ap (λ (x : Entry). x.read) whole) (ap (λ (x : Entry). said_on x.talk) whole);
 }
 
-pub named_step : (settings : ServerSettings) (name : List ℕ) (place device_after : Option ℕ) (reports : List ReportRecord) (e : Entry) (comes : Step) (mid : Entry) (what : Ask) (new : Entry) → named_place settings name ≡ place → e.talk ≡ Link reports None → e.broken ≡ false → SaysFirst e.read (reports ++ SaysHello name ∷ [])
+pub named_step : (settings : ServerSettings) (name : List ℕ) (place device_after : Option ℕ) (reports : List ReportRecord) (e : Entry) (comes : Step) (mid : Entry) (what : Ask) (new : Entry) → device_named settings name ≡ place → e.talk ≡ Link reports None → e.broken ≡ false → SaysFirst e.read (reports ++ SaysHello name ∷ [])
     → StepsHello name place comes device_after → mid ≡ talking (Link (reports ++ SaysHello name ∷ []) device_after) e → StepsTo comes mid what new → DeviceStep settings what e new
 named_step settings name None device_after reports e comes mid what new placed talk sound says is after steps =
     let breaks : (what ≡ ask.Stranger name) × (new ≡ broken mid) = subst (λ (s : Step). StepsTo s mid what new) is.0 steps in
@@ -153,8 +153,8 @@ named_step settings name (Some device) device_after reports e comes mid what new
     }))
 
 pub said_step : (settings : ServerSettings) (reports : List ReportRecord) (device : Option ℕ) (said : ReportRecord) (device_after : Option ℕ) (e : Entry) (comes : Step) (mid : Entry) (what : Ask) (new : Entry) → e.talk ≡ Link reports device → e.broken ≡ false → SaysFirst e.read (reports ++ said ∷ [])
-    → StepsDevice (named_place settings) device said comes device_after → mid ≡ talking (Link (reports ++ said ∷ []) device_after) e → StepsTo comes mid what new → DeviceStep settings what e new
-said_step settings reports None (SaysHello name) device_after e comes mid what new talk sound says is after steps = named_step settings name (named_place settings name) device_after reports e comes mid what new refl talk sound says is after steps
+    → StepsDevice (device_named settings) device said comes device_after → mid ≡ talking (Link (reports ++ said ∷ []) device_after) e → StepsTo comes mid what new → DeviceStep settings what e new
+said_step settings reports None (SaysHello name) device_after e comes mid what new talk sound says is after steps = named_step settings name (device_named settings name) device_after reports e comes mid what new refl talk sound says is after steps
 said_step settings reports None (SaysMedia names) device_after e comes mid what new talk sound says is after steps = absurd is
 said_step settings reports None SaysReady device_after e comes mid what new talk sound says is after steps = absurd is
 said_step settings reports None SaysStop device_after e comes mid what new talk sound says is after steps = absurd is

@@ -1,7 +1,7 @@
 -- What the next of a client's stream, and of a device's, comes to.
 use Rattle.std.proofs.Common.{◌≡◌, ℕ, Bool, false, List, [], ◌∷◌, ◌++◌, refl, sym, ◌∙◌, ap, subst, append-nil, Option, Some, None, ◌⊎◌, inl, inr}
 use Rattle.base_types.specs.Report.{ReportRecord, SaysHello, SaysMedia, SaysReady, SaysStop, SaysBusy, SaysPages, SaysDone, SaysFail, IsGone as SaysGone}
-use Rattle.settings_file.specs.Settings.{ServerSettings}
+use Rattle.settings_file.specs.Settings.{ServerSettings, device_named}
 use Rattle.http_front.specs.declared.item.HttpItem.{HttpItem}
 use Rattle.http_front.specs.declared.item.HttpItem.TheVariants as item
 use Rattle.lpd.specs.Items.{ItemRecord, Says as SaysCommand, Aborts, Announces, HasFile}
@@ -22,7 +22,7 @@ use Rattle.connections.specs.declared.ask.Part.TheVariants as part
 use Rattle.connections.specs.declared.step.Step.{Step}
 use Rattle.connections.specs.declared.step.Step.TheVariants as step
 use Rattle.connections.specs.Session.{Hearing, Goes as GoesOn, Stops, Submits, Commands, heard}
-use Rattle.connections.specs.Steps.{asked_step, EndsBody, StepsIpp, AsksAs, StepsLpd, StepsHello, StepsDevice, place_of as named_place, silent, no_memory}
+use Rattle.connections.specs.Steps.{asked_step, EndsBody, StepsIpp, AsksAs, StepsLpd, StepsHello, StepsDevice, silent, no_memory}
 use Rattle.connections.specs.Entry.{PeerRecord, Http, Queue, Link, Entry, device_of, broken, talking, finishing}
 use Rattle.connections.specs.Asking.{Hears, StepsTo}
 use Rattle.server.specs.Polls.{Happening, Told}
@@ -230,8 +230,8 @@ named_hears settings reports name (Some device) device_after e comes mid what ne
     })
 
 pub report_hears : (settings : ServerSettings) (reports : List ReportRecord) (device : Option ℕ) (said : ReportRecord) (device_after : Option ℕ) (e : Entry) (comes : Step) (mid : Entry) (what : Ask) (new : Entry) → e.talk ≡ Link reports device
-    → StepsDevice (named_place settings) device said comes device_after → mid ≡ talking (Link (reports ++ said ∷ []) device_after) e → StepsTo comes mid what new → DeviceAsks what e new
-report_hears settings reports None (SaysHello name) device_after e comes mid what new talk is after steps = named_hears settings reports name (named_place settings name) device_after e comes mid what new talk is after steps
+    → StepsDevice (device_named settings) device said comes device_after → mid ≡ talking (Link (reports ++ said ∷ []) device_after) e → StepsTo comes mid what new → DeviceAsks what e new
+report_hears settings reports None (SaysHello name) device_after e comes mid what new talk is after steps = named_hears settings reports name (device_named settings name) device_after e comes mid what new talk is after steps
 report_hears settings reports None (SaysMedia names) device_after e comes mid what new talk is after steps = absurd is
 report_hears settings reports None SaysReady device_after e comes mid what new talk is after steps = absurd is
 report_hears settings reports None SaysStop device_after e comes mid what new talk is after steps = absurd is

@@ -1,5 +1,6 @@
 -- The settings of a server, and the limits that they keep.
-use Rattle.std.specs.Prelude.{ℕ, List, Option, ◌≤◌, ◌<◌, ◌≢◌, All, AllPairs, length, map}
+use Rattle.std.specs.Prelude.{ℕ, List, Option, ◌≤◌, ◌<◌, ◌≢◌, All, AllPairs, length, map, position}
+use Rattle.std.specs.Str.{bytes_eq}
 use Rattle.std.specs.Option.{ForSome}
 use Rattle.base_types.specs.Ranges.{IsRate, IsSetup}
 use Rattle.base_types.specs.declared.finishings.Finishings.{Finishings}
@@ -32,6 +33,13 @@ pub record ServerSettings : Type 0 where
 -- the names of the devices, in their order
 abbrev pub device_names : ServerSettings → List (List ℕ)
 device_names settings = map (λ device. device.name) settings.devices
+
+-- the place of the device of this name, and that of the printer
+abbrev pub device_named : ServerSettings → List ℕ → Option ℕ
+device_named settings name = position (λ device. bytes_eq name device.name) settings.devices
+
+abbrev pub printer_named : ServerSettings → List ℕ → Option ℕ
+printer_named settings name = position (λ printer. bytes_eq name printer.name) settings.printers
 
 -- a list within the bound on lists but that of a printer's devices
 abbrev pub IsShort : {A : Type 0} → List A → Type 0

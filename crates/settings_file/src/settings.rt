@@ -1,7 +1,7 @@
 ghost use Rattle.std.specs.Prelude.{◌≡◌, IfOk};
-ghost use Rattle.settings_file.specs.Settings.{device_names};
+ghost use Rattle.settings_file.specs.Settings.{device_names, device_named, printer_named};
 
-use base_types::{Finishings, PrinterSet, Text};
+use base_types::{DeviceId, Finishings, PrinterId, PrinterSet, Text};
 use std::alloc::{AllocError, Global};
 use std::marker::Model;
 
@@ -42,6 +42,44 @@ impl Settings {
             names.push(device.name.copied(alloc)?)?;
         }
         Ok(names)
+    }
+
+    /// The device of this name, if there is one.
+    pub fn device_named(&self, name: &[u8]) -> Option<DeviceId>
+        ensures { result ≡ device_named self.now name.now }
+    {
+        match self.device_place(name) {
+            Some(place) => Some(DeviceId::new(place)),
+            None => None,
+        }
+    }
+
+    /// The printer of this name, if there is one.
+    pub fn printer_named(&self, name: &[u8]) -> Option<PrinterId>
+        ensures { result ≡ printer_named self.now name.now }
+    {
+        match self.printer_place(name) {
+            Some(place) => Some(PrinterId::new(place)),
+            None => None,
+        }
+    }
+
+    /// Where the device of this name stands.
+    fn device_place(&self, name: &[u8]) -> Option<usize>
+        ensures { result ≡ device_named self.now name.now }
+    {
+        self.devices
+            .iter()
+            .position(|device| name == device.name.as_bytes())
+    }
+
+    /// Where the printer of this name stands.
+    fn printer_place(&self, name: &[u8]) -> Option<usize>
+        ensures { result ≡ printer_named self.now name.now }
+    {
+        self.printers
+            .iter()
+            .position(|printer| name == printer.name.as_bytes())
     }
 }
 
