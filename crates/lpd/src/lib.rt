@@ -25,7 +25,6 @@ mod sent;
 mod session;
 mod words;
 
-pub use control::{Control, ControlError, ControlFault, Print, PrintFormat, read_control};
 pub use fault::{LpdError, LpdFault};
 pub use item::{FileHead, FileKind, LpdCommand, LpdItem};
 pub use law::{given_first, one_front, one_saying, said_stays};

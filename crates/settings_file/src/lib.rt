@@ -28,7 +28,6 @@ mod wanted;
 
 pub use fault::{SettingsFault, write_fault};
 pub use key::Key;
-pub use last_table::LastTable;
-pub use read::{read_settings, read_settings_bytes, read_settings_telling};
+pub use read::{read_settings, read_settings_bytes};
 pub use sentence::explain;
 pub use settings::{DeviceSettings, PrinterSettings, Settings};
