@@ -7,7 +7,7 @@ use std::alloc::{AllocError, AllocFailed};
 pub enum WordsError {
     /// They ask for help or for the version, which is this text.
     Help(String),
-    /// They make no sense: the text about them, for whoever wrote them.
+    /// They make no sense: the text about them, for their writer.
     Fault(String),
     OutOfMemory,
 }

@@ -1,6 +1,6 @@
 //! Charts of what devices print, drawn: a lane for each device, a bar for each job, as long as its time.
 //!
-//! A [`Chart`] has the starts and ends of its bars; whoever makes one knows them. [`draw_charts`] draws
+//! A [`Chart`] has the starts and ends of its bars, which its maker knows. [`draw_charts`] draws
 //! charts below one another over one scale, as a picture in SVG or for a terminal. It promises that it is
 //! safe and ends. Nothing here says when a job starts. A [`Page`] is a text under way, for what is written
 //! beside a chart too.

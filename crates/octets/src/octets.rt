@@ -10,8 +10,8 @@ use std::rc::Rc;
 
 /// The octets of a document, which several may own. In clauses it is their list.
 ///
-/// How they lie in memory is no one's business: whoever sends them takes piece after piece, and may
-/// keep them for as long as that takes.
+/// Their pages are private: a sender takes one piece after the other, and may keep the octets for as long
+/// as that takes.
 #[derive(Debug, Drop)]
 pub struct Octets {
     shared: Rc<Pages>,

@@ -1,4 +1,4 @@
-//! What is wrong with an input, in a sentence for whoever wrote it.
+//! What is wrong with an input, in a sentence for its writer.
 
 use plan_checker::Fault;
 use plan_text::TextFault;

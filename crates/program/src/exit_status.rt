@@ -2,7 +2,7 @@
 ghost use Rattle.std.specs.Prelude.{◌≡◌};
 ghost use Rattle.program.specs.ExitStatus.{code_of};
 
-/// How a program ends, for whoever called it.
+/// How a program ends, for its caller.
 #[derive(Clone, Copy, Debug, PartialEq, Eq)]
 pub enum ExitStatus {
     /// What was asked for is done; of a question, the answer is yes.

@@ -1,4 +1,4 @@
-//! What is wrong with a trace, in a sentence for whoever wrote it.
+//! What is wrong with a trace, in a sentence for its writer.
 
 use settings_file::explain;
 use std::alloc::Global;
