@@ -14,30 +14,32 @@ pub(crate) struct Paged {
     pub last: Page,
 }
 
-/// A page of these octets.
-fn page_of(alloc: Global, octets: &[u8]) -> Result<Page, AllocError>
-    requires { length octets.now ≤ PAGE_BYTES }
+/// A page of these octets, which takes memory for so many first.
+fn page_of(alloc: Global, octets: &[u8], first: usize) -> Result<Page, AllocError>
+    requires fits { length octets.now ≤ PAGE_BYTES }
+    requires first { first ≤ PAGE_BYTES }
     ensures { IfOk result (λ page. page ≡ octets.now) }
 {
     let mut page = Page::new(alloc);
-    page.append(octets)?;
+    page.append(octets, first)?;
     Ok(page)
 }
 
-/// These octets in pages.
-pub(crate) fn in_pages(alloc: Global, octets: &[u8]) -> Result<Paged, AllocError>
+/// These octets in pages, each of which takes memory for so many first.
+pub(crate) fn in_pages(alloc: Global, octets: &[u8], first: usize) -> Result<Paged, AllocError>
+    requires { first ≤ PAGE_BYTES }
     ensures { IfOk result (λ paged. (octets_in paged ≡ octets.now) × IsPaged paged) }
 {
     let mut pages = Vec::new(alloc);
     let mut rest = octets;
     while PAGE_BYTES <= rest.len() {
         let (front, behind) = rest.split_at(PAGE_BYTES);
-        pages.push(page_of(alloc, front)?)?;
+        pages.push(page_of(alloc, front, first)?)?;
         rest = behind;
     }
     Ok(Paged {
         pages,
-        last: page_of(alloc, rest)?,
+        last: page_of(alloc, rest, first)?,
     })
 }
 
@@ -52,7 +54,7 @@ impl Paged {
     {
         let Paged { mut pages, last } = later;
         self.pages.reserve(pages.len() + 1)?;
-        self.last.append(front)?;
+        self.last.append(front, PAGE_BYTES)?;
         let full = mem::replace(&mut self.last, last);
         self.pages.push_reserved(full);
         self.pages.append(&mut pages)

@@ -2,7 +2,7 @@
 ghost use Rattle.std.specs.Prelude.{◌≡◌, ◌≤◌, ◌<◌, ◌↔◌, ◌++◌, [], IsTrue, OnOk, OnErr, length, drop};
 ghost use Rattle.octets.specs.Document.{IsFrontOf};
 
-use crate::page::{PAGE_BYTES, Page};
+use crate::page::{PAGE_BYTES, Page, first_room};
 use crate::paged::{Paged, in_pages};
 use std::alloc::{AllocError, Global};
 use std::marker::Model;
@@ -53,10 +53,14 @@ impl Pages {
         };
         let room = PAGE_BYTES - self.paged.last.octets().len();
         if piece.len() < room {
-            self.paged.last.append(piece)?;
+            self.paged
+                .last
+                .append(piece, first_room(self.paged.pages.len()))?;
         } else {
             let (front, behind) = piece.split_at(room);
-            self.paged.go_on(front, in_pages(self.alloc, behind)?)?;
+            let first = first_room(self.paged.pages.len());
+            self.paged
+                .go_on(front, in_pages(self.alloc, behind, first)?)?;
         }
         self.len = len;
         Ok(())
