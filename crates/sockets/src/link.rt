@@ -88,7 +88,13 @@ impl Link {
         over
     }
 
-    /// Reads some bytes; the count is 0 where none will come any more.
+    /// Whether a read has to wait: nothing was read ahead, and nothing was told since the last that had to.
+    pub(crate) fn has_nothing(&self) -> bool {
+        !self.readable && self.ahead.is_empty()
+    }
+
+    /// Reads some bytes, of those read ahead or of the system, which is asked else; the count is 0 where none
+    /// will come any more.
     pub(crate) fn read(&mut self, buffer: &mut [u8], moment: Moment) -> io::Result<usize>
         ensures { ReadsAtMost result buffer.new }
     {
@@ -105,9 +111,6 @@ impl Link {
     {
         if !self.ahead.is_empty() {
             return Ok(self.ahead.take(buffer));
-        }
-        if !self.readable {
-            return Err(waits());
         }
         if !self.much || !self.ahead.has_room() {
             return self.read_piece(buffer);

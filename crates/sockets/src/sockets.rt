@@ -288,6 +288,9 @@ impl Wire for Sockets {
             return Progress::End;
         };
         let over = link.is_over(moment);
+        if link.has_nothing() {
+            return Progress::Waiting;
+        }
         match link.read(buffer, moment) {
             Ok(0) => {
                 link.leaves(CloseReason::Left);
