@@ -64,6 +64,15 @@ body_left (Size room closes) = 0
 body_left (Trailer last) = 0
 body_left Nothing = 0
 
+-- what is awaited behind so many more bytes of a body, or of a chunk
+abbrev pub past_body : ℕ → Awaited → Awaited
+past_body count (Body left following) = Body (left - count) following
+past_body count Head = Head
+past_body count (Invitation framing closes) = Invitation framing closes
+past_body count (Size room closes) = Size room closes
+past_body count (Trailer last) = Trailer last
+past_body count Nothing = Nothing
+
 abbrev pub after_head : Request → Awaited
 after_head request = if request.invites then Invitation request.framing request.closes else body_by request.framing request.closes
 

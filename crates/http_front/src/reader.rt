@@ -1,6 +1,6 @@
 //! The reader of a client's stream.
-ghost use Rattle.std.specs.Prelude.{◌≡◌, ◌≤◌, ◌<◌, ◌+◌, ◌++◌, [], List, ℕ, OnOk, OnErr, IsOk, IsSome, None, true, take, drop, length as length_of};
-ghost use Rattle.http_front.specs.Stream.{Said, Stands, Answers, Steps, IsOver, work, after_body, body_by, body_left, after_head, begins_head};
+ghost use Rattle.std.specs.Prelude.{◌≡◌, ◌≤◌, ◌<◌, ◌+◌, ◌++◌, [], List, ℕ, OnOk, OnErr, IsOk, IsSome, IsTrue, IsFalse, None, true, take, drop, length as length_of};
+ghost use Rattle.http_front.specs.Stream.{Said, Stands, Answers, Steps, IsOver, work, after_body, body_by, body_left, past_body, after_head, begins_head};
 ghost use Rattle.text.specs.FirstLine.{first_line_of};
 ghost use Rattle.text.specs.declared.line.FirstLine.TheVariants.{Whole};
 ghost use Rattle.http_front.specs.Section.{section_in};
@@ -114,6 +114,25 @@ impl HttpReader {
             | Awaited::Size(_, _)
             | Awaited::Trailer(_)
             | Awaited::Nothing => 0,
+        }
+    }
+
+    /// Goes past so many bytes of a body that come next and aren't fed: whether it did. It doesn't where fewer
+    /// are left of a body, or of a chunk, nor where bytes that were fed aren't read yet.
+    pub fn pass_body(&mut self, count: u32) -> bool
+        ensures within { IsTrue result → count ≤ body_left self.old.awaited }
+        ensures passed { IsTrue result → self.new ≡ record { part = []; rest = []; awaited = past_body count self.old.awaited } }
+        ensures kept { IsFalse result → self.new ≡ self.old }
+    {
+        if !self.rest().is_empty() {
+            return false;
+        }
+        match self.awaited() {
+            Awaited::Body(left, next) if count <= left => {
+                self.pass(0, Awaited::Body(left - count, next));
+                true
+            }
+            _ => false,
         }
     }
 

@@ -46,9 +46,20 @@ impl HttpStream {
         if self.over {
             return output.leave_out(bytes.len());
         }
+        if self.pass_body(bytes) {
+            return self.message.blank(bytes, output);
+        }
         self.reader.feed(bytes)?;
         let count = self.blank_parts(bytes, output)?;
         output.keep(&bytes[count..])
+    }
+
+    /// Goes past bytes that are of a body alone, of which the reader needs only their number: whether they are.
+    fn pass_body(&mut self, bytes: &[u8]) -> bool {
+        match u32::try_from(bytes.len()) {
+            Ok(count) => self.reader.pass_body(count),
+            Err(_) => false,
+        }
     }
 
     /// Reads what was fed, and leaves out what is of documents in the parts of a body: how many bytes these
