@@ -1,6 +1,7 @@
 -- what public clauses say
 pub mod NamedPlan
 pub mod Writing
+pub mod Summary
 pub mod Ranges
 pub mod TextOf
 pub mod Reading

@@ -1,8 +1,11 @@
-//! The texts of plans, one line for each thing that a plan says.
+//! This crate reads and writes the text of a plan, which has one line for each thing that the plan says.
 //!
-//! A text is read as its plan, or refused for its first faulty line; a plan is written as its text,
-//! which is read back as that plan. Nothing here says whether a plan is any good: a text may hold a
-//! bad one, which a checker judges.
+//! [`read_plan_text`] gives the plan of a text, or the fault of its first faulty line. [`write_plan_text`]
+//! writes the text of a plan, which is read back as that plan. A text may hold a bad plan: `plan_checker`
+//! judges it.
+//!
+//! A played trace and a server's log tell of a plan in one line. [`put_class_word`] and
+//! [`put_stranded_word`] append the words of that line, and [`put_job_words`] those of a job and its device.
 //!
 //! Tests stand in `unit_tests`.
 #![tactic(auto)]
@@ -19,6 +22,7 @@ mod read_line;
 mod read_plan;
 mod round_trip;
 mod stage;
+mod summary;
 mod values;
 mod write_plan;
 mod write_word;
@@ -28,5 +32,6 @@ pub use named_plan::PlanText;
 pub use names::{has_one_each, name_of};
 pub use read_plan::read_plan_text;
 pub use round_trip::{one_text, text_read_back};
+pub use summary::{put_class_word, put_job_words, put_stranded_word};
 pub use write_plan::{write_named_plan, write_plan_text};
 pub use write_word::cause_word;

@@ -1,12 +1,11 @@
--- What is printed of an event: its reply, the cancels, the plan and what starts.
+-- The lines that a played trace prints of an event: its reply, the cancels, the plan and the starts.
 use Rattle.std.specs.Prelude.{ℕ, Bool, List, [], ◌∷◌, ◌++◌, Option, Some, None, codes, if◌then◌else◌}
-use Rattle.std.specs.Fmt.{decimal}
 use Rattle.hex.specs.Hex.{encode_lower}
 use Rattle.base_types.specs.declared.needs.Stranded.{Stranded}
 use Rattle.plan_prices.specs.declared.plan.PlannedClass.{PlannedClass}
 use Rattle.plan_prices.specs.Plan.{PlanRecord}
-use Rattle.plan_text.specs.NamedPlan.{name_at}
-use Rattle.plan_text.specs.Writing.{cause_word, plan_text}
+use Rattle.plan_text.specs.Summary.{class_word, stranded_word, job_words}
+use Rattle.plan_text.specs.Writing.{plan_text}
 use Rattle.events.specs.declared.effects.Cancel.{Cancel}
 use Rattle.print_room.specs.declared.started.Started.{Started}
 
@@ -16,20 +15,14 @@ reply_line bytes = codes "reply " ++ (encode_lower bytes ++ codes "\n")
 
 -- a cancel that is sent to a device
 abbrev pub cancel_line : List (List ℕ) → Cancel → List ℕ
-cancel_line names cancel = codes "cancel " ++ (decimal cancel.job ++ (codes " " ++ (name_at names cancel.device ++ codes "\n")))
+cancel_line names cancel = job_words (codes "cancel") names cancel.job cancel.device ++ codes "\n"
 
--- a class: its priority and its total
-abbrev pub class_word : PlannedClass → List ℕ
-class_word class = codes " " ++ (decimal class.priority ++ (codes ":" ++ decimal class.priced.total))
-
+-- the classes, the highest first, each with its total
 abbrev pub class_words : List PlannedClass → List ℕ
 class_words [] = []
-class_words (class ∷ classes) = class_word class ++ class_words classes
+class_words (class ∷ classes) = class_word class.priority class.priced.total ++ class_words classes
 
--- a job that no device can print, and why
-abbrev pub stranded_word : Stranded → List ℕ
-stranded_word stranded = codes " -" ++ (decimal stranded.job ++ (codes ":" ++ cause_word stranded.cause))
-
+-- the jobs that no device can print, each with its cause
 abbrev pub stranded_words : List Stranded → List ℕ
 stranded_words [] = []
 stranded_words (job ∷ stranded) = stranded_word job ++ stranded_words stranded
@@ -40,7 +33,7 @@ plan_line plan = codes "plan" ++ (class_words plan.classes ++ (stranded_words pl
 
 -- a job that a device starts
 abbrev pub start_line : List (List ℕ) → Started → List ℕ
-start_line names started = codes "start " ++ (decimal started.job ++ (codes " " ++ (name_at names started.device ++ codes "\n")))
+start_line names started = job_words (codes "start") names started.job started.device ++ codes "\n"
 
 abbrev pub start_lines : List (List ℕ) → List Started → List ℕ
 start_lines names [] = []

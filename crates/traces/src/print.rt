@@ -1,17 +1,16 @@
-//! What is printed of an event and of connections.
+//! These functions append the lines that a played trace prints of an event and of connections.
 ghost use Rattle.std.specs.Prelude.{◌≡◌, ◌++◌, OnOk, Option, codes};
 ghost use Rattle.std.specs.Option.{option_copied};
 ghost use Rattle.std.specs.Fmt.{decimal};
 ghost use Rattle.hex.specs.Hex.{encode_lower};
-ghost use Rattle.plan_text.specs.Writing.{cause_word};
-ghost use Rattle.traces.specs.Printed.{reply_line, cancel_line, class_word, class_words, stranded_word, stranded_words, plan_line, plan_lines, start_line, start_lines, dispatch_lines};
+ghost use Rattle.traces.specs.Printed.{reply_line, cancel_line, class_words, stranded_words, plan_line, plan_lines, start_line, start_lines, dispatch_lines};
 ghost use Rattle.traces.specs.Connections.{out_line, gone_line, peer_text, connection_text, connections_text};
 
 use crate::peers::Connection;
 use base_types::{Stranded, Text};
 use events::Cancel;
 use plan_prices::{Plan, PlannedClass};
-use plan_text::{cause_word, name_of, write_named_plan};
+use plan_text::{put_class_word, put_job_words, put_stranded_word, write_named_plan};
 use print_room::Started;
 use std::alloc::{AllocError, Global};
 use wires::MemoryPeer;
@@ -36,10 +35,7 @@ pub fn put_cancel(
 ) -> Result<(), AllocError>
     ensures { OnOk result (output.new.items ≡ output.old.items ++ cancel_line names.now cancel) }
 {
-    let job = cancel.job.number();
-    let words = format!(in alloc; "cancel {job} ")?;
-    output.extend_from_slice(words.as_bytes())?;
-    output.extend_from_slice(name_of(names, cancel.device))?;
+    put_job_words(alloc, output, "cancel", names, cancel.job, cancel.device)?;
     output.extend_from_slice(b"\n")?;
     Ok(())
 }
@@ -99,18 +95,8 @@ fn put_classes(
     ensures { OnOk result (output.new.items ≡ output.old.items ++ class_words classes.now) }
 {
     for class in classes {
-        put_class(alloc, output, class)?;
+        put_class_word(alloc, output, class.priority, class.priced.total)?;
     }
-    Ok(())
-}
-
-fn put_class(alloc: Global, output: &mut Vec<u8>, class: &PlannedClass) -> Result<(), AllocError>
-    ensures { OnOk result (output.new.items ≡ output.old.items ++ class_word class.now) }
-{
-    let priority = class.priority.level();
-    let total = class.priced.total;
-    let word = format!(in alloc; " {priority}:{total}")?;
-    output.extend_from_slice(word.as_bytes())?;
     Ok(())
 }
 
@@ -122,18 +108,8 @@ fn put_stranded_jobs(
     ensures { OnOk result (output.new.items ≡ output.old.items ++ stranded_words stranded.now) }
 {
     for job in stranded {
-        put_stranded(alloc, output, *job)?;
+        put_stranded_word(alloc, output, *job)?;
     }
-    Ok(())
-}
-
-fn put_stranded(alloc: Global, output: &mut Vec<u8>, stranded: Stranded) -> Result<(), AllocError>
-    ensures { OnOk result (output.new.items ≡ output.old.items ++ stranded_word stranded) }
-{
-    let job = stranded.job.number();
-    let cause = cause_word(stranded.cause);
-    let word = format!(in alloc; " -{job}:{cause}")?;
-    output.extend_from_slice(word.as_bytes())?;
     Ok(())
 }
 
@@ -159,10 +135,7 @@ fn put_start(
 ) -> Result<(), AllocError>
     ensures { OnOk result (output.new.items ≡ output.old.items ++ start_line names.now started) }
 {
-    let job = started.job.number();
-    let words = format!(in alloc; "start {job} ")?;
-    output.extend_from_slice(words.as_bytes())?;
-    output.extend_from_slice(name_of(names, started.device))?;
+    put_job_words(alloc, output, "start", names, started.job, started.device)?;
     output.extend_from_slice(b"\n")?;
     Ok(())
 }
