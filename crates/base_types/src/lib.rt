@@ -1,5 +1,6 @@
 //! The words that every crate of the server shares: ids, moments, priorities, limits, the forms of
-//! names, what a job needs, what a device is at a moment, and what a device reports.
+//! names, what a job needs, until when it is held, what a device is at a moment, and what a device
+//! reports.
 //!
 //! It promises the range of each type: a number that is out of range can't be made, as
 //! [`JobId::new`] shows. The forms ([`is_name`], [`is_media`], [`is_format`], [`is_uri_base`]) stand
@@ -13,6 +14,7 @@
 mod device;
 mod finishings;
 mod form;
+mod hold;
 mod ids;
 mod limits;
 mod moment;
@@ -24,6 +26,7 @@ mod text;
 pub use device::{Activity, DeviceNow, Interrupted, Medium, PrinterSet, Printing};
 pub use finishings::Finishings;
 pub use form::{is_format, is_media, is_name, is_uri_base};
+pub use hold::Hold;
 pub use ids::{DeviceId, JobId, PrinterId};
 pub use limits::Limits;
 pub use moment::Moment;

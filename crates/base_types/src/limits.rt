@@ -6,6 +6,8 @@ pub struct Limits;
 impl Limits {
     /// The last moment, in ms: 2^48, some 8,900 years.
     pub const LAST_MOMENT: u64 = 281_474_976_710_656;
+    /// The greatest integer of IPP (RFC 8010, section 3.9).
+    pub const LAST_INTEGER: u32 = 2_147_483_647;
 
     /// Devices in the settings.
     pub const DEVICES: usize = 32;
@@ -16,8 +18,8 @@ impl Limits {
     /// Finished jobs that are kept to be asked about.
     pub const FINISHED_JOBS_KEPT: usize = 256;
 
-    /// The greatest job id; IPP's integers end there (RFC 8010, section 3.9).
-    pub const LAST_JOB_ID: u32 = 2_147_483_647;
+    /// The greatest job id.
+    pub const LAST_JOB_ID: u32 = Limits::LAST_INTEGER;
     /// Octets of a job's documents together.
     pub const JOB_OCTETS: usize = 16_777_216;
     /// Documents of a job.
@@ -25,6 +27,9 @@ impl Limits {
     /// Time after which a job whose next document doesn't come is given up, in ms.
     pub const INCOMING_JOB_TIME: u64 = 300_000;
 
+    /// Bytes of an IPP message before its groups: its version, its operation or status, and its
+    /// request-id (RFC 8010, section 3.1.1).
+    pub const IPP_HEADER_BYTES: usize = 8;
     /// Bytes of the head of an IPP message, its end tag included.
     pub const IPP_HEAD_BYTES: usize = 65_536;
     /// Collections inside one another, the outermost counted as one.
@@ -35,7 +40,7 @@ impl Limits {
     /// Fields of an HTTP request's head.
     pub const HTTP_FIELDS: usize = 64;
     /// Bytes of an HTTP request's body: an IPP head and a job's octets.
-    pub const HTTP_BODY_BYTES: usize = 16_842_752;
+    pub const HTTP_BODY_BYTES: usize = Limits::IPP_HEAD_BYTES + Limits::JOB_OCTETS;
     /// Bytes of an HTTP chunk-size line.
     pub const HTTP_CHUNK_LINE_BYTES: usize = 256;
     /// Bytes of an HTTP trailer section.
@@ -75,7 +80,7 @@ impl Limits {
     /// Time of one job, in ms: `SETUP + IMPRESSIONS * COPIES * RATE`.
     pub const JOB_TIME: u64 = 599_403_600_000;
     /// Time for which a device says that it isn't free, in ms.
-    pub const BUSY: u32 = 2_147_483_647;
+    pub const BUSY: u32 = Limits::LAST_INTEGER;
     /// The moment from which every device may begin a job: 2^49, past any moment and any time that a
     /// device may say.
     pub const NOT_BEFORE: u64 = 562_949_953_421_312;

@@ -1,3 +1,7 @@
+//! What a job needs of a device, and why none has it.
+ghost use Rattle.std.specs.Prelude.{◌≡◌};
+ghost use Rattle.base_types.specs.Sides.{sides_keyword, sides_of_keyword};
+
 use crate::finishings::Finishings;
 use crate::ids::{JobId, PrinterId};
 use crate::text::Text;
@@ -12,6 +16,34 @@ pub enum Sides {
     LongEdge,
     /// Both sides, turned over the short edge.
     ShortEdge,
+}
+
+impl Sides {
+    /// Its keyword.
+    pub fn keyword(self) -> &'static str
+        ensures { result.now ≡ sides_keyword self }
+    {
+        match self {
+            Sides::One => "one-sided",
+            Sides::LongEdge => "two-sided-long-edge",
+            Sides::ShortEdge => "two-sided-short-edge",
+        }
+    }
+
+    /// The sides of a keyword.
+    pub fn of_keyword(word: &[u8]) -> Option<Sides>
+        ensures { result ≡ sides_of_keyword word.now }
+    {
+        if word == Sides::One.keyword().as_bytes() {
+            Some(Sides::One)
+        } else if word == Sides::LongEdge.keyword().as_bytes() {
+            Some(Sides::LongEdge)
+        } else if word == Sides::ShortEdge.keyword().as_bytes() {
+            Some(Sides::ShortEdge)
+        } else {
+            None
+        }
+    }
 }
 
 /// Why no device can print a job: the first of these tests that leaves none of its printer's

@@ -7,7 +7,7 @@ use text::number_up_to;
 
 /// The most impressions that a device may say it has printed of a job: IPP's integers end there
 /// (RFC 8010, section 3.9).
-pub const MOST_PRINTED: u32 = 2_147_483_647;
+pub const MOST_PRINTED: u32 = Limits::LAST_INTEGER;
 
 /// The id of a job that a word is in decimal digits, if it is a number up to the last one.
 pub(crate) fn job_in(word: &[u8]) -> Option<u32>

@@ -3,7 +3,7 @@ use Rattle.std.specs.Prelude.{ℕ, ◌≡◌, ◌==◌, ◌<◌, ◌+◌, ◌-�
 use Rattle.text.specs.FirstLine.{first_line_of}
 use Rattle.text.specs.declared.line.FirstLine.{FirstLine}
 use Rattle.text.specs.declared.line.FirstLine.TheVariants.{Whole, TooLong, Unfinished}
-use Rattle.base_types.specs.declared.limits.TheConstants.Limits.{HTTP_HEAD_BYTES, HTTP_BODY_BYTES, HTTP_CHUNK_LINE_BYTES, HTTP_TRAILER_BYTES}
+use Rattle.base_types.specs.declared.limits.TheConstants.Limits.{IPP_HEADER_BYTES, HTTP_HEAD_BYTES, HTTP_BODY_BYTES, HTTP_CHUNK_LINE_BYTES, HTTP_TRAILER_BYTES}
 use Rattle.http_front.specs.declared.refusal.HttpRejection.{HttpRejection}
 use Rattle.http_front.specs.declared.refusal.HttpRejection.TheVariants.{BadRequest, ContentTooLarge, HeadTooLarge}
 use Rattle.http_front.specs.declared.item.HttpItem.{HttpItem}
@@ -47,9 +47,9 @@ pub data Front : Type 0 where
 abbrev pub refused : HttpRejection → List ℕ → Front
 refused refusal rest = Goes (IsRefused refusal ∷ []) rest Nothing
 
--- nothing counts after an exchange that closes the connection, and after a body too short for an IPP message, which has 8 bytes at least (RFC 8010, section 3.1.1)
+-- nothing counts after an exchange that closes the connection, and after a body too short for an IPP message
 abbrev pub is_last : Bool → ℕ → Bool
-is_last closes count = closes || nat_lt count 8
+is_last closes count = closes || nat_lt count IPP_HEADER_BYTES
 
 abbrev pub body_by : Framing → Bool → Awaited
 body_by (Length count) closes = Body count (Close (is_last closes count))

@@ -15,15 +15,12 @@ pub(crate) fn after_head(request: Request) -> Awaited
     body_by(request.framing, request.closes)
 }
 
-/// The bytes that an IPP message has at least: its version, operation and request-id (RFC 8010,
-/// section 3.1.1).
-const SHORTEST_BODY: u32 = 8;
-
-/// Whether nothing counts after an exchange: it closes the connection, or its body has too few bytes.
+/// Whether nothing counts after an exchange: it closes the connection, or its body has too few bytes
+/// for an IPP message.
 pub(crate) fn is_last(closes: bool, length: u32) -> bool
     ensures { result ≡ is_last closes length }
 {
-    closes || length < SHORTEST_BODY
+    closes || length < Limits::IPP_HEADER_BYTES as u32
 }
 
 /// How a body is read.

@@ -17,7 +17,7 @@ use std::alloc::{AllocError, Global};
 use std::marker::Model;
 
 /// The bytes of a header (RFC 8010, section 3.1.1).
-const HEADER_BYTES: usize = 8;
+const HEADER_BYTES: usize = Limits::IPP_HEADER_BYTES;
 
 /// A decoder of a head whose bytes come in pieces of any length. In clauses it is a record of the
 /// bytes of the head that it keeps, how far they are read, and its stage.

@@ -1,9 +1,10 @@
 -- What of a request's job group a printer supports, and what the job becomes by it (RFC 8011, section 5.2).
-use Rattle.std.specs.Prelude.{ℕ, ◌==◌, ◌||◌, nat_lt, Bool, true, false, if◌then◌else◌, List, [], ◌∷◌, find, Option, Some, None, is_some, unwrap_or, codes}
+use Rattle.std.specs.Prelude.{ℕ, ◌==◌, ◌||◌, nat_lt, Bool, true, false, if◌then◌else◌, List, [], ◌∷◌, find, Option, Some, None, is_some, option_map, unwrap_or}
 use Rattle.std.specs.Option.{option_and_then, option_map_or}
 use Rattle.std.specs.Str.{bytes_eq}
 use Rattle.base_types.specs.declared.limits.TheConstants.Limits.{COPIES, HIGHEST_PRIORITY, DEFAULT_PRIORITY}
 use Rattle.base_types.specs.Finishings.{no_finishings}
+use Rattle.base_types.specs.Hold.{hold_of_keyword, is_held}
 use Rattle.base_types.specs.declared.finishings.Finishings.{Finishings}
 use Rattle.base_types.specs.declared.needs.Sides.{Sides}
 use Rattle.base_types.specs.declared.needs.Sides.TheVariants.{One}
@@ -68,10 +69,7 @@ priority_in attribute = option_and_then (up_to HIGHEST_PRIORITY) (number attribu
 
 -- whether the job is held, by the word of job-hold-until (section 5.2.2)
 abbrev pub hold_named : List ℕ → Option Bool
-hold_named word =
-    if bytes_eq word (codes "no-hold") then Some false
-    else if bytes_eq word (codes "indefinite") then Some true
-    else None
+hold_named word = option_map is_held (hold_of_keyword word)
 
 abbrev pub hold_in : IppAttribute → Option Bool
 hold_in attribute = option_and_then hold_named (keyword attribute)

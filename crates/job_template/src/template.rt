@@ -10,7 +10,7 @@ ghost use Rattle.ipp_codec.specs.Owned.{value_owned};
 use crate::request_attribute::{enumerated, keyword, number, wants_none, word};
 use crate::request_attributes::RequestAttributes;
 use crate::template_name::{TemplateName, template_name};
-use base_types::{Finishings, Limits, Priority, Sides, Text};
+use base_types::{Finishings, Hold, Limits, Priority, Sides, Text};
 use ipp_codec::{Attribute, Value};
 use printer_objects::{Finishing, Offer};
 use std::marker::Model;
@@ -84,13 +84,8 @@ fn priority_at(number: u32) -> Option<Priority>
 fn hold_named(word: &[u8]) -> Option<bool>
     ensures { result ≡ hold_named word.now }
 {
-    if word == b"no-hold".as_slice() {
-        Some(false)
-    } else if word == b"indefinite".as_slice() {
-        Some(true)
-    } else {
-        None
-    }
+    let hold = Hold::of_keyword(word)?;
+    Some(hold.is_held())
 }
 
 /// Whether an attribute asks for the job to be held, if it is supported.

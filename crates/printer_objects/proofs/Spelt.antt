@@ -2,7 +2,11 @@
 use Rattle.std.proofs.Common.{◌≡◌, inl, inr, ℕ, ℤ, ◌+◌, ◌/◌, ◌<◌, nat_lt, true, List, [], ◌∷◌, length, take, map, pos, min, refl, arith, codes, Option, Some, None}
 use Rattle.std.specs.List.{AllByRecursion}
 use Rattle.std.proofs.lemmas.List.{length-take}
-use Rattle.base_types.specs.declared.limits.TheConstants.Limits.{COLLECTION_DEPTH, COPIES, DEFAULT_PRIORITY, HIGHEST_PRIORITY, INCOMING_JOB_TIME}
+use Rattle.base_types.specs.declared.limits.TheConstants.Limits.{COLLECTION_DEPTH, COPIES, DEFAULT_PRIORITY, HIGHEST_PRIORITY, INCOMING_JOB_TIME, LAST_INTEGER}
+use Rattle.base_types.specs.declared.hold.Hold.TheVariants as hold
+use Rattle.base_types.specs.declared.needs.Sides.TheVariants as side
+use Rattle.base_types.specs.Hold.{hold_keyword, hold_where}
+use Rattle.base_types.specs.Sides.{sides_keyword}
 use Rattle.ipp_codec.specs.Message.{IppValue, IppAttribute, values_of}
 use Rattle.ipp_codec.specs.Grammar.{IsCollectionTag, HasShape, IsPlain, IsName, IsValue, AreValues, IsAttribute, IsGroup, IsGroupTag}
 use Rattle.ipp_codec.specs.Typed.{bytes_of_integer}
@@ -12,7 +16,7 @@ use Rattle.job_objects.specs.declared.reason.Reason.{Reason}
 use Rattle.job_objects.specs.declared.reason.JobReasons.{JobReasons}
 use Rattle.job_objects.specs.JobState.{state_code}
 use Rattle.job_objects.specs.Reasons.{keyword_of, reasons_of}
-use Rattle.printer_objects.specs.declared.attribute.TheConstants.{LAST_INTEGER, MILLIS_PER_SECOND, VALUE_BYTES}
+use Rattle.printer_objects.specs.declared.attribute.TheConstants.{MILLIS_PER_SECOND, VALUE_BYTES}
 use Rattle.printer_objects.specs.declared.finishing.Finishing.{Finishing}
 use Rattle.printer_objects.specs.declared.finishing.TheConstants.{NO_FINISHING}
 use Rattle.printer_objects.specs.declared.job_attribute.JobAttribute.{JobAttribute}
@@ -23,7 +27,7 @@ use Rattle.printer_objects.specs.Attribute.{alone, number, enumerated, no_value,
 use Rattle.printer_objects.specs.Created.{created_attributes}
 use Rattle.printer_objects.specs.Finishing.{finishing_code, each_finishing, finishings_attribute}
 use Rattle.printer_objects.specs.JobAttribute.{job_attribute_name}
-use Rattle.printer_objects.specs.JobShown.{ShownJob, job_uri, printer_uri, k_octets, impressions_shown, hold_until, sides_keyword, valued, job_shown, job_attributes}
+use Rattle.printer_objects.specs.JobShown.{ShownJob, job_uri, printer_uri, k_octets, impressions_shown, valued, job_shown, job_attributes}
 use Rattle.printer_objects.specs.Offered.{range}
 use Rattle.printer_objects.specs.Offer.{formats_of, media_of, ready_media_of, sides_of, finishings_of}
 use Rattle.printer_objects.specs.Operation.{operation_code, operation_table}
@@ -230,7 +234,7 @@ valued_is name shown job.TimeAtProcessing named = time_is name shown.job.started
 valued_is name shown job.TimeAtCompleted named = time_is name shown.job.finished named
 valued_is name shown job.PrinterUpTime named = time_is name (Some shown.moment) named
 valued_is name shown job.Copies named = number_one name shown.job.needs.copies named
-valued_is name shown job.HoldUntil named = keyword_one name (hold_until shown.job.held) named
+valued_is name shown job.HoldUntil named = keyword_one name (hold_keyword (hold_where shown.job.held)) named
 valued_is name shown job.Priority named = number_one name shown.job.priority named
 valued_is name shown job.Media named = keyword_one name shown.job.needs.media named
 valued_is name shown job.Sides named = keyword_one name (sides_keyword shown.job.needs.sides) named
@@ -260,14 +264,14 @@ valued_of_printer_is name shown printer.UpTime named = time_is name (Some shown.
 valued_of_printer_is name shown printer.CompressionSupported named = keyword_one name (codes "none") named
 valued_of_printer_is name shown printer.CopiesDefault named = number_one name 1 named
 valued_of_printer_is name shown printer.CopiesSupported named = one_is name (range 1 COPIES) named (range_is 1 COPIES)
-valued_of_printer_is name shown printer.HoldUntilDefault named = keyword_one name (codes "no-hold") named
-valued_of_printer_is name shown printer.HoldUntilSupported named = record { name = named; first = keyword_is (codes "no-hold"); others = (keyword_is (codes "indefinite"), tt) }
+valued_of_printer_is name shown printer.HoldUntilDefault named = keyword_one name (hold_keyword hold.NoHold) named
+valued_of_printer_is name shown printer.HoldUntilSupported named = record { name = named; first = keyword_is (hold_keyword hold.NoHold); others = (keyword_is (hold_keyword hold.Indefinite), tt) }
 valued_of_printer_is name shown printer.PriorityDefault named = number_one name DEFAULT_PRIORITY named
 valued_of_printer_is name shown printer.PrioritySupported named = number_one name HIGHEST_PRIORITY named
 valued_of_printer_is name shown printer.MediaDefault named = keyword_one name shown.offer.printer.media_default named
 valued_of_printer_is name shown printer.MediaSupported named = texts_are name tags.keyword (media_of shown.offer) named (omega arith) (omega arith)
 valued_of_printer_is name shown printer.MediaReady named = texts_are name tags.keyword (ready_media_of shown.offer) named (omega arith) (omega arith)
-valued_of_printer_is name shown printer.SidesDefault named = keyword_one name (codes "one-sided") named
+valued_of_printer_is name shown printer.SidesDefault named = keyword_one name (sides_keyword side.One) named
 valued_of_printer_is name shown printer.SidesSupported named = texts_are name tags.keyword (map sides_keyword (sides_of shown.offer)) named (omega arith) (omega arith)
 valued_of_printer_is name shown printer.FinishingsDefault named = enumerated_one name NO_FINISHING named
 valued_of_printer_is name shown printer.FinishingsSupported named = enumerations_are name (NO_FINISHING ∷ map finishing_code (finishings_of shown.offer)) named

@@ -1,12 +1,13 @@
 -- Attributes of the kinds that the tables have (RFC 8010, section 3.9).
 use Rattle.std.specs.Prelude.{ℕ, ◌+◌, ◌/◌, pos, min, map, take, List, [], ◌∷◌, Option, Some, None}
+use Rattle.base_types.specs.declared.limits.TheConstants.Limits.{LAST_INTEGER}
 use Rattle.ipp_codec.specs.Message.{IppValue, plain, IppAttribute}
 use Rattle.ipp_codec.specs.Typed.{bytes_of_integer}
 use Rattle.ipp_codec.specs.Tag as tags
 use Rattle.job_objects.specs.declared.reason.Reason.{Reason}
 use Rattle.job_objects.specs.declared.reason.JobReasons.{JobReasons}
 use Rattle.job_objects.specs.Reasons.{keyword_of}
-use Rattle.printer_objects.specs.declared.attribute.TheConstants.{LAST_INTEGER, MILLIS_PER_SECOND, VALUE_BYTES}
+use Rattle.printer_objects.specs.declared.attribute.TheConstants.{MILLIS_PER_SECOND, VALUE_BYTES}
 
 -- one value
 abbrev pub alone : List ℕ → IppValue → IppAttribute

@@ -1,8 +1,8 @@
 -- The attributes of a job and their values (RFC 8011, sections 5.3 and 5.2).
-use Rattle.std.specs.Prelude.{ℕ, ◌+◌, ◌-◌, ◌/◌, Bool, true, false, List, ◌++◌, map, Option, Some, None, codes}
+use Rattle.std.specs.Prelude.{ℕ, ◌+◌, ◌-◌, ◌/◌, Bool, List, ◌++◌, map, Option, Some, None, codes}
 use Rattle.std.specs.Fmt.{decimal}
-use Rattle.base_types.specs.declared.needs.Sides.{Sides}
-use Rattle.base_types.specs.declared.needs.Sides.TheVariants as side
+use Rattle.base_types.specs.Hold.{hold_keyword, hold_where}
+use Rattle.base_types.specs.Sides.{sides_keyword}
 use Rattle.ipp_codec.specs.Message.{IppAttribute, IppGroup}
 use Rattle.ipp_codec.specs.Tag as tags
 use Rattle.job_objects.specs.Job.{JobRecord}
@@ -10,7 +10,7 @@ use Rattle.job_objects.specs.JobState.{state_code}
 use Rattle.job_objects.specs.Reasons.{reasons_of}
 use Rattle.printer_objects.specs.declared.job_shown.TheConstants.{OCTETS_PER_K}
 use Rattle.printer_objects.specs.declared.job_attribute.JobAttribute.{JobAttribute}
-use Rattle.printer_objects.specs.declared.job_attribute.JobAttribute.TheVariants.{Uri, Id, PrinterUri, Name, OriginatingUserName, State, StateReasons, NumberOfDocuments, KOctets, Impressions, TimeAtCreation, TimeAtProcessing, TimeAtCompleted, PrinterUpTime, Copies, HoldUntil, Priority, Media, Sides as SidesOf, Finishings}
+use Rattle.printer_objects.specs.declared.job_attribute.JobAttribute.TheVariants.{Uri, Id, PrinterUri, Name, OriginatingUserName, State, StateReasons, NumberOfDocuments, KOctets, Impressions, TimeAtCreation, TimeAtProcessing, TimeAtCompleted, PrinterUpTime, Copies, HoldUntil, Priority, Media, Sides, Finishings}
 use Rattle.printer_objects.specs.Attribute.{alone, text, number, enumerated, keyword, time, reasons_attribute}
 use Rattle.printer_objects.specs.Finishing.{each_finishing, finishings_attribute}
 use Rattle.printer_objects.specs.JobAttribute.{job_attribute_name}
@@ -46,15 +46,6 @@ given_or None estimated = estimated
 abbrev pub impressions_shown : JobRecord → ℕ
 impressions_shown job = given_or job.impressions job.needs.impressions
 
-abbrev pub hold_until : Bool → List ℕ
-hold_until true = codes "indefinite"
-hold_until false = codes "no-hold"
-
-abbrev pub sides_keyword : Sides → List ℕ
-sides_keyword side.One = codes "one-sided"
-sides_keyword side.LongEdge = codes "two-sided-long-edge"
-sides_keyword side.ShortEdge = codes "two-sided-short-edge"
-
 -- the values of an attribute under its name
 abbrev pub valued : List ℕ → ShownJob → JobAttribute → IppAttribute
 valued name shown Uri = alone name (text tags.uri (job_uri shown.uri_base shown.job.id))
@@ -72,10 +63,10 @@ valued name shown TimeAtProcessing = alone name (time shown.job.started)
 valued name shown TimeAtCompleted = alone name (time shown.job.finished)
 valued name shown PrinterUpTime = alone name (time (Some shown.moment))
 valued name shown Copies = alone name (number shown.job.needs.copies)
-valued name shown HoldUntil = alone name (keyword (hold_until shown.job.held))
+valued name shown HoldUntil = alone name (keyword (hold_keyword (hold_where shown.job.held)))
 valued name shown Priority = alone name (number shown.job.priority)
 valued name shown Media = alone name (keyword shown.job.needs.media)
-valued name shown SidesOf = alone name (keyword (sides_keyword shown.job.needs.sides))
+valued name shown Sides = alone name (keyword (sides_keyword shown.job.needs.sides))
 valued name shown Finishings = finishings_attribute name (each_finishing shown.job.needs.finishings)
 
 -- an attribute of a job

@@ -7,13 +7,13 @@ use Rattle.std.specs.Str.{bytes_eq}
 use Rattle.base_types.specs.Device.{Device}
 use Rattle.base_types.specs.declared.needs.Sides.{Sides}
 use Rattle.base_types.specs.declared.needs.Sides.TheVariants.{One, LongEdge, ShortEdge}
+use Rattle.base_types.specs.Sides.{sides_keyword}
 use Rattle.settings_file.specs.Settings.{PrinterEntry}
 use Rattle.printer_objects.specs.declared.together.Listed.{Listed}
 use Rattle.printer_objects.specs.declared.together.Listed.TheVariants.{Formats, Media, LoadedMedia}
 use Rattle.printer_objects.specs.declared.finishing.Finishing.{Finishing}
 use Rattle.printer_objects.specs.Finishing.{finishing_table, finishing_code, has_finishing}
 use Rattle.printer_objects.specs.DocumentFormat.{is_same_format}
-use Rattle.printer_objects.specs.JobShown.{sides_keyword}
 use Rattle.printer_objects.specs.Together.{listed_by, distinct}
 
 -- all devices, and a printer, which names its own among them by their places

@@ -1,11 +1,13 @@
 -- Attributes of a printer that say what it offers.
-use Rattle.std.specs.Prelude.{ℕ, List, [], ◌∷◌, ◌++◌, map, codes}
+use Rattle.std.specs.Prelude.{ℕ, List, [], ◌∷◌, ◌++◌, map}
 use Rattle.std.specs.Int.{w32, to_be_bytes}
+use Rattle.base_types.specs.declared.hold.Hold.TheVariants.{NoHold, Indefinite}
 use Rattle.base_types.specs.declared.needs.Sides.{Sides}
+use Rattle.base_types.specs.Hold.{hold_keyword}
+use Rattle.base_types.specs.Sides.{sides_keyword}
 use Rattle.ipp_codec.specs.Message.{IppValue, plain, IppAttribute}
 use Rattle.ipp_codec.specs.Tag as tags
 use Rattle.printer_objects.specs.Attribute.{enumerations, keyword, texts_attribute}
-use Rattle.printer_objects.specs.JobShown.{sides_keyword}
 use Rattle.printer_objects.specs.declared.operation.Operation.{Operation}
 use Rattle.printer_objects.specs.Operation.{operation_code}
 
@@ -18,7 +20,7 @@ abbrev pub range : ℕ → ℕ → IppValue
 range least most = plain tags.range_of_integer (to_be_bytes w32 least ++ to_be_bytes w32 most)
 
 abbrev pub hold_untils_attribute : List ℕ → IppAttribute
-hold_untils_attribute name = record { name = name; first = keyword (codes "no-hold"); others = keyword (codes "indefinite") ∷ [] }
+hold_untils_attribute name = record { name = name; first = keyword (hold_keyword NoHold); others = keyword (hold_keyword Indefinite) ∷ [] }
 
 -- sides by their keywords, in order
 abbrev pub sides_attribute : List ℕ → List Sides → IppAttribute

@@ -1,6 +1,10 @@
 -- The attributes of a printer and their values (RFC 8011, sections 5.4 and 5.2).
 use Rattle.std.specs.Prelude.{ℕ, ◌/◌, Bool, List, [], ◌∷◌, map, filter, Some, codes}
 use Rattle.base_types.specs.declared.limits.TheConstants.Limits.{COPIES, DEFAULT_PRIORITY, HIGHEST_PRIORITY, INCOMING_JOB_TIME}
+use Rattle.base_types.specs.declared.hold.Hold.TheVariants.{NoHold}
+use Rattle.base_types.specs.declared.needs.Sides.TheVariants.{One}
+use Rattle.base_types.specs.Hold.{hold_keyword}
+use Rattle.base_types.specs.Sides.{sides_keyword}
 use Rattle.ipp_codec.specs.Message.{plain, IppAttribute, IppGroup}
 use Rattle.ipp_codec.specs.Tag as tags
 use Rattle.printer_objects.specs.declared.attribute.TheConstants.{MILLIS_PER_SECOND}
@@ -55,14 +59,14 @@ valued_of_printer name shown UpTime = alone name (time (Some shown.moment))
 valued_of_printer name shown CompressionSupported = alone name (keyword (codes "none"))
 valued_of_printer name shown CopiesDefault = alone name (number 1)
 valued_of_printer name shown CopiesSupported = alone name (range 1 COPIES)
-valued_of_printer name shown HoldUntilDefault = alone name (keyword (codes "no-hold"))
+valued_of_printer name shown HoldUntilDefault = alone name (keyword (hold_keyword NoHold))
 valued_of_printer name shown HoldUntilSupported = hold_untils_attribute name
 valued_of_printer name shown PriorityDefault = alone name (number DEFAULT_PRIORITY)
 valued_of_printer name shown PrioritySupported = alone name (number HIGHEST_PRIORITY)
 valued_of_printer name shown MediaDefault = alone name (keyword shown.offer.printer.media_default)
 valued_of_printer name shown MediaSupported = texts_attribute name tags.keyword (media_of shown.offer)
 valued_of_printer name shown MediaReady = texts_attribute name tags.keyword (ready_media_of shown.offer)
-valued_of_printer name shown SidesDefault = alone name (keyword (codes "one-sided"))
+valued_of_printer name shown SidesDefault = alone name (keyword (sides_keyword One))
 valued_of_printer name shown SidesSupported = sides_attribute name (sides_of shown.offer)
 valued_of_printer name shown FinishingsDefault = alone name (enumerated NO_FINISHING)
 valued_of_printer name shown FinishingsSupported = finishings_supported name (finishings_of shown.offer)

@@ -5,13 +5,11 @@ ghost use Rattle.ipp_codec.specs.Owned.{value_owned};
 ghost use Rattle.ipp_codec.specs.Tag as tags;
 ghost use Rattle.printer_objects.specs.Attribute.{alone, text, number, enumerated, keyword, no_value, time, reasons_attribute, texts_attribute};
 
-use base_types::{Moment, Text};
+use base_types::{Limits, Moment, Text};
 use ipp_codec::{Attribute, Value, ValueTag};
 use job_objects::JobReasons;
 use std::alloc::{AllocError, Global};
 
-/// The greatest integer of IPP (RFC 8010, section 3.9).
-pub(crate) const LAST_INTEGER: u64 = 2_147_483_647;
 /// Times are shown in seconds.
 pub(crate) const MILLIS_PER_SECOND: u64 = 1_000;
 /// The most bytes of a value: their number is a short integer with a sign (RFC 8010, section 3.8).
@@ -167,7 +165,7 @@ pub(crate) fn texts(
 
 /// The number as an integer of IPP: one past the greatest is the greatest.
 fn integer(number: u64) -> i32
-    ensures { result ≡ pos (min number LAST_INTEGER) }
+    ensures { result ≡ pos (min number Limits.LAST_INTEGER) }
 {
-    number.min(LAST_INTEGER) as i32
+    number.min(u64::from(Limits::LAST_INTEGER)) as i32
 }

@@ -1,11 +1,11 @@
 //! The attributes of a job, with their values.
 ghost use Rattle.std.specs.Prelude.{◌≡◌, ◌++◌, IfOk, None, Some};
-ghost use Rattle.printer_objects.specs.JobShown.{job_uri, printer_uri, hold_until, sides_keyword, k_octets, impressions_shown, job_shown, job_attributes};
+ghost use Rattle.printer_objects.specs.JobShown.{job_uri, printer_uri, k_octets, impressions_shown, job_shown, job_attributes};
 
 use crate::attribute::{enumerated, keyword, number, reasons, text, time};
 use crate::finishing::{each_finishing, finishings};
 use crate::job_attribute::JobAttribute;
-use base_types::{JobId, Moment, Sides, Text};
+use base_types::{Hold, JobId, Moment, Text};
 use ipp_codec::{Attribute, Group, GroupTag, ValueTag};
 use job_objects::Job;
 use std::alloc::{AllocError, Global};
@@ -90,12 +90,15 @@ impl JobAttribute {
             JobAttribute::TimeAtCompleted => time(alloc, name, job.finished),
             JobAttribute::PrinterUpTime => time(alloc, name, Some(shown.moment)),
             JobAttribute::Copies => number(alloc, name, u64::from(job.needs.copies)),
-            JobAttribute::HoldUntil => keyword(alloc, name, hold_until(job.held).as_bytes()),
+            JobAttribute::HoldUntil => {
+                let hold = Hold::held_where(job.held);
+                keyword(alloc, name, hold.keyword().as_bytes())
+            }
             JobAttribute::Priority => number(alloc, name, u64::from(job.priority.level())),
             JobAttribute::Media => keyword(alloc, name, job.needs.media.as_bytes()),
             JobAttribute::Sides => {
-                let sides = sides_keyword(job.needs.sides);
-                keyword(alloc, name, sides.as_bytes())
+                let sides = job.needs.sides;
+                keyword(alloc, name, sides.keyword().as_bytes())
             }
             JobAttribute::Finishings => {
                 let each = each_finishing(alloc, job.needs.finishings)?;
@@ -140,23 +143,5 @@ fn impressions(job: &Job) -> u64
     match job.impressions {
         Some(given) => u64::from(given),
         None => u64::from(job.needs.impressions),
-    }
-}
-
-/// Until when a job is held.
-fn hold_until(held: bool) -> &'static str
-    ensures { result.now ≡ hold_until held }
-{
-    if held { "indefinite" } else { "no-hold" }
-}
-
-/// The keyword of sides (RFC 8011, section 5.2.8).
-pub(crate) fn sides_keyword(sides: Sides) -> &'static str
-    ensures { result.now ≡ sides_keyword sides }
-{
-    match sides {
-        Sides::One => "one-sided",
-        Sides::LongEdge => "two-sided-long-edge",
-        Sides::ShortEdge => "two-sided-short-edge",
     }
 }

@@ -4,15 +4,14 @@ ghost use Rattle.std.specs.Prelude.{◌≡◌, ◌==◌, ◌&&◌, find, map, If
 ghost use Rattle.std.specs.Option.{option_copied};
 ghost use Rattle.std.specs.List.{slice_get};
 ghost use Rattle.std.specs.Str.{bytes_eq};
+ghost use Rattle.base_types.specs.Sides.{sides_keyword};
 ghost use Rattle.printer_objects.specs.DocumentFormat.{is_same_format};
-ghost use Rattle.printer_objects.specs.JobShown.{sides_keyword};
 ghost use Rattle.printer_objects.specs.Together.{with_entries, distinct};
 ghost use Rattle.printer_objects.specs.Offer.{listed_at, listed_of, formats_of, media_of, ready_media_of, is_two_sided, prints_two_sided, sides_of, finishes_so, offers_finishing, finishings_of, format_named, medium_named, sides_named, finishing_named};
 ghost use Rattle.printer_objects.specs.Finishing.{finishing_code};
 
 use crate::document_format::is_same_format;
 use crate::finishing::Finishing;
-use crate::job_shown::sides_keyword;
 use crate::together::{Listed, add_listed, add_once};
 use base_types::{DeviceId, DeviceNow, Medium, Sides, Text};
 use settings_file::PrinterSettings;
@@ -326,5 +325,5 @@ fn sides_among<'a>(sides: &'a [Sides], keyword: &[u8]) -> Option<&'a Sides>
 {
     sides
         .iter()
-        .find(|sides| keyword == sides_keyword(**sides).as_bytes())
+        .find(|sides| keyword == sides.keyword().as_bytes())
 }

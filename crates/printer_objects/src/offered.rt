@@ -4,9 +4,8 @@ ghost use Rattle.printer_objects.specs.Attribute.{alone};
 ghost use Rattle.printer_objects.specs.Offered.{operations_attribute, range, hold_untils_attribute, sides_attribute};
 
 use crate::attribute::{bytes, enumerated, enumeration, keyword, no_value, text_value};
-use crate::job_shown::sides_keyword;
 use crate::operation::Operation;
-use base_types::{Limits, Sides};
+use base_types::{Hold, Limits, Sides};
 use ipp_codec::{Attribute, ValueTag};
 use std::alloc::{AllocError, Global};
 
@@ -43,8 +42,9 @@ pub(crate) fn copies(alloc: Global, name: &str) -> Result<Attribute, AllocError>
 pub(crate) fn hold_untils(alloc: Global, name: &str) -> Result<Attribute, AllocError>
     ensures { IfOk result (λ a. a ≡ hold_untils_attribute name.now) }
 {
-    let mut attribute = keyword(alloc, name, b"no-hold")?;
-    let value = text_value(alloc, ValueTag::KEYWORD, b"indefinite")?;
+    let mut attribute = keyword(alloc, name, Hold::NoHold.keyword().as_bytes())?;
+    let indefinite = Hold::Indefinite.keyword();
+    let value = text_value(alloc, ValueTag::KEYWORD, indefinite.as_bytes())?;
     attribute.push(value)?;
     Ok(attribute)
 }
@@ -56,10 +56,9 @@ pub(crate) fn sides(alloc: Global, name: &str, sides: &[Sides]) -> Result<Attrib
     let [first, others @ ..] = sides else {
         return no_value(alloc, name);
     };
-    let mut attribute = keyword(alloc, name, sides_keyword(*first).as_bytes())?;
+    let mut attribute = keyword(alloc, name, first.keyword().as_bytes())?;
     for sides in others {
-        let keyword = sides_keyword(*sides);
-        let value = text_value(alloc, ValueTag::KEYWORD, keyword.as_bytes())?;
+        let value = text_value(alloc, ValueTag::KEYWORD, sides.keyword().as_bytes())?;
         attribute.push(value)?;
     }
     Ok(attribute)

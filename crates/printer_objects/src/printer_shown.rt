@@ -12,7 +12,7 @@ use crate::offered::{copies, hold_untils, operations, sides};
 use crate::operation::Operation;
 use crate::printer_attribute::PrinterAttribute;
 use crate::state::{printer_reason, printer_state};
-use base_types::{Limits, Moment, Text};
+use base_types::{Hold, Limits, Moment, Sides, Text};
 use ipp_codec::{Attribute, Group, GroupTag, ValueTag};
 use job_objects::Printer;
 use std::alloc::{AllocError, Global};
@@ -124,7 +124,9 @@ impl PrinterAttribute {
             PrinterAttribute::CompressionSupported => keyword(alloc, name, b"none"),
             PrinterAttribute::CopiesDefault => number(alloc, name, 1),
             PrinterAttribute::CopiesSupported => copies(alloc, name),
-            PrinterAttribute::HoldUntilDefault => keyword(alloc, name, b"no-hold"),
+            PrinterAttribute::HoldUntilDefault => {
+                keyword(alloc, name, Hold::NoHold.keyword().as_bytes())
+            }
             PrinterAttribute::HoldUntilSupported => hold_untils(alloc, name),
             PrinterAttribute::PriorityDefault => number(
                 alloc,
@@ -149,7 +151,9 @@ impl PrinterAttribute {
                 let media = offer.ready_media(alloc)?;
                 texts(alloc, name, ValueTag::KEYWORD, &media)
             }
-            PrinterAttribute::SidesDefault => keyword(alloc, name, b"one-sided"),
+            PrinterAttribute::SidesDefault => {
+                keyword(alloc, name, Sides::One.keyword().as_bytes())
+            }
             PrinterAttribute::SidesSupported => sides(alloc, name, offer.sides()),
             PrinterAttribute::FinishingsDefault => enumerated(alloc, name, NO_FINISHING),
             PrinterAttribute::FinishingsSupported => {
