@@ -114,12 +114,7 @@ fn supported_copies(copies: u32, printer: &MessageView<'_>) -> Option<u32> {
 
 /// The keyword of sides, where the printer supports it.
 fn supported_sides(sides: Sides, printer: &MessageView<'_>) -> Option<&'static [u8]> {
-    let word: &'static [u8] = match sides {
-        Sides::One => b"one-sided",
-        Sides::LongEdge => b"two-sided-long-edge",
-        Sides::ShortEdge => b"two-sided-short-edge",
-    };
-    supported(word, printer, b"sides-supported")
+    supported(sides.keyword().as_bytes(), printer, b"sides-supported")
 }
 
 /// Those finishings that the printer supports.

@@ -1,7 +1,9 @@
 -- What is read of a request about one job (RFC 8011, section 4.3).
-use Rattle.std.specs.Prelude.{ℕ, if◌then◌else◌, List, codes}
+use Rattle.std.specs.Prelude.{ℕ, List, Option, Some, None}
 use Rattle.std.specs.Option.{option_map_or}
-use Rattle.std.specs.Str.{bytes_eq}
+use Rattle.base_types.specs.declared.hold.Hold.{Hold}
+use Rattle.base_types.specs.declared.hold.Hold.TheVariants as hold
+use Rattle.base_types.specs.Hold.{hold_of_keyword}
 use Rattle.ipp_codec.specs.Message.{IppGroup}
 use Rattle.events.specs.declared.event.JobRequest.{JobRequest}
 use Rattle.events.specs.declared.event.SendDocument.{SendDocument}
@@ -23,12 +25,14 @@ job_request_of group = record { target = job_target group; user = user_of group 
 abbrev pub send_document_of : IppGroup → List ℕ → SendDocument
 send_document_of group document = record { job = job_request_of group; form = form_of group; octets = document; last = truth_of LastDocument group }
 
--- until when a word says that the job is to be held; the attribute of another word is returned
+-- until when a keyword says that the job is to be held; the attribute of another word is returned
+abbrev pub hold_until_named : IppGroup → Option Hold → HoldUntil
+hold_until_named group (Some hold.NoHold) = NoHold
+hold_until_named group (Some hold.Indefinite) = Indefinite
+hold_until_named group None = Unsupported (as_it_came JobHoldUntil group)
+
 abbrev pub hold_until_in : IppGroup → List ℕ → HoldUntil
-hold_until_in group word =
-    if bytes_eq word (codes "no-hold") then NoHold
-    else if bytes_eq word (codes "indefinite") then Indefinite
-    else Unsupported (as_it_came JobHoldUntil group)
+hold_until_in group word = hold_until_named group (hold_of_keyword word)
 
 -- until when a job is to be held: `indefinite` where nothing is said of it
 abbrev pub hold_until_of : IppGroup → HoldUntil

@@ -2,15 +2,15 @@
 use Rattle.std.specs.Prelude.{ℕ, ◌==◌, ◌&&◌, nat_le, Bool, false, if◌then◌else◌, List, [], ◌∷◌, find, Option, Some, None, codes}
 use Rattle.std.specs.Option.{option_map_or}
 use Rattle.std.specs.Str.{bytes_eq, str_eq_ignore_ascii_case}
+use Rattle.base_types.specs.declared.limits.TheConstants.Limits.{LAST_INTEGER}
 use Rattle.ipp_codec.specs.Message.{tag_of, bytes_in, IppAttribute, IppGroup, IppMessage}
 use Rattle.ipp_codec.specs.Tag as tags
-use Rattle.ipp_operations.specs.declared.request.TheConstants.{LAST_REQUEST_ID}
 use Rattle.ipp_operations.specs.declared.operation_attribute.OperationAttribute.TheVariants.{RequestingUserName}
 use Rattle.ipp_operations.specs.Attributes.{first_named, first_of_each, name_or}
 
 -- a request-id is from 1 to the last one
 abbrev pub is_request_id : ℕ → Bool
-is_request_id id = nat_le 1 id && nat_le id LAST_REQUEST_ID
+is_request_id id = nat_le 1 id && nat_le id LAST_INTEGER
 
 -- an attribute of this name, whose first value has this tag
 abbrev pub is_named : List ℕ → ℕ → IppAttribute → Bool

@@ -11,6 +11,7 @@ use crate::operation_attribute::OperationAttribute;
 use crate::request::user_of;
 use crate::requested::requested_of;
 use crate::target::job_target;
+use base_types::Hold;
 use events::{GetJobAttributes, HoldJob, HoldUntil, JobRequest, SendDocument};
 use ipp_codec::GroupView;
 use octets::{Octets, Pages};
@@ -55,13 +56,10 @@ fn hold_until_of(alloc: Global, group: &GroupView<'_>) -> Result<HoldUntil, Allo
     let Some(value) = value_of(group, which) else {
         return Ok(HoldUntil::Indefinite);
     };
-    let word = value.bytes();
-    if word == b"no-hold".as_slice() {
-        Ok(HoldUntil::NoHold)
-    } else if word == b"indefinite".as_slice() {
-        Ok(HoldUntil::Indefinite)
-    } else {
-        Ok(HoldUntil::Unsupported(as_it_came(alloc, group, which)?))
+    match Hold::of_keyword(value.bytes()) {
+        Some(Hold::NoHold) => Ok(HoldUntil::NoHold),
+        Some(Hold::Indefinite) => Ok(HoldUntil::Indefinite),
+        None => Ok(HoldUntil::Unsupported(as_it_came(alloc, group, which)?)),
     }
 }
 

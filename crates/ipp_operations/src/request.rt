@@ -7,13 +7,10 @@ ghost use Rattle.ipp_operations.specs.Request.{is_request_id, is_named, begins_r
 use crate::attributes::{first_named, name_or};
 use crate::copied::first_of_each;
 use crate::operation_attribute::OperationAttribute;
-use base_types::Text;
+use base_types::{Limits, Text};
 use ipp_codec::{AttributeView, GroupTag, GroupView, MessageView, ValueTag};
 use job_template::RequestAttributes;
 use std::alloc::{AllocError, Global};
-
-/// The greatest request-id: its syntax is `integer(1:MAX)` (RFC 8011, section 4.1.2).
-pub(crate) const LAST_REQUEST_ID: u32 = 2_147_483_647;
 
 /// The operation group of a request, which is its first group; none where the message is no request.
 pub(crate) fn operation_group<'a>(message: &MessageView<'a>) -> Option<GroupView<'a>>
@@ -30,11 +27,11 @@ pub(crate) fn operation_group<'a>(message: &MessageView<'a>) -> Option<GroupView
     }
 }
 
-/// Whether a number is a request-id (RFC 8011, section 4.1.2).
+/// Whether a number is a request-id, whose syntax is `integer(1:MAX)` (RFC 8011, section 4.1.2).
 fn is_request_id(id: u32) -> bool
     ensures { result ≡ is_request_id id }
 {
-    1 <= id && id <= LAST_REQUEST_ID
+    1 <= id && id <= Limits::LAST_INTEGER
 }
 
 /// Whether a group is the operation group of a request.

@@ -2,7 +2,7 @@
 
 use crate::column::Column;
 use crate::fault::{LineError, ListFault};
-use crate::field::{finishings_named, number_in, printer_named, sides_named, up_to};
+use crate::field::{finishings_named, number_in, printer_named, up_to};
 use base_types::{Finishings, Limits, Needs, PrinterId, Sides, Text};
 use job_objects::estimated_impressions;
 use settings_file::{PrinterSettings, Settings};
@@ -103,7 +103,7 @@ impl<'a> Draft<'a> {
     ) -> Result<(), ListFault> {
         let fault = ListFault::Field(column);
         match column {
-            Column::Sides => self.sides = sides_named(field).ok_or(fault)?,
+            Column::Sides => self.sides = Sides::of_keyword(field).ok_or(fault)?,
             Column::Finishings => self.finishings = finishings_named(field).ok_or(fault)?,
             Column::Printer => {
                 self.printer = printer_named(&settings.printers, field).ok_or(fault)?;

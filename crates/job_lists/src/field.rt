@@ -1,7 +1,7 @@
 //! What a field says.
 ghost use Rattle.std.specs.Prelude.{◌≤◌, ◌<◌, ◌^◌, ◌-◌, IfSome, length};
 
-use base_types::{Finishings, Sides};
+use base_types::Finishings;
 use printer_objects::Finishing;
 use settings_file::PrinterSettings;
 
@@ -12,19 +12,6 @@ pub(crate) fn number_in(field: &[u8], least: u32, most: u32) -> Option<u32>
 {
     let number = text::number_up_to(field, u64::from(most))? as u32;
     if number < least { None } else { Some(number) }
-}
-
-/// The sides of a keyword (RFC 8011, section 5.2.8).
-pub(crate) fn sides_named(field: &[u8]) -> Option<Sides> {
-    if field == b"one-sided".as_slice() {
-        Some(Sides::One)
-    } else if field == b"two-sided-long-edge".as_slice() {
-        Some(Sides::LongEdge)
-    } else if field == b"two-sided-short-edge".as_slice() {
-        Some(Sides::ShortEdge)
-    } else {
-        None
-    }
 }
 
 fn finishing_named(word: &[u8]) -> Option<Finishing> {

@@ -2,6 +2,7 @@
 ghost use Rattle.std.specs.Prelude.{◌≡◌, ◌+◌, ◌≤◌, OnOk, length};
 
 use crate::blanked::Blanked;
+use base_types::Limits;
 use std::alloc::AllocError;
 
 /// What comes next of a message (RFC 8010, section 3.1).
@@ -27,7 +28,7 @@ enum Behind {
 }
 
 /// How many bytes stand in front of the groups: a version, an operation or status, a number.
-const FRONT: u32 = 8;
+const FRONT: u32 = Limits::IPP_HEADER_BYTES as u32;
 
 /// The tag that ends the attributes.
 const END_OF_ATTRIBUTES: u8 = 3;

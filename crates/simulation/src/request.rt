@@ -1,7 +1,7 @@
 //! A job of a list as the body of a Print-Job request (RFC 8010, section 3; RFC 8011, section 4.2.1).
 
 use crate::bytes::Bytes;
-use base_types::{Finishings, Sides, Text};
+use base_types::{Finishings, Text};
 use job_lists::ListedJob;
 use settings_file::Settings;
 use std::alloc::{AllocError, Global};
@@ -45,15 +45,6 @@ fn put_value(body: Bytes, tag: u8, name: &str, value: &[u8]) -> Bytes {
 
 fn put_number(body: Bytes, tag: u8, name: &str, value: u32) -> Bytes {
     put_value(body, tag, name, &value.to_be_bytes())
-}
-
-/// The keyword of sides (RFC 8011, section 5.2.8).
-fn sides_keyword(sides: Sides) -> &'static str {
-    match sides {
-        Sides::One => "one-sided",
-        Sides::LongEdge => "two-sided-long-edge",
-        Sides::ShortEdge => "two-sided-short-edge",
-    }
 }
 
 /// Appends a finishing that is wanted.
@@ -106,12 +97,7 @@ fn put_job(body: Bytes, job: &ListedJob) -> Bytes {
     let needs = &job.needs;
     let body = put_number(body, INTEGER, "copies", needs.copies);
     let body = put_value(body, KEYWORD, "media", needs.media.as_bytes());
-    let body = put_value(
-        body,
-        KEYWORD,
-        "sides",
-        sides_keyword(needs.sides).as_bytes(),
-    );
+    let body = put_value(body, KEYWORD, "sides", needs.sides.keyword().as_bytes());
     let body = put_number(body, INTEGER, "job-priority", u32::from(job.priority));
     put_finishings(body, needs.finishings)
 }

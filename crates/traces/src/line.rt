@@ -48,7 +48,7 @@ pub struct Input {
 }
 
 /// The greatest number of a connection.
-const LAST_NUMBER: u64 = 2_147_483_647;
+const LAST_NUMBER: u64 = Limits::LAST_INTEGER as u64;
 
 /// What a line of a trace says, where the devices have these names; nothing where it is no such
 /// line.
