@@ -10,16 +10,13 @@ use base_types::Moment;
 use dispatcher::{AllocationSite, DeviceRefusal, Dispatched, Listener};
 use events::Cancel;
 use recordings::{NoteText, Noted};
-use server::NoteLog;
+use server::{NoteLog, TICK_TIME};
 use settings_file::Settings;
 use sockets::{ConnectionEvent, ConnectionLog, Listening, Sockets};
 use std::alloc::{AllocError, Global};
 use std::io;
 use std::time::Duration;
 use wires::WireId;
-
-/// Ms between the ticks of an engine. A turn that ticks is recorded, whatever else it does.
-const TICK_TIME: u64 = 1000;
 
 /// A server: its engine, its sockets, what its log is made of, and the moment of the last turn that is
 /// recorded for its tick.
@@ -124,7 +121,7 @@ impl Server {
         self.wire.notes.keeps()
     }
 
-    /// Whether its engine ticks in a turn of this moment.
+    /// Whether its engine ticks in a turn of this moment. Such a turn is recorded, whatever else it does.
     fn ticks_at(&self, moment: Moment) -> bool {
         match self.ticked {
             Some(last) => moment.millis().saturating_sub(last.millis()) >= TICK_TIME,

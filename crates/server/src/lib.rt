@@ -27,3 +27,4 @@ pub use engine::Engine;
 pub use law::{action_is_one_event, closed_were_given, last_words_are_kept, trace_is_one_run};
 pub use note_log::{LoggedNote, NoteLog};
 pub use served::Served;
+pub use ticks::TICK_TIME;

@@ -11,8 +11,8 @@ use events::Event;
 use plan_prices::Planner;
 use wires::Wire;
 
-/// Ms between ticks.
-const TICK_TIME: u64 = 1000;
+/// Ms between the ticks of an engine.
+pub const TICK_TIME: u64 = 1000;
 
 /// Ticks, by which jobs whose documents don't come are aborted and a dispatch is tried again.
 impl<P: Planner + Drop> Engine<P> {
