@@ -1,6 +1,6 @@
-//! Which plans a log has a line of.
+//! [`LastPlan`] keeps the words of the last plan, and tells whether the log has a line of it.
 use base_types::{Priority, Stranded};
-use plan_text::cause_word;
+use plan_text::{put_class_word, put_stranded_word};
 use std::alloc::{AllocError, Global};
 use std::mem;
 
@@ -40,17 +40,12 @@ impl LastPlan {
 
     /// It has a class with this total of completion times in ms.
     pub(crate) fn add_class(&mut self, priority: Priority, total: u64) -> Result<(), AllocError> {
-        let level = priority.level();
-        let words = format!(in self.alloc; " {level}:{total}")?;
-        self.totals.extend_from_slice(words.as_bytes())
+        put_class_word(self.alloc, &mut self.totals, priority, total)
     }
 
     /// No device can print this job.
     pub(crate) fn add_stranded(&mut self, stranded: Stranded) -> Result<(), AllocError> {
-        let job = stranded.job.number();
-        let cause = cause_word(stranded.cause);
-        let words = format!(in self.alloc; " -{job}:{cause}")?;
-        self.stranded.extend_from_slice(words.as_bytes())
+        put_stranded_word(self.alloc, &mut self.stranded, stranded)
     }
 
     /// Whether its line is due, once it begins a job or nothing more is said of it. It is due once.

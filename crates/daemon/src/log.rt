@@ -1,10 +1,10 @@
-//! The lines of a log.
+//! [`Lines`] appends the lines of a log, of a connection, a plan, a job or a refusal each.
 use crate::ends::Ended;
 use crate::last_plan::LastPlan;
 use base_types::{DeviceId, JobId, Moment, Text};
 use dispatcher::{AllocationSite, DeviceRefusal};
 use job_objects::JobState;
-use plan_text::name_of;
+use plan_text::{name_of, put_job_words};
 use server::LoggedNote;
 use sockets::{CloseReason, ConnectionEvent};
 use std::alloc::{AllocError, Global};
@@ -132,10 +132,9 @@ impl<'a> Lines<'a> {
 
     /// Adds a line of a job and its device.
     fn add_job(&mut self, word: &str, job: JobId, device: DeviceId) {
-        let job = job.number();
-        self.begin(word);
-        self.append(format!(in self.alloc; " {job} "));
-        self.put(name_of(self.names, device));
+        self.begin_line();
+        let done = put_job_words(self.alloc, &mut self.text, word, self.names, job, device);
+        self.heed(done);
     }
 
     /// Adds the line of a device's connection that is refused, with the name that was said on it, if one
@@ -191,14 +190,20 @@ impl<'a> Lines<'a> {
         self.append(format!(in self.alloc; " {id} {leave}"));
     }
 
-    /// Ends the line before, if there is one, and begins another.
+    /// Ends the line before, if there is one, and begins another by a word.
     fn begin(&mut self, word: &str) {
+        self.begin_line();
+        self.put(word.as_bytes());
+    }
+
+    /// Ends the line before, if there is one, and begins another.
+    fn begin_line(&mut self) {
         if !self.text.is_empty() {
             self.put(b"\n");
         }
         match self.millis {
-            Some(millis) => self.append(format!(in self.alloc; "{millis} {word}")),
-            None => self.append(format!(in self.alloc; "# {word}")),
+            Some(millis) => self.append(format!(in self.alloc; "{millis} ")),
+            None => self.put(b"# "),
         }
     }
 
