@@ -89,9 +89,13 @@ fn class_of(classes: &[u8], priority: u8) -> usize {
     0
 }
 
-/// The bar of what a device printed of a job.
-fn bar_of(job: Arrival, classes: &[u8], print: Print) -> Bar {
-    Bar {
+/// The bar of what the device at a place printed of a job that came; none where another one printed it.
+fn bar_of(day: &Day<'_>, classes: &[u8], place: usize, print: Print) -> Option<Bar> {
+    if print.device != place {
+        return None;
+    }
+    let job = day.arrivals.get(print.job)?;
+    Some(Bar {
         mark: Mark::Job(ChartJob {
             number: job.number,
             class: class_of(classes, job.priority),
@@ -99,7 +103,7 @@ fn bar_of(job: Arrival, classes: &[u8], print: Print) -> Bar {
         }),
         start: print.start,
         end: print.end,
-    }
+    })
 }
 
 /// The bars of the device at a place.
@@ -111,10 +115,8 @@ fn bars_of(
 ) -> Result<Vec<Bar>, AllocError> {
     let mut bars = Vec::new(alloc);
     for print in day.prints {
-        if print.device == place
-            && let Some(job) = day.arrivals.get(print.job)
-        {
-            bars.push(bar_of(*job, classes, *print))?;
+        if let Some(bar) = bar_of(day, classes, place, *print) {
+            bars.push(bar)?;
         }
     }
     Ok(bars)
@@ -134,14 +136,29 @@ fn lane_of(alloc: Global, name: &[u8], bars: Vec<Bar>) -> Result<Lane, AllocErro
     Ok(Lane { name, bars })
 }
 
+/// The lane of the jobs that came.
+fn came_lane(alloc: Global, arrivals: &[Arrival]) -> Result<Lane, AllocError> {
+    let bars = came_bars(alloc, arrivals)?;
+    lane_of(alloc, CAME, bars)
+}
+
+/// The lane of the device at a place.
+fn device_lane(
+    alloc: Global,
+    day: &Day<'_>,
+    classes: &[u8],
+    place: usize,
+) -> Result<Lane, AllocError> {
+    let bars = bars_of(alloc, day, classes, place)?;
+    lane_of(alloc, name_of(day.devices, place), bars)
+}
+
 /// The lane of the jobs that came, and below it those of the devices.
 fn lanes_of(alloc: Global, day: &Day<'_>, classes: &[u8]) -> Result<Vec<Lane>, AllocError> {
     let mut lanes = Vec::new(alloc);
-    let bars = came_bars(alloc, day.arrivals)?;
-    lanes.push(lane_of(alloc, CAME, bars)?)?;
+    lanes.push(came_lane(alloc, day.arrivals)?)?;
     for place in 0..day.devices.len() {
-        let bars = bars_of(alloc, day, classes, place)?;
-        lanes.push(lane_of(alloc, name_of(day.devices, place), bars)?)?;
+        lanes.push(device_lane(alloc, day, classes, place)?)?;
     }
     Ok(lanes)
 }
@@ -163,18 +180,23 @@ fn total_of(arrivals: &[Arrival], prints: &[Print]) -> u128 {
     total
 }
 
-/// The chart of a day: a lane of the jobs that came, and one for each device. The only error is out of
-/// memory.
-pub fn chart_of_day(alloc: Global, day: Day<'_>) -> Result<Chart, AllocError> {
-    let classes = classes_of(alloc, day.arrivals)?;
-    let lanes = lanes_of(alloc, &day, &classes)?;
+/// The chart of a day, of these classes and lanes.
+fn chart_with(day: Day<'_>, classes: Vec<u8>, lanes: Vec<Lane>) -> Chart {
     let total = total_of(day.arrivals, day.prints);
-    Ok(Chart {
+    Chart {
         title: day.title,
         lanes,
         classes,
         stranded: day.stranded,
         notes: day.notes,
         total,
-    })
+    }
+}
+
+/// The chart of a day: a lane of the jobs that came, and one for each device. The only error is out of
+/// memory.
+pub fn chart_of_day(alloc: Global, day: Day<'_>) -> Result<Chart, AllocError> {
+    let classes = classes_of(alloc, day.arrivals)?;
+    let lanes = lanes_of(alloc, &day, &classes)?;
+    Ok(chart_with(day, classes, lanes))
 }

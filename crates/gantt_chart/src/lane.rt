@@ -227,6 +227,23 @@ fn bottom_of(tags: &[Tag], below: f64) -> f64 {
     }
 }
 
+/// Appends a lane, whose top is there, with these labels below its bars.
+fn put_tagged(
+    page: Page,
+    frame: Frame,
+    chart: &Chart,
+    lane: &Lane,
+    tags: &[Tag],
+    top: f64,
+) -> Page {
+    let bars = top + ABOVE;
+    let below = bars + f64::from(BAR_HEIGHT);
+    let page = put_grid(page, frame, top, bottom_of(tags, below));
+    let page = put_name(page, frame, lane, bars);
+    let page = put_bars(page, frame, chart, lane, bars);
+    put_tags(page, tags, below)
+}
+
 /// Draws a lane.
 pub(crate) fn put_lane(
     alloc: Global,
@@ -236,18 +253,14 @@ pub(crate) fn put_lane(
     lane: &Lane,
 ) -> Drawing {
     let Drawing { page, bottom: top } = drawing;
-    let Ok(tags) = tags_of(alloc, frame, lane) else {
-        return Drawing {
+    match tags_of(alloc, frame, lane) {
+        Ok(tags) => Drawing {
+            page: put_tagged(page, frame, chart, lane, &tags, top),
+            bottom: bottom_of(&tags, top + ABOVE + f64::from(BAR_HEIGHT)),
+        },
+        Err(_) => Drawing {
             page: page.refused(),
             bottom: top,
-        };
-    };
-    let bars = top + ABOVE;
-    let below = bars + f64::from(BAR_HEIGHT);
-    let bottom = bottom_of(&tags, below);
-    let page = put_grid(page, frame, top, bottom);
-    let page = put_name(page, frame, lane, bars);
-    let page = put_bars(page, frame, chart, lane, bars);
-    let page = put_tags(page, &tags, below);
-    Drawing { page, bottom }
+        },
+    }
 }

@@ -33,7 +33,7 @@ fn parts_of(millis: u128) -> Parts {
 }
 
 /// How many digits a number has.
-pub(crate) fn digits_of(number: u64) -> usize {
+pub fn digits_of(number: u64) -> usize {
     match number.checked_ilog10() {
         Some(more) => (more as usize).saturating_add(1),
         None => 1,
@@ -42,7 +42,7 @@ pub(crate) fn digits_of(number: u64) -> usize {
 
 impl ShortTime {
     /// How many characters it has.
-    pub(crate) fn letters(self) -> usize {
+    pub fn letters(self) -> usize {
         let millis = self.0;
         let (number, behind) = if millis < 1_000 {
             (millis, 2)

@@ -30,5 +30,5 @@ mod terminal;
 pub use chart::{Bar, Chart, ChartJob, Ending, Lane, Mark};
 pub use day::{Arrival, Day, Print, chart_of_day};
 pub use form::{Form, draw_charts};
-pub use length::ShortTime;
+pub use length::{ShortTime, digits_of};
 pub use page::Page;
