@@ -60,9 +60,12 @@ pub(crate) fn finishings_named(field: &[u8]) -> Option<Finishings> {
 
 /// The place of the printer of a name.
 pub(crate) fn printer_named(printers: &[PrinterSettings], name: &[u8]) -> Option<usize> {
-    printers
-        .iter()
-        .position(|printer| printer.name.as_bytes() == name)
+    for (place, printer) in printers.iter().enumerate() {
+        if printer.name.as_bytes() == name {
+            return Some(place);
+        }
+    }
+    None
 }
 
 /// A field that isn't longer than so many bytes.
