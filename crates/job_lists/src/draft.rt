@@ -2,7 +2,7 @@
 
 use crate::column::Column;
 use crate::fault::{LineError, ListFault};
-use crate::field::{finishings_named, number_in, printer_named, up_to};
+use crate::field::{finishings_named, number_in, up_to};
 use base_types::{Finishings, Limits, Needs, PrinterId, Sides, Text};
 use job_objects::estimated_impressions;
 use settings_file::{PrinterSettings, Settings};
@@ -33,14 +33,14 @@ pub(crate) struct Draft<'a> {
     printer: usize,
 }
 
-/// A number, or the fault of its column.
-fn number(field: &[u8], least: u32, most: u32, column: Column) -> Result<u32, ListFault> {
-    number_in(field, least, most).ok_or(ListFault::Field(column))
-}
-
-/// A moment, or the fault of its column.
-fn moment_in(field: &[u8]) -> Result<u64, ListFault> {
-    text::number_up_to(field, Limits::LAST_MOMENT).ok_or(ListFault::Field(Column::Moment))
+/// The number of a column's field, if the column allows it.
+fn number_of(column: Column, field: &[u8]) -> Option<u32> {
+    match column {
+        Column::Impressions => number_in(field, 1, Limits::IMPRESSIONS),
+        Column::Octets => number_in(field, 0, Limits::JOB_OCTETS as u32),
+        Column::Copies => number_in(field, 1, Limits::COPIES),
+        _ => number_in(field, 1, u32::from(Limits::HIGHEST_PRIORITY)),
+    }
 }
 
 /// A list of one text.
@@ -77,41 +77,47 @@ impl<'a> Draft<'a> {
         if field.is_empty() {
             return Ok(());
         }
-        match column {
-            Column::Moment => self.moment = Some(moment_in(field)?),
-            Column::Impressions => {
-                self.impressions = Some(number(field, 1, Limits::IMPRESSIONS, column)?);
-            }
-            Column::Octets => {
-                self.octets = Some(number(field, 0, Limits::JOB_OCTETS as u32, column)?);
-            }
-            Column::Copies => self.copies = number(field, 1, Limits::COPIES, column)?,
-            Column::Priority => {
-                self.priority = number(field, 1, u32::from(Limits::HIGHEST_PRIORITY), column)?;
-            }
-            _ => self.take_words(column, field, settings)?,
-        }
-        Ok(())
+        let taken = match column {
+            Column::Impressions | Column::Octets | Column::Copies | Column::Priority =>
+                self.take_number(column, field),
+            Column::Sides | Column::Finishings | Column::Printer => self.take_words(
+                column, field, settings,
+            ),
+            Column::Moment | Column::Media | Column::Format => self.take_other(column, field),
+        };
+        taken.ok_or(ListFault::Field(column))
     }
 
-    /// Takes a field that is no number.
-    fn take_words(
-        &mut self,
-        column: Column,
-        field: &'a [u8],
-        settings: &Settings,
-    ) -> Result<(), ListFault> {
-        let fault = ListFault::Field(column);
+    /// Takes a field that is a number, and no moment; nothing is taken that its column doesn't allow.
+    fn take_number(&mut self, column: Column, field: &[u8]) -> Option<()> {
+        let number = number_of(column, field)?;
         match column {
-            Column::Sides => self.sides = Sides::of_keyword(field).ok_or(fault)?,
-            Column::Finishings => self.finishings = finishings_named(field).ok_or(fault)?,
-            Column::Printer => {
-                self.printer = printer_named(&settings.printers, field).ok_or(fault)?;
-            }
-            Column::Media => self.media = Some(up_to(field, Limits::MEDIA_BYTES).ok_or(fault)?),
-            _ => self.format = Some(up_to(field, Limits::FORMAT_BYTES).ok_or(fault)?),
+            Column::Impressions => self.impressions = Some(number),
+            Column::Octets => self.octets = Some(number),
+            Column::Copies => self.copies = number,
+            _ => self.priority = number,
         }
-        Ok(())
+        Some(())
+    }
+
+    /// Takes a field of known words; nothing is taken that its column doesn't allow.
+    fn take_words(&mut self, column: Column, field: &[u8], settings: &Settings) -> Option<()> {
+        match column {
+            Column::Sides => self.sides = Sides::of_keyword(field)?,
+            Column::Finishings => self.finishings = finishings_named(field)?,
+            _ => self.printer = settings.printer_named(field)?.place(),
+        }
+        Some(())
+    }
+
+    /// Takes a moment, or a field of any word; nothing is taken that its column doesn't allow.
+    fn take_other(&mut self, column: Column, field: &'a [u8]) -> Option<()> {
+        match column {
+            Column::Moment => self.moment = Some(text::number_up_to(field, Limits::LAST_MOMENT)?),
+            Column::Media => self.media = Some(up_to(field, Limits::MEDIA_BYTES)?),
+            _ => self.format = Some(up_to(field, Limits::FORMAT_BYTES)?),
+        }
+        Some(())
     }
 
     /// The impressions of one copy, if its length is told.
@@ -149,12 +155,15 @@ impl<'a> Draft<'a> {
 
     /// The job of these fields, if it has a moment and a length, and a printer is there.
     pub(crate) fn job(&self, alloc: Global, settings: &Settings) -> Result<ListedJob, LineError> {
-        let moment = self.moment.ok_or(ListFault::NoMoment)?;
-        let impressions = self.impressions().ok_or(ListFault::NoLength)?;
-        let printer = settings
-            .printers
-            .get(self.printer)
-            .ok_or(ListFault::Field(Column::Printer))?;
+        let Some(moment) = self.moment else {
+            return Err(LineError::Fault(ListFault::NoMoment));
+        };
+        let Some(impressions) = self.impressions() else {
+            return Err(LineError::Fault(ListFault::NoLength));
+        };
+        let Some(printer) = settings.printers.get(self.printer) else {
+            return Err(LineError::Fault(ListFault::Field(Column::Printer)));
+        };
         Ok(ListedJob {
             moment,
             priority: u8::try_from(self.priority).unwrap_or(Limits::DEFAULT_PRIORITY),

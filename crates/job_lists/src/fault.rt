@@ -27,14 +27,14 @@ pub enum ListFault {
 }
 
 /// Why a line gives no job.
-#[derive(Drop)]
+#[derive(Clone, Copy)]
 pub(crate) enum LineError {
     Fault(ListFault),
     OutOfMemory,
 }
 
 /// Why no list was read.
-#[derive(Debug, Drop, Error)]
+#[derive(Clone, Copy, Debug, Error)]
 pub enum ListError {
     /// The text is none, by this fault of this line, counted from 1.
     #[error("line {line}: {fault}")]

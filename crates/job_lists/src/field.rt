@@ -3,7 +3,6 @@ ghost use Rattle.std.specs.Prelude.{◌≤◌, ◌<◌, ◌^◌, ◌-◌, IfSome
 
 use base_types::Finishings;
 use printer_objects::Finishing;
-use settings_file::PrinterSettings;
 
 /// The number of a field, from the least to the most.
 pub(crate) fn number_in(field: &[u8], least: u32, most: u32) -> Option<u32>
@@ -43,13 +42,6 @@ pub(crate) fn finishings_named(field: &[u8]) -> Option<Finishings> {
         found = with_word(found, word)?;
     }
     Some(found)
-}
-
-/// The place of the printer of a name.
-pub(crate) fn printer_named(printers: &[PrinterSettings], name: &[u8]) -> Option<usize> {
-    printers
-        .iter()
-        .position(|printer| printer.name.as_bytes() == name)
 }
 
 /// A field that isn't longer than so many bytes.

@@ -107,7 +107,9 @@ fn read_jobs(
             break;
         }
         let line = line_of(row);
-        add_job(alloc, &mut jobs, columns, row, settings).map_err(|error| error.at(line))?;
+        if let Err(error) = add_job(alloc, &mut jobs, columns, row, settings) {
+            return Err(error.at(line));
+        }
     }
     Ok(jobs)
 }
@@ -122,8 +124,10 @@ fn read_lines(
     if !read_row(reader, &mut row)? {
         return Ok(Vec::new(alloc));
     }
-    let columns = columns_of(alloc, &row).map_err(|error| error.at(1))?;
-    read_jobs(alloc, reader, &mut row, &columns, settings)
+    match columns_of(alloc, &row) {
+        Ok(columns) => read_jobs(alloc, reader, &mut row, &columns, settings),
+        Err(error) => Err(error.at(1)),
+    }
 }
 
 /// The jobs of a text, in their order: its first line names the columns, and each further one is a job.

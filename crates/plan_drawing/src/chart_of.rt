@@ -5,7 +5,7 @@ ghost use Rattle.plan_prices.specs.Total.{completion_of};
 ghost use Rattle.plan_prices.specs.Timetable.{own_slots};
 
 use base_types::{JobId, Text};
-use gantt_chart::{Bar, Chart, ChartJob, Ending, Lane, Mark};
+use gantt_chart::{Bar, Chart, ChartJob, Ending, Lane, Mark, Page};
 use plan_prices::{PlannedClass, start_of, total};
 use plan_text::PlanText;
 use std::alloc::{AllocError, Global};
@@ -159,18 +159,41 @@ fn jobs_in(classes: &[PlannedClass]) -> usize {
     jobs
 }
 
-/// A number of things, in words.
-fn counted(alloc: Global, count: usize, one: &str) -> Result<String, AllocError> {
+/// Appends a number of things, in words.
+fn put_counted(page: Page, count: usize, one: &str) -> Page {
     let plural = if count == 1 { "" } else { "s" };
-    format!(in alloc; "{count} {one}{plural}")
+    page.put_shown(count).put(" ").put(one).put(plural)
 }
 
 /// What a chart is of, in a line.
 fn title_of(alloc: Global, named: &PlanText, is_proved: bool) -> Result<String, AllocError> {
-    let jobs = counted(alloc, jobs_in(named.plan().classes()), "job")?;
-    let devices = counted(alloc, named.devices().len(), "device")?;
-    let verdict = if is_proved { "" } else { "not " };
-    format!(in alloc; "{jobs} on {devices}, {verdict}proved the best")
+    let jobs = jobs_in(named.plan().classes());
+    let title = put_counted(Page::new(alloc), jobs, "job").put(" on ");
+    let verdict = if is_proved { ", " } else { ", not " };
+    put_counted(title, named.devices().len(), "device")
+        .put(verdict)
+        .put("proved the best")
+        .finish()
+}
+
+/// The chart of a plan, of these lanes.
+fn chart_with(
+    alloc: Global,
+    named: &PlanText,
+    is_proved: bool,
+    lanes: Vec<Lane>,
+) -> Result<Chart, AllocError>
+    requires { All (λ class. IsWay class.problem class.priced.way) named.now.plan.classes }
+{
+    let classes = named.plan().classes();
+    Ok(Chart {
+        title: title_of(alloc, named, is_proved)?,
+        lanes,
+        classes: priorities_of(alloc, classes)?,
+        stranded: Vec::from_slice(alloc, named.plan().stranded())?,
+        notes: Vec::new(alloc),
+        total: total_of(classes),
+    })
 }
 
 /// The chart of a plan, from the moment on that its waits are counted from.
@@ -182,15 +205,7 @@ pub(crate) fn chart_of(
     requires { All (λ class. IsWay class.problem class.priced.way) named.now.plan.classes }
 {
     let classes = named.plan().classes();
-    let title = title_of(alloc, named, is_proved)?;
     let mut lanes = empty_lanes(alloc, named.devices(), classes)?;
     add_classes(&mut lanes, classes)?;
-    Ok(Chart {
-        title,
-        lanes,
-        classes: priorities_of(alloc, classes)?,
-        stranded: Vec::from_slice(alloc, named.plan().stranded())?,
-        notes: Vec::new(alloc),
-        total: total_of(classes),
-    })
+    chart_with(alloc, named, is_proved, lanes)
 }

@@ -4,7 +4,7 @@ use crate::fault::DayFault;
 use crate::job::{RecordedJob, RecordedPrint};
 use crate::read::{RecordedDay, read_day};
 use base_types::{JobId, Stranded};
-use gantt_chart::{Arrival, Chart, Day, Ending, Form, Print, chart_of_day, draw_charts};
+use gantt_chart::{Arrival, Chart, Day, Ending, Form, Page, Print, chart_of_day, draw_charts};
 use job_objects::JobState;
 use std::alloc::{AllocError, Global};
 use std::slice;
@@ -79,13 +79,23 @@ fn fate_of(state: JobState) -> &'static str {
     }
 }
 
+/// A sentence about a job that no device had.
+fn note_of(alloc: Global, job: &RecordedJob) -> Result<String, AllocError> {
+    Page::new(alloc)
+        .put("Job ")
+        .put_shown(job.id.number())
+        .put(" ")
+        .put(fate_of(job.state))
+        .put(".")
+        .finish()
+}
+
 /// A sentence about each job that no device had, but for those that stand below the chart anyway.
 fn notes_of(alloc: Global, day: &RecordedDay) -> Result<Vec<String>, AllocError> {
     let mut notes = Vec::new(alloc);
     for job in &day.jobs {
         if !job.begun && !is_stranded(&day.stranded, job) {
-            let (number, fate) = (job.id.number(), fate_of(job.state));
-            notes.push(format!(in alloc; "Job {number} {fate}.")?)?;
+            notes.push(note_of(alloc, job)?)?;
         }
     }
     Ok(notes)
@@ -123,38 +133,51 @@ fn printed_in(prints: &[Print]) -> usize {
     printed
 }
 
-/// A number of things, in words.
-fn counted(alloc: Global, count: usize, one: &str) -> Result<String, AllocError> {
+/// Appends a number of things, in words.
+fn put_counted(page: Page, count: usize, one: &str) -> Page {
     let plural = if count == 1 { "" } else { "s" };
-    format!(in alloc; "{count} {one}{plural}")
+    page.put_shown(count).put(" ").put(one).put(plural)
 }
 
 /// What a chart is of, in a line.
 fn title_of(alloc: Global, day: &RecordedDay, prints: &[Print]) -> Result<String, AllocError> {
-    let jobs = counted(alloc, day.jobs.len(), "job")?;
-    let devices = counted(alloc, day.devices.len(), "device")?;
-    let printed = printed_in(prints);
-    format!(in alloc; "a day of {devices}: {jobs} came, {printed} printed")
+    let title = put_counted(
+        Page::new(alloc).put("a day of "),
+        day.devices.len(),
+        "device",
+    );
+    put_counted(title.put(": "), day.jobs.len(), "job")
+        .put(" came, ")
+        .put_shown(printed_in(prints))
+        .put(" printed")
+        .finish()
+}
+
+/// The chart of a day, of these jobs and prints.
+fn chart_with(
+    alloc: Global,
+    day: &RecordedDay,
+    arrivals: &[Arrival],
+    prints: &[Print],
+) -> Result<Chart, AllocError> {
+    chart_of_day(
+        alloc,
+        Day {
+            title: title_of(alloc, day, prints)?,
+            devices: &day.devices,
+            arrivals,
+            prints,
+            stranded: stranded_of(alloc, day)?,
+            notes: notes_of(alloc, day)?,
+        },
+    )
 }
 
 /// The chart of a day.
 fn chart_of(alloc: Global, day: &RecordedDay) -> Result<Chart, AllocError> {
     let arrivals = arrivals_of(alloc, &day.jobs)?;
     let prints = prints_of(alloc, day)?;
-    let title = title_of(alloc, day, &prints)?;
-    let stranded = stranded_of(alloc, day)?;
-    let notes = notes_of(alloc, day)?;
-    chart_of_day(
-        alloc,
-        Day {
-            title,
-            devices: &day.devices,
-            arrivals: &arrivals,
-            prints: &prints,
-            stranded,
-            notes,
-        },
-    )
+    chart_with(alloc, day, &arrivals, &prints)
 }
 
 /// A picture of a day.

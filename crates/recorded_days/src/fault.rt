@@ -1,5 +1,6 @@
 //! Why there is no day.
 
+use gantt_chart::Page;
 use std::alloc::{AllocError, AllocFailed};
 use thiserror::Error;
 
@@ -25,9 +26,9 @@ impl<T: Drop> From<AllocFailed<T>> for DayFault {
     }
 }
 
-/// The fault that something is refused for what a sentence says, unless there is no memory for it.
-pub(crate) fn refused(sentence: Result<String, AllocError>) -> DayFault {
-    match sentence {
+/// The fault that something is refused for what a sentence says, unless there was no memory for it.
+pub(crate) fn refused(sentence: Page) -> DayFault {
+    match sentence.finish() {
         Ok(sentence) => DayFault::Refused { sentence },
         Err(_) => DayFault::OutOfMemory,
     }

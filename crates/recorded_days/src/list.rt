@@ -4,6 +4,7 @@ use crate::fault::{DayFault, refused};
 use crate::job::{RecordedJob, copy_of};
 use crate::read::RecordedDay;
 use base_types::{Needs, PrinterId};
+use gantt_chart::Page;
 use job_lists::ListedJob;
 use settings_file::Settings;
 use std::alloc::{AllocError, Global};
@@ -26,9 +27,9 @@ fn no_printer(alloc: Global, day: &RecordedDay, job: &RecordedJob, printer: Prin
         Some(name) => str::from_utf8(name.as_bytes()).unwrap_or("?"),
         None => "?",
     };
-    refused(format!(in alloc;
-        "the settings have no printer \"{name}\", to which job {number} goes"
-    ))
+    let sentence = Page::new(alloc).put("the settings have no printer \"");
+    let sentence = sentence.put(name).put("\", to which job ");
+    refused(sentence.put_shown(number).put(" goes"))
 }
 
 /// What a job needs, for the printer of other settings; of its documents the format of the first counts.

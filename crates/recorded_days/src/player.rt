@@ -1,7 +1,7 @@
 //! A server that is told the lines of a trace, and is looked at.
 
 use crate::recorder::Recorder;
-use base_types::{Moment, Text};
+use base_types::{DeviceId, Moment, Report, Text};
 use plan_solver::AugmentingPaths;
 use replay::{LineFault, TraceWire, form_fault};
 use server::{Engine, NoteLog};
@@ -9,7 +9,7 @@ use std::alloc::{AllocError, Global};
 use traces::{
     Connection, Input, Line, Opening, end_at, numbered, put_connection, read_line, send_at,
 };
-use wires::{MemoryPeer, MemoryWire};
+use wires::{Door, MemoryPeer, MemoryWire};
 
 /// After so many turns for one line no more are taken for it.
 const MOST_TURNS: usize = 16_777_216;
@@ -104,29 +104,33 @@ impl<'a> Player<'a> {
         match line {
             Line::At(moment) => {
                 self.told = moment;
-                return Ok(());
+                Ok(())
             }
-            Line::Ipp(body) => {
-                let _served = self.engine.serve_body(&body, &mut self.heard, self.told)?;
-            }
-            Line::Device(device, report) => {
-                self.engine
-                    .report(device, report, &mut self.heard, self.told)?;
-            }
-            Line::Tick => self.engine.tick(&mut self.heard, self.told)?,
-            Line::Open(opening) => {
-                self.open(opening)?;
-                return self.take_turns();
-            }
-            Line::In(input) => {
-                self.bring(&input)?;
-                return self.take_turns();
-            }
-            Line::End(number) => {
-                self.end_input(number);
-                return self.take_turns();
-            }
+            Line::Ipp(body) => self.serve(&body),
+            Line::Device(device, report) => self.report(device, report),
+            Line::Tick => self.tick(),
+            Line::Open(opening) => self.open(opening),
+            Line::In(input) => self.bring(&input),
+            Line::End(number) => self.end_input(number),
         }
+    }
+
+    /// A body of a request comes, on no connection.
+    fn serve(&mut self, body: &[u8]) -> Result<(), AllocError> {
+        let _served = self.engine.serve_body(body, &mut self.heard, self.told)?;
+        self.look()
+    }
+
+    /// A device says something.
+    fn report(&mut self, device: DeviceId, report: Report) -> Result<(), AllocError> {
+        self.engine
+            .report(device, report, &mut self.heard, self.told)?;
+        self.look()
+    }
+
+    /// Time goes on.
+    fn tick(&mut self) -> Result<(), AllocError> {
+        self.engine.tick(&mut self.heard, self.told)?;
         self.look()
     }
 
@@ -139,42 +143,39 @@ impl<'a> Player<'a> {
 
     /// A connection comes in.
     fn open(&mut self, opening: Opening) -> Result<(), AllocError> {
-        let Opening { number, door } = opening;
         let place = self.wire.memory.peers.len();
-        let peer = MemoryPeer::new(
-            self.alloc,
-            door,
-            Vec::new(self.alloc),
-            usize::MAX,
-            usize::MAX,
-        );
+        self.add_peer(opening.door)?;
+        let connection = Connection {
+            number: opening.number,
+            place,
+            gone: false,
+        };
+        put_connection(&mut self.connections, connection)?;
+        self.take_turns()
+    }
+
+    /// Adds the other end of a connection, from which nothing came yet.
+    fn add_peer(&mut self, door: Door) -> Result<(), AllocError> {
+        let input = Vec::new(self.alloc);
+        let peer = MemoryPeer::new(self.alloc, door, input, usize::MAX, usize::MAX);
         self.wire.memory.peers.push(peer)?;
-        let gone = false;
-        put_connection(
-            &mut self.connections,
-            Connection {
-                number,
-                place,
-                gone,
-            },
-        )
+        Ok(())
     }
 
     /// Bytes come on a connection.
     fn bring(&mut self, input: &Input) -> Result<(), AllocError> {
-        match numbered(&self.connections, input.number) {
-            Some(connection) => {
-                send_at(&mut self.wire.memory.peers, connection.place, &input.bytes)
-            }
-            None => Ok(()),
+        if let Some(connection) = numbered(&self.connections, input.number) {
+            send_at(&mut self.wire.memory.peers, connection.place, &input.bytes)?;
         }
+        self.take_turns()
     }
 
     /// Nothing more comes on a connection.
-    fn end_input(&mut self, number: u64) {
+    fn end_input(&mut self, number: u64) -> Result<(), AllocError> {
         if let Some(connection) = numbered(&self.connections, number) {
             end_at(&mut self.wire.memory.peers, connection.place);
         }
+        self.take_turns()
     }
 
     /// Takes turns until one in which no poll came to something, and looks after each.

@@ -6,7 +6,9 @@ use crate::fault::{DayFault, refused};
 use crate::job::{RecordedJob, RecordedPrint};
 use crate::player::Player;
 use base_types::{Stranded, Text};
+use gantt_chart::Page;
 use plan_solver::AugmentingPaths;
+use replay::LineFault;
 use server::Engine;
 use settings_file::{Settings, SettingsFault, explain, read_settings_bytes};
 use std::alloc::{AllocError, Global};
@@ -54,6 +56,11 @@ fn names_of(alloc: Global, settings: &Settings) -> Result<Names, AllocError> {
     Ok(Names { devices, printers })
 }
 
+/// A sentence about a file, which begins with its name.
+fn of_file(alloc: Global, file: &str) -> Page {
+    Page::new(alloc).put(file).put(": ")
+}
+
 /// The fault of the settings of a file.
 fn settings_refused(alloc: Global, file: &str, settings: &[u8], fault: &SettingsFault) -> DayFault {
     if matches!(fault, SettingsFault::OutOfMemory) {
@@ -61,9 +68,15 @@ fn settings_refused(alloc: Global, file: &str, settings: &[u8], fault: &Settings
     }
     match explain(alloc, file, settings) {
         Ok(Some(sentence)) => DayFault::Refused { sentence },
-        Ok(None) => refused(format!(in alloc; "{file}: the settings are refused")),
+        Ok(None) => refused(of_file(alloc, file).put("the settings are refused")),
         Err(_) => DayFault::OutOfMemory,
     }
+}
+
+/// The fault of the line of a number.
+fn line_refused(alloc: Global, file: &str, number: usize, fault: LineFault) -> DayFault {
+    let sentence = of_file(alloc, file).put("line ").put_shown(number);
+    refused(sentence.put(": ").put_shown(fault))
 }
 
 /// Has a server play the lines of a trace.
@@ -79,7 +92,7 @@ fn play_lines(
     while let Some(cut) = next_line(rest) {
         number = number.saturating_add(1);
         if let Err(fault) = player.act(cut.line, names)? {
-            return Err(refused(format!(in alloc; "{file}: line {number}: {fault}")));
+            return Err(line_refused(alloc, file, number, fault));
         }
         rest = cut.later;
     }
@@ -133,8 +146,27 @@ fn play_day(
     requires { MeetsLimits settings }
 {
     let names = names_of(alloc, &settings)?;
+    play_settings(alloc, file, trace, settings, names)
+}
+
+/// What became of the jobs of a trace, as a server of settings with these names plays it.
+fn play_settings(
+    alloc: Global,
+    file: &str,
+    trace: CutTrace<'_>,
+    settings: Settings,
+    names: Names,
+) -> Result<RecordedDay, DayFault>
+    requires { MeetsLimits settings }
+{
     let mut engine = Engine::new(alloc, settings, AugmentingPaths::new(alloc))?;
     play_trace(alloc, file, &mut engine, trace, names)
+}
+
+/// The fault that no line ends the settings.
+fn no_settings(alloc: Global, file: &str) -> DayFault {
+    let sentence = of_file(alloc, file);
+    refused(sentence.put("no line is \".\" alone, as the one behind the settings is"))
 }
 
 /// What became of the jobs of a trace, which is the text of a file of this name (`docs/TRACES.md`).
@@ -145,9 +177,7 @@ fn play_day(
 /// is no memory.
 pub fn read_day(alloc: Global, file: &str, text: &[u8]) -> Result<RecordedDay, DayFault> {
     let Some(trace) = split_settings(text) else {
-        return Err(refused(format!(in alloc;
-            "{file}: no line is \".\" alone, as the one behind the settings is"
-        )));
+        return Err(no_settings(alloc, file));
     };
     let settings = settings_of(alloc, file, trace.settings)?;
     play_day(alloc, file, trace, settings)

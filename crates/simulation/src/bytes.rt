@@ -1,13 +1,14 @@
 //! Bytes under way.
 
+use gantt_chart::Page;
 use std::alloc::{AllocError, Global};
-use std::io::Write;
 
 /// Bytes under way, which remember that memory was refused: nothing is appended from then on.
 ///
 /// What appends to them takes them and gives them back, so that calls stand behind one another.
 #[derive(Drop)]
 pub(crate) struct Bytes {
+    alloc: Global,
     bytes: Vec<u8>,
     is_refused: bool,
 }
@@ -16,6 +17,7 @@ impl Bytes {
     /// No bytes yet.
     pub(crate) fn new(alloc: Global) -> Bytes {
         Bytes {
+            alloc,
             bytes: Vec::new(alloc),
             is_refused: false,
         }
@@ -35,8 +37,16 @@ impl Bytes {
 
     /// Appends a number in decimal digits.
     pub(crate) fn put_decimal(self, number: u32) -> Bytes {
+        match Page::new(self.alloc).put_shown(number).finish() {
+            Ok(digits) => self.put(digits.as_bytes()),
+            Err(_) => self.refused(),
+        }
+    }
+
+    /// The bytes to which nothing more is appended, as memory was refused.
+    fn refused(self) -> Bytes {
         let mut all = self;
-        all.is_refused = all.is_refused || write!(all.bytes, "{number}").is_err();
+        all.is_refused = true;
         all
     }
 

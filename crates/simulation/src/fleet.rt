@@ -2,11 +2,10 @@
 ghost use Rattle.std.specs.Prelude.{IfOk};
 ghost use Rattle.settings_file.specs.Settings.{MeetsLimits};
 
-use crate::planned::apply_to;
+use crate::planned::report_to;
 use crate::settings_text::text_with;
-use base_types::{DeviceId, Moment, Report};
+use base_types::{Moment, Report};
 use dispatcher::Core;
-use events::Event;
 use plan_solver::AugmentingPaths;
 use settings_file::{Settings, SettingsFault, read_settings_bytes};
 use std::alloc::{AllocError, AllocFailed, Global};
@@ -20,18 +19,45 @@ pub struct Added<'a> {
     pub like: &'a str,
 }
 
+/// What is wrong with the name of a device.
+#[derive(Clone, Copy, Debug)]
+pub enum NameFault {
+    /// The settings have no device of this name.
+    Unknown,
+    /// They have one already.
+    Taken,
+    /// With this device more they are no settings.
+    Refused,
+}
+
 /// Why there is no such fleet.
 #[derive(Debug, Drop, Error)]
 pub enum FleetFault {
-    #[error("the settings have no device \"{name}\"")]
-    Unknown { name: String },
-    #[error("the settings have a device \"{name}\" already")]
-    Taken { name: String },
-    /// With this device more they are no settings.
-    #[error("the settings take no device \"{name}\" more: a name has 1 to 32 letters, digits, _ and -, and there are 32 devices at most")]
-    Refused { name: String },
+    #[error("the settings {} \"{name}\"{}", .fault.before(), .fault.behind())]
+    Device { name: String, fault: NameFault },
     #[error("out of memory")]
     OutOfMemory,
+}
+
+impl NameFault {
+    /// What is said in front of the name.
+    fn before(self) -> &'static str {
+        match self {
+            NameFault::Unknown => "have no device",
+            NameFault::Taken => "have a device",
+            NameFault::Refused => "take no device",
+        }
+    }
+
+    /// What is said behind it.
+    fn behind(self) -> &'static str {
+        match self {
+            NameFault::Unknown => "",
+            NameFault::Taken => " already",
+            NameFault::Refused =>
+                " more: a name has 1 to 32 letters, digits, _ and -, and there are 32 devices at most",
+        }
+    }
 }
 
 impl From<AllocError> for FleetFault {
@@ -46,31 +72,19 @@ impl<T: Drop> From<AllocFailed<T>> for FleetFault {
     }
 }
 
-/// The place of the device of a name.
-fn device_named(settings: &Settings, name: &str) -> Option<usize> {
-    for (place, device) in settings.devices.iter().enumerate() {
-        if device.name.as_bytes() == name.as_bytes() {
-            return Some(place);
-        }
+/// The fault of a name, unless there is no memory for it.
+fn fault_of(alloc: Global, name: &str, fault: NameFault) -> FleetFault {
+    match String::from_str(alloc, name) {
+        Ok(name) => FleetFault::Device { name, fault },
+        Err(_) => FleetFault::OutOfMemory,
     }
-    None
 }
 
 /// The place of the device of a name, or the fault that there is none.
 fn known(alloc: Global, settings: &Settings, name: &str) -> Result<usize, FleetFault> {
-    match device_named(settings, name) {
-        Some(place) => Ok(place),
-        None => Err(FleetFault::Unknown {
-            name: String::from_str(alloc, name)?,
-        }),
-    }
-}
-
-/// The fault that the settings take no device of a name more, unless there is no memory for it.
-fn refused(alloc: Global, name: &str) -> FleetFault {
-    match String::from_str(alloc, name) {
-        Ok(name) => FleetFault::Refused { name },
-        Err(_) => FleetFault::OutOfMemory,
+    match settings.device_named(name.as_bytes()) {
+        Some(device) => Ok(device.place()),
+        None => Err(fault_of(alloc, name, NameFault::Unknown)),
     }
 }
 
@@ -81,7 +95,7 @@ fn settings_in(alloc: Global, text: &[u8], name: &str) -> Result<Settings, Fleet
     match read_settings_bytes(alloc, text) {
         Ok(settings) => Ok(settings),
         Err(SettingsFault::OutOfMemory) => Err(FleetFault::OutOfMemory),
-        Err(_) => Err(refused(alloc, name)),
+        Err(_) => Err(fault_of(alloc, name, NameFault::Refused)),
     }
 }
 
@@ -91,10 +105,8 @@ fn with_device(alloc: Global, settings: &Settings, added: Added<'_>) -> Result<S
     ensures { IfOk result MeetsLimits }
 {
     let like = known(alloc, settings, added.like)?;
-    if device_named(settings, added.name).is_some() {
-        return Err(FleetFault::Taken {
-            name: String::from_str(alloc, added.name)?,
-        });
+    if settings.device_named(added.name.as_bytes()).is_some() {
+        return Err(fault_of(alloc, added.name, NameFault::Taken));
     }
     let text = text_with(alloc, settings, like, added.name)?;
     settings_in(alloc, &text, added.name)
@@ -120,8 +132,7 @@ pub(crate) fn with_devices(
 fn make_all_ready(core: &mut Core<AugmentingPaths>, away: &[usize]) -> Result<(), AllocError> {
     for place in 0..core.settings().devices.len() {
         if !away.contains(&place) {
-            let report = Event::Report(DeviceId::new(place), Report::Ready);
-            apply_to(core, report, Moment::start())?;
+            report_to(core, place, Report::Ready, Moment::start())?;
         }
     }
     Ok(())

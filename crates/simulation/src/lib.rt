@@ -32,7 +32,7 @@ mod table;
 
 pub use day::Noise;
 pub use day_job::{DayJob, Member};
-pub use fleet::{Added, FleetFault};
+pub use fleet::{Added, FleetFault, NameFault};
 pub use floor::Watch;
 pub use picture::Drawn;
 pub use policy::Policy;

@@ -5,7 +5,7 @@ use crate::floor::Print;
 use crate::outcome::{Outcome, PLANNED};
 use crate::policy::Policy;
 use base_types::Text;
-use gantt_chart::{Arrival, Chart, Ending, Form, chart_of_day, draw_charts};
+use gantt_chart::{Arrival, Chart, Ending, Form, Page, chart_of_day, draw_charts};
 use std::alloc::{AllocError, Global};
 
 /// What is drawn of a simulation: the planned day, and below it that of a policy.
@@ -46,12 +46,21 @@ fn prints_of(alloc: Global, prints: &[Print]) -> Result<Vec<gantt_chart::Print>,
     Ok(drawn)
 }
 
+/// The line about so many jobs that no device can print either.
+fn note_of(alloc: Global, more: usize) -> Result<String, AllocError> {
+    Page::new(alloc)
+        .put("Nor does any print ")
+        .put_shown(more)
+        .put(" others.")
+        .finish()
+}
+
 /// A line about the jobs that no device can print, where there are more than stand below a chart.
 fn notes_of(alloc: Global, day: &Day) -> Result<Vec<String>, AllocError> {
     let mut notes = Vec::new(alloc);
     let more = day.stranded.len().saturating_sub(STRANDED);
     if more > 0 {
-        notes.push(format!(in alloc; "Nor does any print {more} others.")?)?;
+        notes.push(note_of(alloc, more)?)?;
     }
     Ok(notes)
 }

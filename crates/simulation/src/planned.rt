@@ -11,10 +11,9 @@ use job_lists::ListedJob;
 use plan_solver::AugmentingPaths;
 use print_room::Started;
 use std::alloc::{AllocError, Global};
-use std::collections::VecDeque;
 
 /// What became of a job that was sent to the core.
-#[derive(Clone, Copy, PartialEq, Eq)]
+#[derive(Clone, Copy)]
 pub(crate) enum Sent {
     Taken,
     /// There are as many jobs as there can be.
@@ -30,8 +29,10 @@ pub(crate) struct Planned<'a> {
     listed: &'a [ListedJob],
     /// The places of the jobs that were taken, in the order of their ids, from 1 on, which is that of the list.
     taken: Vec<usize>,
-    /// The jobs that the core had no room for, in the order in which they came.
-    door: VecDeque<usize>,
+    /// The jobs that the core had no room for when they came, in this order.
+    door: Vec<usize>,
+    /// How many of these it was sent since.
+    let_in: usize,
     /// The jobs that a dispatch began and that aren't told yet.
     begun: Vec<Start>,
 }
@@ -54,13 +55,24 @@ fn sent_by(reply: &Effects) -> Sent {
 }
 
 /// Has a core act on an event: what its answer says became of a job.
-pub(crate) fn apply_to(
+fn apply_to(
     core: &mut Core<AugmentingPaths>,
     event: Event,
     now: Moment,
 ) -> Result<Sent, AllocError> {
     let reply = core.apply(event, now)?;
     Ok(sent_by(&reply))
+}
+
+/// Tells a core what the device at a place says.
+pub(crate) fn report_to(
+    core: &mut Core<AugmentingPaths>,
+    device: usize,
+    report: Report,
+    now: Moment,
+) -> Result<(), AllocError> {
+    apply_to(core, Event::Report(DeviceId::new(device), report), now)?;
+    Ok(())
 }
 
 impl<'a> Planned<'a> {
@@ -75,21 +87,23 @@ impl<'a> Planned<'a> {
             core,
             listed,
             taken: Vec::new(alloc),
-            door: VecDeque::new(alloc),
+            door: Vec::new(alloc),
+            let_in: 0,
             begun: Vec::new(alloc),
         }
     }
 
-    /// Sends the job at a place of the list.
-    fn send(&mut self, place: usize, now: u64) -> Result<Sent, AllocError> {
+    /// Sends the job at a place of the list: whether the core had room for it.
+    fn send(&mut self, place: usize, now: u64) -> Result<bool, AllocError> {
         let Some(job) = self.listed.get(place) else {
-            return Ok(Sent::Refused);
+            return Ok(true);
         };
-        let sent = self.send_job(job, now)?;
-        if sent == Sent::Taken {
-            self.taken.push(place)?;
+        match self.send_job(job, now)? {
+            Sent::Taken => self.taken.push(place)?,
+            Sent::Busy => return Ok(false),
+            Sent::Refused => {}
         }
-        Ok(sent)
+        Ok(true)
     }
 
     /// Sends a job.
@@ -108,13 +122,13 @@ impl<'a> Planned<'a> {
 
     /// Sends the first job of those that the core had no room for, and has it planned where it is taken.
     fn send_waiting(&mut self, now: u64) -> Result<(), AllocError> {
-        let Some(place) = self.door.front().copied() else {
+        let Some(place) = self.door.get(self.let_in).copied() else {
             return Ok(());
         };
-        if self.send(place, now)? == Sent::Busy {
+        if !self.send(place, now)? {
             return Ok(());
         }
-        self.door.pop_front();
+        self.let_in = self.let_in.saturating_add(1);
         self.dispatch(now)
     }
 
@@ -159,8 +173,8 @@ impl<'a> Planned<'a> {
 
 impl Room for Planned<'_> {
     fn take(&mut self, job: usize, now: u64) -> Result<(), AllocError> {
-        if !self.door.is_empty() || self.send(job, now)? == Sent::Busy {
-            self.door.push_back(job)?;
+        if self.let_in < self.door.len() || !self.send(job, now)? {
+            self.door.push(job)?;
             return Ok(());
         }
         self.dispatch(now)
@@ -168,9 +182,8 @@ impl Room for Planned<'_> {
 
     fn end(&mut self, ended: Start, now: u64) -> Result<(), AllocError> {
         if let Some(job) = self.id_of(ended.job) {
-            let device = DeviceId::new(ended.device);
-            let report = Event::Report(device, Report::Done { job });
-            apply_to(self.core, report, moment_at(now))?;
+            let done = Report::Done { job };
+            report_to(self.core, ended.device, done, moment_at(now))?;
         }
         self.dispatch(now)?;
         self.send_waiting(now)

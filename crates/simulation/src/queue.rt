@@ -41,6 +41,27 @@ pub struct Queue<'a> {
     last: Vec<usize>,
 }
 
+/// So many devices, all of which are free.
+fn free_devices(alloc: Global, count: usize) -> Result<Vec<Device>, AllocError> {
+    let mut devices = Vec::with_capacity(alloc, count)?;
+    for _ in 0..count {
+        devices.push(Device {
+            is_free: true,
+            jobs: 0,
+        })?;
+    }
+    Ok(devices)
+}
+
+/// For each of so many printers the first place.
+fn first_places(alloc: Global, printers: usize) -> Result<Vec<usize>, AllocError> {
+    let mut places = Vec::with_capacity(alloc, printers)?;
+    for _ in 0..printers {
+        places.push(0)?;
+    }
+    Ok(places)
+}
+
 impl<'a> Queue<'a> {
     /// A queue without jobs, for the jobs of a day, so many printers, and so many devices, all of which are
     /// free.
@@ -51,16 +72,13 @@ impl<'a> Queue<'a> {
         printers: usize,
         devices: usize,
     ) -> Result<Queue<'a>, AllocError> {
-        let free = Device {
-            is_free: true,
-            jobs: 0,
-        };
+        let devices = free_devices(alloc, devices)?;
         Ok(Queue {
             policy,
             jobs,
             waiting: Vec::new(alloc),
-            devices: vec![in alloc; free; devices]?,
-            last: vec![in alloc; 0; printers]?,
+            devices,
+            last: first_places(alloc, printers)?,
         })
     }
 

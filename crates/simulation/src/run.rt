@@ -75,6 +75,20 @@ fn play_on<W: Watch>(
     }
 }
 
+/// Plays the jobs of a list on the devices of some settings: the table of what came of it, or a picture.
+fn play_settings<W: Watch>(
+    alloc: Global,
+    settings: Settings,
+    listed: &[ListedJob],
+    question: Question<'_>,
+    watch: &mut W,
+) -> Result<String, FleetFault>
+    requires { MeetsLimits settings }
+{
+    let mut core = Core::new(alloc, settings, AugmentingPaths::new(alloc))?;
+    play_with(alloc, &mut core, listed, question, watch)
+}
+
 /// Plays the jobs of a list, which is one for these settings, on their devices, once as the core plans it and
 /// once for each policy: the table of what came of it, or a picture.
 ///
@@ -91,6 +105,5 @@ pub fn run_simulation<W: Watch>(
     requires { MeetsLimits settings }
 {
     let settings = with_devices(alloc, settings, question.added)?;
-    let mut core = Core::new(alloc, settings, AugmentingPaths::new(alloc))?;
-    play_with(alloc, &mut core, listed, question, watch)
+    play_settings(alloc, settings, listed, question, watch)
 }

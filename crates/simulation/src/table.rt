@@ -4,7 +4,8 @@ use crate::day::Day;
 use crate::outcome::Outcome;
 use crate::summary::{Waits, last_end, printed_on, waits_of};
 use base_types::{Stranded, Text};
-use gantt_chart::{Page, ShortTime};
+use gantt_chart::{Page, ShortTime, digits_of};
+use plan_text::cause_word;
 use std::alloc::{AllocError, Global};
 
 /// The columns of a name at the beginning of a row, so that no row is longer than 80.
@@ -44,14 +45,6 @@ fn put_left(page: Page, text: &str, columns: usize) -> Page {
     put_spaces(page.put(text), columns.saturating_sub(text.len()))
 }
 
-/// Appends a text that ends behind so many columns, or learns that there was no memory for it.
-fn put_made(page: Page, text: Result<String, AllocError>, columns: usize) -> Page {
-    match text {
-        Ok(text) => put_right(page, &text, columns),
-        Err(_) => page.refused(),
-    }
-}
-
 /// Appends the head of the rows of waits.
 fn put_waits_head(page: Page) -> Page {
     let page = put_right(put_left(page, "time to paper", NAME), "jobs", JOBS);
@@ -61,14 +54,15 @@ fn put_waits_head(page: Page) -> Page {
 }
 
 /// Appends a time that ends behind so many columns.
-fn put_time(alloc: Global, page: Page, millis: u64, columns: usize) -> Page {
+fn put_time(page: Page, millis: u64, columns: usize) -> Page {
     let time = ShortTime(millis);
-    put_made(page, format!(in alloc; "{time}"), columns)
+    put_spaces(page, columns.saturating_sub(time.letters())).put_shown(time)
 }
 
 /// Appends a number of things that ends behind so many columns.
-fn put_count(alloc: Global, page: Page, count: usize, columns: usize) -> Page {
-    put_made(page, format!(in alloc; "{count}"), columns)
+fn put_count(page: Page, count: usize, columns: usize) -> Page {
+    let digits = digits_of(count as u64);
+    put_spaces(page, columns.saturating_sub(digits)).put_shown(count)
 }
 
 /// A part of a whole in per cent, cut off.
@@ -80,45 +74,49 @@ fn percent_of(part: u64, whole: u64) -> u128 {
 }
 
 /// Appends a part of a whole in per cent, which ends behind so many columns.
-fn put_percent(alloc: Global, page: Page, part: u64, whole: u64, columns: usize) -> Page {
+fn put_percent(page: Page, part: u64, whole: u64, columns: usize) -> Page {
     let percent = percent_of(part, whole);
-    put_made(page, format!(in alloc; "{percent} %"), columns)
+    let digits = digits_of(u64::try_from(percent).unwrap_or(u64::MAX));
+    put_spaces(page, columns.saturating_sub(digits.saturating_add(2)))
+        .put_shown(percent)
+        .put(" %")
 }
 
 /// Appends the row of a day; its mean is compared with another.
-fn put_waits(alloc: Global, page: Page, name: &str, waits: Waits, planned: u64) -> Page {
-    let page = put_count(alloc, put_left(page, name, NAME), waits.jobs, JOBS);
-    let page = put_time(alloc, page, waits.mean, TIME);
-    let page = put_percent(alloc, page, waits.mean, planned, PERCENT);
-    let page = put_time(alloc, page, waits.median, TIME);
-    let page = put_time(alloc, page, waits.late, LATE);
-    put_time(alloc, page, waits.worst, TIME).put_letter('\n')
+fn put_waits(page: Page, name: &str, waits: Waits, planned: u64) -> Page {
+    let page = put_count(put_left(page, name, NAME), waits.jobs, JOBS);
+    let page = put_time(page, waits.mean, TIME);
+    let page = put_percent(page, waits.mean, planned, PERCENT);
+    let page = put_time(page, waits.median, TIME);
+    let page = put_time(page, waits.late, LATE);
+    put_time(page, waits.worst, TIME).put_letter('\n')
 }
 
 /// Appends the rows of all days; the first is what they are compared with.
-fn put_all_waits(
-    alloc: Global,
-    page: Page,
-    day: &Day,
-    outcomes: &[Outcome],
-) -> Result<Page, AllocError> {
+fn put_all_waits(alloc: Global, page: Page, day: &Day, outcomes: &[Outcome]) -> Page {
     let mut page = put_waits_head(page);
     let mut planned = None;
     for outcome in outcomes {
-        let waits = waits_of(alloc, day, &outcome.prints)?;
+        let Ok(waits) = waits_of(alloc, day, &outcome.prints) else {
+            return page.refused();
+        };
         let first = planned.unwrap_or(waits.mean);
         planned = Some(first);
-        page = put_waits(alloc, page, outcome.name, waits, first);
+        page = put_waits(page, outcome.name, waits, first);
     }
-    Ok(page)
+    page
 }
 
 /// Appends how long a device printed and how long it stood idle until the last job of the day ended.
-fn put_use(alloc: Global, page: Page, outcome: &Outcome, device: usize) -> Page {
+fn put_use(page: Page, outcome: &Outcome, device: usize) -> Page {
     let printed = printed_on(&outcome.prints, device);
     let idle = last_end(&outcome.prints).saturating_sub(printed);
     let (printed, idle) = (ShortTime(printed), ShortTime(idle));
-    put_made(page, format!(in alloc; "{printed}, {idle}"), PAIR)
+    let letters = printed.letters().saturating_add(idle.letters());
+    put_spaces(page, PAIR.saturating_sub(letters.saturating_add(2)))
+        .put_shown(printed)
+        .put(", ")
+        .put_shown(idle)
 }
 
 /// Appends the name of a device, filled up to the columns of a name.
@@ -131,10 +129,10 @@ fn put_name(page: Page, name: &[u8]) -> Page {
 }
 
 /// Appends the row of a device.
-fn put_device(alloc: Global, page: Page, name: &Text, outcomes: &[Outcome], device: usize) -> Page {
+fn put_device(page: Page, name: &Text, outcomes: &[Outcome], device: usize) -> Page {
     let mut page = put_name(page, name.as_bytes());
     for outcome in outcomes {
-        page = put_use(alloc, page, outcome, device);
+        page = put_use(page, outcome, device);
     }
     page.put_letter('\n')
 }
@@ -149,29 +147,31 @@ fn put_devices_head(page: Page, outcomes: &[Outcome]) -> Page {
 }
 
 /// Appends the rows of all devices.
-fn put_devices(alloc: Global, page: Page, names: &[Text], outcomes: &[Outcome]) -> Page {
+fn put_devices(page: Page, names: &[Text], outcomes: &[Outcome]) -> Page {
     let mut page = put_devices_head(page, outcomes);
     for (device, name) in names.iter().enumerate() {
-        page = put_device(alloc, page, name, outcomes, device);
+        page = put_device(page, name, outcomes, device);
     }
     page
 }
 
 /// Appends the number of a job that no device can print, with its cause.
-fn put_stranded_job(alloc: Global, page: Page, place: usize, stranded: Stranded) -> Page {
-    let mark = if place == 0 { ':' } else { ',' };
-    let (number, cause) = (stranded.job.number(), stranded.cause);
-    put_made(page, format!(in alloc; "{mark} {number} {cause:?}"), 0)
+fn put_stranded_job(page: Page, place: usize, stranded: &Stranded) -> Page {
+    page.put(if place == 0 { ": " } else { ", " })
+        .put_shown(stranded.job.number())
+        .put(" ")
+        .put(cause_word(stranded.cause))
 }
 
 /// Appends how many jobs no device can print, and the numbers of the first of them, each with its cause.
-fn put_stranded(alloc: Global, page: Page, stranded: &[Stranded]) -> Page {
+fn put_stranded(page: Page, stranded: &[Stranded]) -> Page {
     let mut page = page
         .put("\nno device can print ")
         .put_shown(stranded.len())
         .put(" of the jobs");
-    for (place, one) in stranded.iter().take(STRANDED).enumerate() {
-        page = put_stranded_job(alloc, page, place, *one);
+    let told = stranded.len().min(STRANDED);
+    for (place, one) in stranded[..told].iter().enumerate() {
+        page = put_stranded_job(page, place, one);
     }
     page.put_letter('\n')
 }
@@ -183,7 +183,7 @@ pub(crate) fn table_of(
     day: &Day,
     outcomes: &[Outcome],
 ) -> Result<String, AllocError> {
-    let page = put_all_waits(alloc, Page::new(alloc), day, outcomes)?;
-    let page = put_devices(alloc, page.put_letter('\n'), names, outcomes);
-    put_stranded(alloc, page, &day.stranded).finish()
+    let page = put_all_waits(alloc, Page::new(alloc), day, outcomes);
+    let page = put_devices(page.put_letter('\n'), names, outcomes);
+    put_stranded(page, &day.stranded).finish()
 }
