@@ -15,6 +15,7 @@ use crate::section::section_in;
 use base_types::Limits;
 use std::alloc::{AllocError, Global};
 use std::marker::Model;
+use std::mem;
 use text::{FirstLine, Unread, first_line};
 
 /// A reader of what an HTTP client sends, in pieces of any length. In clauses it is a record of the
@@ -25,6 +26,8 @@ use text::{FirstLine, Unread, first_line};
 #[derive(Debug, Drop)]
 pub struct HttpReader {
     unread: Unread,
+    /// Room for the bytes that come where all that came before is read: what is in it counts no more.
+    spare: Unread,
     /// How many of the unread bytes are read already, and lent as a part.
     lent: usize,
     awaited: Awaited,
@@ -58,6 +61,7 @@ impl HttpReader {
     {
         HttpReader {
             unread: Unread::new(alloc),
+            spare: Unread::new(alloc),
             lent: 0,
             awaited: Awaited::Head,
         }
@@ -348,8 +352,25 @@ impl HttpReader {
         ensures ok { OnOk result (self.new ≡ record { part = []; rest = self.old.rest ++ piece.now; awaited = self.old.awaited }) }
         ensures err { OnErr result (self.new ≡ self.old) }
     {
+        if self.rest().is_empty() {
+            return self.begin(piece);
+        }
         self.unread.append(piece)?;
         self.unread.pass(self.lent);
+        self.lent = 0;
+        Ok(())
+    }
+
+    /// Keeps these bytes to be read, where all that came before is read. The part that is lent isn't moved for
+    /// them.
+    fn begin(&mut self, piece: &[u8]) -> Result<(), AllocError>
+        requires { self.old.rest ≡ [] }
+        ensures ok { OnOk result (self.new ≡ record { part = []; rest = piece.now; awaited = self.old.awaited }) }
+        ensures err { OnErr result (self.new ≡ self.old) }
+    {
+        self.spare.pass(self.spare.bytes().len());
+        self.spare.append(piece)?;
+        mem::swap(&mut self.unread, &mut self.spare);
         self.lent = 0;
         Ok(())
     }
