@@ -6,3 +6,4 @@ pub mod Hold
 pub mod Needs
 pub mod Device
 pub mod Report
+pub mod MemoryLog

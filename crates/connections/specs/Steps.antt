@@ -15,6 +15,7 @@ use Rattle.ipp_operations.specs.declared.parsed_request.ParsedRequest.{ParsedReq
 use Rattle.ipp_operations.specs.declared.parsed_request.ParsedRequest.TheVariants as asks
 use Rattle.ipp_operations.specs.ParsedRequest.{Asks, request_id_of}
 use Rattle.ipp_operations.specs.Reply.{refusal_bytes}
+use Rattle.ipp_operations.specs.declared.queue_text.TheConstants.{REFUSED}
 use Rattle.send_queues.specs.Reply.{http_reply, refusal_head}
 use Rattle.connections.specs.declared.ask.Ask.TheVariants as ask
 use Rattle.connections.specs.declared.ask.Client.TheVariants as client
@@ -100,7 +101,7 @@ byte_due (Some byte) = due.Byte byte
 
 -- a fault in what it says is refused, and nothing more counts (RFC 1179, section 3)
 abbrev pub refused : Step
-refused = step.Due (due.Byte 1) true
+refused = step.Due (due.Byte REFUSED) true
 
 abbrev pub step_of : LpdError → Step
 step_of (fault.Fault it) = refused

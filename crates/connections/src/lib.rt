@@ -25,6 +25,6 @@ pub use connection::{Connection, Fed};
 pub use device::Device;
 pub use ipp_client::IppClient;
 pub use law::one_ask;
-pub use lpd_client::{LpdClient, REFUSED};
+pub use lpd_client::LpdClient;
 pub use peer::Peer;
 pub use step::{Due, Step};

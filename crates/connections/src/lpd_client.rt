@@ -12,16 +12,11 @@ use crate::ask::{Ask, Client, Growth, Part};
 use crate::step::{Due, Step};
 use base_types::Text;
 use events::{Event, ListQueue, QueueForm, RemoveJobs, SubmitFiles};
+use ipp_operations::{ACCEPTED, REFUSED};
 use lpd::{FileHead, LpdCommand, LpdError, LpdItem, LpdReader, SentJob, Session};
 use settings_file::Settings;
 use std::alloc::{AllocError, Global};
 use std::marker::Model;
-
-/// The acknowledgement of a file or of a command (RFC 1179, section 6).
-const ACCEPTED: u8 = 0;
-
-/// Their refusal.
-pub const REFUSED: u8 = 1;
 
 /// An LPD client, as far as its stream was acted on.
 #[derive(Drop)]

@@ -171,14 +171,14 @@ impl<'a> Lines<'a> {
 
     /// Adds the line of a connection that came.
     fn add_open(&mut self, id: WireId, door: Door, peer: SocketAddr) {
-        let door = door_word(door);
+        let door = door.option();
         self.begin("open");
         self.append(format!(in self.alloc; " {id} {door} {peer}"));
     }
 
     /// Adds the line of a door at which a connection was missed.
     fn add_missed(&mut self, door: Door) {
-        let door = door_word(door);
+        let door = door.option();
         self.begin("no connection");
         self.append(format!(in self.alloc; " {door}"));
     }
@@ -238,15 +238,6 @@ fn place_word(place: AllocationSite) -> &'static str {
         AllocationSite::Dispatch => "for a plan",
         AllocationSite::Reply => "for a reply",
         AllocationSite::Enqueue => "for what is to be sent",
-    }
-}
-
-/// A door, by the option that says its port.
-fn door_word(door: Door) -> &'static str {
-    match door {
-        Door::Ipp => "ipp",
-        Door::Lpd => "lpd",
-        Door::Devices => "devices",
     }
 }
 

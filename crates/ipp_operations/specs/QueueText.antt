@@ -16,6 +16,7 @@ use Rattle.events.specs.declared.queue.QueueForm.{QueueForm}
 use Rattle.events.specs.declared.queue.QueueForm.TheVariants.{Short, Long}
 use Rattle.events.specs.declared.effects.LpdResponse.{LpdResponse}
 use Rattle.events.specs.declared.effects.LpdResponse.TheVariants.{Taken, Queue, NoQueue}
+use Rattle.ipp_operations.specs.declared.queue_text.TheConstants.{ACCEPTED, REFUSED}
 
 -- ---- words
 
@@ -90,7 +91,7 @@ text_of (Taken taken) = []
 
 -- the byte that acknowledges a job that is taken; any other says that there is none
 abbrev pub ack_of : LpdResponse → ℕ
-ack_of (Taken true) = 0
-ack_of (Taken false) = 1
-ack_of (Queue listing) = 1
-ack_of NoQueue = 1
+ack_of (Taken true) = ACCEPTED
+ack_of (Taken false) = REFUSED
+ack_of (Queue listing) = REFUSED
+ack_of NoQueue = REFUSED

@@ -32,7 +32,7 @@ mod target;
 pub use header::request_id;
 pub use law::one_asked;
 pub use parsed_request::{ParsedRequest, ipp_event};
-pub use queue_text::{lpd_ack, lpd_queue_text};
+pub use queue_text::{ACCEPTED, REFUSED, lpd_ack, lpd_queue_text};
 pub use refusal::ipp_refusal;
 pub use request_parser::RequestParser;
 pub use response::ipp_response;

@@ -9,14 +9,21 @@ use job_objects::{JobReasons, JobState};
 use printer_objects::PrinterState;
 use std::alloc::{AllocError, Global};
 
-/// The byte that answers an LPD client once its files make a job: 0 where the job was taken, else 1.
+/// The byte that accepts what an LPD client sent (RFC 1179, section 6).
+pub const ACCEPTED: u8 = 0;
+
+/// The byte that refuses it.
+pub const REFUSED: u8 = 1;
+
+/// The byte that answers an LPD client once its files make a job: [`ACCEPTED`] where the job was taken, else
+/// [`REFUSED`].
 pub fn lpd_ack(answer: &LpdResponse) -> u8
     ensures { result ≡ ack_of answer.now }
 {
     match answer {
-        LpdResponse::Taken(true) => 0,
-        LpdResponse::Taken(false) => 1,
-        LpdResponse::Queue(_) | LpdResponse::NoQueue => 1,
+        LpdResponse::Taken(true) => ACCEPTED,
+        LpdResponse::Taken(false) => REFUSED,
+        LpdResponse::Queue(_) | LpdResponse::NoQueue => REFUSED,
     }
 }
 

@@ -3,6 +3,7 @@
 use base_types::Moment;
 use recordings::{Entry, Sent, ServerCall, Stray, put_entry, put_turn};
 use std::alloc::{AllocError, Global};
+use traces::put_out;
 use wires::WireId;
 
 /// The connection of which a line is.
@@ -62,10 +63,7 @@ fn put_sends(
     if bytes.is_empty() {
         return Ok(());
     }
-    let id = sent.id;
-    let digits = hex::encode(alloc, bytes)?;
-    let words = format!(in alloc; "out {id} {digits}\n")?;
-    output.extend_from_slice(words.as_bytes())
+    put_out(alloc, output, u64::from(sent.id), bytes)
 }
 
 /// Appends the lines of what the server does.

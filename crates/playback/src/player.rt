@@ -10,6 +10,7 @@ use recordings::{Entry, Moved, Script, read_entry};
 use server::Engine;
 use settings_file::Settings;
 use std::alloc::{AllocError, Global};
+use traces::{put_gone, put_out};
 
 /// What became of a line.
 #[derive(Drop)]
@@ -56,14 +57,10 @@ fn turn_of(entry: &Entry) -> Option<Moment> {
 
 /// Appends what became of a connection.
 fn put_moved(alloc: Global, output: &mut Vec<u8>, moved: &Moved) -> Result<(), AllocError> {
-    let line = match moved {
-        Moved::Got { id, bytes } => {
-            let digits = hex::encode(alloc, bytes)?;
-            format!(in alloc; "out {id} {digits}\n")?
-        }
-        Moved::Gone(id) => format!(in alloc; "gone {id}\n")?,
-    };
-    output.extend_from_slice(line.as_bytes())
+    match moved {
+        Moved::Got { id, bytes } => put_out(alloc, output, u64::from(*id), bytes),
+        Moved::Gone(id) => put_gone(alloc, output, u64::from(*id)),
+    }
 }
 
 /// Appends what became of connections.

@@ -38,15 +38,6 @@ struct Writer {
     came: u64,
 }
 
-/// The word of a door.
-fn door_word(door: Door) -> &'static str {
-    match door {
-        Door::Ipp => "ipp",
-        Door::Lpd => "lpd",
-        Door::Devices => "device",
-    }
-}
-
 impl Writer {
     /// Takes what a line says.
     fn take(&mut self, entry: &Entry) -> Result<(), AllocError> {
@@ -69,7 +60,7 @@ impl Writer {
     /// A connection comes.
     fn open(&mut self, id: WireId, door: Door) -> Result<(), AllocError> {
         self.came = self.came.saturating_add(1);
-        let (number, word) = (self.came, door_word(door));
+        let (number, word) = (self.came, door.word());
         let ended = false;
         self.close(id);
         self.peers.push(Peer { id, number, ended })?;

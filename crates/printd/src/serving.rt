@@ -14,18 +14,9 @@ use std::io;
 use std::net::SocketAddr;
 use wires::Door;
 
-/// A door, by the option that says where it is.
-fn name_of(door: Door) -> &'static str {
-    match door {
-        Door::Ipp => "ipp",
-        Door::Lpd => "lpd",
-        Door::Devices => "devices",
-    }
-}
-
 /// It can't be listened for a door at an address, which is said.
 fn cannot_listen(rt: &HostRuntime, listening: Listening, error: io::Error) -> ExitStatus {
-    let (door, address) = (name_of(listening.door), listening.address);
+    let (door, address) = (listening.door.option(), listening.address);
     match format!(in rt.alloc(); "listen for {door} at {address}") {
         Ok(what) => cannot(rt, &what, error),
         Err(_) => cannot(rt, "listen", error),
@@ -53,7 +44,7 @@ fn listen_at(
 
 /// Writes where a door listens: its port, or a line for each of its addresses where it has several.
 fn announce(rt: &HostRuntime, listening: &[Listening], door: Door) -> io::Result<()> {
-    let name = name_of(door);
+    let name = door.option();
     let count = listening.iter().filter(|one| one.door == door).count();
     for one in listening {
         let address = one.address;

@@ -2,15 +2,10 @@
 use Rattle.std.specs.Prelude.{ℕ, ◌≡◌, nat_lt, if◌then◌else◌, List, ◌++◌, length, Option, Some, None, codes}
 use Rattle.std.specs.Fmt.{decimal}
 use Rattle.wires.specs.declared.wire.Door.{Door}
-use Rattle.wires.specs.declared.wire.Door.TheVariants.{Ipp, Lpd, Devices}
+use Rattle.wires.specs.Door.{door_word}
 use Rattle.recordings.specs.declared.entry.Entry.{Entry}
 use Rattle.recordings.specs.declared.entry.Entry.TheVariants.{Accepted, Came, Octets, Zeros, Ended, Failed, Sent, Shut, Broken, Closed, Refused, Turn}
 use Rattle.recordings.specs.Data.{escaped}
-
-abbrev pub door_word : Door → List ℕ
-door_word Ipp = codes "ipp"
-door_word Lpd = codes "lpd"
-door_word Devices = codes "device"
 
 -- a word, a space and a number
 abbrev pub about : List ℕ → ℕ → List ℕ

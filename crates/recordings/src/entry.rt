@@ -99,23 +99,10 @@ fn read_id(digits: &[u8]) -> Option<WireId> {
     }
 }
 
-fn read_door(word: &[u8]) -> Option<Door> {
-    if word == b"ipp".as_slice() {
-        return Some(Door::Ipp);
-    }
-    if word == b"lpd".as_slice() {
-        return Some(Door::Lpd);
-    }
-    if word == b"device".as_slice() {
-        return Some(Door::Devices);
-    }
-    None
-}
-
 /// The word for a door and a number.
 fn read_accepted(said: &[u8]) -> Option<Entry> {
     let (word, digits) = cut_at(said, b' ')?;
-    let door = read_door(word)?;
+    let door = Door::of_word(word)?;
     let id = read_id(digits)?;
     Some(Entry::Accepted(Accepted { door, id }))
 }

@@ -1,7 +1,7 @@
 //! The lines of a recording, written.
 ghost use Rattle.std.specs.Prelude.{◌≡◌, ◌++◌, ℕ, OnOk, codes};
 ghost use Rattle.std.specs.Fmt.{decimal};
-ghost use Rattle.recordings.specs.Lines.{door_word, about, line_about, accept_line, read_line, octets_line, zeros_line, came_line, sent_line, sum_words, turn_line, entry_line};
+ghost use Rattle.recordings.specs.Lines.{about, line_about, accept_line, read_line, octets_line, zeros_line, came_line, sent_line, sum_words, turn_line, entry_line};
 
 use crate::blanked::Blanked;
 use crate::data::put_data;
@@ -16,17 +16,6 @@ const MANY: usize = 1024;
 
 /// What the first line of a file begins with that goes on where another one ends.
 pub const GOES_ON: &[u8] = b"#goes on behind ";
-
-/// The word for a door.
-fn door_word(door: Door) -> &'static [u8]
-    ensures { result.now ≡ door_word door }
-{
-    match door {
-        Door::Ipp => b"ipp",
-        Door::Lpd => b"lpd",
-        Door::Devices => b"device",
-    }
-}
 
 /// Appends the digits of a number.
 fn put_number(output: &mut Vec<u8>, number: u64) -> Result<(), AllocError>
@@ -60,7 +49,7 @@ pub(crate) fn put_accepted(output: &mut Vec<u8>, door: Door, id: WireId) -> Resu
     ensures { OnOk result (output.new.items ≡ output.old.items ++ accept_line door id) }
 {
     output.extend_from_slice(b"accept ")?;
-    put_line(output, door_word(door), u64::from(id))?;
+    put_line(output, door.word().as_bytes(), u64::from(id))?;
     Ok(())
 }
 

@@ -1,15 +1,14 @@
 //! What was printed of what an engine tells.
-ghost use Rattle.std.specs.Prelude.{◌≡◌, ◌++◌, [], None, Some, IfOk, OnOk, OnErr, option_map};
+ghost use Rattle.std.specs.Prelude.{◌≡◌, [], Some, IfOk};
 ghost use Rattle.dispatcher.specs.Dispatched.{plan_of, started_of};
 ghost use Rattle.dispatcher.specs.Notes.{Planned, Canceled};
 ghost use Rattle.replay.specs.Log.{note_text};
 
-use base_types::Text;
+use base_types::{MemoryLog, Text};
 use dispatcher::{AllocationSite, DeviceRefusal, Dispatched, Listener};
 use events::Cancel;
 use std::alloc::{AllocError, Global};
 use std::marker::Model;
-use std::mem;
 use traces::{put_cancel, put_dispatch};
 use wires::WireId;
 
@@ -21,17 +20,15 @@ pub struct Log {
     alloc: Global,
     texts: bool,
     names: Vec<Text>,
-    heard: Vec<u8>,
-    lost: bool,
+    heard: MemoryLog<u8>,
 }
 
 impl Model for Log {
-    ghost use Rattle.std.specs.Prelude.{Some, None, if◌then◌else◌};
     ghost use Rattle.replay.specs.Log.{LogRecord};
 
     ghost Value = { LogRecord };
 
-    ghost view = { λ l. record { texts = l.texts; names = l.names.items; heard = if l.lost then None else Some l.heard.items } };
+    ghost view = { λ l. record { texts = l.texts; names = l.names.items; heard = l.heard } };
 }
 
 impl Listener for Log {
@@ -40,14 +37,16 @@ impl Listener for Log {
     ghost told = { Hears };
 
     fn dispatched(&mut self, made: &Dispatched<'_>) {
-        if self.keep_dispatch(made).is_err() {
-            self.lose();
+        match self.dispatch_text(made) {
+            Ok(text) => self.heard.keep_all(text),
+            Err(_) => self.heard.lose(),
         }
     }
 
     fn canceled(&mut self, cancel: Cancel) {
-        if self.keep_cancel(cancel).is_err() {
-            self.lose();
+        match self.cancel_text(cancel) {
+            Ok(text) => self.heard.keep_all(text),
+            Err(_) => self.heard.lose(),
         }
     }
 
@@ -65,8 +64,7 @@ impl Log {
             alloc,
             texts,
             names,
-            heard: Vec::new(alloc),
-            lost: false,
+            heard: MemoryLog::new(alloc),
         }
     }
 
@@ -82,17 +80,12 @@ impl Log {
     pub fn take(&mut self) -> Result<Vec<u8>, AllocError>
         ensures { IfOk result (λ text. (self.old.heard ≡ Some text.items) × (self.new ≡ record self.old { heard = Some [] })) }
     {
-        if self.lost {
-            return Err(AllocError);
-        }
-        let empty = Vec::new(self.alloc);
-        Ok(mem::replace(&mut self.heard, empty))
+        self.heard.take()
     }
 
-    /// Keeps what is printed of a dispatch.
-    fn keep_dispatch(&mut self, made: &Dispatched<'_>) -> Result<(), AllocError>
-        ensures ok { OnOk result (self.new ≡ record self.old { heard = option_map (λ text. text ++ note_text self.old.texts self.old.names (Planned (plan_of made.now) (started_of made.now))) self.old.heard }) }
-        ensures err { OnErr result (self.new ≡ self.old) }
+    /// What is printed of a dispatch.
+    fn dispatch_text(&self, made: &Dispatched<'_>) -> Result<Vec<u8>, AllocError>
+        ensures { IfOk result (λ text. text.items ≡ note_text self.now.texts self.now.names (Planned (plan_of made.now) (started_of made.now))) }
     {
         let mut text = Vec::new(self.alloc);
         put_dispatch(
@@ -103,23 +96,15 @@ impl Log {
             made.plan(),
             made.started(),
         )?;
-        self.heard.extend_from_slice(&text)
+        Ok(text)
     }
 
-    /// Keeps what is printed of a cancel.
-    fn keep_cancel(&mut self, cancel: Cancel) -> Result<(), AllocError>
-        ensures ok { OnOk result (self.new ≡ record self.old { heard = option_map (λ text. text ++ note_text self.old.texts self.old.names (Canceled cancel)) self.old.heard }) }
-        ensures err { OnErr result (self.new ≡ self.old) }
+    /// What is printed of a cancel.
+    fn cancel_text(&self, cancel: Cancel) -> Result<Vec<u8>, AllocError>
+        ensures { IfOk result (λ text. text.items ≡ note_text self.now.texts self.now.names (Canceled cancel)) }
     {
         let mut text = Vec::new(self.alloc);
         put_cancel(self.alloc, &mut text, &self.names, cancel)?;
-        self.heard.extend_from_slice(&text)
-    }
-
-    /// Memory was refused.
-    fn lose(&mut self)
-        ensures { self.new ≡ record self.old { heard = None } }
-    {
-        self.lost = true;
+        Ok(text)
     }
 }

@@ -16,6 +16,7 @@ use Rattle.dispatcher.specs.Notes.{Refused}
 use Rattle.dispatcher.specs.Run.{reply_of}
 use Rattle.ipp_operations.specs.Reply.{IsReply}
 use Rattle.ipp_operations.specs.QueueText.{ack_of, text_of}
+use Rattle.ipp_operations.specs.declared.queue_text.TheConstants.{REFUSED}
 use Rattle.connections.specs.declared.ask.Client.{Client}
 use Rattle.connections.specs.declared.ask.Client.TheVariants as client
 use Rattle.server.specs.Polls.{Found}
@@ -55,7 +56,7 @@ Replies key id request query None = Drops key id request
 
 -- memory for a file or for its job is refused, and so is it, by the byte 01 (RFC 1179, section 6)
 abbrev pub Declines : AllocationSite → ℕ → ℕ → Rel
-Declines place key id = Then (Tells (Refused place (Some id))) (Enqueues key (1 ∷ []))
+Declines place key id = Then (Tells (Refused place (Some id))) (Enqueues key (REFUSED ∷ []))
 
 -- a text becomes due; where memory for it is refused the connection closes without a byte
 abbrev pub Shows : ℕ → ℕ → List ℕ → Rel

@@ -9,10 +9,10 @@ use crate::acting::Asker;
 use crate::engine::Engine;
 use base_types::Moment;
 use connections::table::break_off;
-use connections::{Client, REFUSED};
+use connections::Client;
 use dispatcher::{AllocationSite, Listener};
 use events::{Effects, Event, IppResponse, LpdResponse, Response, Status};
-use ipp_operations::{ipp_response, lpd_ack, lpd_queue_text};
+use ipp_operations::{REFUSED, ipp_response, lpd_ack, lpd_queue_text};
 use plan_prices::Planner;
 
 impl<P: Planner + Drop> Engine<P> {

@@ -1,16 +1,15 @@
 //! A listener that keeps what it is told.
-ghost use Rattle.std.specs.Prelude.{◌≡◌, ◌++◌, [], ◌∷◌, Some, None, IfOk, OnOk, OnErr, option_map, map};
+ghost use Rattle.std.specs.Prelude.{◌≡◌, ◌++◌, [], Some, None, IfOk, OnOk, OnErr, map};
 ghost use Rattle.std.specs.Option.{option_copied};
 ghost use Rattle.dispatcher.specs.Dispatched.{plan_of, started_of};
 ghost use Rattle.server.specs.NoteLog.{plan_words, class_word, dispatch_words};
 
-use base_types::{Priority, Stranded};
+use base_types::{MemoryLog, Priority, Stranded};
 use dispatcher::{AllocationSite, DeviceRefusal, Dispatched, Listener, Started};
 use events::Cancel;
 use plan_prices::{Plan, PlannedClass};
 use std::alloc::{AllocError, Global};
 use std::marker::Model;
-use std::mem;
 use wires::WireId;
 
 /// What a listener hears, in order. A dispatch is several: its plan, if a job was ready, and then each
@@ -38,17 +37,16 @@ pub enum LoggedNote {
 #[derive(Drop)]
 pub struct NoteLog {
     alloc: Global,
-    heard: Vec<LoggedNote>,
-    lost: bool,
+    heard: MemoryLog<LoggedNote>,
 }
 
 impl Model for NoteLog {
-    ghost use Rattle.std.specs.Prelude.{List, Option, Some, None, if◌then◌else◌};
+    ghost use Rattle.std.specs.Prelude.{List, Option};
     ghost use Rattle.server.specs.declared.note_log.LoggedNote.{LoggedNote};
 
     ghost Value = { Option (List LoggedNote) };
 
-    ghost view = { λ l. if l.lost then None else Some l.heard.items };
+    ghost view = { λ l. l.heard };
 }
 
 impl Listener for NoteLog {
@@ -57,27 +55,22 @@ impl Listener for NoteLog {
     ghost told = { Hears };
 
     fn dispatched(&mut self, made: &Dispatched<'_>) {
-        if self.keep_dispatch(made).is_err() {
-            self.lose();
+        match notes_of(self.alloc, made) {
+            Ok(notes) => self.heard.keep_all(notes),
+            Err(_) => self.heard.lose(),
         }
     }
 
     fn canceled(&mut self, cancel: Cancel) {
-        if self.enqueue(LoggedNote::Canceled(cancel)).is_err() {
-            self.lose();
-        }
+        self.heard.keep(LoggedNote::Canceled(cancel));
     }
 
     fn device_refused(&mut self, id: WireId, why: DeviceRefusal) {
-        if self.enqueue(LoggedNote::DeviceRefused(id, why)).is_err() {
-            self.lose();
-        }
+        self.heard.keep(LoggedNote::DeviceRefused(id, why));
     }
 
     fn refused(&mut self, place: AllocationSite, id: Option<WireId>) {
-        if self.enqueue(LoggedNote::Refused(place, id)).is_err() {
-            self.lose();
-        }
+        self.heard.keep(LoggedNote::Refused(place, id));
     }
 }
 
@@ -88,8 +81,7 @@ impl NoteLog {
     {
         NoteLog {
             alloc,
-            heard: Vec::new(alloc),
-            lost: false,
+            heard: MemoryLog::new(alloc),
         }
     }
 
@@ -99,36 +91,18 @@ impl NoteLog {
         ensures ok { IfOk result (λ heard. (self.old ≡ Some heard.items) × (self.new ≡ Some [])) }
         ensures err { OnErr result ((self.old ≡ None) × (self.new ≡ None)) }
     {
-        if self.lost {
-            return Err(AllocError);
-        }
-        let empty = Vec::new(self.alloc);
-        Ok(mem::replace(&mut self.heard, empty))
+        self.heard.take()
     }
+}
 
-    /// Keeps one thing that was heard.
-    fn enqueue(&mut self, heard: LoggedNote) -> Result<(), AllocError>
-        ensures ok { OnOk result (self.new ≡ option_map (λ kept. kept ++ heard ∷ []) self.old) }
-        ensures err { OnErr result (self.new ≡ self.old) }
-    {
-        self.heard.push(heard)?;
-        Ok(())
-    }
-
-    /// Keeps what is heard of a dispatch.
-    fn keep_dispatch(&mut self, made: &Dispatched<'_>) -> Result<(), AllocError>
-        ensures { OnOk result (self.new ≡ option_map (λ kept. kept ++ dispatch_words (plan_of made.now) (started_of made.now)) self.old) }
-    {
-        put_plan(&mut self.heard, made.plan())?;
-        put_started(&mut self.heard, made.started())
-    }
-
-    /// Memory was refused.
-    fn lose(&mut self)
-        ensures { self.new ≡ None }
-    {
-        self.lost = true;
-    }
+/// What is heard of a dispatch.
+fn notes_of(alloc: Global, made: &Dispatched<'_>) -> Result<Vec<LoggedNote>, AllocError>
+    ensures { IfOk result (λ notes. notes.items ≡ dispatch_words (plan_of made.now) (started_of made.now)) }
+{
+    let mut notes = Vec::new(alloc);
+    put_plan(&mut notes, made.plan())?;
+    put_started(&mut notes, made.started())?;
+    Ok(notes)
 }
 
 /// Appends what is heard of a plan.

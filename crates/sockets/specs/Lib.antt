@@ -1,3 +1,2 @@
 pub mod Allowance
 pub mod Patience
-pub mod ConnectionLog

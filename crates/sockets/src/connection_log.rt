@@ -1,9 +1,5 @@
 //! Which connections come and go.
-ghost use Rattle.std.specs.Prelude.{◌≡◌, ◌++◌, [], ◌∷◌, None, Some, IfOk, OnErr, option_map};
-ghost use Rattle.sockets.specs.ConnectionLog.{Keeps};
-
-use std::alloc::{AllocError, Global};
-use std::marker::Model;
+use base_types::MemoryLog;
 use std::net::SocketAddr;
 use wires::{Door, WireId};
 
@@ -38,51 +34,5 @@ pub enum ConnectionEvent {
     },
 }
 
-/// The connections that come and go, as long as there is memory for them. In clauses it is their list,
-/// or none from then on.
-#[derive(Drop)]
-pub struct ConnectionLog {
-    kept: Vec<ConnectionEvent>,
-    lost: bool,
-}
-
-impl Model for ConnectionLog {
-    ghost use Rattle.std.specs.Prelude.{List, Option, Some, None, if◌then◌else◌};
-    ghost use Rattle.sockets.specs.declared.connection_log.ConnectionEvent.{ConnectionEvent};
-
-    ghost Value = { Option (List ConnectionEvent) };
-
-    ghost view = { λ v. if v.lost then None else Some v.kept.items };
-}
-
-impl ConnectionLog {
-    /// None came or went yet.
-    pub fn new(alloc: Global) -> ConnectionLog
-        ensures { result ≡ Some [] }
-    {
-        ConnectionLog {
-            kept: Vec::new(alloc),
-            lost: false,
-        }
-    }
-
-    /// Keeps one more.
-    pub fn keep(&mut self, visit: ConnectionEvent)
-        ensures { Keeps self.old visit self.new }
-    {
-        if self.kept.push(visit).is_err() {
-            self.lost = true;
-        }
-    }
-
-    /// All of them. The error is that there was no memory for one.
-    pub fn all(self) -> Result<Vec<ConnectionEvent>, AllocError>
-        ensures ok { IfOk result (λ visits. self ≡ Some visits.items) }
-        ensures err { OnErr result (self ≡ None) }
-    {
-        if self.lost {
-            return Err(AllocError);
-        }
-        Ok(self.kept)
-    }
-}
+/// The connections that come and go, as long as there is memory for them.
+pub type ConnectionLog = MemoryLog<ConnectionEvent>;

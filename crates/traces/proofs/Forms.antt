@@ -9,6 +9,7 @@ use Rattle.base_types.specs.declared.report.Report.{Report}
 use Rattle.base_types.specs.Report.{report_of}
 use Rattle.device_link.specs.Line.{reported_by}
 use Rattle.wires.specs.declared.wire.Door.{Door}
+use Rattle.wires.specs.Door.{IsWordOf}
 use Rattle.std.specs.declared.alloc.Global.{Global}
 use Rattle.std.specs.Prelude.{Vec}
 use Rattle.traces.specs.declared.line.Line.{Line}
@@ -16,7 +17,7 @@ use Rattle.traces.specs.declared.line.Opening.{Opening}
 use Rattle.traces.specs.declared.line.Input.{Input}
 use Rattle.traces.specs.declared.line.Line.TheVariants.{At, Ipp, Device, Tick, Open, In, End}
 use Rattle.text.specs.Parts.{Lacks, IsCut}
-use Rattle.traces.specs.TraceLine.{Finds, IsLine, IsDeviceIn, IsReportIn, IsNumberIn, IsDoorIn, IsOpeningIn, IsInputIn, IsBodyIn}
+use Rattle.traces.specs.TraceLine.{Finds, IsLine, IsDeviceIn, IsReportIn, IsNumberIn, IsOpeningIn, IsInputIn, IsBodyIn}
 
 -- texts whose first bytes differ
 other_word : (text other : List ℕ) → text ≡ other → (slice_index_or text 0 0 ≡ slice_index_or other 0 0 → ⊥) → ⊥
@@ -89,8 +90,8 @@ uncut_opening said lacks opening is = uncut said is.digits is.word lacks is.cut.
 pub unnumbered_opening : (said a b : List ℕ) → IsCut 32 said a b → ((number : ℕ) → IsNumberIn a number → ⊥) → (opening : Opening) → IsOpeningIn said opening.number opening.door → ⊥
 unnumbered_opening said a b cut none opening is = none opening.number (subst (λ t. IsNumberIn t opening.number) (sym (same_parts said a b is.digits is.word cut is.cut).0) is.numbered)
 
-pub unnamed_opening : (said a b : List ℕ) → IsCut 32 said a b → ((door : Door) → IsDoorIn b door → ⊥) → (opening : Opening) → IsOpeningIn said opening.number opening.door → ⊥
-unnamed_opening said a b cut none opening is = none opening.door (subst (λ t. IsDoorIn t opening.door) (sym (same_parts said a b is.digits is.word cut is.cut).1) is.named)
+pub unnamed_opening : (said a b : List ℕ) → IsCut 32 said a b → ((door : Door) → IsWordOf b door → ⊥) → (opening : Opening) → IsOpeningIn said opening.number opening.door → ⊥
+unnamed_opening said a b cut none opening is = none opening.door (subst (λ t. IsWordOf t opening.door) (sym (same_parts said a b is.digits is.word cut is.cut).1) is.named)
 
 pub uncut_input : (said : List ℕ) → Lacks 32 said → (input : Input) → IsInputIn said input.number input.bytes.items → ⊥
 uncut_input said lacks input is = uncut said is.digits is.written lacks is.cut.lacks is.cut.joined

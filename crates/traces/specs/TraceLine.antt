@@ -10,7 +10,7 @@ use Rattle.text.specs.Parts.{IsCut}
 use Rattle.device_link.specs.Line.{reported_by}
 use Rattle.traces.specs.declared.line.Line.{Line}
 use Rattle.wires.specs.declared.wire.Door.{Door}
-use Rattle.wires.specs.declared.wire.Door.TheVariants as door
+use Rattle.wires.specs.Door.{IsWordOf}
 use Rattle.traces.specs.declared.line.Line.TheVariants.{At, Ipp, Device, Tick, Open, In, End}
 
 -- decimal digits of a moment up to the last
@@ -39,19 +39,13 @@ pub record IsDeviceIn (names : List (List ℕ)) (text : List ℕ) (place : ℕ) 
 abbrev pub IsNumberIn : List ℕ → ℕ → Type 0
 IsNumberIn digits number = number_up_to (2 ^ 31 - 1) digits ≡ Some number
 
--- the word for a door
-abbrev pub IsDoorIn : List ℕ → Door → Type 0
-IsDoorIn word door.Ipp = word ≡ codes "ipp"
-IsDoorIn word door.Lpd = word ≡ codes "lpd"
-IsDoorIn word door.Devices = word ≡ codes "device"
-
 -- a number, and the door at which the connection comes in
 pub record IsOpeningIn (text : List ℕ) (number : ℕ) (door : Door) : Type 0 where
   pub digits : List ℕ
   pub word : List ℕ
   pub cut : IsCut 32 text digits word
   pub numbered : IsNumberIn digits number
-  pub named : IsDoorIn word door
+  pub named : IsWordOf word door
 
 -- a number, and the bytes that come
 pub record IsInputIn (text : List ℕ) (number : ℕ) (bytes : List ℕ) : Type 0 where

@@ -19,4 +19,4 @@ mod print;
 pub use line::{Input, Line, Opening, read_line};
 pub use lines::{CutLine, CutTrace, next_line, split_settings};
 pub use peers::{Connection, empty_all, end_at, mark_closed, numbered, put_connection, send_at};
-pub use print::{put_cancel, put_connections, put_dispatch, put_reply};
+pub use print::{put_cancel, put_connections, put_dispatch, put_gone, put_out, put_reply};

@@ -3,7 +3,7 @@ ghost use Rattle.std.specs.Prelude.{◌≡◌, ◌++◌, ◌-◌, IfOk, codes, p
 ghost use Rattle.std.specs.Char.{is_ascii_uppercase};
 ghost use Rattle.std.specs.List.{list_any};
 ghost use Rattle.std.specs.Str.{bytes_eq};
-ghost use Rattle.traces.specs.TraceLine.{Finds, IsMomentIn, IsBodyIn, IsNumberIn, IsDoorIn, IsOpeningIn, IsInputIn, IsLine};
+ghost use Rattle.traces.specs.TraceLine.{Finds, IsMomentIn, IsBodyIn, IsNumberIn, IsOpeningIn, IsInputIn, IsLine};
 
 use base_types::{DeviceId, Limits, Moment, Report, Text};
 use device_link::read_report;
@@ -88,22 +88,6 @@ fn read_number(digits: &[u8]) -> Option<u64>
     number_up_to(digits, LAST_NUMBER)
 }
 
-/// The door of a word.
-fn read_door(word: &[u8]) -> Option<Door>
-    ensures { Finds (IsDoorIn word.now) result }
-{
-    if word == b"ipp".as_slice() {
-        return Some(Door::Ipp);
-    }
-    if word == b"lpd".as_slice() {
-        return Some(Door::Lpd);
-    }
-    if word == b"device".as_slice() {
-        return Some(Door::Devices);
-    }
-    None
-}
-
 /// A number, a space and the word for a door.
 fn read_opening(said: &[u8]) -> Option<Opening>
     ensures { Finds (λ opening. IsOpeningIn said.now opening.number opening.door) result }
@@ -114,7 +98,7 @@ fn read_opening(said: &[u8]) -> Option<Opening>
     let Some(number) = read_number(cut.0) else {
         return None;
     };
-    let Some(door) = read_door(cut.1) else {
+    let Some(door) = Door::of_word(cut.1) else {
         return None;
     };
     Some(Opening { number, door })

@@ -199,7 +199,13 @@ fn put_taken(
     put_out(alloc, output, number, taken)
 }
 
-fn put_out(alloc: Global, output: &mut Vec<u8>, number: u64, bytes: &[u8]) -> Result<(), AllocError>
+/// Appends the line of the bytes that a connection is sent. The error is out of memory.
+pub fn put_out(
+    alloc: Global,
+    output: &mut Vec<u8>,
+    number: u64,
+    bytes: &[u8],
+) -> Result<(), AllocError>
     ensures { OnOk result (output.new.items ≡ output.old.items ++ (codes "out " ++ (decimal number ++ (codes " " ++ (encode_lower bytes.now ++ codes "\n"))))) }
 {
     let words = format!(in alloc; "out {number} ")?;
@@ -210,7 +216,8 @@ fn put_out(alloc: Global, output: &mut Vec<u8>, number: u64, bytes: &[u8]) -> Re
     Ok(())
 }
 
-fn put_gone(alloc: Global, output: &mut Vec<u8>, number: u64) -> Result<(), AllocError>
+/// Appends the line of a connection that the server has closed. The error is out of memory.
+pub fn put_gone(alloc: Global, output: &mut Vec<u8>, number: u64) -> Result<(), AllocError>
     ensures { OnOk result (output.new.items ≡ output.old.items ++ gone_line number) }
 {
     let line = format!(in alloc; "gone {number}\n")?;

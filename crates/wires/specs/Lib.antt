@@ -1,3 +1,4 @@
 pub mod Poll
+pub mod Door
 pub mod MemoryPeer
 pub mod MemoryWire

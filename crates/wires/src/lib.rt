@@ -7,6 +7,7 @@
 //! Tests stand in `server_tests`.
 #![tactic(auto)]
 
+mod door;
 mod memory_wire;
 mod wire;
 

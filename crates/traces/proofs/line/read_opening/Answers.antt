@@ -8,5 +8,5 @@ returns-in_default c = uncut_opening c.args.said.now (c.in_default.ensures.none 
 pub returns-in_default-read_number : goal.returns-in_default-read_number
 returns-in_default-read_number c = unnumbered_opening c.args.said.now c.in-Some.cut.0.now c.in-Some.cut.1.now c.in-Some.ensures.some c.in_default-read_number.ensures
 
-pub returns-in_default-read_door : goal.returns-in_default-read_door
-returns-in_default-read_door c = unnamed_opening c.args.said.now c.in-Some.cut.0.now c.in-Some.cut.1.now c.in-Some.ensures.some c.in_default-read_door.ensures
+pub returns-in_default-of_word : goal.returns-in_default-of_word
+returns-in_default-of_word c = unnamed_opening c.args.said.now c.in-Some.cut.0.now c.in-Some.cut.1.now c.in-Some.ensures.some c.in_default-of_word.ensures.none
