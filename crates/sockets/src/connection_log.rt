@@ -1,4 +1,4 @@
-//! Which connections come and go.
+//! The log of connections that come and go.
 ghost use Rattle.std.specs.Prelude.{◌≡◌, ◌++◌, [], ◌∷◌, None, Some, IfOk, OnErr, option_map};
 ghost use Rattle.sockets.specs.ConnectionLog.{Keeps};
 
@@ -12,34 +12,34 @@ use wires::{Door, WireId};
 pub enum CloseReason {
     /// The server is done with it.
     Served,
-    /// Its peer has ended it.
+    /// Its peer ended it.
     Left,
     /// Its peer was silent for too long.
     Silent,
-    /// The system says that it is broken.
+    /// The system reported it as broken.
     Broken,
 }
 
-/// A connection comes or goes.
+/// An event of a connection: it comes or goes.
 #[derive(Clone, Copy)]
 pub enum ConnectionEvent {
-    /// One of this number comes in at a door.
+    /// A connection of this number was accepted at a door.
     Came {
         id: WireId,
         door: Door,
         peer: SocketAddr,
     },
-    /// One may wait at a door, and the system gives none.
+    /// A connection may wait at a door, and the system's accept failed.
     Missed(Door),
-    /// The one of this number is closed.
+    /// The connection of this number is closed.
     Went {
         id: WireId,
         leave: CloseReason,
     },
 }
 
-/// The connections that come and go, as long as there is memory for them. In clauses it is their list,
-/// or none from then on.
+/// The log of connections that come and go, as long as there is memory for it. In clauses it is the list of
+/// the events, or `None` once memory was refused.
 #[derive(Drop)]
 pub struct ConnectionLog {
     kept: Vec<ConnectionEvent>,
@@ -56,7 +56,7 @@ impl Model for ConnectionLog {
 }
 
 impl ConnectionLog {
-    /// None came or went yet.
+    /// Creates an empty log.
     pub fn new(alloc: Global) -> ConnectionLog
         ensures { result ≡ Some [] }
     {
@@ -66,7 +66,7 @@ impl ConnectionLog {
         }
     }
 
-    /// Keeps one more.
+    /// Appends an event. If memory is refused, the log is lost.
     pub fn keep(&mut self, visit: ConnectionEvent)
         ensures { Keeps self.old visit self.new }
     {
@@ -75,7 +75,7 @@ impl ConnectionLog {
         }
     }
 
-    /// All of them. The error is that there was no memory for one.
+    /// Returns all events. The error is that memory for one of them was refused.
     pub fn all(self) -> Result<Vec<ConnectionEvent>, AllocError>
         ensures ok { IfOk result (λ visits. self ≡ Some visits.items) }
         ensures err { OnErr result (self ≡ None) }
