@@ -1,4 +1,4 @@
--- What a connection asks next, by all that it has read and what of that was acted on.
+-- What a connection asks next, as a relation on its entry: on all that was read and on the part of it that was acted on.
 use Rattle.std.specs.Prelude.{ℕ, ◌≡◌, ◌⊎◌, ◌||◌, Bool, true, false, List, [], ◌∷◌, ◌++◌, Option, Some, None}
 use Rattle.base_types.specs.Report.{ReportRecord}
 use Rattle.settings_file.specs.Settings.{ServerSettings, device_named}
@@ -24,7 +24,7 @@ use Rattle.connections.specs.Session.{is_queue}
 use Rattle.connections.specs.Entry.{PeerRecord, Http as OfIpp, Queue as OfLpd, Link as OfDevice, Entry, talking, reading, finishing, broken, owing, needs_memory}
 use Rattle.connections.specs.Steps.{StepsIpp, closes_after, body_after, StepsLpd, StepsDevice, refused, faulty, no_memory, due_bytes}
 
--- ---- the next of a stream, after what was acted on
+-- ---- the next item of a stream, behind the items that were acted on
 
 -- the next item of an IPP client
 pub record HearsIpp (e : Entry) (said : List Said) (closes : Bool) (body : List ℕ) (what : Step) (mid : Entry) : Type 0 where
@@ -42,14 +42,14 @@ pub record HearsItem (queues : List ℕ → Bool) (e : Entry) (items : List Item
   pub comes : StepsLpd queues session said what session_after
   pub after : mid ≡ talking (OfLpd (items ++ said ∷ []) session_after) e
 
--- a fault of its stream
+-- a fault of an LPD client's stream
 pub record FindsFault (e : Entry) (items : List ItemRecord) (what : Step) (mid : Entry) : Type 0 where
   pub fault : LpdFault
   pub is : LpdItems e.read items (Faulty fault)
   pub comes : what ≡ refused
   pub after : mid ≡ e
 
--- memory to read a line is refused, so that it isn't known what it says
+-- memory to read a line is refused: the content of the line isn't known
 abbrev pub LosesLine : Entry → Step → Entry → Type 0
 LosesLine e what mid = (what ≡ no_memory) × (mid ≡ e)
 
@@ -61,22 +61,22 @@ pub record HearsReport (named : List ℕ → Option ℕ) (e : Entry) (reports : 
   pub comes : StepsDevice named device said what device_after
   pub after : mid ≡ talking (OfDevice (reports ++ said ∷ []) device_after) e
 
--- a fault in what a device says
+-- a fault of a device's stream
 pub record FindsLinkFault (e : Entry) (reports : List ReportRecord) (device : Option ℕ) (what : Step) (mid : Entry) : Type 0 where
   pub fault : LinkFault
   pub is : device_reports e.read ≡ record { reports = reports; ending = Link.Faulty fault }
   pub comes : what ≡ faulty device
   pub after : mid ≡ e
 
--- the next of a stream comes to this, and is acted on
+-- the next item of a stream is acted on, with its step
 abbrev pub Hears : ServerSettings → PeerRecord → Entry → Step → Entry → Type 0
 Hears settings (OfIpp said closes body) e what mid = HearsIpp e said closes body what mid
 Hears settings (OfLpd items session) e what mid = HearsItem (is_queue settings) e items session what mid ⊎ (FindsFault e items what mid ⊎ LosesLine e what mid)
 Hears settings (OfDevice reports device) e what mid = HearsReport (device_named settings) e reports device what mid ⊎ (FindsLinkFault e reports device what mid ⊎ LosesLine e what mid)
 
--- ---- what comes of it
+-- ---- the result of a step
 
--- bytes become due; memory for them may be refused where they need some
+-- bytes become due; memory for them may be refused where they exceed the reserve
 abbrev pub Owes : List ℕ → Entry → Ask → Entry → Type 0
 Owes bytes e what new =
     ((what ≡ ask.Nothing) × (new ≡ owing bytes e))
@@ -87,19 +87,19 @@ StepsTo (step.Due due last) e what new = Owes (due_bytes due) (finishing last e)
 StepsTo (step.Asks asked last) e what new = (what ≡ asked) × (new ≡ finishing last e)
 StepsTo (step.Breaks asked) e what new = (what ≡ asked) × (new ≡ broken e)
 
--- ---- all of it
+-- ---- the whole relation
 
--- what was acted on is all that was read
+-- all that was read was acted on
 abbrev pub IsHeardAs : List ℕ → PeerRecord → Type 0
 IsHeardAs read (OfIpp said closes body) = Exchanges read said
 IsHeardAs read (OfLpd items session) = LpdItems read items Open
 IsHeardAs read (OfDevice reports device) = device_reports read ≡ record { reports = reports; ending = Unfinished }
 
--- or nothing of it counts any more
+-- the connection is draining or broken, or all that it read was acted on
 abbrev pub IsHeard : Entry → Type 0
 IsHeard e = ((e.draining || e.broken) ≡ true) ⊎ IsHeardAs e.read e.talk
 
--- a connection that counts asks this
+-- a connection that is neither draining nor broken asks something
 pub record AsksNext (settings : ServerSettings) (what : Ask) (e new : Entry) : Type 0 where
   pub counts : (e.draining || e.broken) ≡ false
   pub comes : Step
@@ -107,14 +107,14 @@ pub record AsksNext (settings : ServerSettings) (what : Ask) (e new : Entry) : T
   pub hears : Hears settings e.talk e comes mid
   pub steps : StepsTo comes mid what new
 
--- it asks this, or has nothing to ask
+-- the connection asks something, or has nothing to ask
 abbrev pub Asking : ServerSettings → Option Ask → Entry → Entry → Type 0
 Asking settings None e new = IsHeard e × (new ≡ e)
 Asking settings (Some what) e new = AsksNext settings what e new
 
--- ---- what comes of its peer
+-- ---- the bytes of a peer
 
--- a piece counts whole, or nothing counts any more, or memory for it is refused
+-- a piece is read whole, or discarded by a draining connection, or memory for it is refused and the connection breaks
 abbrev pub Feeds : List ℕ → Fed → Entry → Entry → Type 0
 Feeds piece fed.Discarded e new = (e.draining ≡ true) × (new ≡ e)
 Feeds piece fed.Fed e new = (e.draining ≡ false) × (new ≡ reading piece e)

@@ -1,4 +1,4 @@
--- What a connection asks next is fixed by its entry, but for two choices: how long the part of a body is that is taken, and where memory is refused.
+-- The entry of a connection determines what the connection asks next, but for two choices: the length of the part that is taken of a body, and where memory is refused.
 use Rattle.std.specs.Prelude.{ℕ, ◌≡◌, List, length, Option, Some, None}
 use Rattle.base_types.specs.Report.{report_of}
 use Rattle.settings_file.specs.Settings.{ServerSettings}
@@ -15,7 +15,7 @@ use Rattle.connections.specs.Asking.{Hears, AsksNext}
 
 -- ---- the choices
 
--- how long the part of a body is that an item brings
+-- the length of the part of a body that an item brings, for an item that brings a part
 abbrev pub part_taken : HttpItem → List ℕ → Option ℕ
 part_taken (item.Head closes) part = None
 part_taken item.Continue part = None
@@ -28,15 +28,15 @@ part_heard settings (OfIpp said closes body) e comes mid next = part_taken next.
 part_heard settings (OfLpd items session) e comes mid next = None
 part_heard settings (OfDevice reports device) e comes mid next = None
 
--- how long the part of a body is that is taken, where one is
+-- the length of the part of a body that is taken with an ask, where a part is taken
 abbrev pub part_of : {settings : ServerSettings} {what : Ask} {e new : Entry} → AsksNext settings what e new → Option ℕ
 part_of {settings} {e} asks = part_heard settings e.talk e asks.comes asks.mid asks.hears
 
--- for what memory is refused, as something is asked
+-- what memory was refused for, as something is asked
 pub data Loss : Type 0 where
   OfGrowth : Growth → Loss
   OfPart : Part → Loss
-  -- to read a whole body
+  -- reading a whole body
   OfBody : Loss
 
 abbrev pub lost_of : Ask → Option Loss
@@ -52,7 +52,7 @@ lost_of (ask.Fault device) = None
 
 -- ---- what is asked
 
--- two asks say the same
+-- two asks are the same, with equal events and equal reports
 abbrev pub SameAsk : Ask → Ask → Type 0
 SameAsk (ask.Event client event) (ask.Event other said) = (client ≡ other) × SameEvent event said
 SameAsk (ask.Report device report) (ask.Report other said) = (device ≡ other) × (report_of report ≡ report_of said)
@@ -60,7 +60,7 @@ SameAsk one other = one ≡ other
 
 -- ---- laws
 
--- what is asked next, and the entry after it, are one where the choices are
+-- two asks of one entry with the same choices are the same, and lead to the same entry
 abbrev pub AsksOne : Type 0
 AsksOne =
     (settings : ServerSettings) (e : Entry) (what said : Ask) (new after : Entry) (one : AsksNext settings what e new) (other : AsksNext settings said e after)

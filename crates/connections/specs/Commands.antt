@@ -1,4 +1,4 @@
--- Which events of the core an LPD client's jobs and commands are (RFC 1179, sections 5.3 to 5.5 and 6).
+-- The events of the core for an LPD client's jobs and commands (RFC 1179, sections 5.3 to 5.5 and 6).
 use Rattle.std.specs.Prelude.{◌≡◌}
 use Rattle.lpd.specs.Items.{CommandRecord, ListsShort, ListsLong, RemovesJobs}
 use Rattle.lpd.specs.Session.{SentRecord}

@@ -1,4 +1,4 @@
--- A connection as plain data, and what each call changes of it.
+-- A connection as plain data, and the change that each call makes of it.
 use Rattle.std.specs.Prelude.{ℕ, ◌≡◌, ◌⊎◌, ◌||◌, ◌&&◌, ◌==◌, ◌+◌, ◌<◌, not, nat_lt, Bool, true, false, List, ◌++◌, length, if◌then◌else◌}
 use Rattle.base_types.specs.declared.limits.TheConstants.Limits.{WAITING_OUTPUT_BYTES}
 use Rattle.send_queues.specs.declared.queue.TheConstants.{RESERVED_BYTES}
@@ -17,14 +17,14 @@ pub record ConnectionState : Type 0 where
   pub ended : Bool
   pub draining : Bool
   pub broken : Bool
-  -- what waits to be taken
+  -- the bytes that wait to be taken by the wire
   pub output : List ℕ
 
--- how much it can bring yet, at most: nothing where nothing of it counts any more
+-- an upper bound on the steps that a connection can still bring: 0 for a connection that is draining or broken
 abbrev pub load : ConnectionState → ℕ
 load c = if c.draining || c.broken then 0 else 1 + work c.peer
 
--- its input hasn't ended, and not too much waits
+-- the connection's input hasn't ended, and at most WAITING_OUTPUT_BYTES wait
 abbrev pub is_read : ConnectionState → Bool
 is_read c = not c.ended && not (nat_lt WAITING_OUTPUT_BYTES (length c.output))
 
@@ -46,11 +46,11 @@ is_kept bytes c = record c { output = c.output ++ bytes }
 abbrev pub is_draining : Bool → ConnectionState → ConnectionState
 is_draining last c = record c { draining = last }
 
--- the device that said its name there has another connection
+-- the device that gave its name on the connection has another connection
 abbrev pub gives_way : ConnectionState → ConnectionState
 gives_way c = record c { peer = unnamed c.peer; broken = true }
 
--- bytes that become due: they wait, or memory for them is refused
+-- bytes become due: they wait, or memory for them is refused and the connection breaks
 abbrev pub Enqueues : List ℕ → ConnectionState → Ask → ConnectionState → Type 0
 Enqueues bytes c what d =
     ((what ≡ ask.Nothing) × (d ≡ is_kept bytes c))
@@ -62,7 +62,7 @@ Takes (step.Due due last) c what d = Enqueues (due_bytes due) (is_draining last 
 Takes (step.Asks asked last) c what d = (what ≡ asked) × (d ≡ is_draining last c)
 Takes (step.Breaks asked) c what d = (what ≡ asked) × (d ≡ is_broken c)
 
--- what became of bytes that the server owes: they wait, unless it is broken, or it breaks
+-- the result of enqueueing bytes: a broken connection is unchanged; else the bytes wait, or the connection breaks
 abbrev pub EnqueuesAs : List ℕ → Bool → ConnectionState → ConnectionState → Type 0
 EnqueuesAs bytes false c d = ((c.broken ≡ true) × (d ≡ c)) ⊎ ((c.broken ≡ false) × (d ≡ is_kept bytes c))
 EnqueuesAs bytes true c d = (c.broken ≡ false) × (d ≡ is_broken c)

@@ -1,4 +1,4 @@
--- A connection since it was accepted, as whole lists: all that was read, what of it was acted on, all that was due and all that was taken. Nothing of this is stored.
+-- A connection since it was accepted, as whole lists: all that was read, the part of it that was acted on, all that was due and all that was taken. The lists aren't stored.
 use Rattle.std.specs.Prelude.{ℕ, nat_lt, Bool, true, false, List, [], ◌++◌, length, drop, Option, None}
 use Rattle.base_types.specs.Report.{ReportRecord}
 use Rattle.http_front.specs.Stream.{Said}
@@ -8,13 +8,13 @@ use Rattle.send_queues.specs.declared.queue.TheConstants.{RESERVED_BYTES}
 use Rattle.wires.specs.declared.wire.Door.{Door}
 use Rattle.wires.specs.declared.wire.Door.TheVariants.{Ipp, Lpd, Devices}
 
--- what of a connection's bytes was acted on, and what is kept of it
+-- the part of a connection's bytes that was acted on, and the state that the server keeps for the rest
 pub data PeerRecord : Type 0 where
-  -- whether the connection closes after the reply to the request that is coming, and its body so far
+  -- the items; whether the connection closes after the reply to the current request; the current request's body so far
   Http : (said : List Said) (closes : Bool) (body : List ℕ) → PeerRecord
-  -- the files of a queue, once they are received
+  -- the items, and the files of a queue while jobs are received
   Queue : (items : List ItemRecord) (session : Option SessionState) → PeerRecord
-  -- the device that said its name
+  -- the reports, and the device that gave its name
   Link : (reports : List ReportRecord) (device : Option ℕ) → PeerRecord
 
 abbrev pub opening_peer : Door → PeerRecord
@@ -35,16 +35,16 @@ closes_of (Link reports device) = false
 
 -- a connection since it was accepted
 pub record Entry : Type 0 where
-  -- the wire's number
+  -- the number of the connection at the wire
   pub id : ℕ
-  -- all that was read while it counted
+  -- all bytes that were read and weren't discarded
   pub read : List ℕ
   pub talk : PeerRecord
-  -- its input has ended
+  -- the input of the connection has ended
   pub ended : Bool
-  -- nothing counts that is read from now on; it closes once all that is due was taken
+  -- bytes that are read from now on are discarded; the connection closes once all that is due was taken
   pub draining : Bool
-  -- it is to be closed as by a fault: nothing becomes due on it any more
+  -- the connection is to be closed as by a fault: nothing becomes due on it any more
   pub broken : Bool
   pub taken : List ℕ
   pub due : List ℕ
@@ -52,13 +52,13 @@ pub record Entry : Type 0 where
 abbrev pub opening_entry : Door → ℕ → Entry
 opening_entry door id = record { id = id; read = []; talk = opening_peer door; ended = false; draining = false; broken = false; taken = []; due = [] }
 
--- what waits to be taken
+-- the bytes that are due and weren't taken
 abbrev pub waiting : Entry → List ℕ
 waiting e = drop (length e.taken) e.due
 
 -- ---- changes
 
--- this was acted on
+-- items were acted on
 abbrev pub talking : PeerRecord → Entry → Entry
 talking talk e = record e { talk = talk }
 
@@ -66,19 +66,19 @@ talking talk e = record e { talk = talk }
 abbrev pub reading : List ℕ → Entry → Entry
 reading piece e = record e { read = e.read ++ piece }
 
--- its input has ended
+-- the input of the connection has ended
 abbrev pub ending : Entry → Entry
 ending e = record e { ended = true }
 
--- whether nothing counts that is read from now on
+-- sets whether the connection drains
 abbrev pub finishing : Bool → Entry → Entry
 finishing last e = record e { draining = last }
 
--- nothing becomes due on it from now on, and it is to be closed as by a fault
+-- nothing becomes due on the connection from now on, and it is to be closed as by a fault
 abbrev pub broken : Entry → Entry
 broken e = record e { broken = true }
 
--- these bytes are due on it too
+-- bytes become due on the connection
 abbrev pub owing : List ℕ → Entry → Entry
 owing bytes e = record e { due = e.due ++ bytes }
 
@@ -87,10 +87,10 @@ unnamed (Http said closes body) = Http said closes body
 unnamed (Queue items session) = Queue items session
 unnamed (Link reports device) = Link reports None
 
--- the device that said its name there has another connection: this one is to be closed as by a fault
+-- the device that gave its name on the connection has another connection: the old connection is to be closed as by a fault
 abbrev pub given_up : Entry → Entry
 given_up e = record e { talk = unnamed e.talk; broken = true }
 
--- with what waits these bytes are more than a connection reserves when it is accepted
+-- the waiting bytes and the new bytes together exceed what a connection reserves when it is accepted
 abbrev pub needs_memory : List ℕ → Entry → Bool
 needs_memory bytes e = nat_lt RESERVED_BYTES (length (waiting e ++ bytes))

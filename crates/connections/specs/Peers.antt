@@ -1,4 +1,4 @@
--- What becomes of a peer, as its reader tells.
+-- The state of each kind of peer, and the change that each call makes of it.
 use Rattle.std.specs.Prelude.{ℕ, ◌≡◌, ◌⊎◌, ◌<◌, ◌++◌, Bool, true, false, List, [], Option, Some, None, Ok, Err}
 use Rattle.base_types.specs.declared.report.Report.{Report}
 use Rattle.base_types.specs.declared.report.Report.TheVariants as report
@@ -35,7 +35,7 @@ use Rattle.wires.specs.declared.wire.Door.TheVariants as door
 
 -- ---- an IPP client
 
--- nothing was read yet
+-- a client of which nothing was read yet
 abbrev pub IsNewIpp : IppClientState → Type 0
 IsNewIpp t = Http.Stands [] [] t.reader × (t.closes ≡ false) × Body.Heard [] t.body
 
@@ -49,17 +49,17 @@ with_body body t = record t { body = body }
 abbrev pub IsFedIpp : List ℕ → IppClientState → IppClientState → Type 0
 IsFedIpp piece t u = (u ≡ with_http u.reader t) × ((stream : List ℕ) (given : List Said) → Http.Stands stream given t.reader → Http.Stands (stream ++ piece) given u.reader)
 
--- a request begins, with a body of which nothing came yet
+-- a request begins, with an empty body so far
 abbrev pub BeginsIpp : Bool → Step → IppClientState → IppClientState → Type 0
 BeginsIpp closes what t u = (what ≡ silent) × (u ≡ record t { closes = closes; body = u.body }) × Body.Heard [] u.body
 
--- the part of the body that came last was read, or memory for it is refused
+-- the last part of the body was read, or memory for it is refused
 abbrev pub TakesPart : Step → IppClientState → IppClientState → Type 0
 TakesPart (step.Due due last) t u = (step.Due due last ≡ silent) × (u ≡ with_body u.body t) × ((bytes : List ℕ) → Body.Heard bytes t.body → Body.Heard (bytes ++ t.reader.part) u.body)
 TakesPart (step.Asks ask last) t u = ⊥
 TakesPart (step.Breaks ask) t u = (step.Breaks ask ≡ no_memory) × (u ≡ t)
 
--- the body was taken
+-- the body was taken out, and an empty one is in its place
 abbrev pub LosesBody : ReaderState → IppClientState → IppClientState → Type 0
 LosesBody body t u = (body ≡ t.body) × (u ≡ with_body u.body t) × Body.Heard [] u.body
 
@@ -67,7 +67,7 @@ LosesBody body t u = (body ≡ t.body) × (u ≡ with_body u.body t) × Body.Hea
 abbrev pub EndsIpp : Step → IppClientState → IppClientState → Type 0
 EndsIpp what t u = (u ≡ with_body u.body t) × Body.Heard [] u.body × ((bytes : List ℕ) → Body.Heard bytes t.body → EndsBody t.closes bytes what)
 
--- an item comes to this
+-- the step and the state after an item
 abbrev pub HearsIpp : HttpItem → Step → IppClientState → IppClientState → Type 0
 HearsIpp (item.Head closes) what t u = BeginsIpp closes what t u
 HearsIpp item.Continue what t u = (what ≡ step.Due due.Continue false) × (u ≡ t)
@@ -75,7 +75,7 @@ HearsIpp item.BodyPart what t u = TakesPart what t u
 HearsIpp item.BodyEnd what t u = EndsIpp what t u
 HearsIpp (item.Refuse refusal) what t u = (what ≡ step.Due (due.Refusal refusal) true) × (u ≡ t)
 
--- the next item, if one is whole, was taken off, and comes to this
+-- the next item, if one is whole, was taken off the stream and acted on
 abbrev pub NextIpp : Option Step → IppClientState → IppClientState → Type 0
 NextIpp None t u = Http.Answers t.reader None u.reader × (u ≡ with_http u.reader t)
 NextIpp (Some what) t u =
@@ -93,17 +93,17 @@ with_lpd reader t = record t { reader = reader }
 abbrev pub IsFedLpd : List ℕ → LpdClientState → LpdClientState → Type 0
 IsFedLpd piece t u = (u ≡ with_lpd u.reader t) × ((stream : List ℕ) (given : List ItemRecord) → Lpd.Stands stream given t.reader → Lpd.Stands (stream ++ piece) given u.reader)
 
--- an item comes to this
+-- the step and the state after an item
 abbrev pub HearsLpd : (List ℕ → Bool) → LpdItem → Step → LpdClientState → LpdClientState → Type 0
 HearsLpd queues said what t u = (u.reader ≡ t.reader) × StepsLpd queues t.session (item_record said t.reader.file) what u.session
 
--- so does one that may be whole
+-- the same for an item that may be incomplete
 abbrev pub HearsWholeItem : (List ℕ → Bool) → Option LpdItem → Option Step → LpdClientState → LpdClientState → Type 0
 HearsWholeItem queues None None t u = u ≡ t
 HearsWholeItem queues (Some said) (Some what) t u = HearsLpd queues said what t u
 HearsWholeItem queues _ _ t u = ⊥
 
--- the next item was taken off, and comes to this; or a fault was found, or memory for a line is refused
+-- the next item was taken off the stream and acted on; or a fault was found; or memory for a line is refused
 abbrev pub NextLpd : (List ℕ → Bool) → Option Step → LpdClientState → LpdClientState → Type 0
 NextLpd queues None t u = Lpd.Answers t.reader (Ok None) u.reader × (u ≡ with_lpd u.reader t)
 NextLpd queues (Some what) t u =
@@ -126,12 +126,12 @@ abbrev pub link_step : LinkError → Option ℕ → Step
 link_step (link.Fault fault) device = faulty device
 link_step link.OutOfMemory device = no_memory
 
--- the first report comes to this
+-- the step for the first report, and the device that it names
 abbrev pub Greets : (List ℕ → Option ℕ) → Report → Step → Option ℕ → Type 0
 Greets named (report.Hello name) what after = StepsHello name (named name) what after
 Greets named _ what after = (what ≡ step.Breaks (ask.Fault None)) × (after ≡ None)
 
--- a report comes to this, and this is then the device that said its name
+-- the step for a report, and the device that has given its name after it
 abbrev pub ComesOf : (List ℕ → Option ℕ) → Option ℕ → Report → Step → Option ℕ → Type 0
 ComesOf named None said what after = Greets named said what after
 ComesOf named (Some device) said what after = (what ≡ step.Asks (ask.Report device said) false) × (after ≡ Some device)
@@ -139,13 +139,13 @@ ComesOf named (Some device) said what after = (what ≡ step.Asks (ask.Report de
 abbrev pub HearsDevice : (List ℕ → Option ℕ) → Report → Step → DeviceState → DeviceState → Type 0
 HearsDevice named said what t u = (u.reader ≡ t.reader) × ComesOf named t.device said what u.device
 
--- so does one that may be whole
+-- the same for a report that may be incomplete
 abbrev pub HearsWholeReport : (List ℕ → Option ℕ) → Option Report → Option Step → DeviceState → DeviceState → Type 0
 HearsWholeReport named None None t u = u ≡ t
 HearsWholeReport named (Some said) (Some what) t u = HearsDevice named said what t u
 HearsWholeReport named _ _ t u = ⊥
 
--- the next report was taken off, and comes to this; or a fault was found, or memory for a line is refused
+-- the next report was taken off the stream and acted on; or a fault was found; or memory for a line is refused
 abbrev pub NextDevice : (List ℕ → Option ℕ) → Option Step → DeviceState → DeviceState → Type 0
 NextDevice named None t u = Link.Answers t.reader (Ok None) u.reader × (u ≡ with_link u.reader t)
 NextDevice named (Some what) t u =
@@ -153,7 +153,7 @@ NextDevice named (Some what) t u =
     ⊎ (((fault : LinkFault) × Link.Answers t.reader (Err (link.Fault fault)) u.reader × (what ≡ faulty t.device) × (u ≡ with_link u.reader t))
     ⊎ (Link.Answers t.reader (Err link.OutOfMemory) u.reader × (what ≡ no_memory) × (u ≡ with_link u.reader t)))
 
--- ---- any of them
+-- ---- a peer of any kind
 
 abbrev pub IsNewPeer : Door → Peer → Type 0
 IsNewPeer door.Ipp (of.Ipp t) = IsNewIpp t
@@ -173,7 +173,7 @@ NextPeer settings what (of.Lpd t) (of.Lpd u) = NextLpd (is_queue settings) what 
 NextPeer settings what (of.Device t) (of.Device u) = NextDevice (device_named settings) what t u
 NextPeer settings what _ _ = ⊥
 
--- how much it can bring, at most
+-- an upper bound on the steps that a peer's stream can still bring
 abbrev pub work : Peer → ℕ
 work (of.Ipp t) = Http.work t.reader
 work (of.Lpd t) = Lpd.work t.reader
@@ -184,7 +184,7 @@ closes_of (of.Ipp t) = t.closes
 closes_of (of.Lpd t) = false
 closes_of (of.Device t) = false
 
--- the device that said its name
+-- the device that gave its name
 abbrev pub device_of : Peer → Option ℕ
 device_of (of.Ipp t) = None
 device_of (of.Lpd t) = None

@@ -1,4 +1,4 @@
--- Which entry a connection has: what it was fed is what was read, and what waits is what is due and wasn't taken.
+-- The entries that a connection represents: the bytes that its reader was fed are the bytes read, and its queue is what is due and wasn't taken.
 use Rattle.std.specs.Prelude.{ℕ, ◌≡◌, Bool, false, List, [], ◌++◌, None}
 use Rattle.base_types.specs.Report.{ReportRecord}
 use Rattle.device_link.specs.Stream as Link
@@ -14,7 +14,7 @@ use Rattle.connections.specs.Connections.{ConnectionState}
 use Rattle.connections.specs.declared.peer.Peer.{Peer}
 use Rattle.connections.specs.declared.peer.Peer.TheVariants as of
 
--- the reader of an IPP client has been fed what was read, and the reader of its body what that said of it
+-- the reader of an IPP client has been fed all bytes read, and the parser of its body the body so far
 pub record FitsIpp (read : List ℕ) (talk : PeerRecord) (t : IppClientState) : Type 0 where
   pub said : List Said
   pub body : List ℕ
@@ -22,18 +22,18 @@ pub record FitsIpp (read : List ℕ) (talk : PeerRecord) (t : IppClientState) : 
   pub stands : Http.Stands read said t.reader
   pub heard : Body.Heard body t.body
 
--- so has that of an LPD client
+-- the reader of an LPD client has been fed all bytes read
 pub record FitsLpd (read : List ℕ) (talk : PeerRecord) (t : LpdClientState) : Type 0 where
   pub items : List ItemRecord
   pub is : talk ≡ entry.Queue items t.session
   pub stands : Lpd.Stands read items t.reader
 
--- a device's reader has been fed what was read; before a device said its name it gave nothing
+-- the reader of a device has been fed all bytes read; a device without a name gave no reports
 pub record IsLinked (read : List ℕ) (reports : List ReportRecord) (t : DeviceState) : Type 0 where
   pub stands : Link.Stands read reports t.reader
   pub unnamed : t.device ≡ None → reports ≡ []
 
--- the same of a device, unless its connection is broken
+-- a device's record fits its entry; on a broken connection the reader is free
 pub record FitsDevice (read : List ℕ) (talk : PeerRecord) (broken : Bool) (t : DeviceState) : Type 0 where
   pub reports : List ReportRecord
   pub is : talk ≡ entry.Link reports t.device
@@ -52,6 +52,6 @@ pub record RepresentsConnection (e : Entry) (c : ConnectionState) : Type 0 where
   pub broken : c.broken ≡ e.broken
   pub due : e.taken ++ c.output ≡ e.due
 
--- whatever entry a connection had, it has another by this relation now
+-- for each entry that the connection represented before, it represents an entry related to that entry by R
 abbrev pub Becomes : (Entry → Entry → Type 0) → ConnectionState → ConnectionState → Type 0
 Becomes R c d = (e : Entry) → RepresentsConnection e c → (new : Entry) × R e new × RepresentsConnection new d

@@ -1,4 +1,4 @@
--- Connections, each under its key, and what each call changes of them.
+-- Connections under their keys, and the change that each call makes of them.
 use Rattle.std.specs.Prelude.{ℕ, ◌≡◌, ◌≢◌, ◌⊎◌, ◌==◌, ◌+◌, ◌<◌, Bool, true, false, List, [], ◌++◌, length, count_by, is_some, Option, Some, None, slice_index_or, slice_set}
 use Rattle.std.specs.Option.{option_map_or}
 use Rattle.settings_file.specs.Settings.{ServerSettings}
@@ -21,7 +21,7 @@ Slots = List (Option ConnectionState)
 
 -- ---- changes of one connection among all
 
--- the connection under a key is changed, and no other
+-- the connection under a key is changed, and no other connection
 pub record OnSlot (key : ℕ) (change : ConnectionState → ConnectionState → Type 0) (old new : List (Option ConnectionState)) : Type 0 where
   pub before : ConnectionState
   pub after : ConnectionState
@@ -29,44 +29,44 @@ pub record OnSlot (key : ℕ) (change : ConnectionState → ConnectionState → 
   pub changes : change before after
   pub slots : new ≡ slice_set old key (Some after)
 
--- no connection is under the key, and nothing has changed
+-- no connection is under the key, and nothing is changed
 pub record NoSlot (key : ℕ) (old new : List (Option ConnectionState)) : Type 0 where
   pub there : slice_index_or old key None ≡ None
   pub same : new ≡ old
 
--- the connection under a key is changed so, if there is one
+-- the change of the connection under a key, if there is one
 abbrev pub changed_at : ℕ → (ConnectionState → ConnectionState) → List (Option ConnectionState) → List (Option ConnectionState)
 changed_at key change slots = option_map_or (λ c. slice_set slots key (Some (change c))) (slice_index_or slots key None) slots
 
--- what became of bytes that are due: they are kept, or none are, or the connection of this number broke
+-- the result of enqueueing bytes under a key: no connection is there; or the bytes were taken; or the connection of this number broke
 abbrev pub EnqueuesAt : ℕ → List ℕ → Option ℕ → List (Option ConnectionState) → List (Option ConnectionState) → Type 0
 EnqueuesAt key bytes None old new = NoSlot key old new ⊎ OnSlot key (EnqueuesAs bytes false) old new
 EnqueuesAt key bytes (Some id) old new = OnSlot key (λ c d. (c.id ≡ id) × EnqueuesAs bytes true c d) old new
 
--- what waits on the connection under a key
+-- the bytes that wait on the connection under a key
 abbrev pub output_at : ℕ → List (Option ConnectionState) → List ℕ
 output_at key slots = option_map_or (λ c. c.output) (slice_index_or slots key None) []
 
--- a reply of IPP that goes by what its request said of closing
+-- whether the connection under a key closes after the reply to its last request
 abbrev pub closes_at : ℕ → List (Option ConnectionState) → Bool
 closes_at key slots = option_map_or (λ c. closes_of c.peer) (slice_index_or slots key None) false
 
--- bytes are refused only where, with what waits, they are more than a connection reserves
+-- memory for bytes is refused only where they exceed, with the waiting bytes, what a connection reserves
 abbrev pub IsGrowth : ℕ → List ℕ → Option ℕ → List (Option ConnectionState) → Type 0
 IsGrowth key bytes None old = Unit {0}
 IsGrowth key bytes (Some id) old = RESERVED_BYTES < length (output_at key old ++ bytes)
 
--- what is asked next
+-- what the connection under a key asks next
 abbrev pub AsksAt : ServerSettings → ℕ → Option ConnectionAsk → List (Option ConnectionState) → List (Option ConnectionState) → Type 0
 AsksAt settings key None old new = NoSlot key old new ⊎ OnSlot key (Becomes (Asking settings None)) old new
 AsksAt settings key (Some asked) old new = OnSlot key (λ c d. (asked.id ≡ c.id) × Becomes (Asking settings (Some asked.ask)) c d × (load d < load c)) old new
 
--- what became of a piece
+-- the result of feeding a piece under a key
 abbrev pub FeedsAt : ℕ → List ℕ → Option Fed → List (Option ConnectionState) → List (Option ConnectionState) → Type 0
 FeedsAt key piece None old new = NoSlot key old new
 FeedsAt key piece (Some how) old new = OnSlot key (Becomes (Feeds piece how)) old new
 
--- how much the connection under a key can bring yet
+-- an upper bound on the steps that the connection under a key can still bring
 abbrev pub work_at : List (Option ConnectionState) → ℕ → ℕ
 work_at slots key = option_map_or load (slice_index_or slots key None) 0
 
@@ -76,25 +76,25 @@ broken_at slots key = option_map_or (λ c. c.broken) (slice_index_or slots key N
 abbrev pub ended_at : List (Option ConnectionState) → ℕ → Bool
 ended_at slots key = option_map_or (λ c. c.ended) (slice_index_or slots key None) false
 
--- the connection under this key is the first that is broken
+-- the connection under this key is broken, and none under a lesser key is
 pub record IsFirstBroken (slots : List (Option ConnectionState)) (key : ℕ) : Type 0 where
   pub here : broken_at slots key ≡ true
   pub below : (other : ℕ) → other < key → broken_at slots other ≡ false
 
--- the device that said its name on the connection under a key
+-- the device that gave its name on the connection under a key
 abbrev pub device_at : List (Option ConnectionState) → ℕ → Option ℕ
 device_at slots key = option_map_or (λ c. device_of c.peer) (slice_index_or slots key None) None
 
 abbrev pub is_of : List (Option ConnectionState) → ℕ → ℕ → Bool
 is_of slots device key = option_map_or (λ place. place == device) (device_at slots key) false
 
--- the connection under a key leaves, and the wire is told to close it
+-- the connection under a key is removed, and the wire is told to close it
 abbrev pub LeavesAs : {W : Type 0} → (W → Poll → W → Type 0) → ℕ → W → List (Option ConnectionState) → Option ℕ → W → List (Option ConnectionState) → Type 0
 LeavesAs polled key wire old device wire' new =
     ((c : ConnectionState) × (slice_index_or old key None ≡ Some c) × (new ≡ slice_set old key None) × (device ≡ device_of c.peer) × polled wire (Closes c.id) wire')
     ⊎ ((slice_index_or old key None ≡ None) × (new ≡ old) × (device ≡ None) × (wire' ≡ wire))
 
--- a new connection has come
+-- a new connection was inserted under a free key
 pub record IsIn (door : Door) (id : ℕ) (old new : List (Option ConnectionState)) : Type 0 where
   pub key : ℕ
   pub connection : ConnectionState
@@ -104,7 +104,7 @@ pub record IsIn (door : Door) (id : ℕ) (old new : List (Option ConnectionState
   pub others : (other : ℕ) → other ≢ key → slice_index_or new other None ≡ slice_index_or old other None
   pub count : count_by is_some new ≡ count_by is_some old + 1
 
--- a front of what waits is offered to the wire, if something does
+-- a front of the waiting bytes is offered to the wire, if any bytes wait
 pub record Offers {W : Type 0} (polled : W → Poll → W → Type 0) (key : ℕ) (old : List (Option ConnectionState)) (wire : W) (answer : Offered) (new : List (Option ConnectionState)) (wire' : W) : Type 0 where
   pub before : ConnectionState
   pub left : List ℕ

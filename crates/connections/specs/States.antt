@@ -8,16 +8,16 @@ use Rattle.ipp_operations.specs.Reader.{ReaderState}
 
 pub record IppClientState : Type 0 where
   pub reader : HttpState
-  -- of the request that is coming
+  -- whether the connection closes after the reply to the current request
   pub closes : Bool
   pub body : ReaderState
 
 pub record LpdClientState : Type 0 where
   pub reader : LpdState
-  -- the files of a queue, once they are received
+  -- the files of a queue, while jobs are received
   pub session : Option SessionState
 
 pub record DeviceState : Type 0 where
   pub reader : LinkState
-  -- the device that said its name
+  -- the device that gave its name
   pub device : Option ℕ

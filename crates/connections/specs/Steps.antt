@@ -1,4 +1,4 @@
--- What the next of a peer's stream comes to: for an IPP client the items of HTTP (RFC 9112), for an LPD client those of RFC 1179, for a device its reports.
+-- The step for the next item of a peer's stream: for an IPP client an item of HTTP (RFC 9112), for an LPD client an item of RFC 1179, for a device a report.
 use Rattle.std.specs.Prelude.{ℕ, ◌≡◌, ◌⊎◌, Bool, true, false, List, [], ◌∷◌, ◌++◌, Option, Some, None}
 use Rattle.base_types.specs.declared.report.Report.{Report}
 use Rattle.base_types.specs.Report.{ReportRecord, SaysHello, report_of}
@@ -30,7 +30,7 @@ use Rattle.connections.specs.Commands.{SubmitsJob, IsCommand}
 
 -- ---- bytes
 
--- the reply of a status alone
+-- the reply of a status without attributes
 unfoldable pub http_status : Bool → Status → ℕ → List ℕ
 http_status closes status request = http_reply closes (refusal_bytes status request)
 
@@ -41,29 +41,29 @@ due_bytes due.Continue = continue_head
 due_bytes (due.Refusal refusal) = refusal_head refusal
 due_bytes (due.Status closes status request) = http_status closes status request
 
--- nothing comes of it for anybody else
+-- nothing becomes due, and the server isn't asked
 abbrev pub silent : Step
 silent = step.Due due.Nothing false
 
--- memory to keep it is refused
+-- memory to keep the input is refused
 abbrev pub no_memory : Step
 no_memory = step.Breaks (ask.Broke growth.Input)
 
 -- ---- an IPP client
 
--- what a whole body asks; after one under 8 bytes, which has no header, the connection closes (RFC 8010, section 3.1.1)
+-- the step for a parsed request; after a body under 8 bytes, which has no header, the connection drains (RFC 8010, section 3.1.1)
 abbrev pub asked_step : Bool → ParsedRequest → Step
 asked_step closes asks.TooShort = step.Due (due.Refusal BadRequest) true
 asked_step closes (asks.Refused status request) = step.Due (due.Status closes status request) closes
 asked_step closes (asks.Event request event) = step.Asks (ask.Event (client.Ipp request) event) closes
 
--- a whole body asks one thing, or memory to read it is refused
+-- the step for a whole body: that of its parsed request, or memory to read it is refused
 abbrev pub EndsBody : Bool → List ℕ → Step → Type 0
 EndsBody closes body what =
     ((asked : ParsedRequest) × Asks body asked × (what ≡ asked_step closes asked))
     ⊎ ((request : ℕ) × (request_id_of body ≡ Some request) × (what ≡ step.Asks (ask.Unread request) closes))
 
--- what an item comes to after a body of these bytes so far
+-- the step for an item, where the body so far has these bytes
 abbrev pub StepsIpp : HttpItem → Bool → List ℕ → Step → Type 0
 StepsIpp (item.Head next) closes body what = what ≡ silent
 StepsIpp item.Continue closes body what = what ≡ step.Due due.Continue false
@@ -71,7 +71,7 @@ StepsIpp item.BodyPart closes body what = (what ≡ silent) ⊎ (what ≡ no_mem
 StepsIpp item.BodyEnd closes body what = EndsBody closes body what
 StepsIpp (item.Refuse refusal) closes body what = what ≡ step.Due (due.Refusal refusal) true
 
--- whether the connection closes after the reply to the request that is coming
+-- whether the connection closes after the reply to the current request
 abbrev pub closes_after : HttpItem → Bool → Bool
 closes_after (item.Head next) closes = next
 closes_after item.Continue closes = closes
@@ -79,13 +79,13 @@ closes_after item.BodyPart closes = closes
 closes_after item.BodyEnd closes = closes
 closes_after (item.Refuse refusal) closes = closes
 
--- a part of a body is read, or it isn't
+-- the body after a part: with the part, unless the connection breaks
 abbrev pub grown : Step → List ℕ → List ℕ → List ℕ
 grown (step.Due due last) part body = body ++ part
 grown (step.Asks ask last) part body = body ++ part
 grown (step.Breaks ask) part body = body
 
--- its body so far
+-- the body so far, after an item
 abbrev pub body_after : HttpItem → Step → List ℕ → List ℕ → List ℕ
 body_after (item.Head next) what part body = []
 body_after item.Continue what part body = body
@@ -99,7 +99,7 @@ abbrev pub byte_due : Option ℕ → Due
 byte_due None = due.Nothing
 byte_due (Some byte) = due.Byte byte
 
--- a fault in what it says is refused, and nothing more counts (RFC 1179, section 3)
+-- a fault of the stream is refused, and the connection drains (RFC 1179, section 3)
 abbrev pub refused : Step
 refused = step.Due (due.Byte REFUSED) true
 
@@ -107,7 +107,7 @@ abbrev pub step_of : LpdError → Step
 step_of (fault.Fault it) = refused
 step_of fault.OutOfMemory = no_memory
 
--- what it asks, as the server has it, and the session after it; memory for a job may be refused
+-- the step for an item of LPD, and the session after it; memory for a job may be refused
 abbrev pub AsksAs : Hearing → Step → Option SessionState → Type 0
 AsksAs (Goes answer next) (step.Due what last) after = (what ≡ byte_due answer) × (last ≡ false) × (after ≡ next)
 AsksAs (Stops answer) (step.Due what last) after = (what ≡ byte_due answer) × (last ≡ true) × (after ≡ None)
@@ -116,14 +116,14 @@ AsksAs (Submits job next) (step.Asks (ask.Lost part.Job) last) after = (last ≡
 AsksAs (Commands command) (step.Asks (ask.Event client.LpdCommand event) last) after = IsCommand command event × (last ≡ true) × (after ≡ None)
 AsksAs _ _ _ = ⊥
 
--- memory for a file may be refused too: it isn't kept
+-- memory for a file is refused: the file isn't kept
 abbrev pub IsFileLost : Option SessionState → Step → Option SessionState → Type 0
 IsFileLost before what after = (what ≡ step.Asks (ask.Lost part.File) false) × (after ≡ file_lost before)
 
 abbrev pub AsksForFile : Hearing → Option SessionState → Step → Option SessionState → Type 0
 AsksForFile hearing before what after = IsFileLost before what after ⊎ AsksAs hearing what after
 
--- what an item comes to, and the session after it; told which queues there are
+-- the step for an item, and the session after it, where is_queue says which queues there are
 abbrev pub StepsLpd : (List ℕ → Bool) → Option SessionState → ItemRecord → Step → Option SessionState → Type 0
 StepsLpd is_queue before (HasFile contents) what after = AsksForFile (heard is_queue before (HasFile contents)) before what after
 StepsLpd is_queue before (Says command) what after = AsksAs (heard is_queue before (Says command)) what after
@@ -132,17 +132,17 @@ StepsLpd is_queue before (Announces head) what after = AsksAs (heard is_queue be
 
 -- ---- a device
 
--- it says its name, which is a device's, or no device's
+-- the step for a name: that of a known device, or of a stranger
 abbrev pub StepsHello : List ℕ → Option ℕ → Step → Option ℕ → Type 0
 StepsHello name None what after = (what ≡ step.Breaks (ask.Stranger name)) × (after ≡ None)
 StepsHello name (Some device) what after = (what ≡ step.Asks (ask.Hello device name) false) × (after ≡ Some device)
 
--- what a report comes to, and the device that has said its name then; the first report is a name, and no other is
+-- the step for a report, and the device that has given its name after it; the first report is a name, and no later report is
 abbrev pub StepsDevice : (List ℕ → Option ℕ) → Option ℕ → ReportRecord → Step → Option ℕ → Type 0
 StepsDevice named None (SaysHello name) what after = StepsHello name (named name) what after
 StepsDevice named None _ what after = ⊥
 StepsDevice named (Some device) said what after = ((it : Report) × (report_of it ≡ said) × (what ≡ step.Asks (ask.Report device it) false)) × (after ≡ Some device)
 
--- a fault in what it says
+-- the step for a fault of a device's stream
 abbrev pub faulty : Option ℕ → Step
 faulty device = step.Breaks (ask.Fault device)

@@ -2,52 +2,52 @@
 use base_types::{DeviceId, Report, Text};
 use events::Event;
 
-/// For what of a connection memory was refused.
+/// What a connection needed memory for that was refused.
 #[derive(Clone, Copy, Debug, PartialEq, Eq)]
 pub enum Growth {
-    /// For what its peer sends.
+    /// To read the bytes that its peer sends.
     Input,
-    /// For what is due on it.
+    /// To enqueue bytes that become due.
     Output,
 }
 
-/// What of an LPD client's job was lost, since memory for it was refused.
+/// The part of an LPD client's job that was lost, since memory for it was refused.
 #[derive(Clone, Copy, Debug, PartialEq, Eq)]
 pub enum Part {
     File,
     Job,
 }
 
-/// Which client's an event is, and so how it is answered.
+/// The client of an event, which decides the form of the reply.
 #[derive(Clone, Copy, Debug, PartialEq, Eq)]
 pub enum Client {
-    /// An IPP client's request of this request-id.
+    /// An IPP client, by the request-id of its request.
     Ipp(u32),
-    /// An LPD client's job.
+    /// An LPD client that submits a job.
     LpdJob,
-    /// An LPD client's command. Nothing more counts after it.
+    /// An LPD client that sends a command. The connection drains after it.
     LpdCommand,
 }
 
 /// What a connection asks of the server.
 #[derive(Drop)]
 pub enum Ask {
-    /// Nothing: it acted on what concerns it alone, and may bring more.
+    /// Nothing: the connection acted on an item by itself, and may have more items.
     Nothing,
-    /// It broke, since memory was refused.
+    /// The connection broke, since memory was refused.
     Broke(Growth),
-    /// A client's event, which awaits its answer.
+    /// An event of a client, which awaits its reply.
     Event(Client, Event),
-    /// A request of an IPP client under this request-id, which memory was refused to read.
+    /// A request of an IPP client, by its request-id: memory to read it was refused.
     Unread(u32),
-    /// A file or a job of an LPD client was lost, which awaits its refusal.
+    /// A file or a job of an LPD client was lost. The client awaits the refusal.
     Lost(Part),
-    /// This device says its name.
+    /// A device gave its name.
     Hello(DeviceId, Text),
-    /// A device that has said its name reports.
+    /// A report of a device that has given its name.
     Report(DeviceId, Report),
-    /// It broke, since its peer says the name of no device.
+    /// The connection broke, since its peer gave a name that is no device's.
     Stranger(Text),
-    /// It broke by a fault in what its peer says: a device that has said its name, or has not.
+    /// The connection broke by a fault in its peer's stream. The device, if the peer has given its name.
     Fault(Option<DeviceId>),
 }

@@ -1,4 +1,4 @@
-//! A connection.
+//! A connection with its peer and its waiting bytes.
 ghost use Rattle.std.specs.Prelude.{◌≡◌, ◌<◌, ◌++◌, IfOk, IfSome, IsTrue, OnOk, OnErr, length};
 ghost use Rattle.std.specs.List.{flat_map};
 ghost use Rattle.device_link.specs.Orders.{cancel_line, job_line};
@@ -26,26 +26,26 @@ use std::alloc::{AllocError, Global};
 use std::marker::Model;
 use wires::{Door, Wire, WireId};
 
-/// What becomes of a piece that was read.
+/// The result of feeding a piece that was read.
 #[derive(Clone, Copy, Debug, PartialEq, Eq)]
 pub enum Fed {
-    /// Nothing counts of it any more.
+    /// The connection is draining, and the piece was discarded.
     Discarded,
     Fed,
     /// Memory was refused, and the connection of this number broke.
     Refused(WireId),
 }
 
-/// A connection: who is at its other end, and what waits to be taken.
+/// A connection: its peer, and the bytes that wait to be taken by the wire.
 #[derive(Drop)]
 pub struct Connection {
     id: WireId,
     peer: Peer,
-    /// Its input has ended.
+    /// Whether the input of the connection has ended.
     ended: bool,
-    /// Nothing counts that is read from now on.
+    /// Whether bytes that are read from now on are discarded.
     draining: bool,
-    /// It is to be closed as by a fault.
+    /// Whether the connection is to be closed as by a fault.
     broken: bool,
     output: SendQueue,
 }
@@ -66,7 +66,7 @@ impl Model for Connection {
 }
 
 impl Connection {
-    /// The connection of this number on the wire, that came at a door. The only error is out of memory.
+    /// Creates the connection of a number on the wire, accepted at a door. The only error is out of memory.
     pub fn new(alloc: Global, id: WireId, door: Door) -> Result<Connection, AllocError>
         ensures { IfOk result (RepresentsConnection (opening_entry door id)) }
     {
@@ -80,49 +80,50 @@ impl Connection {
         })
     }
 
-    /// Its number on the wire.
+    /// The number of the connection on the wire.
     pub fn id(&self) -> WireId
         ensures { result ≡ self.now.id }
     {
         self.id
     }
 
-    /// The device that said its name on it.
+    /// The device that gave its name on the connection.
     pub fn device(&self) -> Option<DeviceId>
         ensures { result ≡ device_of self.now.peer }
     {
         self.peer.device()
     }
 
-    /// Whether its input has ended.
+    /// Returns whether the input of the connection has ended.
     pub fn has_ended(&self) -> bool
         ensures { result ≡ self.now.ended }
     {
         self.ended
     }
 
-    /// Whether it is to be closed as by a fault.
+    /// Returns whether the connection is to be closed as by a fault.
     pub fn is_broken(&self) -> bool
         ensures { result ≡ self.now.broken }
     {
         self.broken
     }
 
-    /// Whether it is read: its input hasn't ended, and not too much waits.
+    /// Returns whether the connection is to be read: its input hasn't ended, and at most
+    /// [`Limits::WAITING_OUTPUT_BYTES`] wait.
     pub fn is_read(&self) -> bool
         ensures { result ≡ is_read self.now }
     {
         !self.ended && !self.output.is_above(Limits::WAITING_OUTPUT_BYTES)
     }
 
-    /// Whether it is done: nothing more comes that counts, and nothing waits.
+    /// Returns whether the connection is done: its input has ended or it is draining, and no bytes wait.
     pub fn is_done(&self) -> bool
         ensures { result ≡ is_done self.now }
     {
         (self.ended || self.draining) && self.output.is_empty()
     }
 
-    /// Its input has ended.
+    /// Records that the input of the connection has ended.
     pub fn end(&mut self)
         ensures is { self.new ≡ is_ended self.old }
         ensures becomes { Becomes (λ e new. new ≡ ending e) self.old self.new }
@@ -130,7 +131,7 @@ impl Connection {
         self.ended = true;
     }
 
-    /// It is to be closed as by a fault.
+    /// Marks the connection as broken: it is to be closed as by a fault.
     pub fn break_off(&mut self)
         ensures is { self.new ≡ is_broken self.old }
         ensures becomes { Becomes (λ e new. new ≡ broken e) self.old self.new }
@@ -138,7 +139,8 @@ impl Connection {
         self.broken = true;
     }
 
-    /// The device that said its name has another connection: this one is to be closed as by a fault.
+    /// Marks the connection as broken, since its device has another connection. The connection has no device
+    /// then.
     pub fn give_way(&mut self)
         ensures is { self.new ≡ gives_way self.old }
         ensures becomes { Becomes (λ e new. new ≡ given_up e) self.old self.new }
@@ -147,7 +149,8 @@ impl Connection {
         self.broken = true;
     }
 
-    /// Takes the next bytes of the wire.
+    /// Feeds a piece that was read. A draining connection discards it; if memory is refused, the connection
+    /// breaks.
     #[tactic(auto, using(crate::proofs::Entries::fed))]
     pub fn feed(&mut self, piece: &[u8]) -> Fed
         ensures { Becomes (Feeds piece.now result) self.old self.new }
@@ -164,7 +167,8 @@ impl Connection {
         }
     }
 
-    /// What it asks next, if something whole is left of what was read and counts.
+    /// Acts on the next whole item that was read and returns what the connection asks. Returns `None` if no
+    /// item is whole, or the connection is draining or broken.
     #[tactic(auto, using(crate::proofs::Entries::asks, crate::proofs::Entries::rests, crate::proofs::Entries::counts_no_more, crate::proofs::Loads::falls))]
     pub fn next(&mut self, settings: &Settings) -> Option<Ask>
         ensures asks { Becomes (Asking settings.now result) self.old self.new }
@@ -179,7 +183,7 @@ impl Connection {
         }
     }
 
-    /// Takes a step: what is asked then.
+    /// Takes a step and returns what the connection asks.
     fn take(&mut self, step: Step) -> Ask
         ensures { Takes step self.old result self.new }
     {
@@ -199,7 +203,7 @@ impl Connection {
         }
     }
 
-    /// This becomes due, or the connection breaks, where memory is refused.
+    /// Enqueues the bytes that a step makes due. If memory is refused, the connection breaks.
     fn acknowledge(&mut self, due: Due) -> Ask
         ensures { Enqueues (due_bytes due) self.old result self.new }
     {
@@ -212,7 +216,8 @@ impl Connection {
         }
     }
 
-    /// Bytes are due from now on, unless it is broken. Whether memory was refused, and it broke.
+    /// Enqueues bytes, unless the connection is broken. Returns whether memory was refused, and the
+    /// connection broke.
     pub fn enqueue(&mut self, bytes: &[u8]) -> bool
         ensures enqueues { EnqueuesAs bytes.now result self.old self.new }
         ensures full { IsTrue result → RESERVED_BYTES < length (self.old.output ++ bytes.now) }
@@ -225,7 +230,8 @@ impl Connection {
         self.broken
     }
 
-    /// A reply of IPP is due from now on, unless it is broken. Whether memory was refused, and it broke.
+    /// Enqueues the reply to an IPP request, unless the connection is broken. Returns whether memory was
+    /// refused, and the connection broke.
     pub fn enqueue_response(&mut self, bytes: &[u8]) -> bool
         ensures enqueues { EnqueuesAs (http_reply (closes_of self.old.peer) bytes.now) result self.old self.new }
         ensures full { IsTrue result → RESERVED_BYTES < length (self.old.output ++ http_reply (closes_of self.old.peer) bytes.now) }
@@ -238,8 +244,8 @@ impl Connection {
         self.broken
     }
 
-    /// The reply of a status alone is due from now on, unless it is broken. Whether memory was refused, and
-    /// it broke.
+    /// Enqueues a reply of a status without attributes, unless the connection is broken. Returns whether
+    /// memory was refused, and the connection broke.
     #[tactic(auto, unfolding(crate::specs::Steps::http_status))]
     pub fn enqueue_status(&mut self, status: Status, request: u32) -> bool
         ensures enqueues { EnqueuesAs (http_status (closes_of self.old.peer) status request) result self.old self.new }
@@ -248,8 +254,8 @@ impl Connection {
         self.enqueue_response(&ipp_refusal(status, request))
     }
 
-    /// The line that cancels a job is due from now on, unless it is broken. Whether memory was refused, and
-    /// it broke.
+    /// Enqueues the line that cancels a job, unless the connection is broken. Returns whether memory was
+    /// refused, and the connection broke.
     pub fn enqueue_cancel(&mut self, job: JobId) -> bool
         ensures enqueues { EnqueuesAs (cancel_line job) result self.old self.new }
         ensures full { IsTrue result → RESERVED_BYTES < length (self.old.output ++ cancel_line job) }
@@ -262,8 +268,8 @@ impl Connection {
         self.broken
     }
 
-    /// A job of so many octets is due from now on, its line and then its documents, unless it is broken.
-    /// Whether memory was refused, and it broke.
+    /// Enqueues the line of a job of so many octets and then its documents, unless the connection is broken.
+    /// Returns whether memory was refused, and the connection broke.
     pub fn enqueue_job(
         &mut self,
         job: JobId,
@@ -281,7 +287,7 @@ impl Connection {
         self.broken
     }
 
-    /// Offers a front of what waits to the wire, which may take some of it.
+    /// Offers a front of the waiting bytes to the wire, which may take some of them.
     pub fn offer<W: Wire>(&mut self, wire: &mut W) -> Offered
         ensures offers { OffersFront W.polled self.old.id self.old.output wire.old result self.new.output wire.new }
         ensures rest { self.new ≡ record self.old { output = self.new.output } }
@@ -290,7 +296,7 @@ impl Connection {
     }
 }
 
-/// This is due from now on. The error is out of memory.
+/// Appends the bytes that are due. The only error is out of memory, and leaves the queue as it was.
 #[tactic(auto, unfolding(crate::specs::Steps::http_status))]
 fn push(output: &mut SendQueue, due: Due) -> Result<(), AllocError>
     ensures ok { OnOk result (output.new ≡ output.old ++ due_bytes due) }

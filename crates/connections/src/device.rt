@@ -1,4 +1,4 @@
-//! A device: its name, and then reports.
+//! A device's side of a connection: the device gives its name, and then sends reports.
 ghost use Rattle.std.specs.Prelude.{◌≡◌, OnOk, OnErr, Some, None, false};
 ghost use Rattle.settings_file.specs.Settings.{device_named};
 ghost use Rattle.connections.specs.Steps.{StepsHello};
@@ -12,11 +12,11 @@ use settings_file::Settings;
 use std::alloc::{AllocError, Global};
 use std::marker::Model;
 
-/// A device, as far as its stream was acted on.
+/// A device, with the state of its stream.
 #[derive(Drop)]
 pub struct Device {
     reader: LinkReader,
-    /// The device that said its name.
+    /// The device that gave its name.
     device: Option<DeviceId>,
 }
 
@@ -29,7 +29,7 @@ impl Model for Device {
 }
 
 impl Device {
-    /// A device of which nothing was read.
+    /// Creates a device of which nothing was read.
     pub fn new(alloc: Global) -> Device
         ensures { IsNewDevice result }
     {
@@ -39,7 +39,8 @@ impl Device {
         }
     }
 
-    /// Takes the next bytes of the wire. The error is out of memory: none of them is taken.
+    /// Feeds the next bytes of the wire to the reader. The only error is out of memory, and none of the bytes
+    /// is taken.
     pub fn feed(&mut self, piece: &[u8]) -> Result<(), AllocError>
         ensures ok { OnOk result (IsFedDevice piece.now self.old self.new) }
         ensures err { OnErr result (self.new ≡ self.old) }
@@ -47,21 +48,21 @@ impl Device {
         self.reader.feed(piece)
     }
 
-    /// The device that said its name.
+    /// The device that gave its name.
     pub fn device(&self) -> Option<DeviceId>
         ensures { result ≡ self.now.device }
     {
         self.device
     }
 
-    /// The device has another connection.
+    /// Forgets the device, since it has another connection.
     pub fn give_way(&mut self)
         ensures { self.new ≡ record self.old { device = None } }
     {
         self.device = None;
     }
 
-    /// What the next report of its stream comes to, if one is whole; or its first fault.
+    /// Returns the step for the next report of the stream if it is whole, or for the first fault.
     #[tactic(auto, using(crate::proofs::Readers::report_heard))]
     pub fn next(&mut self, settings: &Settings) -> Option<Step>
         ensures { NextDevice (device_named settings.now) result self.old self.new }
@@ -72,7 +73,7 @@ impl Device {
         }
     }
 
-    /// What a report comes to that was just taken off, if one is whole.
+    /// Returns the step for a report that was just taken off the stream, if it is whole.
     fn hear_whole(&mut self, report: Option<Report>, settings: &Settings) -> Option<Step>
         ensures { HearsWholeReport (device_named settings.now) report result self.old self.new }
     {
@@ -82,7 +83,7 @@ impl Device {
         }
     }
 
-    /// What a report comes to.
+    /// Returns the step for a report.
     fn hear(&mut self, report: Report, settings: &Settings) -> Step
         ensures { HearsDevice (device_named settings.now) report result self.old self.new }
     {
@@ -92,7 +93,7 @@ impl Device {
         }
     }
 
-    /// What the first report comes to.
+    /// Returns the step for the first report, which has to be a name.
     fn greet(&mut self, report: Report, settings: &Settings) -> Step
         requires { self.old.device ≡ None }
         ensures { HearsDevice (device_named settings.now) report result self.old self.new }
@@ -103,7 +104,7 @@ impl Device {
         }
     }
 
-    /// What a name comes to.
+    /// Returns the step for a name, and remembers the device that it names.
     fn meet(&mut self, name: Text, settings: &Settings) -> Step
         requires { self.old.device ≡ None }
         ensures reader { self.new.reader ≡ self.old.reader }
@@ -119,14 +120,14 @@ impl Device {
     }
 }
 
-/// The server is asked, and more counts.
+/// The step that asks the server something; the connection goes on.
 fn asks(ask: Ask) -> Step
     ensures { result ≡ Step.Asks ask false }
 {
     Step::Asks { ask, last: false }
 }
 
-/// What the first fault of the stream comes to, or the lack of memory for a line.
+/// The step for the first fault of the stream, or for refused memory for a line.
 fn link_step(error: LinkError, device: Option<DeviceId>) -> Step
     ensures { result ≡ link_step error device }
 {

@@ -1,4 +1,4 @@
-//! An IPP client: requests over HTTP, whose bodies are read as they come.
+//! An IPP client: requests over HTTP, whose bodies are parsed as their parts are read.
 ghost use Rattle.std.specs.Prelude.{◌≡◌, OnOk, OnErr, List, ℕ};
 ghost use Rattle.ipp_operations.specs.ParsedRequest.{Asks};
 ghost use Rattle.ipp_operations.specs.Reader.{Heard};
@@ -13,14 +13,14 @@ use std::alloc::{AllocError, Global};
 use std::marker::Model;
 use std::mem;
 
-/// An IPP client, as far as its stream was acted on.
+/// An IPP client, with the state of its stream.
 #[derive(Drop)]
 pub struct IppClient {
     alloc: Global,
     reader: HttpReader,
-    /// Whether the connection closes after the reply to the request that is coming.
+    /// Whether the connection closes after the reply to the current request.
     closes: bool,
-    /// What the body of that request asks so far.
+    /// The parser of that request's body.
     body: RequestParser,
 }
 
@@ -33,7 +33,7 @@ impl Model for IppClient {
 }
 
 impl IppClient {
-    /// A client of which nothing was read.
+    /// Creates a client of which nothing was read.
     pub fn new(alloc: Global) -> IppClient
         ensures { IsNewIpp result }
     {
@@ -45,7 +45,8 @@ impl IppClient {
         }
     }
 
-    /// Takes the next bytes of the wire. The error is out of memory: none of them is taken.
+    /// Feeds the next bytes of the wire to the reader. The only error is out of memory, and none of the bytes
+    /// is taken.
     pub fn feed(&mut self, piece: &[u8]) -> Result<(), AllocError>
         ensures ok { OnOk result (IsFedIpp piece.now self.old self.new) }
         ensures err { OnErr result (self.new ≡ self.old) }
@@ -53,14 +54,14 @@ impl IppClient {
         self.reader.feed(piece)
     }
 
-    /// Whether the connection closes after the reply to the request that came last.
+    /// Returns whether the connection closes after the reply to the last request.
     pub fn closes(&self) -> bool
         ensures { result ≡ self.now.closes }
     {
         self.closes
     }
 
-    /// What the next item of its stream comes to, if one is whole.
+    /// Returns the step for the next item of the stream, if one is whole.
     pub fn next(&mut self) -> Option<Step>
         ensures { NextIpp result self.old self.new }
     {
@@ -70,7 +71,7 @@ impl IppClient {
         }
     }
 
-    /// What an item comes to that was just taken off.
+    /// Returns the step for an item that was just taken off the stream.
     fn hear(&mut self, item: HttpItem) -> Step
         ensures { HearsIpp item result self.old self.new }
     {
@@ -83,7 +84,7 @@ impl IppClient {
         }
     }
 
-    /// A request begins.
+    /// Begins a request, with an empty body.
     fn begin(&mut self, closes: bool) -> Step
         ensures { BeginsIpp closes result self.old self.new }
     {
@@ -92,7 +93,7 @@ impl IppClient {
         due(Due::Nothing, false)
     }
 
-    /// Reads the part of the body that came last.
+    /// Feeds the last part of the body to its parser.
     fn take_part(&mut self) -> Step
         ensures { TakesPart result self.old self.new }
     {
@@ -102,7 +103,7 @@ impl IppClient {
         }
     }
 
-    /// What the body asks that is whole now.
+    /// Returns the step for the body, which is whole now.
     fn end_body(&mut self) -> Step
         ensures { EndsIpp result self.old self.new }
     {
@@ -110,7 +111,7 @@ impl IppClient {
         whole_step(self.closes, &mut body)
     }
 
-    /// Takes the body.
+    /// Takes the body out, and leaves an empty one.
     fn take_body(&mut self) -> RequestParser
         ensures { LosesBody result self.old self.new }
     {
@@ -119,15 +120,15 @@ impl IppClient {
     }
 }
 
-/// This becomes due.
+/// The step that makes bytes due.
 fn due(due: Due, last: bool) -> Step
     ensures { result ≡ Step.Due due last }
 {
     Step::Due { due, last }
 }
 
-/// What a whole body comes to. A body under 8 bytes is answered 400, and the connection closes (RFC 8010,
-/// section 3.1.1).
+/// Returns the step for a whole body. A body under 8 bytes is answered 400, and the connection drains (RFC
+/// 8010, section 3.1.1).
 fn whole_step(closes: bool, body: &mut RequestParser) -> Step
     ensures { (bytes : List ℕ) → Heard bytes body.old → EndsBody closes bytes result }
 {
@@ -143,7 +144,7 @@ fn whole_step(closes: bool, body: &mut RequestParser) -> Step
     }
 }
 
-/// What becomes of what a body asks.
+/// The step for a parsed request.
 fn asked_step(closes: bool, asked: ParsedRequest) -> Step
     ensures { result ≡ asked_step closes asked }
 {

@@ -1,7 +1,7 @@
-//! A law of what connections ask. Its function does nothing: its contract is what it is for.
+//! A law of what connections ask, as the contract of a function that does nothing.
 ghost use Rattle.connections.specs.Choice.{AsksOne};
 
-/// What a connection asks next, and the entry after it, are one where the choices are.
+/// Two asks of one entry with the same choices are the same, and lead to the same entry.
 pub fn one_ask()
     ensures { AsksOne }
 {

@@ -1,12 +1,13 @@
-//! The connections of a server: what each peer has said, what that asks of the server, and what is due.
+//! The connections of a server: the stream of each peer, what it asks of the server, and the bytes that are
+//! due.
 //!
-//! A [`Connection`] is of an IPP client, an LPD client or a device. It is fed what comes of its peer, acts
-//! on what concerns it alone, and asks the server for the rest, one thing at a time
-//! ([`Connection::next`]): the bodies of HTTP, the files of LPD and the names of devices are its own. What
-//! is due on it waits in an [`send_queues::SendQueue`] until a wire takes it.
+//! A [`Connection`] has an IPP client, an LPD client or a device as its peer. It is fed the bytes of its
+//! peer, and acts by itself on bodies of HTTP, files of LPD and names of devices. It asks the server for the
+//! rest, one thing at a time ([`Connection::next`]). Bytes that are due wait in a [`send_queues::SendQueue`]
+//! until a wire takes them.
 //!
-//! Its contracts speak of an entry: all that was read, what of it was acted on, all that was due and all
-//! that was taken (`specs/Entry.antt`). Its rows are sessions of `server_tests` and traces of
+//! Its contracts are relations on an entry: all that was read, the part of it that was acted on, all that was
+//! due and all that was taken (`specs/Entry.antt`). Its rows are sessions of `server_tests` and traces of
 //! `play_examples`.
 #![tactic(auto)]
 

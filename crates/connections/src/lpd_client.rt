@@ -18,12 +18,22 @@ use settings_file::Settings;
 use std::alloc::{AllocError, Global};
 use std::marker::Model;
 
+<<<<<<< HEAD
 /// An LPD client, as far as its stream was acted on.
+=======
+/// The acknowledgement of a file or of a command (RFC 1179, section 6).
+const ACCEPTED: u8 = 0;
+
+/// The refusal of a file or of a command (RFC 1179, section 6).
+pub const REFUSED: u8 = 1;
+
+/// An LPD client, with the state of its stream.
+>>>>>>> h3
 #[derive(Drop)]
 pub struct LpdClient {
     alloc: Global,
     reader: LpdReader,
-    /// The files of a queue, once they are received.
+    /// The files of a queue, while jobs are received.
     session: Option<Session>,
 }
 
@@ -36,7 +46,7 @@ impl Model for LpdClient {
 }
 
 impl LpdClient {
-    /// A client of which nothing was read.
+    /// Creates a client of which nothing was read.
     pub fn new(alloc: Global) -> LpdClient
         ensures { IsNewLpd result }
     {
@@ -47,7 +57,8 @@ impl LpdClient {
         }
     }
 
-    /// Takes the next bytes of the wire. The error is out of memory: none of them is taken.
+    /// Feeds the next bytes of the wire to the reader. The only error is out of memory, and none of the bytes
+    /// is taken.
     pub fn feed(&mut self, piece: &[u8]) -> Result<(), AllocError>
         ensures ok { OnOk result (IsFedLpd piece.now self.old self.new) }
         ensures err { OnErr result (self.new ≡ self.old) }
@@ -55,7 +66,7 @@ impl LpdClient {
         self.reader.feed(piece)
     }
 
-    /// What the next item of its stream comes to, if one is whole; or its first fault.
+    /// Returns the step for the next item of the stream if it is whole, or for the first fault.
     pub fn next(&mut self, settings: &Settings) -> Option<Step>
         ensures { NextLpd (is_queue settings.now) result self.old self.new }
     {
@@ -65,7 +76,7 @@ impl LpdClient {
         }
     }
 
-    /// What an item comes to that was just taken off, if one is whole.
+    /// Returns the step for an item that was just taken off the stream, if it is whole.
     fn hear_whole(&mut self, item: Option<LpdItem>, settings: &Settings) -> Option<Step>
         ensures { HearsWholeItem (is_queue settings.now) item result self.old self.new }
     {
@@ -75,7 +86,7 @@ impl LpdClient {
         }
     }
 
-    /// What an item comes to.
+    /// Returns the step for an item.
     fn hear(&mut self, item: LpdItem, settings: &Settings) -> Step
         ensures reader { self.new.reader ≡ self.old.reader }
         ensures comes { StepsLpd (is_queue settings.now) self.old.session (item_record item self.old.reader.file) result self.new.session }
@@ -88,7 +99,7 @@ impl LpdClient {
         }
     }
 
-    /// Acts on a command.
+    /// Acts on a command. In a session, a command is ignored.
     fn hear_command(&mut self, command: LpdCommand, settings: &Settings) -> Step
         ensures asks { AsksAs (heard (is_queue settings.now) self.old.session (Says (command_record command))) result self.new.session }
         ensures reader { self.new.reader ≡ self.old.reader }
@@ -126,7 +137,7 @@ impl LpdClient {
         }
     }
 
-    /// The jobs of a queue are to be received.
+    /// Opens a session that receives the jobs of a queue. An unknown queue is refused.
     fn receive(&mut self, queue: Text, settings: &Settings) -> Step
         requires { self.old.session ≡ None }
         ensures asks { AsksAs (on_command (is_queue settings.now) (ReceivesJob queue)) result self.new.session }
@@ -140,7 +151,7 @@ impl LpdClient {
         }
     }
 
-    /// The client gives up what it has sent.
+    /// Aborts the session's jobs, as the client asks.
     fn abort(&mut self) -> Step
         ensures asks { AsksAs (heard (λ name. false) self.old.session Aborts) result self.new.session }
         ensures reader { self.new.reader ≡ self.old.reader }
@@ -151,7 +162,7 @@ impl LpdClient {
         goes(None)
     }
 
-    /// A file is announced.
+    /// Acts on the announcement of a file. A file that exceeds a limit is refused.
     fn announce(&mut self, head: FileHead) -> Step
         ensures asks { AsksAs (heard (λ name. false) self.old.session (Announces head)) result self.new.session }
         ensures reader { self.new.reader ≡ self.old.reader }
@@ -168,7 +179,7 @@ impl LpdClient {
         }
     }
 
-    /// A file has come.
+    /// Acts on a file that was received.
     fn take_file(&mut self) -> Step
         ensures asks { AsksForFile (heard (λ name. false) self.old.session (HasFile self.old.reader.file)) self.old.session result self.new.session }
         ensures reader { self.new.reader ≡ self.old.reader }
@@ -180,7 +191,7 @@ impl LpdClient {
     }
 }
 
-/// What the first fault of the stream comes to, or the lack of memory for a line.
+/// The step for the first fault of the stream, or for refused memory for a line.
 fn step_of(error: LpdError) -> Step
     ensures { result ≡ step_of error }
 {
@@ -193,7 +204,7 @@ fn step_of(error: LpdError) -> Step
     }
 }
 
-/// The session goes on, and this byte is due, if any.
+/// The step that makes a byte due, if there is one; the session goes on.
 fn goes(byte: Option<u8>) -> Step
     ensures { result ≡ Step.Due (byte_due byte) false }
 {
@@ -203,7 +214,7 @@ fn goes(byte: Option<u8>) -> Step
     }
 }
 
-/// Nothing more counts, and this byte is due, if any.
+/// The step that makes a byte due, if there is one; the connection drains.
 fn stops(byte: Option<u8>) -> Step
     ensures { result ≡ Step.Due (byte_due byte) true }
 {
@@ -222,14 +233,14 @@ fn byte_due(byte: Option<u8>) -> Due
     }
 }
 
-/// The server is asked, and the session goes on.
+/// The step that asks the server something; the session goes on.
 fn asks(ask: Ask) -> Step
     ensures { result ≡ Step.Asks ask false }
 {
     Step::Asks { ask, last: false }
 }
 
-/// A queue is listed, or jobs are removed. Nothing more counts.
+/// The step that lists a queue or removes jobs; the connection drains.
 fn commands(event: Event) -> Step
     ensures { result ≡ Step.Asks (Ask.Event Client.LpdCommand event) true }
 {
@@ -239,7 +250,7 @@ fn commands(event: Event) -> Step
     }
 }
 
-/// The event of a listing.
+/// The event that lists a queue.
 fn listing(queue: Text, form: QueueForm, operands: Vec<Text>) -> Event
     ensures { result ≡ Event.ListQueue (record { queue = queue; form = form; operands = operands }) }
 {
@@ -250,14 +261,15 @@ fn listing(queue: Text, form: QueueForm, operands: Vec<Text>) -> Event
     })
 }
 
-/// Whether a printer of this name is there.
+/// Returns whether a printer has the name.
 fn is_queue(settings: &Settings, name: &Text) -> bool
     ensures { result ≡ is_queue settings.now name.now }
 {
     settings.printer_named(name.as_bytes()).is_some()
 }
 
-/// Keeps the file that has come.
+/// Keeps a file that was received, and submits the first job that is complete. A file that isn't kept is
+/// refused.
 fn take(session: &mut Session, contents: &[u8]) -> Step
     ensures { AsksForFile (on_file contents.now session.old) (Some session.old) result (Some session.new) }
 {
@@ -268,7 +280,7 @@ fn take(session: &mut Session, contents: &[u8]) -> Step
     }
 }
 
-/// Submits the first job that is complete.
+/// Submits the first job that is complete, or acknowledges the file.
 fn submit_complete(session: &mut Session) -> Step
     ensures { AsksAs (on_complete session.old (first_complete session.old.pending)) result (Some session.new) }
 {
@@ -278,7 +290,7 @@ fn submit_complete(session: &mut Session) -> Step
     }
 }
 
-/// Submits the job at a place.
+/// Submits the job at a place, and drops its files.
 fn submit(session: &mut Session, place: usize) -> Step
     ensures { AsksAs (on_job place session.old (sent_at place session.old)) result (Some session.new) }
 {
@@ -295,7 +307,7 @@ fn submit(session: &mut Session, place: usize) -> Step
     }
 }
 
-/// The event of a job of files.
+/// The event that submits a job of files.
 fn submission(job: SentJob) -> Event
     ensures { SubmitsJob job result }
 {

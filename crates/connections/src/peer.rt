@@ -1,4 +1,4 @@
-//! Who is at the other end of a connection, by the door at which it came.
+//! The peer of a connection, whose kind is that of the door.
 ghost use Rattle.std.specs.Prelude.{◌≡◌, OnOk, OnErr};
 ghost use Rattle.connections.specs.Peers.{IsNewPeer, IsFedPeer, NextPeer, closes_of, device_of, unnamed};
 
@@ -11,7 +11,7 @@ use settings_file::Settings;
 use std::alloc::{AllocError, Global};
 use wires::Door;
 
-/// Who is at the other end of a connection, as far as what it says was acted on.
+/// The peer of a connection, with the state of its stream.
 #[derive(Drop)]
 pub enum Peer {
     Ipp(IppClient),
@@ -20,7 +20,7 @@ pub enum Peer {
 }
 
 impl Peer {
-    /// Who comes at a door, of whom nothing was read.
+    /// Creates the peer of a connection accepted at a door. Nothing was read of it.
     pub fn new(alloc: Global, door: Door) -> Peer
         ensures { IsNewPeer door result }
     {
@@ -31,7 +31,8 @@ impl Peer {
         }
     }
 
-    /// Takes the next bytes of the wire. The error is out of memory: none of them is taken.
+    /// Feeds the next bytes of the wire to the reader. The only error is out of memory, and none of the bytes
+    /// is taken.
     pub fn feed(&mut self, piece: &[u8]) -> Result<(), AllocError>
         ensures ok { OnOk result (IsFedPeer piece.now self.old self.new) }
         ensures err { OnErr result (self.new ≡ self.old) }
@@ -43,7 +44,7 @@ impl Peer {
         }
     }
 
-    /// What the next of its stream comes to.
+    /// Returns the step for the next item of the stream, if one is whole, or for the first fault.
     pub fn next(&mut self, settings: &Settings) -> Option<Step>
         ensures { NextPeer settings.now result self.old self.new }
     {
@@ -54,7 +55,7 @@ impl Peer {
         }
     }
 
-    /// Whether the connection closes after the reply to the request that came last.
+    /// Returns whether the connection closes after the reply to the last request.
     pub fn closes(&self) -> bool
         ensures { result ≡ closes_of self.now }
     {
@@ -64,7 +65,7 @@ impl Peer {
         }
     }
 
-    /// The device that said its name.
+    /// The device that gave its name.
     pub fn device(&self) -> Option<DeviceId>
         ensures { result ≡ device_of self.now }
     {
@@ -74,7 +75,7 @@ impl Peer {
         }
     }
 
-    /// The device that said its name has another connection.
+    /// Forgets the device, if the peer is one, since it has another connection.
     pub fn give_way(&mut self)
         ensures { self.new ≡ unnamed self.old }
     {

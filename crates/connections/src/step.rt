@@ -1,9 +1,9 @@
-//! What the next of a peer's stream comes to on its connection.
+//! The step of a connection for the next item of its peer's stream.
 use crate::ask::Ask;
 use events::Status;
 use http_front::HttpRejection;
 
-/// What becomes due.
+/// The bytes that a step makes due.
 #[derive(Clone, Copy, Debug, PartialEq, Eq)]
 pub enum Due {
     Nothing,
@@ -21,12 +21,12 @@ pub enum Due {
     },
 }
 
-/// What the next of a peer's stream comes to on its connection.
+/// The step of a connection for the next item of its peer's stream.
 #[derive(Drop)]
 pub enum Step {
-    /// This becomes due. After the last step nothing more counts.
+    /// Bytes become due. After the last step the connection drains.
     Due { due: Due, last: bool },
-    /// The server is asked. After the last step nothing more counts.
+    /// The server is asked something. After the last step the connection drains.
     Asks { ask: Ask, last: bool },
     /// The connection breaks, and the server is told.
     Breaks(Ask),

@@ -1,4 +1,4 @@
-//! The connections of a server by their keys: what happens to one of them.
+//! The connections of a server under their keys. Each function acts on the connection under one key.
 ghost use Rattle.std.specs.Prelude.{◌≡◌, ◌≢◌, ◌++◌, ℕ, true, false, Some, IsTrue, IsFalse, IfSome, IfNone};
 ghost use Rattle.std.specs.List.{flat_map};
 ghost use Rattle.std.specs.Option.{option_map_or};
@@ -21,15 +21,15 @@ use slab::Slab;
 use std::alloc::Global;
 use wires::{Door, Wire, WireId};
 
-/// What a connection asks.
+/// What a connection asks, with the number of the connection.
 #[derive(Drop)]
 pub struct ConnectionAsk {
-    /// Its number.
+    /// The number of the connection on the wire.
     pub id: WireId,
     pub ask: Ask,
 }
 
-/// What the connection under a key asks next.
+/// Returns what the connection under a key asks next.
 pub fn next(
     connections: &mut Slab<Connection>,
     key: usize,
@@ -45,7 +45,7 @@ pub fn next(
     }
 }
 
-/// Bytes become due on the connection under a key. The number of one that broke, since memory was refused.
+/// Enqueues bytes on the connection under a key. Returns its number if it broke, since memory was refused.
 pub fn enqueue(connections: &mut Slab<Connection>, key: usize, bytes: &[u8]) -> Option<WireId>
     ensures enqueues { EnqueuesAt key bytes.now result connections.old.slots connections.new.slots }
     ensures full { IsGrowth key bytes.now result connections.old.slots }
@@ -57,7 +57,7 @@ pub fn enqueue(connections: &mut Slab<Connection>, key: usize, bytes: &[u8]) -> 
     None
 }
 
-/// A reply of IPP becomes due on the connection under a key. The number of one that broke, since memory was
+/// Enqueues an IPP reply on the connection under a key. Returns its number if it broke, since memory was
 /// refused.
 pub fn enqueue_response(
     connections: &mut Slab<Connection>,
@@ -74,8 +74,8 @@ pub fn enqueue_response(
     None
 }
 
-/// The reply of a status alone becomes due on the connection under a key. The number of one that broke,
-/// since memory was refused.
+/// Enqueues a reply of a status without attributes on the connection under a key. Returns its number if it
+/// broke, since memory was refused.
 pub fn enqueue_status(
     connections: &mut Slab<Connection>,
     key: usize,
@@ -92,8 +92,8 @@ pub fn enqueue_status(
     None
 }
 
-/// The line that cancels a job becomes due on the connection under a key. The number of one that broke,
-/// since memory was refused.
+/// Enqueues the line that cancels a job on the connection under a key. Returns its number if it broke, since
+/// memory was refused.
 pub fn enqueue_cancel(connections: &mut Slab<Connection>, key: usize, job: JobId) -> Option<WireId>
     ensures enqueues { EnqueuesAt key (cancel_line job) result connections.old.slots connections.new.slots }
     ensures full { IsGrowth key (cancel_line job) result connections.old.slots }
@@ -105,8 +105,8 @@ pub fn enqueue_cancel(connections: &mut Slab<Connection>, key: usize, job: JobId
     None
 }
 
-/// The job of an id becomes due on the connection under a key. The number of one that broke, since memory
-/// was refused.
+/// Enqueues the line of a job and its documents on the connection under a key. Returns its number if it
+/// broke, since memory was refused.
 pub fn enqueue_job(
     connections: &mut Slab<Connection>,
     key: usize,
@@ -123,14 +123,14 @@ pub fn enqueue_job(
     None
 }
 
-/// Feeds a piece to the connection under a key.
+/// Feeds a piece to the connection under a key. Returns `None` if there is no connection.
 pub fn feed(connections: &mut Slab<Connection>, key: usize, piece: &[u8]) -> Option<Fed>
     ensures { FeedsAt key piece.now result connections.old.slots connections.new.slots }
 {
     Some(connections.get_mut(key)?.feed(piece))
 }
 
-/// The input of the connection under a key has ended.
+/// Records that the input of the connection under a key has ended.
 pub fn end(connections: &mut Slab<Connection>, key: usize)
     ensures { connections.new.slots ≡ changed_at key is_ended connections.old.slots }
 {
@@ -139,7 +139,7 @@ pub fn end(connections: &mut Slab<Connection>, key: usize)
     }
 }
 
-/// The connection under a key breaks.
+/// Marks the connection under a key as broken.
 pub fn break_off(connections: &mut Slab<Connection>, key: usize)
     ensures { connections.new.slots ≡ changed_at key is_broken connections.old.slots }
 {
@@ -148,8 +148,8 @@ pub fn break_off(connections: &mut Slab<Connection>, key: usize)
     }
 }
 
-/// The device that said its name on the connection under a key has another connection: this one is to be
-/// closed as by a fault.
+/// Marks the connection under a key as broken, since its device has another connection. The connection has no
+/// device then.
 pub fn give_way(connections: &mut Slab<Connection>, key: usize)
     ensures { connections.new.slots ≡ changed_at key gives_way connections.old.slots }
 {
@@ -158,7 +158,7 @@ pub fn give_way(connections: &mut Slab<Connection>, key: usize)
     }
 }
 
-/// Whether the connection under a key is broken.
+/// Returns whether the connection under a key is broken.
 pub fn is_broken(connections: &Slab<Connection>, key: usize) -> bool
     ensures { result ≡ broken_at connections.now.slots key }
 {
@@ -168,7 +168,7 @@ pub fn is_broken(connections: &Slab<Connection>, key: usize) -> bool
     }
 }
 
-/// Whether the input of the connection under a key has ended.
+/// Returns whether the input of the connection under a key has ended.
 pub fn has_ended(connections: &Slab<Connection>, key: usize) -> bool
     ensures { result ≡ ended_at connections.now.slots key }
 {
@@ -178,7 +178,7 @@ pub fn has_ended(connections: &Slab<Connection>, key: usize) -> bool
     }
 }
 
-/// The number of the connection under a key, if it is read.
+/// The number of the connection under a key, if it is to be read.
 pub fn to_read(connections: &Slab<Connection>, key: usize) -> Option<WireId>
     ensures some { IfSome result (λ id. (c : ConnectionState) × (get connections.now key ≡ Some c) × (is_read c ≡ true) × (c.id ≡ id)) }
     ensures none { IfNone result ((c : ConnectionState) → get connections.now key ≡ Some c → is_read c ≡ false) }
@@ -191,7 +191,7 @@ pub fn to_read(connections: &Slab<Connection>, key: usize) -> Option<WireId>
     }
 }
 
-/// Whether the connection under a key is done.
+/// Returns whether the connection under a key is done.
 pub fn is_done(connections: &Slab<Connection>, key: usize) -> bool
     ensures { result ≡ option_map_or is_done (get connections.now key) false }
 {
@@ -201,7 +201,7 @@ pub fn is_done(connections: &Slab<Connection>, key: usize) -> bool
     }
 }
 
-/// Takes in a new connection, that came at a door: whether memory sufficed.
+/// Inserts a new connection, accepted at a door. Returns whether memory sufficed; if not, nothing is changed.
 pub fn insert(connections: &mut Slab<Connection>, alloc: Global, id: WireId, door: Door) -> bool
     ensures taken { IsTrue result → IsIn door id connections.old.slots connections.new.slots }
     ensures refused { IsFalse result → connections.new.slots ≡ connections.old.slots }
@@ -212,7 +212,7 @@ pub fn insert(connections: &mut Slab<Connection>, alloc: Global, id: WireId, doo
     connections.insert(connection).is_ok()
 }
 
-/// Closes the connection under a key. The device that is gone with it, if one said its name there.
+/// Closes the connection under a key. Returns the device that gave its name on it, if one did.
 pub fn close<W: Wire>(
     connections: &mut Slab<Connection>,
     key: usize,
@@ -225,7 +225,8 @@ pub fn close<W: Wire>(
     connection.device()
 }
 
-/// Offers a front of what waits on the connection under a key to the wire, which may take some of it.
+/// Offers a front of the waiting bytes of the connection under a key to the wire, which may take some of
+/// them.
 pub fn offer<W: Wire>(connections: &mut Slab<Connection>, key: usize, wire: &mut W) -> Offered
     ensures { OffersAt W.polled key connections.old.slots wire.old result connections.new.slots wire.new }
 {
@@ -235,7 +236,7 @@ pub fn offer<W: Wire>(connections: &mut Slab<Connection>, key: usize, wire: &mut
     }
 }
 
-/// The device that said its name on the connection under a key.
+/// The device that gave its name on the connection under a key.
 fn device_at(connections: &Slab<Connection>, key: usize) -> Option<DeviceId>
     ensures { result ≡ device_at connections.now.slots key }
 {
@@ -245,7 +246,7 @@ fn device_at(connections: &Slab<Connection>, key: usize) -> Option<DeviceId>
     }
 }
 
-/// Whether a device said its name on the connection under a key.
+/// Returns whether a device gave its name on the connection under a key.
 fn is_of(connections: &Slab<Connection>, device: DeviceId, key: usize) -> bool
     ensures { result ≡ is_of connections.now.slots device key }
 {
@@ -255,7 +256,7 @@ fn is_of(connections: &Slab<Connection>, device: DeviceId, key: usize) -> bool
     }
 }
 
-/// The key of a device's connection.
+/// Returns a key of a device's connection.
 pub fn key_of(connections: &Slab<Connection>, device: DeviceId) -> Option<usize>
     ensures some { IfSome result (λ key. is_of connections.now.slots device key ≡ true) }
     ensures none { IfNone result ((key : ℕ) → is_of connections.now.slots device key ≡ false) }
@@ -268,7 +269,7 @@ pub fn key_of(connections: &Slab<Connection>, device: DeviceId) -> Option<usize>
     None
 }
 
-/// The key of a connection of this device beside the one under a key.
+/// Returns a key of a connection of the device other than `this`.
 pub fn other_key_of(connections: &Slab<Connection>, device: DeviceId, this: usize) -> Option<usize>
     ensures some { IfSome result (λ key. is_of connections.now.slots device key ≡ true) }
     ensures other { IfSome result (λ key. key ≢ this) }

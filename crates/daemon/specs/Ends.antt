@@ -1,4 +1,4 @@
--- How the jobs end that devices began.
+-- The end of jobs that devices began.
 use Rattle.std.specs.Prelude.{ℕ, ◌==◌, Bool, false, List, [], ◌∷◌, Option, option_map, slice_get}
 use Rattle.std.specs.Option.{option_map_or}
 use Rattle.base_types.specs.Device.{Device}
@@ -11,16 +11,16 @@ use Rattle.server.specs.declared.note_log.LoggedNote.{LoggedNote}
 use Rattle.server.specs.declared.note_log.LoggedNote.TheVariants as hear
 use Rattle.daemon.specs.declared.ends.Ended.{Ended}
 
--- the job that is heard to begin
+-- the job that a note says was begun
 abbrev pub begun_by : LoggedNote → List Started
 begun_by (hear.Began started) = started ∷ []
 begun_by _ = []
 
--- whether a device that does this has a job
+-- whether a device with this activity has a job
 abbrev pub is_at : Activity → ℕ → Bool
 is_at activity id = option_map_or (λ job. job == id) (job_on activity) false
 
--- whether a device, if it is there, has a job
+-- whether there is a device, and it has a job
 abbrev pub has_job : Option Device → ℕ → Bool
 has_job device id = option_map_or (λ d. is_at d.activity id) device false
 
@@ -28,6 +28,6 @@ has_job device id = option_map_or (λ d. is_at d.activity id) device false
 abbrev pub is_on : EngineState → Started → Bool
 is_on e started = has_job (slice_get e.core.devices started.device) started.job
 
--- what it is, if it is kept
+-- a job that was begun, with its state now, if the server keeps it
 abbrev pub ended_in : EngineState → Started → Ended
 ended_in e started = record { started = started; state = option_map (λ job. job.state) (job_at started.job e.core.spool.jobs) }

@@ -1,4 +1,4 @@
--- What a turn of a server is: one of its engine, whose calls of the wire are noted.
+-- The turn of a server: a turn of its engine, whose calls of the wire are noted.
 use Rattle.std.specs.Prelude.{ℕ, ◌≡◌, ◌⊎◌, List, [], ◌∷◌, ◌++◌, None}
 use Rattle.wires.specs.Poll.{Poll}
 use Rattle.print_room.specs.State.{State}
@@ -12,7 +12,7 @@ use Rattle.server.specs.Refinement.{StandsAt}
 abbrev pub HasTrace : EngineState → Type 0
 HasTrace engine = (opening : State) × (trace : Trace) × StandsAt opening trace engine
 
--- the calls of the wire among what happened, with their answers, in order
+-- the calls of the wire among the happenings, with their answers, in order
 abbrev pub calls_in : List Happening → List Poll
 calls_in [] = []
 calls_in (Polled poll ∷ hs) = poll ∷ calls_in hs
@@ -24,16 +24,16 @@ abbrev pub AreNoted : List Poll → NoteState → NoteState → Type 0
 AreNoted [] old new = new ≡ old
 AreNoted (poll ∷ polls) old new = (mid : NoteState) × Notes poll old mid × AreNoted polls mid new
 
--- At whatever trace the engine stood, it stands at that trace followed by this turn; the calls of the turn, with the answers that they got, are noted.
+-- For each trace at which the engine stood, the engine now stands at that trace with this turn behind it. The calls of the turn are noted, with the answers that they got.
 pub record TakesTurn (moment : ℕ) (engine : EngineState) (noted : NoteState) (engine' : EngineState) (noted' : NoteState) : Type 0 where
   pub happenings : List Happening
   pub stands : (opening : State) (trace : Trace) → StandsAt opening trace engine → StandsAt opening (trace ++ Turned moment happenings ∷ []) engine'
   pub calls : AreNoted (calls_in happenings) noted noted'
 
--- lines follow, or nothing is noted any more
+-- lines are added to the notes, or the notes are lost
 abbrev pub AddsLines : NoteState → NoteState → Type 0
 AddsLines old new = (new.lines ≡ None) ⊎ ((more : List ℕ) × (new.lines ≡ with_note more old.lines))
 
--- a turn of the engine, and then lines that are no calls
+-- a turn of the engine, and then lines that aren't calls
 abbrev pub ServesTurn : ℕ → EngineState → NoteState → EngineState → NoteState → Type 0
 ServesTurn moment engine noted engine' noted' = (between : NoteState) × TakesTurn moment engine noted engine' between × AddsLines between noted'

@@ -1,4 +1,4 @@
-//! What a log says of the turns of a server.
+//! The lines of a log for the turns of a server.
 use crate::ends::Begun;
 use crate::last_plan::LastPlan;
 use crate::log::Lines;
@@ -8,8 +8,8 @@ use server::{Engine, LoggedNote};
 use sockets::ConnectionEvent;
 use std::alloc::{AllocError, Global};
 
-/// The names of a server's devices, the jobs that they began, and the last plan: what the lines of a log are
-/// made of, beside what happened.
+/// What the lines of a log need beside the turn's own record: the names of a server's devices, the jobs that
+/// they began, and the last plan.
 #[derive(Drop)]
 pub struct Chronicle {
     alloc: Global,
@@ -19,7 +19,7 @@ pub struct Chronicle {
 }
 
 impl Chronicle {
-    /// No job was begun yet, and no plan made. The names are those of the devices.
+    /// Creates a chronicle without a job and without a plan. `names` are those of the devices.
     pub fn new(alloc: Global, names: Vec<Text>) -> Chronicle {
         Chronicle {
             alloc,
@@ -29,7 +29,8 @@ impl Chronicle {
         }
     }
 
-    /// The lines of a turn: who came, what was heard, which jobs ended, and who went.
+    /// Returns the lines of a turn: connections that came, notes that were heard, jobs that ended, and
+    /// connections that went. The only error is out of memory.
     pub fn lines(
         &mut self,
         moment: Moment,
@@ -47,7 +48,8 @@ impl Chronicle {
         lines.text()
     }
 
-    /// Who came and went in a turn, as comments of a recording.
+    /// Returns the connections that came and went in a turn, as comments of a recording. The only error is
+    /// out of memory.
     pub(crate) fn comments(&self, visits: &[ConnectionEvent]) -> Result<Vec<u8>, AllocError> {
         let mut lines = Lines::comments(self.alloc, &self.names);
         lines.add_comings(visits);

@@ -1,9 +1,9 @@
-//! Moments by the system's clock.
+//! Moments of the system's clock.
 use base_types::{Limits, Moment};
 use std::io;
 use std::time::{Clock, Instant};
 
-/// The ms since a start, or the last moment there is after that. The error is the clock's.
+/// Returns the ms since a start, at most [`Limits::LAST_MOMENT`]. The error is the clock's.
 pub(crate) fn moment_since(clock: &impl Clock, start: &Instant) -> io::Result<Moment> {
     let passed = start.elapsed(clock)?.as_millis();
     let millis = u64::try_from(passed).unwrap_or(Limits::LAST_MOMENT);

@@ -11,14 +11,15 @@ use server::{Engine, LoggedNote};
 use std::alloc::{AllocError, Global};
 use std::marker::Model;
 
-/// A job that has left the device that began it, and what it is then, if it is kept.
+/// A job that has left the device that began it, with its state if the server keeps it.
 #[derive(Clone, Copy, Debug)]
 pub(crate) struct Ended {
     pub(crate) started: Started,
     pub(crate) state: Option<JobState>,
 }
 
-/// The jobs that devices began and hadn't ended when that was last asked. In clauses it is their list.
+/// The jobs that devices began and that hadn't ended at the last call of `take_ended`. In clauses it is their
+/// list.
 #[derive(Drop)]
 pub(crate) struct Begun {
     started: Vec<Started>,
@@ -33,7 +34,7 @@ impl Model for Begun {
     ghost view = { λ b. b.started.items };
 }
 
-/// Whether a device that does this has a job.
+/// Returns whether a device with this activity has a job.
 fn is_at(activity: Activity, id: JobId) -> bool
     ensures { result ≡ is_at activity id }
 {
@@ -44,7 +45,7 @@ fn is_at(activity: Activity, id: JobId) -> bool
     }
 }
 
-/// Whether a device, if it is there, has a job.
+/// Returns whether there is a device, and it has a job.
 fn has(device: Option<&DeviceNow>, id: JobId) -> bool
     ensures { result ≡ has_job (option_copied device.entry) id }
 {
@@ -54,21 +55,21 @@ fn has(device: Option<&DeviceNow>, id: JobId) -> bool
     }
 }
 
-/// Where a job stands.
+/// The state of a job, if there is a job.
 fn state_of(job: Option<&Job>) -> Option<JobState>
     ensures { result ≡ option_map (λ job. job.state) (option_copied job.entry) }
 {
     job.map(|job| job.state)
 }
 
-/// Whether a job is still on the device that began it.
+/// Returns whether a job is still on the device that began it.
 fn is_on<P: Planner + Drop>(engine: &Engine<P>, started: Started) -> bool
     ensures { result ≡ is_on engine.now started }
 {
     has(engine.device(started.device), started.job)
 }
 
-/// How a job ended.
+/// A job that was begun, with its state now.
 fn end_of<P: Planner + Drop>(engine: &Engine<P>, started: Started) -> Ended
     ensures { result ≡ ended_in engine.now started }
 {
@@ -79,7 +80,7 @@ fn end_of<P: Planner + Drop>(engine: &Engine<P>, started: Started) -> Ended
 }
 
 impl Begun {
-    /// No job was begun yet.
+    /// Creates an empty list.
     pub(crate) fn new(alloc: Global) -> Begun
         ensures { result ≡ [] }
     {
@@ -88,15 +89,16 @@ impl Begun {
         }
     }
 
-    /// Adds the jobs that were heard to begin. The error is out of memory, and some are added then.
+    /// Appends the jobs that were heard to begin. The only error is out of memory, and some may be appended
+    /// then.
     pub(crate) fn add(&mut self, heard: &[LoggedNote]) -> Result<(), AllocError>
         ensures { OnOk result (self.new ≡ self.old ++ flat_map begun_by heard.now) }
     {
         put_begun(&mut self.started, heard)
     }
 
-    /// The jobs that have left their devices, which are let go of. The error is out of memory, and
-    /// none is let go of then.
+    /// Removes and returns the jobs that have left their devices. The only error is out of memory, and none
+    /// is removed then.
     pub(crate) fn take_ended<P: Planner + Drop>(
         &mut self,
         alloc: Global,
@@ -124,7 +126,7 @@ fn put_begun(begun: &mut Vec<Started>, heard: &[LoggedNote]) -> Result<(), Alloc
     Ok(())
 }
 
-/// How those of the jobs ended that have left their devices.
+/// The jobs that have left their devices, each with its state now. The only error is out of memory.
 fn ended_of<P: Planner + Drop>(
     alloc: Global,
     engine: &Engine<P>,

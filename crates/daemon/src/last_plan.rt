@@ -1,4 +1,4 @@
-//! [`LastPlan`] keeps the words of the last plan, and tells whether the log has a line of it.
+//! [`LastPlan`] keeps the words of the last plan, and decides whether the log gets a line for it.
 use base_types::{Priority, Stranded};
 use plan_text::{put_class_word, put_stranded_word};
 use std::alloc::{AllocError, Global};
@@ -6,9 +6,9 @@ use std::mem;
 
 /// The words of the last plan.
 ///
-/// A plan has a line where it begins a job, and where it leaves other jobs without a device than the plan
-/// before. While a job waits the server plans each second, and a log would be full of plans that say the
-/// same.
+/// A plan gets a line if it begins a job, or if the jobs that it leaves without a device aren't those of the
+/// plan before. While a job waits the server plans each second, and a line for each plan would fill a log
+/// with equal lines.
 #[derive(Drop)]
 pub(crate) struct LastPlan {
     alloc: Global,
@@ -19,7 +19,7 @@ pub(crate) struct LastPlan {
 }
 
 impl LastPlan {
-    /// No plan was made yet.
+    /// Creates the record without a plan.
     pub(crate) fn new(alloc: Global) -> LastPlan {
         LastPlan {
             alloc,
@@ -30,7 +30,7 @@ impl LastPlan {
         }
     }
 
-    /// A plan is made, of which nothing is known yet.
+    /// Begins the words of a new plan.
     pub(crate) fn begin(&mut self) {
         mem::swap(&mut self.stranded, &mut self.stranded_before);
         self.stranded.clear();
@@ -38,29 +38,30 @@ impl LastPlan {
         self.is_pending = true;
     }
 
-    /// It has a class with this total of completion times in ms.
+    /// Adds a class with its total of completion times in ms. The only error is out of memory.
     pub(crate) fn add_class(&mut self, priority: Priority, total: u64) -> Result<(), AllocError> {
         put_class_word(self.alloc, &mut self.totals, priority, total)
     }
 
-    /// No device can print this job.
+    /// Adds a job that no device can print. The only error is out of memory.
     pub(crate) fn add_stranded(&mut self, stranded: Stranded) -> Result<(), AllocError> {
         put_stranded_word(self.alloc, &mut self.stranded, stranded)
     }
 
-    /// Whether its line is due, once it begins a job or nothing more is said of it. It is due once.
+    /// Returns whether the plan's line is due. `begins` says whether the plan begins a job. The line is due
+    /// at most once for each plan.
     pub(crate) fn take_due(&mut self, begins: bool) -> bool {
         let is_due = self.is_pending && (begins || self.stranded != self.stranded_before);
         self.is_pending = false;
         is_due
     }
 
-    /// The totals of its classes, from the highest priority down.
+    /// The words for the totals of the plan's classes, from the highest priority down.
     pub(crate) fn totals(&self) -> &[u8] {
         &self.totals
     }
 
-    /// The jobs that no device can print, each with its cause.
+    /// The words for the jobs that no device can print, each with its cause.
     pub(crate) fn stranded(&self) -> &[u8] {
         &self.stranded
     }

@@ -1,13 +1,12 @@
 //! A server over the system's sockets.
 //!
-//! A [`Server`] takes turns over sockets that listen at the three doors; [`serve`] has one take so many
-//! by the clock, waits where nothing happens, writes what it hears where there is a log, and the lines of
-//! a recording where there is a [`Tape`]. What a log says is made by a [`Chronicle`], also of a day that is
-//! played again.
+//! A [`Server`] takes turns over sockets that listen at the three doors. [`serve`] takes a given number of
+//! turns by the clock, waits while nothing happens, and writes the log and the [`Tape`] of a recording where
+//! there are such. A [`Chronicle`] makes the lines of a log, also for a recorded day that is played again.
 //!
-//! Its engine stands at a trace, and the calls that a turn made of its sockets are that trace's next turn,
-//! each of them noted where the turns are recorded. What is proved of the sockets stands in `sockets`, and
-//! what an engine does over any wire in `server`.
+//! The engine stands at a trace, and the calls that a turn made of the sockets are the next turn of that
+//! trace. Each call is noted while the turns are recorded. The contracts of the sockets are in `sockets`, and
+//! those of an engine over any wire in `server`.
 //!
 //! Tests stand in `server_tests`.
 #![tactic(auto)]

@@ -1,4 +1,4 @@
-//! [`Lines`] appends the lines of a log, of a connection, a plan, a job or a refusal each.
+//! [`Lines`] appends the lines of a log: each for a connection, a plan, a job or a refusal.
 use crate::ends::Ended;
 use crate::last_plan::LastPlan;
 use base_types::{DeviceId, JobId, Moment, Text};
@@ -11,20 +11,20 @@ use std::alloc::{AllocError, Global};
 use std::net::SocketAddr;
 use wires::{Door, WireId};
 
-/// Lines, each with the same in front.
+/// Lines with the same word at the front of each.
 #[derive(Drop)]
 pub(crate) struct Lines<'a> {
     alloc: Global,
     names: &'a [Text],
-    /// The ms since the start, which stand in front of each; none, where each is a comment of a recording.
+    /// The ms since the start, at the front of each line. `None` if each line is a comment of a recording.
     millis: Option<u64>,
     text: Vec<u8>,
-    /// Memory for some of it was refused.
+    /// Whether memory for some of the text was refused.
     is_cut: bool,
 }
 
 impl<'a> Lines<'a> {
-    /// No line of this moment yet. The names are those of the devices.
+    /// Creates lines for a moment, none so far. `names` are those of the devices.
     pub(crate) fn new(alloc: Global, names: &'a [Text], moment: Moment) -> Lines<'a> {
         Lines {
             alloc,
@@ -35,7 +35,7 @@ impl<'a> Lines<'a> {
         }
     }
 
-    /// No comment yet.
+    /// Creates comments of a recording, none so far. `names` are those of the devices.
     pub(crate) fn comments(alloc: Global, names: &'a [Text]) -> Lines<'a> {
         Lines {
             alloc,
@@ -46,7 +46,8 @@ impl<'a> Lines<'a> {
         }
     }
 
-    /// The whole text, each line with its end. The error is out of memory, for any of it.
+    /// Returns the whole text, each line with its line feed. The error is that memory for any of it was
+    /// refused.
     pub(crate) fn text(self) -> Result<Vec<u8>, AllocError> {
         let mut text = self.text;
         if self.is_cut {
@@ -58,7 +59,7 @@ impl<'a> Lines<'a> {
         Ok(text)
     }
 
-    /// Adds what the engine was heard to do.
+    /// Adds the lines for the notes of the engine.
     pub(crate) fn add_heard(&mut self, heard: &[LoggedNote], plan: &mut LastPlan) {
         for one in heard {
             self.add_one(one, plan);
@@ -66,7 +67,7 @@ impl<'a> Lines<'a> {
         self.add_plan(plan, false);
     }
 
-    /// Adds the connections that came, or that none could come.
+    /// Adds the lines for connections that came, and for accepts that failed.
     pub(crate) fn add_comings(&mut self, visits: &[ConnectionEvent]) {
         for visit in visits {
             match *visit {
@@ -77,7 +78,7 @@ impl<'a> Lines<'a> {
         }
     }
 
-    /// Adds the connections that went.
+    /// Adds the lines for connections that went.
     pub(crate) fn add_goings(&mut self, visits: &[ConnectionEvent]) {
         for visit in visits {
             if let ConnectionEvent::Went { id, leave } = *visit {
@@ -86,14 +87,14 @@ impl<'a> Lines<'a> {
         }
     }
 
-    /// Adds the jobs that ended.
+    /// Adds the lines for jobs that ended.
     pub(crate) fn add_ended(&mut self, ended: &[Ended]) {
         for one in ended {
             self.add_job(end_word(one.state), one.started.job, one.started.device);
         }
     }
 
-    /// Adds what is said of one thing that was heard: a line, or a word of the line of its plan.
+    /// Adds what a note needs: a line, or a word in the line of its plan.
     fn add_one(&mut self, heard: &LoggedNote, plan: &mut LastPlan) {
         match heard {
             LoggedNote::Class { priority, total } => self.heed(plan.add_class(*priority, *total)),
@@ -121,7 +122,7 @@ impl<'a> Lines<'a> {
         }
     }
 
-    /// Adds the line of the last plan where it is due, before what follows.
+    /// Adds the line of the last plan, if it is due. `begins` says whether the plan begins a job.
     fn add_plan(&mut self, plan: &mut LastPlan, begins: bool) {
         if plan.take_due(begins) {
             self.begin("plan");
@@ -130,15 +131,15 @@ impl<'a> Lines<'a> {
         }
     }
 
-    /// Adds a line of a job and its device.
+    /// Adds the line for a job and its device.
     fn add_job(&mut self, word: &str, job: JobId, device: DeviceId) {
         self.begin_line();
         let done = put_job_words(self.alloc, &mut self.text, word, self.names, job, device);
         self.heed(done);
     }
 
-    /// Adds the line of a device's connection that is refused, with the name that was said on it, if one
-    /// was.
+    /// Adds the line for a device's connection that was refused, with the name that the peer gave, if it gave
+    /// one.
     fn add_device_refused(&mut self, why: &DeviceRefusal) {
         match why {
             DeviceRefusal::UnknownName(name) => self.add_reason(name.as_bytes(), "unknown"),
@@ -152,14 +153,14 @@ impl<'a> Lines<'a> {
         }
     }
 
-    /// Adds a line of the name of a device and why it is refused.
+    /// Adds the line for the name of a device and the reason for its refusal.
     fn add_reason(&mut self, name: &[u8], reason: &str) {
         self.begin("refused device ");
         self.put(name);
         self.append(format!(in self.alloc; " {reason}"));
     }
 
-    /// Adds the line of a growth that was refused.
+    /// Adds the line for memory that was refused.
     fn add_refused(&mut self, place: AllocationSite, id: Option<WireId>) {
         let word = place_word(place);
         self.begin("no memory");
@@ -169,34 +170,34 @@ impl<'a> Lines<'a> {
         }
     }
 
-    /// Adds the line of a connection that came.
+    /// Adds the line for a connection that came.
     fn add_open(&mut self, id: WireId, door: Door, peer: SocketAddr) {
         let door = door.option();
         self.begin("open");
         self.append(format!(in self.alloc; " {id} {door} {peer}"));
     }
 
-    /// Adds the line of a door at which a connection was missed.
+    /// Adds the line for a door at which an accept failed.
     fn add_missed(&mut self, door: Door) {
         let door = door.option();
         self.begin("no connection");
         self.append(format!(in self.alloc; " {door}"));
     }
 
-    /// Adds the line of a connection that went.
+    /// Adds the line for a connection that went.
     fn add_close(&mut self, id: WireId, leave: CloseReason) {
         let leave = leave_word(leave);
         self.begin("close");
         self.append(format!(in self.alloc; " {id} {leave}"));
     }
 
-    /// Ends the line before, if there is one, and begins another by a word.
+    /// Ends the line before, if there is one, and begins a line with a word.
     fn begin(&mut self, word: &str) {
         self.begin_line();
         self.put(word.as_bytes());
     }
 
-    /// Ends the line before, if there is one, and begins another.
+    /// Ends the line before, if there is one, and begins a line.
     fn begin_line(&mut self) {
         if !self.text.is_empty() {
             self.put(b"\n");
@@ -207,7 +208,7 @@ impl<'a> Lines<'a> {
         }
     }
 
-    /// Appends words, if memory was there to make them.
+    /// Appends words, or records that memory for them was refused.
     fn append(&mut self, words: Result<String, AllocError>) {
         match words {
             Ok(words) => self.put(words.as_bytes()),
@@ -220,7 +221,7 @@ impl<'a> Lines<'a> {
         self.heed(done);
     }
 
-    /// Remembers that memory was refused, if it was.
+    /// Records whether memory was refused.
     fn heed(&mut self, done: Result<(), AllocError>) {
         if done.is_err() {
             self.is_cut = true;
@@ -228,7 +229,7 @@ impl<'a> Lines<'a> {
     }
 }
 
-/// What there was no memory for.
+/// The words for the growth that was refused.
 fn place_word(place: AllocationSite) -> &'static str {
     match place {
         AllocationSite::Accept => "for a new connection",
@@ -241,7 +242,20 @@ fn place_word(place: AllocationSite) -> &'static str {
     }
 }
 
+<<<<<<< HEAD
 /// Why a connection is closed.
+=======
+/// The word for a door, which is the option of its port.
+fn door_word(door: Door) -> &'static str {
+    match door {
+        Door::Ipp => "ipp",
+        Door::Lpd => "lpd",
+        Door::Devices => "devices",
+    }
+}
+
+/// The word for the reason of a close.
+>>>>>>> h3
 fn leave_word(leave: CloseReason) -> &'static str {
     match leave {
         CloseReason::Served => "served",
@@ -251,7 +265,8 @@ fn leave_word(leave: CloseReason) -> &'static str {
     }
 }
 
-/// The state in which a job left its device (RFC 8011, section 5.3.7); `ended`, where the job isn't kept.
+/// The word for the state in which a job left its device (RFC 8011, section 5.3.7); `ended` if the server
+/// doesn't keep the job.
 fn end_word(state: Option<JobState>) -> &'static str {
     match state {
         Some(JobState::Completed) => "completed",

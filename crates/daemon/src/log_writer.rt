@@ -1,27 +1,27 @@
-//! A log that nothing waits for.
+//! The writer of a log, which never makes the server wait.
 ghost use Rattle.std.specs.Prelude.{◌≡◌, ◌≤◌, length};
 
 use std::alloc::Global;
 use std::cmp::min;
 use std::io::Write;
 
-/// How many bytes are written at a time: as many as a pipe takes in one piece.
+/// The number of bytes in one write: as many as a pipe takes in one piece.
 const PIECE: usize = 4_096;
 
-/// Where the lines of a log go. What isn't taken at once is dropped, and how many lines were is written
-/// once there is room. The output answers a write that would wait with an error.
+/// A writer of the lines of a log. Lines that the output doesn't take at once are dropped. Once there is
+/// room, a line with the number of dropped lines is written. The output has to return an error for a write
+/// that would wait.
 #[derive(Drop)]
 pub(crate) struct LogWriter<'a, W: Write> {
     alloc: Global,
     output: &'a mut W,
-    /// How many lines are lost and not told of.
+    /// The number of dropped lines that wasn't written yet.
     lost: u64,
-    /// A line was cut: its end is missing.
+    /// Whether the last line was cut: its end is missing.
     cut: bool,
 }
 
-/// The bytes of the longest front of whole lines that is written at a time; of the first line, where that
-/// is longer.
+/// The length of the longest front of whole lines that one write has; of the first line, if that is longer.
 fn front(text: &[u8]) -> usize
     ensures { result ≤ length text.now }
 {
@@ -36,13 +36,13 @@ fn front(text: &[u8]) -> usize
     min(most, last.saturating_add(1))
 }
 
-/// How many lines there are.
+/// The number of lines.
 fn lines_in(text: &[u8]) -> u64 {
     text.iter().filter(|byte| **byte == b'\n').count() as u64
 }
 
 impl<'a, W: Write> LogWriter<'a, W> {
-    /// No line is lost yet.
+    /// Creates the writer of an output.
     pub(crate) fn new(alloc: Global, output: &'a mut W) -> LogWriter<'a, W> {
         LogWriter {
             alloc,
@@ -52,7 +52,7 @@ impl<'a, W: Write> LogWriter<'a, W> {
         }
     }
 
-    /// Writes some lines, each with its end.
+    /// Writes lines, each with its line feed.
     pub(crate) fn put(&mut self, text: &[u8]) {
         let mut rest = text;
         for _ in 0..text.len() {
@@ -67,7 +67,8 @@ impl<'a, W: Write> LogWriter<'a, W> {
         }
     }
 
-    /// Ends a line that was cut, and says how many are lost: whether that was written, or isn't needed.
+    /// Ends a line that was cut, and writes the number of dropped lines. Returns whether that was written, or
+    /// wasn't needed.
     fn tells_lost(&mut self) -> bool {
         if self.lost == 0 {
             return true;
@@ -85,7 +86,7 @@ impl<'a, W: Write> LogWriter<'a, W> {
         told
     }
 
-    /// Writes these bytes in pieces: whether all were taken.
+    /// Writes bytes in pieces. Returns whether all of them were taken.
     fn writes(&mut self, lines: &[u8]) -> bool {
         let mut begun = false;
         for piece in lines.chunks(PIECE) {

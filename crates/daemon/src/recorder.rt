@@ -1,34 +1,34 @@
-//! A recording that nothing waits for.
+//! The recorder of turns, which never makes the server wait.
 use base_types::Moment;
 use recordings::NoteText;
 
-/// How many bytes of lines are kept before they are written.
+/// The number of bytes of kept lines at which they are written.
 const MOST: usize = 65_536;
 
-/// For how long fewer are kept, in ms.
+/// The time for which fewer bytes are kept at most, in ms.
 const LONGEST: u64 = 100;
 
-/// Where a recording goes.
+/// The output of a recording.
 pub trait Tape {
-    /// Appends the lines of whole turns: whether all of them were taken. Where they weren't, the recording
-    /// has ended, and the tape has said why.
+    /// Appends the lines of whole turns. Returns whether all of them were taken. If not, the recording has
+    /// ended, and the tape has reported the cause.
     fn put(&mut self, lines: &[u8]) -> bool;
 
-    /// There was no memory for a line, so that the recording has ended, which the tape says.
+    /// Ends the recording, since memory for a line was refused. The tape reports that.
     fn lose(&mut self);
 }
 
-/// A recording on its way to its tape.
+/// A recorder, which collects lines for its tape.
 #[derive(Drop)]
 pub(crate) struct Recorder<'a, T: Tape> {
     tape: &'a mut T,
-    /// The moment of the last lines that were written.
+    /// The moment at which lines were last written.
     written: Moment,
     ended: bool,
 }
 
 impl<'a, T: Tape> Recorder<'a, T> {
-    /// Nothing was written yet.
+    /// Creates the recorder of a tape.
     pub(crate) fn new(tape: &'a mut T) -> Recorder<'a, T> {
         Recorder {
             tape,
@@ -37,7 +37,8 @@ impl<'a, T: Tape> Recorder<'a, T> {
         }
     }
 
-    /// Writes the lines that are kept, after a turn of this moment, if they are much or old.
+    /// Writes the kept lines after a turn at `moment`, if they are many or old. If memory for a line was refused,
+    /// ends the recording.
     pub(crate) fn heed(&mut self, notes: &mut NoteText, moment: Moment) {
         if self.ended {
             return;
@@ -50,7 +51,7 @@ impl<'a, T: Tape> Recorder<'a, T> {
         }
     }
 
-    /// Writes the lines that are kept, behind the last turn.
+    /// Writes the kept lines after the last turn.
     pub(crate) fn finish(&mut self, notes: &mut NoteText) {
         if !self.ended && !notes.text().is_empty() {
             let moment = self.written;
@@ -58,7 +59,7 @@ impl<'a, T: Tape> Recorder<'a, T> {
         }
     }
 
-    /// The ms from this moment on until lines that are kept are old, at most so many.
+    /// Returns the ms from `moment` until the kept lines are old, at most `most`.
     pub(crate) fn time_left(&self, notes: &NoteText, moment: Moment, most: u64) -> u64 {
         if self.ended || notes.text().is_empty() {
             return most;
@@ -66,18 +67,18 @@ impl<'a, T: Tape> Recorder<'a, T> {
         LONGEST.saturating_sub(self.age(moment)).min(most)
     }
 
-    /// The ms since lines were written.
+    /// The ms since lines were last written.
     fn age(&self, moment: Moment) -> u64 {
         moment.millis().saturating_sub(self.written.millis())
     }
 
-    /// Whether lines are kept, and much or old.
+    /// Returns whether there are kept lines, and they are many or old.
     fn is_due(&self, notes: &NoteText, moment: Moment) -> bool {
         let count = notes.text().len();
         count >= MOST || (count > 0 && self.age(moment) >= LONGEST)
     }
 
-    /// Writes the lines that are kept. Where that fails, none are kept any more.
+    /// Writes the kept lines. If the tape fails, no lines are kept any more.
     fn put(&mut self, notes: &mut NoteText, moment: Moment) {
         self.written = moment;
         if self.tape.put(notes.text()) {

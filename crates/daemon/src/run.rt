@@ -1,4 +1,4 @@
-//! A server that runs.
+//! The loop of turns of a server.
 ghost use Rattle.settings_file.specs.Settings.{MeetsLimits};
 
 use crate::clock::moment_since;
@@ -13,22 +13,25 @@ use std::io;
 use std::io::Write;
 use std::time::{Clock, Instant};
 
-/// How long a server waits at most where nothing happens, in ms. A tick, which comes each second, is
-/// late by no more.
+/// The longest time that a server waits while nothing happens, in ms. A tick, which comes each second, is at
+/// most that late.
 const PAUSE: u64 = 100;
 
-/// A recording of the day: where it goes, and whether it has of documents their heads alone.
+/// A recording of the day: its tape, and whether it has only the heads of documents.
 #[derive(Drop)]
 pub struct Recording<'a, T: Tape> {
     pub tape: &'a mut T,
     pub heads: bool,
 }
 
-/// Serves with these settings over sockets that listen: so many turns, each at the ms since the first,
-/// with a log of what happens where one is given, and with a recording where one is. A log that can't be
-/// written stops nothing: the output is to answer a write that would wait with an error, and the lines are
-/// dropped and counted. A tape that fails stops nothing either: it gets nothing more. The error is the
-/// clock's or the system's, or out of memory.
+/// Serves with these settings over sockets that listen. It takes a given number of turns, each at the ms
+/// since the first turn, and writes a log and a recording if they are given.
+///
+/// A failed write of the log doesn't stop the server: the output has to return an error for a write that
+/// would wait, and the lines are dropped and counted. A failed tape doesn't stop the server either: it gets
+/// no more lines.
+///
+/// The error is the clock's or the system's, or out of memory.
 pub fn serve<W: Write, T: Tape>(
     alloc: Global,
     clock: &impl Clock,
@@ -44,7 +47,7 @@ pub fn serve<W: Write, T: Tape>(
     run(alloc, clock, &mut server, turns, log, recording)
 }
 
-/// Takes so many turns, with a log and a recording where they are given.
+/// Takes the turns, with a log and a recording if they are given.
 fn run<W: Write, T: Tape>(
     alloc: Global,
     clock: &impl Clock,
@@ -58,7 +61,7 @@ fn run<W: Write, T: Tape>(
     take_turns(clock, server, turns, &mut log, &mut recorder)
 }
 
-/// What writes the log, where one is wanted.
+/// Creates the writer of the log, if there is a log.
 fn writer_of<'a, W: Write>(alloc: Global, log: Option<&'a mut W>) -> Option<LogWriter<'a, W>> {
     let Some(output) = log else {
         return None;
@@ -66,7 +69,7 @@ fn writer_of<'a, W: Write>(alloc: Global, log: Option<&'a mut W>) -> Option<LogW
     Some(LogWriter::new(alloc, output))
 }
 
-/// What records the turns of a server that has taken none yet, where a recording is wanted.
+/// Starts recording the turns of a server that has taken none yet, if there is a recording.
 fn recorder_of<'a, T: Tape>(
     server: &mut Server,
     recording: Option<Recording<'a, T>>,
@@ -78,7 +81,7 @@ fn recorder_of<'a, T: Tape>(
     Some(Recorder::new(recording.tape))
 }
 
-/// Takes so many turns.
+/// Takes the turns.
 fn take_turns<W: Write, T: Tape>(
     clock: &impl Clock,
     server: &mut Server,
@@ -99,7 +102,7 @@ fn take_turns<W: Write, T: Tape>(
     Ok(())
 }
 
-/// Takes a turn of this moment, and writes the lines of the log.
+/// Takes a turn at a moment, and writes its lines of the log.
 fn take_turn<W: Write>(server: &mut Server, moment: Moment, log: &mut Option<LogWriter<'_, W>>) {
     match log {
         Some(log) => put_lines(server.turn_logged(moment), log),
@@ -107,8 +110,8 @@ fn take_turn<W: Write>(server: &mut Server, moment: Moment, log: &mut Option<Log
     }
 }
 
-/// Has what was noted of a turn of this moment recorded, once it is due: for how many ms the server may wait
-/// then, at most.
+/// Writes the notes of a turn at a moment to the recording, if they are due. Returns the ms for which the
+/// server may wait then at most.
 fn heed<T: Tape>(
     server: &mut Server,
     recorder: &mut Option<Recorder<'_, T>>,
@@ -122,7 +125,7 @@ fn heed<T: Tape>(
     recorder.time_left(notes, moment, PAUSE)
 }
 
-/// Writes the lines of a turn, or says that there was no memory for them.
+/// Writes the lines of a turn, or a line that says that memory for them was refused.
 fn put_lines<W: Write>(lines: Result<Vec<u8>, AllocError>, log: &mut LogWriter<'_, W>) {
     match lines {
         Ok(lines) => log.put(&lines),

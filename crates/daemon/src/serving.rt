@@ -18,7 +18,7 @@ use std::io;
 use std::time::Duration;
 use wires::WireId;
 
-/// A server: its engine, its sockets, what its log is made of, and the moment of the last turn that is
+/// A server: its engine, its sockets, the chronicle of its log, and the moment of the last turn that was
 /// recorded for its tick.
 #[derive(Drop)]
 pub struct Server {
@@ -29,7 +29,7 @@ pub struct Server {
     ticked: Option<Moment>,
 }
 
-/// Who came and went; nobody, where that isn't kept.
+/// The events of a log of connections. Empty if no log was kept.
 fn all_of(
     alloc: Global,
     visits: Option<ConnectionLog>,
@@ -41,7 +41,7 @@ fn all_of(
 }
 
 impl Server {
-    /// A server over sockets that listen. The only error is out of memory.
+    /// Creates a server over sockets that listen. The only error is out of memory.
     pub fn new(alloc: Global, sockets: Sockets, settings: Settings) -> Result<Server, AllocError>
         requires { MeetsLimits settings }
     {
@@ -56,23 +56,23 @@ impl Server {
         })
     }
 
-    /// Where it listens.
+    /// The addresses at which the server listens.
     pub fn listening(&self) -> io::Result<Vec<Listening>> {
         self.wire.wire.listening()
     }
 
-    /// Has it note each turn, as a recording has it. It has taken no turn yet.
+    /// Starts noting each turn for a recording. The server has taken no turn yet.
     pub(crate) fn record(&mut self, heads: bool) {
         self.wire.notes.begin(heads);
     }
 
-    /// What is noted of its turns.
+    /// The notes of the server's turns.
     pub(crate) fn notes(&mut self) -> &mut NoteText {
         &mut self.wire.notes
     }
 
-    /// One turn of its engine: at whatever trace the engine stood, it stands at that trace followed by this
-    /// turn, whose calls are those that it made of its sockets.
+    /// Takes one turn of the engine. For each trace at which the engine stood, it now stands at that trace
+    /// with this turn behind it. The calls of the turn are those that the engine made of the sockets.
     pub fn turn(&mut self, moment: Moment)
         ensures { ServesTurn moment self.old.engine self.old.wire.notes self.new.engine self.new.wire.notes }
     {
@@ -84,8 +84,8 @@ impl Server {
         self.note_turn(moment, &visits, seen.told, seen.refused);
     }
 
-    /// One turn of its engine: the lines of what was heard of it. The error is that there was no memory
-    /// for them; the turn is taken all the same.
+    /// Takes one turn of the engine, and returns the turn's lines of the log. The error is that memory for
+    /// the lines was refused; the turn is taken nevertheless.
     pub fn turn_logged(&mut self, moment: Moment) -> Result<Vec<u8>, AllocError>
         ensures { ServesTurn moment self.old.engine self.old.wire.notes self.new.engine self.new.wire.notes }
     {
@@ -98,7 +98,7 @@ impl Server {
             .lines(moment, &visits?, &heard, self.engine.engine())
     }
 
-    /// One turn of its engine, of which this listener is told.
+    /// Takes one turn of the engine, which tells the listener its notes.
     fn take<N: Listener>(&mut self, moment: Moment, listener: N) -> Witness<N>
         ensures { TakesTurn moment self.old.engine self.old.wire.notes self.new.engine self.new.wire.notes }
     {
@@ -108,7 +108,7 @@ impl Server {
         witness
     }
 
-    /// Who came and went.
+    /// Takes the log of connections. The only error is out of memory.
     fn visits(&mut self) -> Result<Vec<ConnectionEvent>, AllocError>
         ensures engine { self.new.engine ≡ self.old.engine }
         ensures notes { self.new.wire.notes ≡ self.old.wire.notes }
@@ -116,12 +116,12 @@ impl Server {
         all_of(self.alloc, self.wire.wire.take_visits())
     }
 
-    /// Whether its turns are noted.
+    /// Returns whether the turns are noted.
     fn is_recorded(&self) -> bool {
         self.wire.notes.keeps()
     }
 
-    /// Whether its engine ticks in a turn of this moment. Such a turn is recorded, whatever else it does.
+    /// Returns whether the engine ticks in a turn at a moment. A turn with a tick is recorded in any case.
     fn ticks_at(&self, moment: Moment) -> bool {
         match self.ticked {
             Some(last) => moment.millis().saturating_sub(last.millis()) >= TICK_TIME,
@@ -129,8 +129,8 @@ impl Server {
         }
     }
 
-    /// Notes who came and went in a turn, and that it ended, if its turns are noted and anything happened
-    /// in this one.
+    /// Notes the connections that came and went in a turn, and the end of the turn, if turns are noted and
+    /// something happened in this turn.
     fn note_turn(
         &mut self,
         moment: Moment,
@@ -150,7 +150,7 @@ impl Server {
         self.wire.notes.end_turn(moment, refused);
     }
 
-    /// Notes who came and went, in comments; none, where there is no memory for them.
+    /// Notes the connections that came and went, as comments. If memory is refused, no comment is noted.
     fn note_visits(&mut self, visits: &Result<Vec<ConnectionEvent>, AllocError>)
         ensures engine { self.new.engine ≡ self.old.engine }
         ensures notes { AddsLines self.old.wire.notes self.new.wire.notes }
@@ -166,9 +166,9 @@ impl Server {
         }
     }
 
-    /// Waits until something happens at a socket or a client has been silent for too long, or for this
-    /// many ms; not at all where the turns since the last call of this found something to do. Then the
-    /// system is asked what happened once a ms at most.
+    /// Waits until the poll reports an event, a peer has been silent for too long, or `most` ms have passed.
+    /// It doesn't wait if the turns since the last call had work to do; then the system is asked for events
+    /// at most once in a ms.
     pub fn rest(&mut self, most: u64) -> io::Result<()> {
         let sockets = &mut self.wire.wire;
         let worked = sockets.take_worked();
@@ -180,7 +180,7 @@ impl Server {
     }
 }
 
-/// A listener that keeps nothing.
+/// A listener that ignores its notes.
 #[derive(Drop)]
 struct NoListener;
 

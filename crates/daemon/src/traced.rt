@@ -1,4 +1,4 @@
-//! An engine that stands at a trace.
+//! An engine with the invariant that it stands at a trace.
 ghost use Rattle.std.specs.Prelude.{◌≡◌};
 ghost use Rattle.server.specs.Polls.{both};
 ghost use Rattle.server.specs.Refinement.{RefinesTurn};
@@ -13,8 +13,8 @@ use std::alloc::{AllocError, Global};
 use std::marker::Model;
 use wires::Wire;
 
-/// An engine that has taken turns since it began, and nothing else. Its invariant is that it stands at a
-/// trace: that of these turns.
+/// An engine that has only taken turns since it began. Its invariant is that it stands at a trace: that of
+/// these turns.
 #[derive(Drop)]
 pub(crate) struct TracedEngine {
     engine: Engine<AugmentingPaths>,
@@ -32,7 +32,7 @@ impl Model for TracedEngine {
 }
 
 impl TracedEngine {
-    /// One that begins, with settings within the limits. The only error is out of memory.
+    /// Creates an engine with settings within the limits. The only error is out of memory.
     pub(crate) fn new(alloc: Global, settings: Settings) -> Result<TracedEngine, AllocError>
         requires { MeetsLimits settings }
     {
@@ -40,14 +40,14 @@ impl TracedEngine {
         Ok(TracedEngine { engine })
     }
 
-    /// One turn.
+    /// Takes one turn.
     pub(crate) fn turn<W: Wire, N: Listener>(&mut self, wire: &mut W, notes: &mut N, moment: Moment)
         ensures { RefinesTurn (both W.polled N.told) moment (wire.old, notes.old) self.old (wire.new, notes.new) self.new }
     {
         self.engine.turn(wire, notes, moment);
     }
 
-    /// The engine, to look at.
+    /// A reference to the engine.
     pub(crate) fn engine(&self) -> &Engine<AugmentingPaths>
         ensures { result.now ≡ self.now }
     {

@@ -1,12 +1,12 @@
-//! A listener that knows whether it was told something.
+//! A listener that records whether it was told a note.
 ghost use Rattle.std.specs.Prelude.{◌≡◌};
 
 use dispatcher::{AllocationSite, DeviceRefusal, Dispatched, Listener};
 use events::Cancel;
 use wires::WireId;
 
-/// A listener that hands on what it is told, and knows whether it was told something, and whether a growth
-/// was refused.
+/// A listener that passes its notes on, and records whether it was told a note, and whether a growth was
+/// refused.
 #[derive(Drop)]
 pub(crate) struct Witness<N: Listener> {
     pub(crate) listener: N,
@@ -15,7 +15,7 @@ pub(crate) struct Witness<N: Listener> {
 }
 
 impl<N: Listener> Witness<N> {
-    /// It was told nothing yet.
+    /// Creates a listener that was told no note yet.
     pub(crate) fn new(listener: N) -> Witness<N>
         ensures { result.listener ≡ listener }
     {

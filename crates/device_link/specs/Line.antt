@@ -1,4 +1,4 @@
--- What a line of a device says. A line is a word, and its operands after single spaces; a carriage return at its end is dropped.
+-- The report in a line of a device. A line is a word and its operands behind single spaces; a carriage return at its end is dropped.
 use Rattle.std.specs.Prelude.{ℕ, nat_lt, Bool, true, false, if◌then◌else◌, List, [], ◌∷◌, length, Option, Some, None, option_map, codes}
 use Rattle.std.specs.Option.{option_and_then}
 use Rattle.std.specs.List.{list_all}
@@ -11,15 +11,15 @@ use Rattle.text.specs.Parts.{parts_at, words_of}
 use Rattle.base_types.specs.Forms.{is_name, is_media}
 use Rattle.base_types.specs.Report.{ReportRecord, SaysHello, SaysMedia, SaysReady, SaysStop, SaysBusy, SaysPages, SaysDone, SaysFail}
 
--- the id of a job, or a number below those
+-- the id of a job, up to LAST_JOB_ID
 abbrev pub job_in : List ℕ → Option ℕ
 job_in word = number_up_to LAST_JOB_ID word
 
--- so many impressions
+-- a number of impressions, up to MOST_PRINTED
 abbrev pub printed_in : List ℕ → Option ℕ
 printed_in word = number_up_to MOST_PRINTED word
 
--- a time, in ms
+-- a time in ms, up to BUSY
 abbrev pub time_in : List ℕ → Option ℕ
 time_in word = number_up_to BUSY word
 
@@ -30,7 +30,7 @@ media_in operand = if list_all is_media (parts_at 44 operand) then Some (parts_a
 unfoldable pub name_in : List ℕ → Option (List ℕ)
 name_in operand = if is_name operand then Some operand else None
 
--- a word alone
+-- a word without operands
 unfoldable pub said_alone : List ℕ → Option ReportRecord
 said_alone word =
     if bytes_eq word (codes "READY") then Some SaysReady
@@ -61,7 +61,7 @@ said (word ∷ operand ∷ []) = said_of_one word operand
 said (word ∷ job ∷ printed ∷ []) = said_of_two word job printed
 said (word ∷ first ∷ second ∷ third ∷ more) = None
 
--- a device says its name first, and once
+-- the first report is the device's name, and no later report is
 abbrev pub in_turn : Bool → Option ReportRecord → Option ReportRecord
 in_turn greeted None = None
 in_turn true (Some (SaysHello name)) = None
@@ -69,14 +69,14 @@ in_turn true (Some report) = Some report
 in_turn false (Some (SaysHello name)) = Some (SaysHello name)
 in_turn false (Some report) = None
 
--- what a line says, if it is one of those that may come now
+-- the report in a line, if a device may send it now
 abbrev pub report_in : Bool → List ℕ → Option ReportRecord
 report_in greeted line = in_turn greeted (said (words_of (strip_carriage_return line)))
 
--- a line and its line feed together have at most so many bytes
+-- a line and its line feed together have at most DEVICE_LINE_BYTES bytes
 abbrev pub fits : List ℕ → Bool
 fits line = nat_lt (length line) DEVICE_LINE_BYTES
 
--- what a line reports of a device that has said its name
+-- the report in a line of a device that has given its name
 abbrev pub reported_by : List ℕ → Option ReportRecord
 reported_by line = if fits line then report_in true line else None

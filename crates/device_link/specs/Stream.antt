@@ -1,4 +1,4 @@
--- What a device's connection says: the reports of its whole lines, and then a fault or an unfinished line.
+-- The reports in the whole lines of a device's stream, and then a fault or an unfinished line.
 use Rattle.std.specs.Prelude.{ℕ, ◌≡◌, ◌+◌, Bool, true, false, if◌then◌else◌, List, [], ◌∷◌, ◌++◌, length, take, drop, Option, Some, None, Result, Ok, Err}
 use Rattle.text.specs.Parts.{texts_of}
 use Rattle.text.specs.FirstLine.{first_line_of}
@@ -23,45 +23,45 @@ pub record Heard : Type 0 where
 abbrev pub silence : Ending → Heard
 silence ending = record { reports = []; ending = ending }
 
--- these reports, and then what is heard later
+-- these reports, in front of the later ones
 abbrev pub with_front : List ReportRecord → Heard → Heard
 with_front reports later = record { reports = reports ++ later.reports; ending = later.ending }
 
--- a line's report and what is heard later; a line that says nothing known is the end
+-- the report of a line, in front of the later ones; a line that isn't a report is a fault, and the end
 abbrev pub heard_after : Option ReportRecord → Heard → Heard
 heard_after None later = silence (Faulty BadLine)
 heard_after (Some report) later = with_front (report ∷ []) later
 
--- what the texts between line feeds say, the last of which is no whole line yet
+-- the reports in the texts between line feeds; the last text isn't a whole line yet
 abbrev pub heard_in : Bool → List (List ℕ) → Heard
 heard_in greeted [] = silence Unfinished
 heard_in greeted (rest ∷ []) = if fits rest then silence Unfinished else silence (Faulty LineTooLong)
 heard_in greeted (line ∷ next ∷ more) =
     if fits line then heard_after (report_in greeted line) (heard_in true (next ∷ more)) else silence (Faulty LineTooLong)
 
--- what a whole stream of bytes says
+-- the reports of a whole stream of bytes
 abbrev pub device_reports : List ℕ → Heard
 device_reports stream = heard_in false (texts_of stream)
 
--- a whole line stands at the front and says a report; this follows it
+-- a whole line at the front is a report, and these bytes are behind it
 pub record SaysAtFront (greeted : Bool) (bytes : List ℕ) (report : ReportRecord) (rest : List ℕ) : Type 0 where
   pub count : ℕ
   pub line : first_line_of DEVICE_LINE_BYTES bytes ≡ Whole count
   pub says : report_in greeted (take count bytes) ≡ Some report
   pub rest_is : rest ≡ drop (count + 1) bytes
 
--- bytes say these reports; then these bytes are left, and the device has said its name or not
+-- the bytes say these reports, and lead to these bytes left; `next` says whether the device has given its name then
 abbrev pub Leads : Bool → List ℕ → List ReportRecord → Bool → List ℕ → Type 0
 Leads greeted bytes [] next left = (next ≡ greeted) × (left ≡ bytes)
 Leads greeted bytes (report ∷ reports) next left = (rest : List ℕ) × SaysAtFront greeted bytes report rest × Leads true rest reports next left
 
--- a stream says these reports first, whatever follows
+-- the stream says these reports first, whatever bytes follow
 pub record SaysFirst (stream : List ℕ) (reports : List ReportRecord) : Type 0 where
   pub next : Bool
   pub left : List ℕ
   pub leads : Leads false stream reports next left
 
--- a reader: the bytes that are no report yet, whether the device has said its name, and the fault, once there is one
+-- the state of a reader: the bytes that are no report yet, whether the device has given its name, and the fault, if there was one
 pub record LinkState : Type 0 where
   pub rest : List ℕ
   pub greeted : Bool
@@ -71,26 +71,26 @@ abbrev pub heard_on : Option LinkFault → Bool → List ℕ → Heard
 heard_on (Some fault) greeted bytes = silence (Faulty fault)
 heard_on None greeted bytes = heard_in greeted (texts_of bytes)
 
--- what a reader will hear, where these bytes are still to come
+-- the reports that a reader's state says of its bytes and of these behind them
 abbrev pub ahead : LinkState → List ℕ → Heard
 ahead reader coming = heard_on reader.fault reader.greeted (reader.rest ++ coming)
 
--- the bytes that are left of a stream: those that the reader hasn't read; after a fault, of which it keeps no more, those at whose front the fault stands
+-- the bytes that are left of a stream: those that the reader hasn't read. After a fault the reader keeps none, and the bytes that are left begin with that fault
 abbrev pub IsLeft : Option LinkFault → Bool → List ℕ → List ℕ → Type 0
 IsLeft (Some fault) greeted rest left = heard_in greeted (texts_of left) ≡ silence (Faulty fault)
 IsLeft None greeted rest left = left ≡ rest
 
--- The reader has been fed this stream and has given these reports: the stream says them first, and then what the reader awaits, of the bytes that are left.
+-- The reader was fed this stream and has given these reports. The stream says them first, and leads to what the reader awaits with the bytes that are left.
 pub record Stands (stream : List ℕ) (given : List ReportRecord) (reader : LinkState) : Type 0 where
   pub left : List ℕ
   pub leads : Leads false stream given reader.greeted left
   pub kept : IsLeft reader.fault reader.greeted reader.rest left
 
--- how much a reader can say, at most
+-- an upper bound on the reports that a reader can still give
 abbrev pub work : LinkState → ℕ
 work reader = length reader.rest
 
--- what an answer of the reader says of the stream that it was fed, and where the reader stands then
+-- the answer of a reader, and its state then: a report, which the stream says next; or none, and then the stream says no more; or a fault; or refused memory
 abbrev pub Answers : LinkState → Result (Option Report) LinkError → LinkState → Type 0
 Answers old (Ok (Some report)) new =
     (stream : List ℕ) (given : List ReportRecord) → Stands stream given old → Stands stream (given ++ report_of report ∷ []) new
@@ -103,11 +103,11 @@ Answers old (Err OutOfMemory) new = new ≡ old
 
 -- ---- laws
 
--- what a stream says first stays in front where more comes
+-- the reports that a stream says first are a front of what it says with more bytes behind it
 abbrev pub FirstStays : Type 0
 FirstStays = (stream more : List ℕ) (first : List ReportRecord) → SaysFirst stream first → (later : Heard) × (device_reports (stream ++ more) ≡ with_front first later)
 
--- of one length a stream says one list of reports first, also where more may come
+-- two fronts of a stream's reports are equal if their lengths are
 abbrev pub FirstIsOne : Type 0
 FirstIsOne = (stream : List ℕ) (one other : List ReportRecord) → SaysFirst stream one → SaysFirst stream other → length one ≡ length other → one ≡ other
 
@@ -115,6 +115,6 @@ FirstIsOne = (stream : List ℕ) (one other : List ReportRecord) → SaysFirst s
 abbrev pub NoneFollows : Type 0
 NoneFollows = (stream : List ℕ) (reports : List ReportRecord) (said : ReportRecord) (ending : Ending) → SaysFirst stream (reports ++ said ∷ []) → device_reports stream ≡ record { reports = reports; ending = ending } → ⊥
 
--- whatever comes yet, the whole stream says what a reader has given, and then what it will hear
+-- a whole stream says the reports that a reader has given, and then what the reader's state says of its bytes and those that come
 abbrev pub HearsTheRest : Type 0
 HearsTheRest = (stream coming : List ℕ) (given : List ReportRecord) (reader : LinkState) → Stands stream given reader → device_reports (stream ++ coming) ≡ with_front given (ahead reader coming)

@@ -1,24 +1,24 @@
 use std::alloc::AllocError;
 use thiserror::Error;
 
-/// What is wrong with what a device sent.
+/// A fault of a device's stream.
 #[derive(Clone, Copy, Debug, PartialEq, Eq, Error)]
 pub enum LinkFault {
-    /// A line that isn't one of the protocol's, or comes when it may not.
+    /// A line that isn't of the protocol, or that a device may not send now.
     #[error("a line that isn't one of a device's")]
     BadLine,
-    /// A line of more than [`base_types::Limits::DEVICE_LINE_BYTES`] bytes, its line feed counted.
+    /// A line of more than [`base_types::Limits::DEVICE_LINE_BYTES`] bytes, with its line feed.
     #[error("a line that is too long")]
     LineTooLong,
 }
 
-/// Why no report is given.
+/// Why the reader gives no report.
 #[derive(Clone, Copy, Debug, PartialEq, Eq, Error)]
 pub enum LinkError {
-    /// The device's first fault. From now on there is no other answer.
+    /// The first fault of the stream. The reader gives no other answer from then on.
     #[error("{0}")]
     Fault(LinkFault),
-    /// There is no memory for the names of a report. It stays to be read.
+    /// Memory for the names of a report was refused. The report stays to be read.
     #[error("out of memory")]
     OutOfMemory,
 }

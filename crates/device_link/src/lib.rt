@@ -1,10 +1,10 @@
-//! The line protocol between the server and its devices: what a device reports, from any cutting
-//! of its stream of bytes, and the lines that it is sent.
+//! The line protocol between the server and its devices: the reports of a device, read from a stream that
+//! comes in pieces of any length, and the lines that the server sends to it.
 //!
-//! It promises that a [`LinkReader`] gives exactly the reports of the whole lines that it was fed,
-//! in order, and then the first fault, and that [`write_job`] and [`write_cancel`] append exactly
-//! their lines; [`read_report`] reads one line by itself. It opens no connection, and what a report does to a job or a device stands
-//! elsewhere. `docs/DEVICES.md` has the protocol for someone who writes an adapter.
+//! A [`LinkReader`] gives exactly the reports of the whole lines that it was fed, in order, and then the
+//! first fault. [`read_report`] reads one line by itself. [`write_job`] and [`write_cancel`] append exactly
+//! their lines. The crate opens no connection, and doesn't apply a report to a job or a device.
+//! `docs/DEVICES.md` describes the protocol for authors of adapters.
 //!
 //! Its rows are traces of `play_examples`.
 #![tactic(auto)]

@@ -1,4 +1,4 @@
-//! What a device's line says.
+//! The lines of a device.
 ghost use Rattle.std.specs.Prelude.{◌≡◌, ◌==◌, ◌∷◌, [], IfOk, option_map, map};
 ghost use Rattle.std.specs.List.{list_all};
 ghost use Rattle.std.specs.Option.{option_map_or};
@@ -13,12 +13,13 @@ use base_types::{Limits, Report, Text, is_media, is_name};
 use std::alloc::{AllocError, Global};
 use text::{cut_at, parts};
 
-/// The report that a line is, without its line feed, if it is one that a device may write once it
-/// has said its name. [`LinkReader`](crate::LinkReader) reads each line so.
+/// Reads the report of a line, given without its line feed. Returns `None` if the line isn't a report that a
+/// device may send once it has given its name. [`LinkReader`](crate::LinkReader) reads each line in the same
+/// way.
 ///
 /// # Errors
 ///
-/// Where there is no memory for the names of the report.
+/// The only error is out of memory, for the names of the report.
 pub fn read_report(alloc: Global, line: &[u8]) -> Result<Option<Report>, AllocError>
     ensures { IfOk result (λ report. option_map report_of report ≡ reported_by line.now) }
 {
@@ -28,8 +29,8 @@ pub fn read_report(alloc: Global, line: &[u8]) -> Result<Option<Report>, AllocEr
     read_line(alloc, true, line)
 }
 
-/// The report that a line is, if it is one that may come now: a device says its name first, and
-/// once.
+/// Reads the report of a line, if a device may send it now: the first report is the device's name, and no
+/// later report is.
 pub(crate) fn read_line(
     alloc: Global,
     greeted: bool,
@@ -47,7 +48,7 @@ pub(crate) fn read_line(
     Ok(Some(report))
 }
 
-/// The report that a word and its operands are.
+/// Reads the report of a word and its operands.
 #[tactic(auto, using(crate::proofs::Says::nothing_said))]
 fn read_words(alloc: Global, line: &[u8]) -> Result<Option<Report>, AllocError>
     ensures { IfOk result (λ report. option_map report_of report ≡ said (words_of line.now)) }
@@ -67,7 +68,7 @@ fn read_words(alloc: Global, line: &[u8]) -> Result<Option<Report>, AllocError>
     Ok(read_two(word, first, second))
 }
 
-/// A word up to a space, and what follows the space, where there is one.
+/// Splits a text at its first space: the word before it, and the text behind it, if there is a space.
 #[tactic(auto, using(text::proofs::Cuts::parts_cut, text::proofs::Cuts::parts_uncut))]
 fn split_word(text: &[u8]) -> (&[u8], Option<&[u8]>)
     ensures { words_of text.now ≡ result.0.now ∷ option_map_or (λ more. words_of more.now) result.1 [] }
@@ -78,7 +79,7 @@ fn split_word(text: &[u8]) -> (&[u8], Option<&[u8]>)
     }
 }
 
-/// A word alone.
+/// The report of a word without operands.
 #[tactic(auto, unfolding(crate::specs::Line::said_alone))]
 fn read_alone(alloc: Global, word: &[u8]) -> Option<Report>
     ensures { option_map report_of result ≡ said_alone word.now }
@@ -94,7 +95,7 @@ fn read_alone(alloc: Global, word: &[u8]) -> Option<Report>
     }
 }
 
-/// A word and its one operand.
+/// Reads the report of a word and its one operand.
 #[tactic(auto, unfolding(crate::specs::Line::said_of_one))]
 fn read_one(alloc: Global, word: &[u8], operand: &[u8]) -> Result<Option<Report>, AllocError>
     ensures { IfOk result (λ report. option_map report_of report ≡ said_of_one word.now operand.now) }
@@ -114,7 +115,7 @@ fn read_one(alloc: Global, word: &[u8], operand: &[u8]) -> Result<Option<Report>
     }
 }
 
-/// A word and its two operands.
+/// The report of a word and its two operands.
 #[tactic(auto, unfolding(crate::specs::Line::said_of_two))]
 fn read_two(word: &[u8], first: &[u8], second: &[u8]) -> Option<Report>
     ensures { option_map report_of result ≡ said_of_two word.now first.now second.now }
@@ -127,7 +128,7 @@ fn read_two(word: &[u8], first: &[u8], second: &[u8]) -> Option<Report>
     Some(Report::Pages { job, printed })
 }
 
-/// A device's name.
+/// Reads the name of a device.
 #[tactic(auto, unfolding(crate::specs::Line::name_in))]
 fn read_name(alloc: Global, operand: &[u8]) -> Result<Option<Text>, AllocError>
     ensures { IfOk result (λ name. name ≡ name_in operand.now) }
@@ -138,7 +139,7 @@ fn read_name(alloc: Global, operand: &[u8]) -> Result<Option<Text>, AllocError>
     Ok(Some(Text::copy_of(alloc, operand)?))
 }
 
-/// The names of media, with commas between them.
+/// Reads the names of media, with commas between them.
 #[tactic(auto, unfolding(crate::specs::Line::media_in))]
 fn read_media(alloc: Global, operand: &[u8]) -> Result<Option<Vec<Text>>, AllocError>
     ensures { IfOk result (λ names. option_map (λ v. v.items) names ≡ media_in operand.now) }
@@ -150,7 +151,7 @@ fn read_media(alloc: Global, operand: &[u8]) -> Result<Option<Vec<Text>>, AllocE
     Ok(Some(copies(alloc, &names)?))
 }
 
-/// Whether each text is the name of a medium.
+/// Returns whether each text is the name of a medium.
 fn are_media(names: &[&[u8]]) -> bool
     ensures { result ≡ list_all is_media (map (λ name. name.now) names.now) }
 {
@@ -162,7 +163,7 @@ fn are_media(names: &[&[u8]]) -> bool
     true
 }
 
-/// A text for each name.
+/// Copies each name into a text.
 fn copies(alloc: Global, names: &[&[u8]]) -> Result<Vec<Text>, AllocError>
     ensures { IfOk result (λ texts. texts.items ≡ map (λ name. name.now) names.now) }
 {

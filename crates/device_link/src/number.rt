@@ -1,15 +1,15 @@
-//! The numbers of a device's line.
+//! The numbers in a device's line.
 ghost use Rattle.std.specs.Prelude.{◌≡◌};
 ghost use Rattle.device_link.specs.Line.{job_in, printed_in, time_in};
 
 use base_types::Limits;
 use text::number_up_to;
 
-/// The most impressions that a device may say it has printed of a job: IPP's integers end there
-/// (RFC 8010, section 3.9).
+/// The most impressions of a job that a device may report as printed: the greatest integer of IPP (RFC 8010,
+/// section 3.9).
 pub const MOST_PRINTED: u32 = Limits::LAST_INTEGER;
 
-/// The id of a job that a word is in decimal digits, if it is a number up to the last one.
+/// Reads the id of a job in decimal digits, up to [`Limits::LAST_JOB_ID`].
 pub(crate) fn job_in(word: &[u8]) -> Option<u32>
     ensures { result ≡ job_in word.now }
 {
@@ -17,7 +17,7 @@ pub(crate) fn job_in(word: &[u8]) -> Option<u32>
     Some(number as u32)
 }
 
-/// The printed impressions that a word is in decimal digits, if it is a number up to [`MOST_PRINTED`].
+/// Reads a number of printed impressions in decimal digits, up to [`MOST_PRINTED`].
 pub(crate) fn printed_in(word: &[u8]) -> Option<u32>
     ensures { result ≡ printed_in word.now }
 {
@@ -25,7 +25,7 @@ pub(crate) fn printed_in(word: &[u8]) -> Option<u32>
     Some(number as u32)
 }
 
-/// The time that a word is in decimal digits, in ms, if it is one up to [`Limits::BUSY`].
+/// Reads a time in ms in decimal digits, up to [`Limits::BUSY`].
 pub(crate) fn time_in(word: &[u8]) -> Option<u32>
     ensures { result ≡ time_in word.now }
 {

@@ -7,8 +7,8 @@ use base_types::{Finishings, JobId, Needs, Sides};
 use itoa::Buffer;
 use std::alloc::{AllocError, Global};
 
-/// Appends the line that brings a job, of so many octets, to a device; its documents follow. Where
-/// there is no memory, nothing is appended.
+/// Appends the line that announces a job of so many octets to a device. The job's documents follow it on the
+/// connection. The only error is out of memory, and nothing is appended then.
 pub fn write_job(
     alloc: Global,
     job: JobId,
@@ -23,7 +23,7 @@ pub fn write_job(
     output.extend_from_slice(&line)
 }
 
-/// The line that brings a job.
+/// The line that announces a job. The only error is out of memory.
 fn job_text(alloc: Global, job: JobId, octets: usize, needs: &Needs) -> Result<Vec<u8>, AllocError>
     ensures { IfOk result (λ line. line.items ≡ job_line job octets needs.now) }
 {
@@ -39,7 +39,7 @@ fn job_text(alloc: Global, job: JobId, octets: usize, needs: &Needs) -> Result<V
     Ok(line)
 }
 
-/// How a line names the sides.
+/// The word of a line for the sides.
 fn sides_word(sides: Sides) -> &'static str
     ensures { result.now ≡ sides_word sides }
 {
@@ -50,7 +50,7 @@ fn sides_word(sides: Sides) -> &'static str
     }
 }
 
-/// How a line names the finishings of a job, with a space before; nothing where it has none.
+/// The word of a line for the finishings of a job, behind a space; empty for a job without finishings.
 fn finishings_word(alloc: Global, finishings: Finishings) -> Result<Vec<u8>, AllocError>
     ensures { IfOk result (λ word. word.items ≡ finishings_word finishings) }
 {
@@ -64,15 +64,15 @@ fn finishings_word(alloc: Global, finishings: Finishings) -> Result<Vec<u8>, All
     Ok(word)
 }
 
-/// A letter for a finishing that the job has.
+/// The letter of a finishing if the job has that finishing, else an empty text.
 fn letter_if(wanted: bool, letter: &str) -> &str
     ensures { result.now ≡ letter_if wanted letter.now }
 {
     if wanted { letter } else { "" }
 }
 
-/// Appends the line that tells a device that its job is canceled. Memory is taken only where there is no
-/// room for the line; where there is none, nothing is appended. The room never shrinks.
+/// Appends the line that cancels a job at its device. The only error is out of memory, and nothing is
+/// appended then. Memory is taken only if the room is less than the line needs. The room never shrinks.
 pub fn write_cancel(job: JobId, output: &mut Vec<u8>) -> Result<(), AllocError>
     ensures ok { OnOk result (output.new.items ≡ output.old.items ++ cancel_line job) }
     ensures err { OnErr result (output.new.items ≡ output.old.items) }

@@ -13,8 +13,8 @@ use std::alloc::{AllocError, Global};
 use std::marker::Model;
 use text::{FirstLine, Unread, first_line};
 
-/// A reader of what a device sends, in pieces of any length. In clauses it is a record of what it
-/// still has to read, whether the device has said its name, and its fault.
+/// A reader of a device's stream, which is fed in pieces of any length. In clauses it is a record of the
+/// bytes that aren't read, whether the device has given its name, and its fault.
 #[derive(Debug, Drop)]
 pub struct LinkReader {
     alloc: Global,
@@ -32,7 +32,7 @@ impl Model for LinkReader {
 }
 
 impl LinkReader {
-    /// A reader of a new connection.
+    /// Creates the reader of a new connection.
     pub fn new(alloc: Global) -> LinkReader
         ensures { Stands [] [] result }
     {
@@ -44,9 +44,9 @@ impl LinkReader {
         }
     }
 
-    /// Takes the next bytes of the connection. After a fault they are dropped.
+    /// Feeds the next bytes of the connection. After a fault they are dropped.
     ///
-    /// Where there is no memory, none of them is taken.
+    /// The only error is out of memory, and none of the bytes is taken then.
     pub fn feed(&mut self, piece: &[u8]) -> Result<(), AllocError>
         ensures fed { OnOk result ((stream : List ℕ) (given : List ReportRecord) → Stands stream given self.old → Stands (stream ++ piece.now) given self.new) }
         ensures err { OnErr result (self.new ≡ self.old) }
@@ -58,10 +58,10 @@ impl LinkReader {
         self.append(piece)
     }
 
-    /// The next report, if its line is whole.
+    /// Returns the next report, if its line is whole.
     ///
-    /// After a fault it answers that fault, whatever it is fed. Where there is no memory for the
-    /// names of a report, the report stays to be read.
+    /// After a fault it returns that fault at each call. If memory for the names of a report is refused, the
+    /// report stays to be read.
     #[tactic(auto, using(crate::proofs::Streams::answers_again, crate::proofs::Streams::answers_nothing, crate::proofs::Streams::answers_too_long))]
     pub fn next_report(&mut self) -> Result<Option<Report>, LinkError>
         ensures answer { Answers self.old result self.new }
@@ -78,7 +78,7 @@ impl LinkReader {
         }
     }
 
-    /// Reads the line of so many bytes at the front.
+    /// Reads the line of `length` bytes at the front.
     #[tactic(auto, using(crate::proofs::Streams::answers_bad_line, crate::proofs::Streams::answers_report))]
     fn take_line(&mut self, length: usize) -> Result<Option<Report>, LinkError>
         requires line { first_line_of Limits.DEVICE_LINE_BYTES self.old.rest ≡ Whole length }
@@ -95,21 +95,21 @@ impl LinkReader {
         }
     }
 
-    /// The bytes that are not read yet.
+    /// The bytes that aren't read.
     fn rest(&self) -> &[u8]
         ensures { result.now ≡ self.now.rest }
     {
         self.unread.bytes()
     }
 
-    /// The fault, once there is one.
+    /// The fault, if there was one.
     fn fault(&self) -> Option<LinkFault>
         ensures { result ≡ self.now.fault }
     {
         self.fault
     }
 
-    /// The report of the line of so many bytes at the front.
+    /// The report of the line of `length` bytes at the front.
     fn read_front(&self, length: usize) -> Result<Option<Report>, AllocError>
         requires { length < length_of self.now.rest }
         ensures { IfOk result (λ report. option_map report_of report ≡ report_in self.now.greeted (take length self.now.rest)) }
@@ -117,7 +117,7 @@ impl LinkReader {
         read_line(self.alloc, self.greeted, &self.rest()[..length])
     }
 
-    /// Goes past the line of so many bytes at the front.
+    /// Passes over the line of `length` bytes at the front.
     fn pass_line(&mut self, length: usize)
         requires { length < length_of self.old.rest }
         ensures { self.new ≡ record { rest = drop (length + 1) self.old.rest; greeted = true; fault = self.old.fault } }
@@ -126,7 +126,7 @@ impl LinkReader {
         self.greeted = true;
     }
 
-    /// Keeps a fault.
+    /// Records a fault.
     fn fail(&mut self, fault: LinkFault) -> LinkError
         ensures kept { self.new ≡ record self.old { fault = Some fault } }
         ensures answer { result ≡ LinkError.Fault fault }
@@ -135,7 +135,8 @@ impl LinkReader {
         LinkError::Fault(fault)
     }
 
-    /// Keeps these bytes to be read.
+    /// Appends bytes to those that aren't read. The only error is out of memory, and leaves the reader as it
+    /// was.
     fn append(&mut self, piece: &[u8]) -> Result<(), AllocError>
         ensures ok { OnOk result (self.new ≡ record self.old { rest = self.old.rest ++ piece.now }) }
         ensures err { OnErr result (self.new ≡ self.old) }

@@ -1,4 +1,4 @@
--- What a request is answered (RFC 8011, sections 4.1.6 to 4.1.8): a status, what isn't supported, and groups.
+-- The responses to requests (RFC 8011, sections 4.1.6 to 4.1.8): a status, the unsupported attributes, and groups.
 use Rattle.std.specs.Prelude.{ℕ, ◌≡◌, ◌==◌, if◌then◌else◌, List, [], length}
 use Rattle.ipp_codec.specs.Message.{IppAttribute, IppGroup}
 use Rattle.dispatcher.specs.declared.checks.Rejection.{Rejection}
@@ -8,16 +8,16 @@ use Rattle.events.specs.declared.status.Status.{Status}
 use Rattle.events.specs.declared.status.Status.TheVariants as Went
 use Rattle.print_room.specs.State.{State}
 
--- how a job is taken or found to be one that would be, by what isn't supported
+-- the status for a job that is taken or validated, by the attributes that aren't supported
 abbrev pub taken_with : List IppAttribute → Status
 taken_with unsupported = if length unsupported == 0 then Went.Ok else Went.OkIgnoredOrSubstituted
 
--- the refusal alone is answered, and only the last moment changes
+-- the response is the rejection alone, and only the last moment changes
 pub record Refuses (now : ℕ) (old : State) (refusal : Rejection) (reply : Effects) (new : State) : Type 0 where
   pub replies : Replies refusal.status refusal.unsupported [] reply
   pub state : new ≡ record old { last = now }
 
--- these groups are answered, and only the last moment changes
+-- the response has these groups, and only the last moment changes
 pub record Shows (now : ℕ) (old : State) (groups : List IppGroup) (reply : Effects) (new : State) : Type 0 where
   pub replies : Replies Went.Ok [] groups reply
   pub state : new ≡ record old { last = now }

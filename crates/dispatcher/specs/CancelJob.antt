@@ -1,5 +1,4 @@
--- What a Cancel-Job request comes to (RFC 8011, section 4.3.3): the job is canceled at once; a device that has
--- it is told, and keeps it until it says that it is done.
+-- The step of a Cancel-Job request (RFC 8011, section 4.3.3): the job is canceled at once. A device that has the job is told, and keeps the job until it reports that it is done.
 use Rattle.std.specs.Prelude.{ℕ, ◌≡◌, List, [], map, option_to_list, Result, Ok, MatchResult}
 use Rattle.text.specs.Steps.{◌>>=◌}
 use Rattle.events.specs.declared.event.JobRequest.{JobRequest}
@@ -14,25 +13,25 @@ use Rattle.print_room.specs.State.{State}
 use Rattle.print_room.specs.DeviceJobs.{device_of}
 use Rattle.print_room.specs.Jobs.{canceling_refusal, canceling}
 
--- the id of the job that is canceled, or the first reason against it
+-- the id of the canceled job, or the rejection of the first check that fails
 abbrev pub canceled_of : JobRequest → State → Result ℕ Rejection
 canceled_of request old =
     named_job request.target old >>= (λ job.
     unrefused (canceling_refusal job.id request.user old) >>= (λ _.
     Ok job.id))
 
--- the cancel that is sent: to the device that has the job
+-- the cancel for the device that has the job, if a device has it
 abbrev pub cancels_of : ℕ → State → List Cancel
 cancels_of id old = map (λ device. record { job = id; device = device }) (option_to_list (device_of old.devices id))
 
--- the job is canceled by who asks
+-- the job is canceled by the user of the request
 pub record CancelsIt (now : ℕ) (old : State) (name : List ℕ) (id : ℕ) (reply : Effects) (new : State) : Type 0 where
   pub answer : IsResponse Went.Ok [] [] reply.answer
   pub cancels : reply.cancels.items ≡ cancels_of id old
   pub documents : reply.documents.items ≡ []
   pub state : new ≡ canceling now id name old
 
--- at most one reply and one state after it
+-- the relation has at most one reply and one state after it
 abbrev pub CancelsJob : ℕ → JobRequest → State → Effects → State → Type 0
 CancelsJob now request old reply new =
     MatchResult (canceled_of request old) (λ id. CancelsIt now old request.user id reply new) (λ refusal. Refuses now old refusal reply new)

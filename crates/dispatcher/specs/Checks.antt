@@ -1,6 +1,4 @@
--- The checks of a request, in their order (RFC 8011, sections 4.1.5 to 4.1.7, 4.2.1.1 and 4.2.1.2): its
--- printer or its job, its document's form, its template, whether who asks may, whether the job's state
--- allows it, and whether there is room for it. The first that fails decides. Which of them a request has to
+-- The checks of a request, in order (RFC 8011, sections 4.1.5 to 4.1.7, 4.2.1.1 and 4.2.1.2): its printer or its job, its document's form, its template, whether its user is allowed to, whether the job's state allows it, and whether there is room for it. The first that fails decides. Each operation's file has the checks of that operation.
 -- pass stands with its operation.
 use Rattle.std.specs.Prelude.{ℕ, ◌==◌, ◌&&◌, not, nat_lt, Bool, false, if◌then◌else◌, List, [], length, Option, Some, None, Result, Ok, Err, codes, slice_get}
 use Rattle.std.specs.Option.{option_map_or}
@@ -25,11 +23,11 @@ use Rattle.spool.specs.declared.refusal.SpoolRefusal.TheVariants as Why
 use Rattle.print_room.specs.Jobs.{is_operator}
 use Rattle.print_room.specs.State.{State}
 
--- a status, and nothing that isn't supported
+-- the rejection with a status, and no unsupported attributes
 abbrev pub refused : Status → Rejection
 refused status = record { status = status; unsupported = [] }
 
--- what a printer offers, by what the devices are now
+-- the offer of a printer, by the state of the devices
 abbrev pub offer_of : State → PrinterEntry → OfferRecord
 offer_of state printer = record { devices = state.devices; printer = printer }
 
@@ -42,35 +40,33 @@ named_printer target state =
 abbrev pub named_job : JobTarget → State → Result JobRecord Rejection
 named_job target state = option_map_or Ok (job_of target state) (Err (refused Went.NotFound))
 
--- the printer that a job was sent to
+-- the printer of a job
 abbrev pub printer_of_job : JobRecord → State → Result NamedPrinter Rejection
 printer_of_job job state =
     option_map_or (λ printer. Ok (record { place = job.needs.printer; offer = offer_of state printer })) (slice_get state.settings.printers job.needs.printer) (Err (refused Went.NotFound))
 
--- compression is given and is not `none` (section 4.2.1.1)
+-- compression is present and isn't `none` (section 4.2.1.1)
 abbrev pub is_compressed : Option (List ℕ) → Bool
 is_compressed compression = option_map_or (λ c. not (bytes_eq c (codes "none"))) compression false
 
--- the settings' spelling of the format asked for (section 5.1.10), if the printer has it; without
--- document-format its default
+-- the requested format as the settings spell it (section 5.1.10), if the printer has it; without document-format the printer's default
 abbrev pub format_of : OfferRecord → Option (List ℕ) → Option (List ℕ)
 format_of offer None = Some offer.printer.format_default
 format_of offer (Some asked) = format_named offer asked
 
--- the document isn't compressed, and its format is supported: the format
+-- the format of the document, which has to be uncompressed and of a supported format
 abbrev pub format_asked : DocumentForm → OfferRecord → Result (List ℕ) Rejection
 format_asked form offer =
     if is_compressed form.compression then Err (refused Went.CompressionNotSupported)
     else option_map_or Ok (format_of offer form.format) (Err (refused Went.FormatNotSupported))
 
--- all of the job group is supported, or the request doesn't insist on it (section 4.1.7): what isn't
--- supported
+-- the unsupported attributes of the job group; they are a rejection if the request has ipp-attribute-fidelity (section 4.1.7)
 abbrev pub unsupported_asked : Bool → List IppAttribute → OfferRecord → Result (List IppAttribute) Rejection
 unsupported_asked fidelity template offer =
     if fidelity && not (length (unsupported_of offer template) == 0) then Err (record { status = Went.AttributesNotSupported; unsupported = unsupported_of offer template })
     else Ok (unsupported_of offer template)
 
--- what a change of a job that isn't made is answered
+-- the status for a refused change of a job
 abbrev pub status_of : SpoolRefusal → Status
 status_of Why.Busy = Went.Busy
 status_of Why.TooLarge = Went.TooLarge
@@ -79,16 +75,16 @@ status_of Why.NotPossible = Went.NotPossible
 status_of Why.NotAuthorized = Went.NotAuthorized
 status_of Why.OutOfMemory = Went.TemporaryError
 
--- nothing stands against a change of a job
+-- a change of a job isn't refused
 abbrev pub unrefused : Option SpoolRefusal → Result (Unit {0}) Rejection
 unrefused None = Ok tt
 unrefused (Some cause) = Err (refused (status_of cause))
 
--- who asks is an operator
+-- the user is an operator
 abbrev pub by_operator : List ℕ → State → Result (Unit {0}) Rejection
 by_operator name state = if is_operator name state then Ok tt else Err (refused Went.NotAuthorized)
 
--- a job may have so many octets, and a further job is taken
+-- the octets of a job are within the limit, and a further job is accepted
 abbrev pub room_for : ℕ → State → Result (Unit {0}) Rejection
 room_for octets state =
     if nat_lt JOB_OCTETS octets then Err (refused Went.TooLarge)

@@ -1,5 +1,4 @@
--- What a Create-Job request comes to (RFC 8011, section 4.2.4): what a Print-Job with the same job would, as
--- far as no document is asked about, and a job whose documents are still to come.
+-- The step of a Create-Job request (RFC 8011, section 4.2.4): that of a Print-Job with the same job, without the checks of the document. The documents of the job are still to come.
 use Rattle.std.specs.Prelude.{ℕ, ◌≡◌, true, [], ◌∷◌, Result, MatchResult}
 use Rattle.text.specs.Steps.{◌>>=◌}
 use Rattle.events.specs.declared.event.JobCreation.{JobCreation}
@@ -13,16 +12,16 @@ use Rattle.dispatcher.specs.Submission.{job_asked, group_of}
 use Rattle.print_room.specs.State.{State}
 use Rattle.print_room.specs.Jobs.{with_job_taken}
 
--- the job that is made, or the first reason against it
+-- the accepted job, or the rejection of the first check that fails
 abbrev pub created_of : JobCreation → ℕ → State → Result Accepted Rejection
 created_of asked now old = named_printer asked.target old >>= job_asked asked 0 now old
 
--- the job is answered, and kept under the next id, its documents still to come
+-- the response has the job, and the job is kept under the next id, with its documents still to come
 pub record CreatesIt (now : ℕ) (old : State) (accepted : Accepted) (reply : Effects) (new : State) : Type 0 where
   pub replies : Replies (taken_with accepted.unsupported) accepted.unsupported (group_of old accepted.job true ∷ []) reply
   pub state : new ≡ with_job_taken now accepted.job true old
 
--- at most one reply and one state after it
+-- the relation has at most one reply and one state after it
 abbrev pub CreatesJob : ℕ → JobCreation → State → Effects → State → Type 0
 CreatesJob now asked old reply new =
     MatchResult (created_of asked now old) (λ accepted. CreatesIt now old accepted reply new) (λ refusal. Refuses now old refusal reply new)

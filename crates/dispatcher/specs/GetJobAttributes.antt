@@ -1,4 +1,4 @@
--- What a Get-Job-Attributes request comes to (RFC 8011, section 4.3.4): the group of the job.
+-- The step of a Get-Job-Attributes request (RFC 8011, section 4.3.4): the response has the group of the job.
 use Rattle.std.specs.Prelude.{ℕ, [], ◌∷◌, MatchResult}
 use Rattle.listings.specs.Groups.{job_group}
 use Rattle.events.specs.declared.event.GetJobAttributes.{GetJobAttributes}
@@ -7,7 +7,7 @@ use Rattle.dispatcher.specs.Answers.{Refuses, Shows}
 use Rattle.dispatcher.specs.Checks.{named_job}
 use Rattle.print_room.specs.State.{State}
 
--- at most one reply and one state after it
+-- the relation has at most one reply and one state after it
 abbrev pub ShowsJob : ℕ → GetJobAttributes → State → Effects → State → Type 0
 ShowsJob now request old reply new =
     MatchResult (named_job request.target old)

@@ -1,4 +1,4 @@
--- What a Get-Jobs request comes to (RFC 8011, section 4.2.6): a group for each job that is asked for.
+-- The step of a Get-Jobs request (RFC 8011, section 4.2.6): the response has a group for each requested job.
 use Rattle.std.specs.Prelude.{ℕ, Bool, true, false, if◌then◌else◌, List, Option, Some, None, Result, Ok, Err, MatchResult}
 use Rattle.text.specs.Steps.{◌>>=◌}
 use Rattle.listings.specs.Listing.{WantedJobs}
@@ -13,24 +13,24 @@ use Rattle.dispatcher.specs.Answers.{Refuses, Shows}
 use Rattle.dispatcher.specs.Checks.{named_printer}
 use Rattle.print_room.specs.State.{State}
 
--- whether the finished jobs are asked for; a which-jobs that isn't supported is answered as it came
+-- whether finished jobs are requested; an unsupported which-jobs is a rejection with that attribute, unchanged
 abbrev pub finished_asked : WhichJobs → Result Bool Rejection
 finished_asked Completed = Ok true
 finished_asked NotCompleted = Ok false
 finished_asked (Unsupported attribute) = Err (record { status = Went.AttributesNotSupported; unsupported = attribute })
 
--- whose jobs are asked for, if not everybody's: by my-jobs those of who asks
+-- the owner of the requested jobs, if my-jobs limits them to those of the request's user
 abbrev pub owner_asked : Bool → List ℕ → Option (List ℕ)
 owner_asked mine user = if mine then Some user else None
 
--- the jobs that are asked for, or the first reason against it
+-- the requested jobs, or the rejection of the first check that fails
 abbrev pub wanted_of : GetJobs → State → Result WantedJobs Rejection
 wanted_of request old =
     named_printer request.printer.target old >>= (λ printer.
     finished_asked request.which >>= (λ finished.
     Ok (record { printer = printer.place; finished = finished; owner = owner_asked request.mine request.printer.user; limit = request.limit })))
 
--- at most one reply and one state after it
+-- the relation has at most one reply and one state after it
 abbrev pub ListsJobs : ℕ → GetJobs → State → Effects → State → Type 0
 ListsJobs now request old reply new =
     MatchResult (wanted_of request old)

@@ -1,4 +1,4 @@
--- What a Get-Printer-Attributes request comes to (RFC 8011, section 4.2.5): the group of the printer.
+-- The step of a Get-Printer-Attributes request (RFC 8011, section 4.2.5): the response has the group of the printer.
 use Rattle.std.specs.Prelude.{ℕ, [], ◌∷◌, MatchResult}
 use Rattle.listings.specs.Groups.{printer_group}
 use Rattle.events.specs.declared.event.GetPrinterAttributes.{GetPrinterAttributes}
@@ -7,7 +7,7 @@ use Rattle.dispatcher.specs.Answers.{Refuses, Shows}
 use Rattle.dispatcher.specs.Checks.{named_printer}
 use Rattle.print_room.specs.State.{State}
 
--- at most one reply and one state after it
+-- the relation has at most one reply and one state after it
 abbrev pub ShowsPrinter : ℕ → GetPrinterAttributes → State → Effects → State → Type 0
 ShowsPrinter now request old reply new =
     MatchResult (named_printer request.target old)

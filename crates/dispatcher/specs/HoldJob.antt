@@ -1,4 +1,4 @@
--- What a Hold-Job and a Release-Job request come to (RFC 8011, sections 4.3.5 and 4.3.6).
+-- The steps of a Hold-Job and a Release-Job request (RFC 8011, sections 4.3.5 and 4.3.6).
 use Rattle.std.specs.Prelude.{ℕ, ◌≡◌, List, [], Result, Ok, MatchResult}
 use Rattle.text.specs.Steps.{◌>>=◌}
 use Rattle.ipp_codec.specs.Message.{IppAttribute}
@@ -16,14 +16,14 @@ use Rattle.dispatcher.specs.Checks.{named_job, unrefused}
 use Rattle.print_room.specs.State.{State}
 use Rattle.print_room.specs.Jobs.{asked_refusal, changing}
 
--- the id of the job that is changed, or the first reason against it
+-- the id of the changed job, or the rejection of the first check that fails
 abbrev pub changed_of : JobRequest → JobChange → ℕ → State → Result ℕ Rejection
 changed_of request change now old =
     named_job request.target old >>= (λ job.
     unrefused (asked_refusal job.id request.user change now old) >>= (λ _.
     Ok job.id))
 
--- the job is changed, and what isn't supported is answered
+-- the job is changed, and the response has the unsupported attributes
 pub record ChangesIt (now : ℕ) (old : State) (change : JobChange) (unsupported : List IppAttribute) (id : ℕ) (reply : Effects) (new : State) : Type 0 where
   pub replies : Replies (taken_with unsupported) unsupported [] reply
   pub state : new ≡ changing now id change old
@@ -32,13 +32,13 @@ abbrev pub ChangesJob : ℕ → JobRequest → JobChange → List IppAttribute �
 ChangesJob now request change unsupported old reply new =
     MatchResult (changed_of request change now old) (λ id. ChangesIt now old change unsupported id reply new) (λ refusal. Refuses now old refusal reply new)
 
--- `no-hold` releases the job; any other value holds it, and is answered where it isn't supported
+-- `no-hold` releases the job; any other value holds it, and is returned as unsupported unless it is `indefinite`
 abbrev pub HoldsUntil : ℕ → JobRequest → HoldUntil → State → Effects → State → Type 0
 HoldsUntil now request NoHold old reply new = ChangesJob now request Release [] old reply new
 HoldsUntil now request Indefinite old reply new = ChangesJob now request Hold [] old reply new
 HoldsUntil now request (Unsupported attribute) old reply new = ChangesJob now request Hold attribute old reply new
 
--- at most one reply and one state after it
+-- the relation has at most one reply and one state after it
 abbrev pub HoldsJob : ℕ → HoldJob → State → Effects → State → Type 0
 HoldsJob now request old reply new = HoldsUntil now request.job request.until old reply new
 

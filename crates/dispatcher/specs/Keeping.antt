@@ -1,4 +1,4 @@
--- What a step and a dispatch leave of the documents of jobs that devices have.
+-- The documents of jobs that devices have, over a step and a dispatch.
 use Rattle.std.specs.Prelude.{◌≡◌, List, []}
 use Rattle.octets.specs.Document.{DocumentRecord}
 use Rattle.print_room.specs.State.{State}
@@ -6,7 +6,7 @@ use Rattle.print_room.specs.DeviceJobs.{AllKeep, KeepsOrEnds}
 use Rattle.events.specs.declared.event.Event.{Event}
 use Rattle.events.specs.declared.event.Event.TheVariants as Is
 
--- they stay, byte for byte; a device's report hands out whole those of the job that it ends
+-- the documents are unchanged, byte for byte; the reply to a device's report has all documents of the job that the report ends
 abbrev pub StepKeeps : Event → State → List DocumentRecord → State → Type 0
 StepKeeps (Is.PrintJob request) old documents new = AllKeep old new × (documents ≡ [])
 StepKeeps (Is.ValidateJob request) old documents new = AllKeep old new × (documents ≡ [])

@@ -1,4 +1,4 @@
--- What an LPD client that lists a queue is answered (RFC 1179, sections 5.3 and 5.4).
+-- The step of an LPD client's request to list a queue (RFC 1179, sections 5.3 and 5.4).
 use Rattle.std.specs.Prelude.{ℕ, ◌≡◌, [], MatchOption}
 use Rattle.events.specs.declared.effects.Response.{Response}
 use Rattle.events.specs.declared.effects.Response.TheVariants.{Ipp, Lpd, Nothing}
@@ -17,7 +17,7 @@ IsListing now place request state (Queue listing) = ShowsQueue now place request
 IsListing now place request state (Taken taken) = ⊥
 IsListing now place request state NoQueue = ⊥
 
--- an answer of that
+-- a response with such a listing
 abbrev pub IsListed : ℕ → ℕ → ListQueue → State → Response → Type 0
 IsListed now place request state (Lpd answer) = IsListing now place request state answer
 IsListed now place request state (Ipp answer) = ⊥
@@ -35,7 +35,7 @@ pub record ListsNothing (now : ℕ) (old : State) (reply : Effects) (new : State
   pub answers : AnswersLpd NoQueue reply
   pub state : new ≡ record old { last = now }
 
--- at most one reply and one state after it
+-- the relation has at most one reply and one state after it
 abbrev pub ListsQueue : ℕ → ListQueue → State → Effects → State → Type 0
 ListsQueue now request old reply new =
     MatchOption (queue_of request.queue old) (ListsNothing now old reply new) (λ place. ListsIt now old request place reply new)

@@ -1,4 +1,4 @@
--- Two replies that say the same, and two ends of a step that are the same.
+-- Replies with the same content, and ends of a step with the same state and the same reply.
 use Rattle.std.specs.Prelude.{◌≡◌}
 use Rattle.events.specs.declared.effects.Response.{Response}
 use Rattle.events.specs.declared.effects.Response.TheVariants.{Ipp, Lpd, Nothing}
@@ -37,7 +37,7 @@ pub record SameReply (one other : Effects) : Type 0 where
   pub cancels : one.cancels.items ≡ other.cancels.items
   pub documents : one.documents.items ≡ other.documents.items
 
--- one state, and one reply
+-- the same state, and replies with the same content
 pub record SameEnd (reply : Effects) (new : State) (reply' : Effects) (new' : State) : Type 0 where
   pub state : new ≡ new'
   pub reply_is : SameReply reply reply'

@@ -1,4 +1,4 @@
--- An event at the core: a step, the cancels that it sends, and a dispatch unless it is a query. A run: events one after the other.
+-- An event at the core: a step, the cancels of its reply, and a dispatch unless the event is a query. A run is a list of events, one after the other.
 use Rattle.std.specs.Prelude.{ℕ, ◌≡◌, ◌≢◌, max, true, false, List, [], ◌∷◌, ◌++◌, map, Option, Some, None}
 use Rattle.plan_prices.specs.Plan.{PlanRecord}
 use Rattle.events.specs.declared.event.Event.{Event}
@@ -22,13 +22,11 @@ reply_of (Undispatched reply) = Some reply
 reply_of (Idle reply) = Some reply
 reply_of (Dispatched reply) = Some reply
 
--- the cancels of a reply, as they are told
+-- the notes for the cancels of a reply
 abbrev pub cancels_told : Effects → List Note
 cancels_told reply = map Canceled reply.cancels.items
 
--- What becomes of an event, and what is told of it: the cancels of its reply, and then the dispatch. None
--- that takes no memory is dropped. A dispatch may choose any good plan; one that is refused memory changes
--- nothing, and none is refused where no job is ready.
+-- The outcome of an event, and the notes: the cancels of its reply, and then the dispatch. An event that takes no memory isn't dropped. A dispatch may make any good plan. A dispatch that is refused memory changes nothing; if no job is ready, none is refused memory.
 abbrev pub Handles : ℕ → Event → State → Outcome → List Note → State → Type 0
 Handles moment event old Dropped notes new = (new ≡ old) × (notes ≡ []) × (TakesNoMemory event moment old → ⊥)
 Handles moment event old (Queried reply) notes new = (is_query event ≡ true) × Step old event moment reply new × (notes ≡ cancels_told reply)
@@ -41,7 +39,7 @@ Handles moment event old (Dispatched reply) notes new =
     (is_query event ≡ false) × (mid : State) × Step old event moment reply mid
     × (plan : PlanRecord) × Dispatches (max moment mid.last) mid (Some plan) new.begun new × (notes ≡ cancels_told reply ++ Planned (Some plan) new.begun ∷ [])
 
--- an event comes, and a listener is told
+-- the outcome of an event, with a listener that is told the notes
 abbrev pub Comes : {L : Type 0} → (L → Note → L → Type 0) → State → L → Timed → Outcome → State → L → Type 0
 Comes told old listener timed outcome new listener' = (notes : List Note) × Handles timed.moment timed.event old outcome notes new × Tells told listener notes listener'
 

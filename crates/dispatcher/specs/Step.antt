@@ -1,4 +1,4 @@
--- A step: what an event does to the state, and what it is answered.
+-- A step: the change that an event makes of the state, and the reply.
 use Rattle.std.specs.Prelude.{ℕ, ◌≡◌, max, true, false, [], None, IsErr}
 use Rattle.base_types.specs.declared.report.Report.{Report}
 use Rattle.events.specs.declared.event.Event.{Event}
@@ -24,21 +24,20 @@ use Rattle.print_room.specs.Report.{Reports}
 use Rattle.print_room.specs.State.{State}
 use Rattle.print_room.specs.Jobs.{expiring}
 
--- a device's report is not answered
+-- the reply to a device's report has no response
 pub record Reported (now device : ℕ) (report : Report) (old : State) (reply : Effects) (new : State) : Type 0 where
   pub unanswered : reply.answer ≡ Says.Nothing
   pub cancels : reply.cancels.items ≡ []
   pub reports : Reports now device report old reply.documents.items new
 
--- A tick isn't answered. It aborts the jobs whose documents stopped coming in, and of the finished jobs
--- the oldest may be forgotten.
+-- The reply to a tick has no response. The tick aborts the jobs whose documents stopped coming, and may forget the oldest of the finished jobs.
 pub record Ticks (now : ℕ) (old : State) (reply : Effects) (new : State) : Type 0 where
   pub unanswered : reply.answer ≡ Says.Nothing
   pub cancels : reply.cancels.items ≡ []
   pub documents : reply.documents.items ≡ []
   pub state : new ≡ expiring now old
 
--- by cases on the event, at a moment that is not before the last one
+-- the step of each event, at a moment that isn't before the last one
 abbrev pub StepAt : Event → ℕ → State → Effects → State → Type 0
 StepAt (Is.PrintJob request) now old reply new = PrintsJob now request old reply new
 StepAt (Is.ValidateJob request) now old reply new = ValidatesJob now request old reply new
@@ -61,8 +60,7 @@ StepAt Is.Tick now old reply new = Ticks now old reply new
 abbrev pub Step : State → Event → ℕ → Effects → State → Type 0
 Step old event moment reply new = StepAt event (max moment old.last) old reply new
 
--- an event that is acted on without memory: all but a request that is answered more than a status, a job of
--- files that is taken, a queue that is listed, and a cancel that a device is told
+-- the step of the event takes no memory. Memory is taken for a response of more than a status, for a job of files that is taken, for the listing of a queue, and for a cancel that a device is told
 abbrev pub TakesNoMemoryAt : Event → ℕ → State → Type 0
 TakesNoMemoryAt (Is.PrintJob request) now old = IsErr (asked_of request now old)
 TakesNoMemoryAt (Is.ValidateJob request) now old = Unit {0}

@@ -1,5 +1,4 @@
--- The job that a request asks for, and how it is answered where it is taken (RFC 8011, sections 4.2.1 and
--- 4.2.4).
+-- The job of a request, and the response if the job is taken (RFC 8011, sections 4.2.1 and 4.2.4).
 use Rattle.std.specs.Prelude.{ℕ, Bool, List, [], Result, Ok}
 use Rattle.text.specs.Steps.{◌>>=◌}
 use Rattle.ipp_codec.specs.Message.{IppGroup}
@@ -15,7 +14,7 @@ use Rattle.dispatcher.specs.declared.submission.Accepted.{Accepted}
 use Rattle.dispatcher.specs.Checks.{unsupported_asked, room_for}
 use Rattle.print_room.specs.State.{State}
 
--- the job, with what the job group comes to; its documents are added later
+-- the job, with the values of its job group; its documents are added later
 abbrev pub submission_of : JobCreation → ℕ → NamedPrinter → Submission
 submission_of asked now printer =
     let template = template_of printer.offer asked.template in record {
@@ -33,18 +32,17 @@ submission_of asked now printer =
       documents = [];
     }
 
--- a job of these documents
+-- an accepted job with these documents
 abbrev pub of_documents : List DocumentRecord → Accepted → Accepted
 of_documents documents accepted = record accepted { job = record accepted.job { documents = documents } }
 
--- the job that is made of a printer for so many octets, or the first reason against it
+-- the accepted job at a printer, for so many octets, or the rejection of the first check that fails
 abbrev pub job_asked : JobCreation → ℕ → ℕ → State → NamedPrinter → Result Accepted Rejection
 job_asked asked octets now old printer =
     unsupported_asked asked.fidelity asked.template printer.offer >>= (λ unsupported.
     room_for octets old >>= (λ _.
     Ok (record { job = submission_of asked now printer; unsupported = unsupported })))
 
--- the group that shows a job that is taken next, before any dispatch (section 4.2.1.2), told whether
--- documents are still to come
+-- the group of the job that is taken next, before any dispatch (section 4.2.1.2); `incoming` says whether its documents are still to come
 abbrev pub group_of : State → Submission → Bool → IppGroup
 group_of old job incoming = created_group old.settings.uri_base (spooled_of job old.spool.next incoming).job (paused_at old.paused job.printer)

@@ -1,5 +1,4 @@
--- What a job of files that an LPD client sent comes to (RFC 1179, section 6): it is taken with the defaults of
--- its printer, or it isn't.
+-- The step of an LPD client's job of files (RFC 1179, section 6): the job is taken with the defaults of its printer, or it isn't taken.
 use Rattle.std.specs.Prelude.{ℕ, ◌≡◌, true, false, List, [], Option, Some, None, is_some, if◌then◌else◌, slice_get, MatchOption}
 use Rattle.std.specs.Option.{option_and_then, option_map_or}
 use Rattle.base_types.specs.declared.limits.TheConstants.Limits.{DEFAULT_PRIORITY}
@@ -19,7 +18,7 @@ use Rattle.print_room.specs.Jobs.{with_job_taken}
 abbrev pub default_medium : ℕ → State → List ℕ
 default_medium place state = option_map_or (λ printer. printer.media_default) (slice_get state.settings.printers place) []
 
--- the job of the files: one copy on one side of the default medium, of normal priority, not held
+-- the job of the files: one copy, one-sided, on the default medium, of normal priority, not held
 abbrev pub job_of_files : SubmitFiles → ℕ → State → ℕ → Submission
 job_of_files request now state place = record {
   created = now;
@@ -36,7 +35,7 @@ job_of_files request now state place = record {
   documents = request.documents.items;
 }
 
--- the job, where its queue is known and there is room for it
+-- the job, if its queue is known and there is room for it
 abbrev pub filed_of : SubmitFiles → ℕ → State → Option Submission
 filed_of request now old =
     if is_some (new_refusal old.spool request.documents.items) then None
@@ -47,12 +46,12 @@ pub record FilesJob (now : ℕ) (old : State) (job : Submission) (reply : Effect
   pub answers : AnswersLpd (Taken true) reply
   pub state : new ≡ with_job_taken now job false old
 
--- only the last moment changes
+-- the job isn't taken, and only the last moment changes
 pub record FilesNothing (now : ℕ) (old : State) (reply : Effects) (new : State) : Type 0 where
   pub answers : AnswersLpd (Taken false) reply
   pub state : new ≡ record old { last = now }
 
--- at most one reply and one state after it
+-- the relation has at most one reply and one state after it
 abbrev pub SubmitsFiles : ℕ → SubmitFiles → State → Effects → State → Type 0
 SubmitsFiles now request old reply new =
     MatchOption (filed_of request now old) (FilesNothing now old reply new) (λ job. FilesJob now old job reply new)

@@ -1,5 +1,4 @@
--- What a Validate-Job request comes to (RFC 8011, section 4.2.3): what a Print-Job with the same attributes
--- would, as far as they tell, and no job.
+-- The step of a Validate-Job request (RFC 8011, section 4.2.3): the response is that of a Print-Job with the same attributes, as far as they determine it, and no job is made.
 use Rattle.std.specs.Prelude.{ℕ, ◌≡◌, List, [], Result, MatchResult}
 use Rattle.text.specs.Steps.{◌>>=◌}
 use Rattle.ipp_codec.specs.Message.{IppAttribute}
@@ -12,22 +11,22 @@ use Rattle.dispatcher.specs.Answers.{Refuses, taken_with}
 use Rattle.dispatcher.specs.Checks.{named_printer, format_asked, unsupported_asked}
 use Rattle.print_room.specs.State.{State}
 
--- by its document's form and its job group, the printer being known
+-- the checks of the document's form and the job group, with a known printer
 abbrev pub validated_of_printer : ValidateJob → NamedPrinter → Result (List IppAttribute) Rejection
 validated_of_printer request printer =
     format_asked request.form printer.offer >>= (λ _.
     unsupported_asked request.job.fidelity request.job.template printer.offer)
 
--- what of it isn't supported, or the first reason against it; whether there is room for the job isn't asked
+-- the unsupported attributes, or the rejection of the first check that fails; the room for the job isn't checked
 abbrev pub validated_of : ValidateJob → State → Result (List IppAttribute) Rejection
 validated_of request old = named_printer request.job.target old >>= validated_of_printer request
 
--- what isn't supported is answered, and only the last moment changes
+-- the response has the unsupported attributes, and only the last moment changes
 pub record Validates (now : ℕ) (old : State) (unsupported : List IppAttribute) (reply : Effects) (new : State) : Type 0 where
   pub replies : Replies (taken_with unsupported) unsupported [] reply
   pub state : new ≡ record old { last = now }
 
--- at most one reply and one state after it
+-- the relation has at most one reply and one state after it
 abbrev pub ValidatesJob : ℕ → ValidateJob → State → Effects → State → Type 0
 ValidatesJob now request old reply new =
     MatchResult (validated_of request old) (λ unsupported. Validates now old unsupported reply new) (λ refusal. Refuses now old refusal reply new)

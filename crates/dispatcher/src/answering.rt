@@ -1,4 +1,4 @@
-//! How a request is refused, shown something, or taken.
+//! The effects of a request that is rejected, shown groups, or taken.
 ghost use Rattle.std.specs.Prelude.{◌≡◌, ◌≤◌};
 ghost use Rattle.dispatcher.specs.Answers.{Refuses, Shows, taken_with};
 
@@ -9,7 +9,7 @@ use job_template::RequestAttributes;
 use print_room::PrintRoom;
 use std::alloc::Global;
 
-/// How a job is taken or found to be one that would be, by what isn't supported.
+/// The status for a job that is taken or validated, by the attributes that aren't supported.
 pub(crate) fn taken_with(unsupported: &RequestAttributes) -> Status
     ensures { result ≡ taken_with unsupported.now }
 {
@@ -20,7 +20,7 @@ pub(crate) fn taken_with(unsupported: &RequestAttributes) -> Status
     }
 }
 
-/// Answers a status and what isn't supported.
+/// Responds with the status and the unsupported attributes of a rejection. Only the last moment changes.
 pub(crate) fn refuse(
     alloc: Global,
     room: &mut PrintRoom,
@@ -38,7 +38,7 @@ pub(crate) fn refuse(
     Effects::answered(alloc, status, unsupported, ResponseGroups::new(alloc))
 }
 
-/// Answers these groups.
+/// Responds with groups. Only the last moment changes.
 pub(crate) fn show(
     alloc: Global,
     room: &mut PrintRoom,

@@ -1,4 +1,4 @@
-//! What each event does.
+//! The step of each event.
 ghost use Rattle.std.specs.Prelude.{◌≡◌, ◌≤◌, IfOk, IsOk, OnErr};
 ghost use Rattle.dispatcher.specs.Step.{Step, Reported, Ticks, TakesNoMemory};
 
@@ -19,11 +19,11 @@ use events::{Effects, Event};
 use print_room::PrintRoom;
 use std::alloc::{AllocError, Global};
 
-/// Acts on an event, at a moment or, where that is earlier, at the last one.
+/// Takes the step of an event at a moment; if that is before the last moment, at the last moment.
 ///
-/// Out of memory, the event is dropped and the room is as it was. Only a request that is answered more
-/// than a status, a job of files that is taken, a queue that is listed, and a cancel that a device is
-/// told, take memory.
+/// The only error is out of memory: the event is dropped, and the room is unchanged. Memory is taken only for
+/// a response of more than a status, for a job of files that is taken, for the listing of a queue, and for a
+/// cancel that a device is told.
 pub(crate) fn apply(
     alloc: Global,
     room: &mut PrintRoom,
@@ -58,7 +58,7 @@ pub(crate) fn apply(
     }
 }
 
-/// Time goes on: jobs whose documents stopped coming in are aborted.
+/// Takes the step of a tick: jobs whose documents stopped coming are aborted.
 fn tick(alloc: Global, room: &mut PrintRoom, now: Moment) -> Effects
     requires { room.old.last ≤ now }
     ensures { Ticks now room.old result room.new }
@@ -67,7 +67,7 @@ fn tick(alloc: Global, room: &mut PrintRoom, now: Moment) -> Effects
     Effects::unanswered(alloc, Vec::new(alloc))
 }
 
-/// Acts on a device's report.
+/// Takes the step of a device's report.
 fn act_on(
     alloc: Global,
     room: &mut PrintRoom,

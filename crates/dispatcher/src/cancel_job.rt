@@ -1,4 +1,4 @@
-//! What a Cancel-Job does (RFC 8011, section 4.3.3).
+//! The step of a Cancel-Job (RFC 8011, section 4.3.3).
 ghost use Rattle.std.specs.Prelude.{◌≡◌, ◌≢◌, ◌≤◌, [], IfOk, IsOk, IsErr, OnErr, None};
 ghost use Rattle.print_room.specs.Jobs.{canceling_refusal};
 ghost use Rattle.dispatcher.specs.CancelJob.{CancelsIt, CancelsJob, canceled_of, cancels_of};
@@ -10,7 +10,7 @@ use events::{Cancel, Effects, JobRequest};
 use print_room::PrintRoom;
 use std::alloc::{AllocError, Global};
 
-/// Cancels a job, or says why not. Only a cancel that a device is told takes memory.
+/// Cancels a job, or responds with the rejection. Memory is taken only for a cancel that a device is told.
 pub(crate) fn cancel_job(
     alloc: Global,
     room: &mut PrintRoom,
@@ -28,7 +28,7 @@ pub(crate) fn cancel_job(
     }
 }
 
-/// The job that is canceled, or the first reason against it.
+/// The job to cancel, or the rejection of the first check that fails.
 fn canceled_of(alloc: Global, room: &PrintRoom, request: &JobRequest) -> Result<JobId, Rejection>
     ensures ok { result ≡ canceled_of request.now room.now }
     ensures free { IfOk result (λ id. canceling_refusal id request.now.user room.now ≡ None) }
@@ -40,7 +40,7 @@ fn canceled_of(alloc: Global, room: &PrintRoom, request: &JobRequest) -> Result<
     }
 }
 
-/// Cancels a job that nothing stands against; the device that has it is told.
+/// Cancels a job that passed the checks, with a cancel for the device that has it.
 fn cancel(
     alloc: Global,
     room: &mut PrintRoom,
@@ -58,7 +58,7 @@ fn cancel(
     Ok(Effects::canceled(alloc, cancels))
 }
 
-/// The cancel that is sent: to the device that has the job.
+/// The cancel for the device that has the job, if a device has it. The only error is out of memory.
 pub(crate) fn cancels_of(
     alloc: Global,
     room: &PrintRoom,

@@ -1,5 +1,5 @@
-//! The checks of a request, in their order: its printer or its job, its document's form, its template,
-//! whether who asks may, whether the job's state allows it, and whether there is room for it. None takes
+//! The checks of a request, in order: its printer or its job, its document's form, its template, whether its
+//! user is allowed to, whether the job's state allows it, and whether there is room for it. No check takes
 //! memory.
 ghost use Rattle.std.specs.Prelude.{◌≡◌, Ok, Err, MatchResult, option_map};
 ghost use Rattle.std.specs.Option.{option_copied, option_and_then};
@@ -17,21 +17,21 @@ use settings_file::PrinterSettings;
 use spool::SpoolRefusal;
 use std::alloc::Global;
 
-/// The first reason against a request, and what of it isn't supported, if that is the reason.
+/// The status for the first check that fails, and the unsupported attributes, if they are the reason.
 #[derive(Drop)]
 pub(crate) struct Rejection {
     pub(crate) status: Status,
     pub(crate) unsupported: RequestAttributes,
 }
 
-/// A printer, with its place in the settings.
+/// A printer with its offer and its place in the settings.
 #[derive(Drop)]
 pub(crate) struct NamedPrinter<'a> {
     pub(crate) place: usize,
     pub(crate) offer: Offer<'a>,
 }
 
-/// A refusal of a status alone.
+/// A rejection with a status and no unsupported attributes.
 pub(crate) fn refused(alloc: Global, status: Status) -> Rejection
     ensures { result ≡ refused status }
 {
@@ -41,7 +41,7 @@ pub(crate) fn refused(alloc: Global, status: Status) -> Rejection
     }
 }
 
-/// The printer that a request names.
+/// The printer that a request names, or the rejection `NotFound`.
 pub(crate) fn named_printer<'a>(
     alloc: Global,
     room: &'a PrintRoom,
@@ -74,7 +74,7 @@ fn printer_of<'a>(
     None
 }
 
-/// The job that a request names.
+/// The job that a request names, or the rejection `NotFound`.
 pub(crate) fn named_job<'a>(
     alloc: Global,
     room: &'a PrintRoom,
@@ -88,7 +88,7 @@ pub(crate) fn named_job<'a>(
     }
 }
 
-/// The job that is named, if it is kept.
+/// The job that the target names, if it is kept.
 fn job_of<'a>(room: &'a PrintRoom, target: &JobTarget) -> Option<&'a Job>
     ensures { option_copied result ≡ job_of target.now room.now }
 {
@@ -99,7 +99,7 @@ fn job_of<'a>(room: &'a PrintRoom, target: &JobTarget) -> Option<&'a Job>
     }
 }
 
-/// The job of this id, if it was sent to the printer that is named.
+/// The job of an id, if it was sent to the printer that the target names.
 fn job_of_printer<'a>(room: &'a PrintRoom, target: &Target, id: JobId) -> Option<&'a Job>
     ensures { option_copied result ≡ option_and_then (λ found. option_and_then (if_sent_to found.0) (job_at id room.now.spool.jobs)) (printer_of target.now room.now.settings.printers) }
 {
@@ -112,7 +112,7 @@ fn job_of_printer<'a>(room: &'a PrintRoom, target: &Target, id: JobId) -> Option
     }
 }
 
-/// The printer that a job was sent to.
+/// The printer of a job.
 pub(crate) fn printer_of_job<'a>(
     alloc: Global,
     room: &'a PrintRoom,
@@ -130,7 +130,7 @@ pub(crate) fn printer_of_job<'a>(
     }
 }
 
-/// What a change of a job that isn't made is answered.
+/// The rejection for a refused change of a job.
 pub(crate) fn refused_change(alloc: Global, cause: SpoolRefusal) -> Rejection
     ensures { result ≡ refused (status_of cause) }
 {
@@ -145,7 +145,7 @@ pub(crate) fn refused_change(alloc: Global, cause: SpoolRefusal) -> Rejection
     refused(alloc, status)
 }
 
-/// Whether who asks is an operator.
+/// Checks that the user is an operator.
 pub(crate) fn by_operator(alloc: Global, room: &PrintRoom, name: &Text) -> Result<(), Rejection>
     ensures { result ≡ by_operator name.now room.now }
 {
@@ -156,7 +156,8 @@ pub(crate) fn by_operator(alloc: Global, room: &PrintRoom, name: &Text) -> Resul
     }
 }
 
-/// The format of a document that is sent so, as the settings write it.
+/// The format of a document, as the settings spell it, or the rejection of a compressed document or an
+/// unsupported format.
 pub(crate) fn format_asked<'a>(
     alloc: Global,
     offer: &Offer<'a>,
@@ -173,8 +174,7 @@ pub(crate) fn format_asked<'a>(
     }
 }
 
-/// The format of a document: the one asked for, if the printer has it; without one asked for its
-/// default.
+/// The requested format, if the printer has it; without a requested format the printer's default.
 fn format_of<'a>(offer: &Offer<'a>, asked: &Option<Text>) -> Option<&'a Text>
     ensures { option_copied result ≡ format_of offer.now asked.now }
 {
@@ -184,7 +184,7 @@ fn format_of<'a>(offer: &Offer<'a>, asked: &Option<Text>) -> Option<&'a Text>
     }
 }
 
-/// Whether a document is compressed (RFC 8011, section 4.2.1.1).
+/// Returns whether a document is compressed (RFC 8011, section 4.2.1.1).
 fn is_compressed(compression: &Option<Text>) -> bool
     ensures { result ≡ is_compressed compression.now }
 {
@@ -194,7 +194,7 @@ fn is_compressed(compression: &Option<Text>) -> bool
     }
 }
 
-/// What of a job group isn't supported, unless the request insists on all of it.
+/// The unsupported attributes of a job group. They are a rejection if `fidelity` is true.
 pub(crate) fn unsupported_asked(
     alloc: Global,
     offer: &Offer<'_>,
@@ -214,7 +214,7 @@ pub(crate) fn unsupported_asked(
     Ok(unsupported)
 }
 
-/// Whether there is room for a job of so many octets.
+/// Checks that there is room for a job of so many octets.
 pub(crate) fn room_for(alloc: Global, room: &PrintRoom, octets: usize) -> Result<(), Rejection>
     ensures { result ≡ room_for octets room.now }
 {

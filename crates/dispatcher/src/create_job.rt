@@ -1,5 +1,5 @@
-//! What a Create-Job does (RFC 8011, section 4.2.4): it is refused by the first check that fails, or a
-//! job is made whose documents are still to come.
+//! The step of a Create-Job (RFC 8011, section 4.2.4): it is rejected by the first check that fails, or makes
+//! a job whose documents are still to come.
 ghost use Rattle.std.specs.Prelude.{◌≡◌, ◌≤◌, [], IfOk, IsOk, IsErr, OnErr, None};
 ghost use Rattle.spool.specs.Calls.{new_refusal};
 ghost use Rattle.dispatcher.specs.CreateJob.{CreatesJob, CreatesIt, created_of};
@@ -12,7 +12,7 @@ use events::{Effects, JobCreation};
 use print_room::PrintRoom;
 use std::alloc::{AllocError, Global};
 
-/// Makes the job of a Create-Job request, or says why not.
+/// Makes the job of a Create-Job request, or responds with the rejection. The only error is out of memory.
 pub(crate) fn create_job(
     alloc: Global,
     room: &mut PrintRoom,
@@ -30,7 +30,7 @@ pub(crate) fn create_job(
     }
 }
 
-/// Makes a job that nothing stands against; it is answered with its URI, id and state.
+/// Makes a job that passed the checks. The response has its URI, id and state.
 fn create(
     alloc: Global,
     room: &mut PrintRoom,
@@ -52,7 +52,8 @@ fn create(
     }
 }
 
-/// The job that a request asks for, or the first reason against it.
+/// The accepted job of a request, or the rejection of the first check that fails. The only outer error is out
+/// of memory.
 fn created_by(
     alloc: Global,
     room: &PrintRoom,

@@ -12,7 +12,7 @@ use plan_prices::{Plan, Planner};
 use print_room::{PrintRoom, Started};
 use std::alloc::AllocError;
 
-/// What a dispatch did.
+/// A view of the last dispatch.
 #[derive(Clone, Copy, Debug)]
 pub struct Dispatched<'a> {
     room: &'a PrintRoom,
@@ -20,14 +20,14 @@ pub struct Dispatched<'a> {
 }
 
 impl Dispatched<'_> {
-    /// The plan, if one was made.
+    /// The plan, if the dispatch made one.
     pub fn plan(&self) -> Option<&Plan>
         ensures { option_copied result ≡ plan_of self.now }
     {
         if self.planned { self.room.plan() } else { None }
     }
 
-    /// The jobs that began, by device.
+    /// The jobs that the dispatch began, by device.
     pub fn started(&self) -> &[Started]
         ensures { result.now ≡ started_of self.now }
     {
@@ -36,17 +36,17 @@ impl Dispatched<'_> {
 }
 
 impl<P: Planner + Drop> Core<P> {
-    /// Plans the ready jobs and starts what can start, at a moment or, where that is earlier, at the
-    /// last one: whether a plan was made, which [`Core::dispatched`] shows.
+    /// Plans the ready jobs and starts the jobs that can start, at a moment; if that is before the last
+    /// moment, at the last moment. Returns whether a plan was made; [`Core::dispatched`] shows it.
     ///
-    /// Where no job is ready, no plan is made, nothing changes and no memory is taken. Else each
-    /// priority class, from the highest down and given when the classes above leave each device free,
-    /// has the least total of estimated completion times among all ways to assign its ready jobs to
-    /// capable devices and order them; its prices prove this to the checker alone, and every ready job
-    /// without a capable device is named with its cause. The plan is kept, and each running device that
-    /// is idle and may begin a job starts the first of its list.
+    /// If no job is ready, no plan is made, nothing changes and no memory is taken. Otherwise each priority
+    /// class, from the highest down and given when the classes above leave each device free, has the least
+    /// total of estimated completion times among all ways to assign its ready jobs to capable devices and
+    /// order them. The plan's prices prove that, by the checker alone. Each ready job without a capable
+    /// device is named with its cause. The plan is kept, and each running device that is idle and may begin a
+    /// job starts the first of its list.
     ///
-    /// The only error is out of memory; nothing has changed then.
+    /// The only error is out of memory, and nothing is changed then.
     pub fn dispatch(&mut self, moment: Moment) -> Result<bool, AllocError>
         ensures idle { is_some_job (ready_of self.old) ≡ false → IsOk result }
         ensures planned { IfOk result (λ planned. planned ≡ is_some_job (ready_of self.old)) }
@@ -58,7 +58,7 @@ impl<P: Planner + Drop> Core<P> {
         self.room.dispatch(&mut self.planner, now)
     }
 
-    /// What the last dispatch did, by whether it made a plan.
+    /// A view of the last dispatch. `planned` says whether it made a plan.
     pub fn dispatched(&self, planned: bool) -> Dispatched<'_>
         ensures plan { plan_of result ≡ plan_if planned self.now }
         ensures started { started_of result ≡ begun_if planned self.now }

@@ -1,5 +1,4 @@
-//! What a Get-Printer-Attributes and a Get-Job-Attributes are answered (RFC 8011, sections 4.2.5 and
-//! 4.3.4).
+//! The steps of a Get-Printer-Attributes and a Get-Job-Attributes (RFC 8011, sections 4.2.5 and 4.3.4).
 ghost use Rattle.std.specs.Prelude.{◌≡◌, ◌≤◌, ◌∷◌, [], IfOk, IsOk, IsErr, OnErr};
 ghost use Rattle.listings.specs.Groups.{job_group, printer_group};
 ghost use Rattle.dispatcher.specs.Checks.{named_job, named_printer};
@@ -15,7 +14,7 @@ use listings::{job_group, printer_group};
 use print_room::PrintRoom;
 use std::alloc::{AllocError, Global};
 
-/// Answers the attributes of a printer, or why not. A refusal takes no memory.
+/// Responds with the attributes of a printer, or the rejection. A rejection takes no memory.
 pub(crate) fn get_printer_attributes(
     alloc: Global,
     room: &mut PrintRoom,
@@ -36,7 +35,7 @@ pub(crate) fn get_printer_attributes(
     Ok(show(alloc, room, groups, now))
 }
 
-/// The group of a printer.
+/// The group of a printer. The only error is out of memory.
 fn printer_groups(
     alloc: Global,
     room: &PrintRoom,
@@ -50,7 +49,7 @@ fn printer_groups(
     ResponseGroups::one(alloc, group)
 }
 
-/// Answers the attributes of a job, or why not. A refusal takes no memory.
+/// Responds with the attributes of a job, or the rejection. A rejection takes no memory.
 pub(crate) fn get_job_attributes(
     alloc: Global,
     room: &mut PrintRoom,
@@ -71,7 +70,7 @@ pub(crate) fn get_job_attributes(
     Ok(show(alloc, room, groups, now))
 }
 
-/// The group of a job.
+/// The group of a job. The only error is out of memory.
 fn job_groups(
     alloc: Global,
     room: &PrintRoom,

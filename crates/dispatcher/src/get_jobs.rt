@@ -1,4 +1,4 @@
-//! What a Get-Jobs is answered (RFC 8011, section 4.2.6).
+//! The step of a Get-Jobs (RFC 8011, section 4.2.6).
 ghost use Rattle.std.specs.Prelude.{◌≡◌, ◌≤◌, IfOk, IsOk, IsErr, OnErr};
 ghost use Rattle.std.specs.Option.{option_copied};
 ghost use Rattle.listings.specs.Groups.{job_groups};
@@ -12,7 +12,7 @@ use listings::{Wanted, job_groups};
 use print_room::PrintRoom;
 use std::alloc::{AllocError, Global};
 
-/// Answers the jobs that are asked for, or why not. A refusal takes no memory.
+/// Responds with the requested jobs, or the rejection. A rejection takes no memory.
 pub(crate) fn get_jobs(
     alloc: Global,
     room: &mut PrintRoom,
@@ -49,7 +49,7 @@ pub(crate) fn get_jobs(
     Ok(show(alloc, room, groups, now))
 }
 
-/// A group for each job that is wanted.
+/// A group for each requested job. The only error is out of memory.
 fn listed_groups(
     alloc: Global,
     room: &PrintRoom,
@@ -63,7 +63,8 @@ fn listed_groups(
     Ok(ResponseGroups::from_vec(groups))
 }
 
-/// Whether the finished jobs are asked for; a which-jobs that isn't supported is answered as it came.
+/// Returns whether finished jobs are requested. An unsupported which-jobs is a rejection with that attribute,
+/// unchanged.
 fn finished_asked(which: WhichJobs) -> Result<bool, Rejection>
     ensures { result ≡ finished_asked which }
 {
@@ -77,7 +78,7 @@ fn finished_asked(which: WhichJobs) -> Result<bool, Rejection>
     }
 }
 
-/// Whose jobs are asked for, if not everybody's.
+/// The owner of the requested jobs, if my-jobs limits them to those of the request's user.
 fn owner_asked(mine: bool, user: &Text) -> Option<&Text>
     ensures { option_copied result ≡ owner_asked mine user.now }
 {

@@ -1,4 +1,4 @@
-//! What a Hold-Job and a Release-Job do (RFC 8011, sections 4.3.5 and 4.3.6).
+//! The steps of a Hold-Job and a Release-Job (RFC 8011, sections 4.3.5 and 4.3.6).
 ghost use Rattle.std.specs.Prelude.{◌≤◌};
 ghost use Rattle.job_objects.specs.declared.job_change.JobChange.TheVariants as Change;
 ghost use Rattle.dispatcher.specs.HoldJob.{ChangesJob, HoldsJob, ReleasesJob};
@@ -11,7 +11,7 @@ use job_template::RequestAttributes;
 use print_room::PrintRoom;
 use std::alloc::Global;
 
-/// Holds a job until the time that is asked for, or says why not. It takes no memory.
+/// Holds or releases a job, by job-hold-until, or responds with the rejection. It takes no memory.
 pub(crate) fn hold_job(
     alloc: Global,
     room: &mut PrintRoom,
@@ -29,7 +29,7 @@ pub(crate) fn hold_job(
     }
 }
 
-/// Holds a job, or says why not; what isn't supported is answered.
+/// Holds a job, or responds with the rejection. The response has the unsupported attributes.
 fn hold(
     alloc: Global,
     room: &mut PrintRoom,
@@ -53,7 +53,7 @@ fn hold(
     }
 }
 
-/// Releases a job, or says why not. It takes no memory.
+/// Releases a job, or responds with the rejection. It takes no memory.
 pub(crate) fn release_job(
     alloc: Global,
     room: &mut PrintRoom,

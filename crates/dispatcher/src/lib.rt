@@ -1,17 +1,17 @@
-//! The core of the server: jobs, devices, and which device prints which job.
+//! The core of the server: jobs, devices, and the dispatch of jobs to devices.
 //!
-//! [`Core::apply`] takes one event and gives its reply; [`Core::dispatch`] then plans the ready jobs
-//! and starts what can start. Whenever it makes a plan, each priority class, from the highest down and
-//! given when the classes above leave each device free, has the least total of estimated completion
-//! times among all ways to assign its ready jobs to capable devices and order them; its prices prove
-//! this to the checker alone, and every job without a capable device is named.
+//! [`Core::apply`] takes one event and returns its effects. [`Core::dispatch`] then plans the ready jobs and
+//! starts the jobs that can start. Whenever it makes a plan, each priority class, from the highest down and
+//! given when the classes above leave each device free, has the least total of estimated completion times
+//! among all ways to assign its ready jobs to capable devices and order them. The plan's prices prove that,
+//! by the checker alone. Each job without a capable device is named.
 //!
-//! A client may speak IPP or LPD: what it asks is an event all the same.
+//! The requests of IPP clients and of LPD clients are both events.
 //!
-//! Nothing here reads a clock, a socket or a byte of a protocol: an event comes with its moment, and
-//! all that a request says stands in it. Real times are not spoken of, only estimates.
+//! The core reads no clock, no socket and no byte of a protocol: an event comes with its moment, and has all
+//! fields of its request. The contracts are about estimated times, not about real ones.
 //!
-//! Its rows are traces of `play_examples`; `Core::run` is tested in `server_tests`.
+//! Its rows are traces of `play_examples`. The tests of `Core::run` are in `server_tests`.
 #![tactic(auto)]
 
 mod answering;

@@ -1,4 +1,4 @@
-//! What an LPD client that lists a queue is answered (RFC 1179, sections 5.3 and 5.4).
+//! The step of an LPD client's request to list a queue (RFC 1179, sections 5.3 and 5.4).
 ghost use Rattle.std.specs.Prelude.{◌≡◌, ◌≤◌, IfOk, IsOk, OnErr, None};
 ghost use Rattle.listings.specs.Queue.{queue_of};
 ghost use Rattle.dispatcher.specs.ListQueue.{ListsQueue};
@@ -9,7 +9,7 @@ use listings::{queue_listing, queue_of};
 use print_room::PrintRoom;
 use std::alloc::{AllocError, Global};
 
-/// Answers what the queue shows, or that it isn't known, which takes no memory.
+/// Responds with the listing of a queue, or that the queue isn't known, which takes no memory.
 pub(crate) fn list_queue(
     alloc: Global,
     room: &mut PrintRoom,

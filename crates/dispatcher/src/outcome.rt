@@ -1,27 +1,27 @@
-//! What becomes of an event.
+//! The outcome of an event.
 ghost use Rattle.std.specs.Prelude.{◌≡◌};
 ghost use Rattle.dispatcher.specs.Run.{reply_of};
 
 use events::Effects;
 
-/// What becomes of an event.
+/// The outcome of an event.
 #[derive(Drop)]
 pub enum Outcome {
-    /// It was dropped, out of memory, and nothing changed: never a tick, a device's report, or a
-    /// request that is refused.
+    /// Memory was refused: the event was dropped, and nothing changed. A tick, a device's report and a
+    /// rejected request are never dropped.
     Dropped,
-    /// It was a query, and answered.
+    /// The event was a query. Its effects.
     Queried(Effects),
-    /// It was answered; the dispatch that follows was refused memory and changed nothing.
+    /// The event's effects. Memory for the dispatch behind it was refused, and the dispatch changed nothing.
     Undispatched(Effects),
-    /// It was answered, and no job is ready: no plan was made.
+    /// The event's effects. No job is ready, and no plan was made.
     Idle(Effects),
-    /// It was answered, and a plan was made; [`crate::Core::begun`] has what began with it.
+    /// The event's effects. A plan was made; [`crate::Core::begun`] has the jobs that began with it.
     Dispatched(Effects),
 }
 
 impl Outcome {
-    /// The reply, unless the event was dropped.
+    /// The effects, unless the event was dropped.
     pub fn into_reply(self) -> Option<Effects>
         ensures { result ≡ reply_of self }
     {

@@ -1,4 +1,4 @@
-//! What a Pause-Printer and a Resume-Printer do (RFC 8011, sections 4.2.7 and 4.2.8).
+//! The steps of a Pause-Printer and a Resume-Printer (RFC 8011, sections 4.2.7 and 4.2.8).
 ghost use Rattle.std.specs.Prelude.{◌≡◌, ◌≤◌};
 ghost use Rattle.dispatcher.specs.PausePrinter.{SetsPaused, paused_of};
 
@@ -9,7 +9,7 @@ use events::{Effects, PrinterRequest};
 use print_room::PrintRoom;
 use std::alloc::Global;
 
-/// Pauses a printer, or ends its pause, or says why not. It takes no memory.
+/// Pauses a printer or ends its pause, or responds with the rejection. It takes no memory.
 pub(crate) fn set_paused(
     alloc: Global,
     room: &mut PrintRoom,
@@ -32,7 +32,7 @@ pub(crate) fn set_paused(
     Effects::done(alloc)
 }
 
-/// The printer, or the first reason against it.
+/// The printer, or the rejection of the first check that fails.
 fn paused_of(
     alloc: Global,
     room: &PrintRoom,

@@ -1,5 +1,5 @@
-//! What a Print-Job does (RFC 8011, section 4.2.1): it is refused by the first check that fails, or
-//! taken.
+//! The step of a Print-Job (RFC 8011, section 4.2.1): it is rejected by the first check that fails, or its
+//! job is taken.
 ghost use Rattle.std.specs.Prelude.{◌≡◌, ◌≤◌, ◌∷◌, [], IfOk, IsOk, IsErr, OnErr, None};
 ghost use Rattle.spool.specs.Calls.{new_refusal};
 ghost use Rattle.dispatcher.specs.PrintJob.{PrintsJob, TakesJob, asked_of_format, asked_of_printer, asked_of};
@@ -13,7 +13,7 @@ use octets::{Document, Octets};
 use print_room::PrintRoom;
 use std::alloc::{AllocError, Global};
 
-/// Takes the job of a Print-Job request, or says why not.
+/// Takes the job of a Print-Job request, or responds with the rejection. The only error is out of memory.
 pub(crate) fn print_job(
     alloc: Global,
     room: &mut PrintRoom,
@@ -31,7 +31,7 @@ pub(crate) fn print_job(
     }
 }
 
-/// Takes a job that nothing stands against; it is answered with its URI, id and state.
+/// Takes a job that passed the checks. The response has its URI, id and state.
 fn take(
     alloc: Global,
     room: &mut PrintRoom,
@@ -52,7 +52,8 @@ fn take(
     }
 }
 
-/// The job that a request asks for, or the first reason against it.
+/// The accepted job of a request, or the rejection of the first check that fails. The only outer error is out
+/// of memory.
 fn asked_by(
     alloc: Global,
     room: &PrintRoom,
@@ -69,7 +70,7 @@ fn asked_by(
     }
 }
 
-/// The job that a request asks of a printer, or the first reason against it.
+/// The accepted job of a request at a printer, or the rejection of the first check that fails.
 fn asked_of_printer(
     alloc: Global,
     room: &PrintRoom,
@@ -87,7 +88,8 @@ fn asked_of_printer(
     }
 }
 
-/// The job that a request asks of a printer that has its format, or the first reason against it.
+/// The accepted job of a request at a printer that has the document's format, or the rejection of the first
+/// check that fails.
 fn asked_of_format(
     alloc: Global,
     room: &PrintRoom,
@@ -109,7 +111,7 @@ fn asked_of_format(
     Ok(Ok(accepted))
 }
 
-/// One document of this format.
+/// A list of one document of a format. The only error is out of memory.
 fn one_document(alloc: Global, format: &Text, contents: Octets) -> Result<Vec<Document>, AllocError>
     ensures { IfOk result (λ documents. documents.items ≡ record { format = format.now; contents = contents } ∷ []) }
 {

@@ -1,4 +1,4 @@
-//! What an LPD client that removes jobs from a queue comes to (RFC 1179, section 5.5).
+//! The step of an LPD client's request to remove jobs from a queue (RFC 1179, section 5.5).
 ghost use Rattle.std.specs.Prelude.{◌≡◌, ◌≢◌, ◌≤◌, ◌++◌, [], IfOk, OnOk, IsOk, OnErr, option_to_list};
 ghost use Rattle.listings.specs.Removal.{active_job, named_jobs};
 ghost use Rattle.dispatcher.specs.RemoveJobs.{RemovesJobs, cancels_if_named, cancels_of_each, told_of};
@@ -11,7 +11,7 @@ use listings::{active_job, is_named, queue_of, remove};
 use print_room::PrintRoom;
 use std::alloc::{AllocError, Global};
 
-/// Removes jobs. Only a cancel that a device is told takes memory.
+/// Removes jobs. Memory is taken only for a cancel that a device is told.
 pub(crate) fn remove_jobs(
     alloc: Global,
     room: &mut PrintRoom,
@@ -28,7 +28,7 @@ pub(crate) fn remove_jobs(
     Ok(Effects::removed(alloc, cancels))
 }
 
-/// The cancels that are sent for the jobs that are removed.
+/// The cancels for the removed jobs. The only error is out of memory.
 fn told_of(alloc: Global, room: &PrintRoom, request: &RemoveJobs) -> Result<Vec<Cancel>, AllocError>
     ensures ok { IfOk result (λ cancels. cancels.items ≡ told_of request.now room.now) }
     ensures err { OnErr result (told_of request.now room.now ≢ []) }
@@ -43,7 +43,7 @@ fn told_of(alloc: Global, room: &PrintRoom, request: &RemoveJobs) -> Result<Vec<
     }
 }
 
-/// The cancel that is sent for the job that is removed where none is named.
+/// The cancel for the job that is removed if the request names no job.
 fn told_of_active(
     alloc: Global,
     room: &PrintRoom,
@@ -59,7 +59,7 @@ fn told_of_active(
     }
 }
 
-/// The cancels that are sent for the jobs that are named.
+/// The cancels for the jobs that the request names.
 fn told_of_named(
     alloc: Global,
     room: &PrintRoom,
@@ -76,7 +76,7 @@ fn told_of_named(
     Ok(cancels)
 }
 
-/// Adds the cancel that is sent for a job, if it is named and a device has it.
+/// Appends the cancel for a job, if the request names the job and a device has it.
 fn add_cancel(
     cancels: &mut Vec<Cancel>,
     room: &PrintRoom,

@@ -1,4 +1,5 @@
-//! Events, one after the other: each a step, the cancels that it sends, and a dispatch unless it is a query.
+//! Events, one after the other. Each is a step, the cancels of its reply, and a dispatch unless it is a
+//! query.
 ghost use Rattle.std.specs.Prelude.{◌≡◌, max, IfOk, OnErr, map};
 ghost use Rattle.dispatcher.specs.Notes.{Canceled, Tells};
 ghost use Rattle.dispatcher.specs.Run.{Comes, Run};
@@ -12,14 +13,14 @@ use events::{Cancel, Event};
 use plan_prices::Planner;
 use std::alloc::{AllocError, Global};
 
-/// An event, and the moment at which it comes.
+/// An event, and its moment.
 #[derive(Drop)]
 pub struct Timed {
     pub event: Event,
     pub moment: Moment,
 }
 
-/// What a dispatch comes to.
+/// The result of a dispatch.
 #[derive(Clone, Copy, Debug, PartialEq, Eq)]
 enum Made {
     /// Memory was refused.
@@ -31,13 +32,13 @@ enum Made {
 }
 
 impl<P: Planner + Drop> Core<P> {
-    /// Acts on an event, and dispatches unless it is a query; the listener is told of the cancels and of
-    /// the dispatch.
+    /// Takes the step of an event, and dispatches unless the event is a query. The listener is told of the
+    /// cancels and of the dispatch.
     ///
-    /// Whenever a plan is made, each priority class, from the highest down and given when the classes
-    /// above leave each device free, has the least total of estimated completion times among all ways to
-    /// assign its ready jobs to capable devices and order them; its prices prove this to the checker
-    /// alone, and every job without a capable device is named.
+    /// Whenever a plan is made, each priority class, from the highest down and given when the classes above
+    /// leave each device free, has the least total of estimated completion times among all ways to assign its
+    /// ready jobs to capable devices and order them. The plan's prices prove that, by the checker alone. Each
+    /// job without a capable device is named.
     pub fn handle<L: Listener>(&mut self, timed: Timed, listener: &mut L) -> Outcome
         ensures { Comes L.told self.old listener.old timed result self.new listener.new }
     {
@@ -57,7 +58,7 @@ impl<P: Planner + Drop> Core<P> {
         }
     }
 
-    /// Dispatches, and tells of it.
+    /// Dispatches, and tells the listener.
     fn plan<L: Listener>(&mut self, moment: Moment, listener: &mut L) -> Made
         ensures { PlansAs L.told (max moment self.old.last) self.old listener.old result self.new listener.new }
     {
@@ -77,17 +78,16 @@ impl<P: Planner + Drop> Core<P> {
         }
     }
 
-    /// Acts on events, one after the other, each followed by a dispatch unless it is a query. It
-    /// answers what becomes of each; the listener is told of the cancels and of each plan, with what
-    /// begins.
+    /// Takes the steps of events, one after the other, each with a dispatch behind it unless it is a query.
+    /// Returns the outcome of each event. The listener is told of the cancels and of each plan with the jobs
+    /// that began.
     ///
-    /// For every list of requests, moments and device reports, whenever a plan is made, each priority
-    /// class, from the highest down and given when the classes above leave each device free, has the
-    /// least total of estimated completion times among all ways to assign its ready jobs to capable
-    /// devices and order them; its prices prove this to the checker alone, and every job without a
-    /// capable device is named.
+    /// For each list of requests, moments and device reports, whenever a plan is made, each priority class,
+    /// from the highest down and given when the classes above leave each device free, has the least total of
+    /// estimated completion times among all ways to assign its ready jobs to capable devices and order them.
+    /// The plan's prices prove that, by the checker alone. Each job without a capable device is named.
     ///
-    /// The only error is out of memory for the answers, before anything happens.
+    /// The only error is out of memory for the outcomes, before any event.
     pub fn run<L: Listener>(
         &mut self,
         alloc: Global,
@@ -105,7 +105,7 @@ impl<P: Planner + Drop> Core<P> {
     }
 }
 
-/// The listener is told of these cancels.
+/// Tells the listener of cancels.
 fn tell_cancels<L: Listener>(cancels: &[Cancel], listener: &mut L)
     ensures { Tells L.told listener.old (map Canceled cancels.now) listener.new }
 {

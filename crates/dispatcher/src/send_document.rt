@@ -1,5 +1,5 @@
-//! What a Send-Document does (RFC 8011, section 4.3.1): it is refused by the first check that fails, or
-//! its job gets the document.
+//! The step of a Send-Document (RFC 8011, section 4.3.1): it is rejected by the first check that fails, or
+//! the document is added to its job.
 ghost use Rattle.std.specs.Prelude.{◌≡◌, ◌≤◌, ◌∷◌, [], IfOk, IsOk, IsErr, OnErr, None, length};
 ghost use Rattle.print_room.specs.Jobs.{sending_refusal};
 ghost use Rattle.dispatcher.specs.SendDocument.{SendsDocument, SendsIt, sent_group, sent_in_format, sent_to_printer, sent_to_job, sent_of};
@@ -17,8 +17,8 @@ use print_room::PrintRoom;
 use printer_objects::created_job_attributes;
 use std::alloc::{AllocError, Global};
 
-/// The job that a document is sent to, where nothing stands against it: the document's format, and the
-/// group that shows the job after it, alone.
+/// A document that passed the checks: its job, its format, and the job's group after the step as the only
+/// one.
 #[derive(Drop)]
 pub(crate) struct Sent {
     pub(crate) job: JobId,
@@ -26,7 +26,8 @@ pub(crate) struct Sent {
     pub(crate) groups: ResponseGroups,
 }
 
-/// Adds the document of a Send-Document request to its job, or says why not.
+/// Adds the document of a Send-Document request to its job, or responds with the rejection. The only error is
+/// out of memory.
 pub(crate) fn send_document(
     alloc: Global,
     room: &mut PrintRoom,
@@ -44,7 +45,7 @@ pub(crate) fn send_document(
     }
 }
 
-/// Adds a document that nothing stands against; the job is answered as it is then.
+/// Adds a document that passed the checks. The response has the job as it is after the step.
 fn send(
     alloc: Global,
     room: &mut PrintRoom,
@@ -81,7 +82,8 @@ fn send(
     }
 }
 
-/// The job that a request sends a document to, or the first reason against it.
+/// The job and the format of a request's document, or the rejection of the first check that fails. The only
+/// outer error is out of memory.
 fn sent_by(
     alloc: Global,
     room: &PrintRoom,
@@ -97,7 +99,7 @@ fn sent_by(
     }
 }
 
-/// The same, by the printer that the job was sent to.
+/// The same, with a known job.
 fn sent_to_job(
     alloc: Global,
     room: &PrintRoom,
@@ -114,7 +116,7 @@ fn sent_to_job(
     }
 }
 
-/// The same, by the document's form.
+/// The same, with a known job and printer.
 fn sent_to_printer(
     alloc: Global,
     room: &PrintRoom,
@@ -132,7 +134,7 @@ fn sent_to_printer(
     }
 }
 
-/// The same, of a document in this format.
+/// The same, with a known job, printer and format.
 fn sent_in_format(
     alloc: Global,
     room: &PrintRoom,
@@ -157,7 +159,7 @@ fn sent_in_format(
     }))
 }
 
-/// The group that shows the job after a document: others are still to come, unless it was the last.
+/// The group of the job after the document: documents are still to come, unless this one was the last.
 fn sent_groups(
     alloc: Global,
     room: &PrintRoom,

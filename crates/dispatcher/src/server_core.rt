@@ -1,4 +1,4 @@
-//! The core: what it is made of, and its calls.
+//! The core and its calls.
 ghost use Rattle.std.specs.Prelude.{◌≡◌, IfOk, IsOk, OnErr, option_map, slice_get};
 ghost use Rattle.std.specs.Option.{option_copied};
 ghost use Rattle.settings_file.specs.Settings.{MeetsLimits};
@@ -17,7 +17,7 @@ use settings_file::Settings;
 use std::alloc::{AllocError, Global};
 use std::marker::Model;
 
-/// The core: a print room, and how to plan. In clauses it is the record of the room.
+/// The core: a print room and a planner. In clauses it is the record of the room.
 #[derive(Drop)]
 pub struct Core<P: Planner> {
     pub(crate) room: PrintRoom,
@@ -34,8 +34,8 @@ impl<P: Planner> Model for Core<P> {
 }
 
 impl<P: Planner + Drop> Core<P> {
-    /// The core of a server that starts, with settings within the limits: no jobs, no plan, no printer
-    /// paused, and each device stopped, idle and with all media of its settings loaded.
+    /// Creates the core of a server that starts, with settings within the limits: no jobs, no plan, no
+    /// printer paused, and each device stopped, idle and loaded with all media of its settings.
     ///
     /// The only error is out of memory.
     pub fn new(alloc: Global, settings: Settings, planner: P) -> Result<Core<P>, AllocError>
@@ -51,11 +51,11 @@ impl<P: Planner + Drop> Core<P> {
         })
     }
 
-    /// Acts on an event, at a moment or, where that is earlier, at the last one.
+    /// Takes the step of an event at a moment; if that is before the last moment, at the last moment.
     ///
-    /// Out of memory, the event is dropped and the state is as it was. Only a request that is answered
-    /// more than a status, a job of files that is taken, a queue that is listed, and a cancel that a
-    /// device is told, take memory.
+    /// The only error is out of memory: the event is dropped, and the state is unchanged. Memory is taken
+    /// only for a response of more than a status, for a job of files that is taken, for the listing of a
+    /// queue, and for a cancel that a device is told.
     pub fn apply(&mut self, event: Event, moment: Moment) -> Result<Effects, AllocError>
         ensures ok { IfOk result (λ reply. Step self.old event moment reply self.new) }
         ensures err { OnErr result (self.new ≡ self.old) }
@@ -71,30 +71,30 @@ impl<P: Planner + Drop> Core<P> {
         self.room.last()
     }
 
-    /// What began with the last plan, by device. Until the next dispatch it can be read with
-    /// [`Core::job`] and [`Core::documents`], once the dispatch's own result is let go. It takes no
-    /// memory.
+    /// The jobs that began with the last plan, by device. Until the next dispatch they can be read with
+    /// [`Core::job`] and [`Core::documents`], once the borrow of the dispatch's own result has ended. It
+    /// takes no memory.
     pub fn begun(&self) -> &[Started]
         ensures { result.now ≡ self.now.begun }
     {
         self.room.begun()
     }
 
-    /// The settings that it was made with.
+    /// The settings that the core was made with.
     pub fn settings(&self) -> &Settings
         ensures { result.now ≡ self.now.settings }
     {
         self.room.settings()
     }
 
-    /// The job of this id, if it is kept. It takes no memory.
+    /// The job of an id, if it is kept. It takes no memory.
     pub fn job(&self, id: JobId) -> Option<&Job>
         ensures { option_copied result ≡ job_at id self.now.spool.jobs }
     {
         self.room.spool().get(id)
     }
 
-    /// What the device at a place of the settings is now. It takes no memory.
+    /// The state of the device at a place of the settings. It takes no memory.
     pub fn device(&self, id: DeviceId) -> Option<&DeviceNow>
         ensures { option_copied result ≡ slice_get self.now.devices id }
     {

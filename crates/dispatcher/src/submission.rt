@@ -1,4 +1,4 @@
-//! The job that a request asks for, and how it is answered where it is taken.
+//! The job of a request, and the response if the job is taken.
 ghost use Rattle.std.specs.Prelude.{◌≡◌, ◌≤◌, ◌∷◌, [], IfOk, IsOk, OnErr, None, false};
 ghost use Rattle.spool.specs.Calls.{is_full, new_refusal};
 ghost use Rattle.dispatcher.specs.Submission.{job_asked, group_of};
@@ -13,15 +13,15 @@ use printer_objects::created_job_attributes;
 use spool::NewJob;
 use std::alloc::{AllocError, Global};
 
-/// A job that nothing stands against, and what of its request isn't supported.
+/// A job that passed the checks, and the unsupported attributes of its request.
 #[derive(Drop)]
 pub(crate) struct Accepted {
     pub(crate) job: NewJob,
     pub(crate) unsupported: RequestAttributes,
 }
 
-/// The job that is made of a printer for so many octets, still without documents, or the first reason
-/// against it. Only a job that is made takes memory.
+/// The accepted job at a printer for so many octets, without documents yet, or the rejection of the first
+/// check that fails. Memory is taken only for an accepted job.
 pub(crate) fn job_asked(
     alloc: Global,
     room: &PrintRoom,
@@ -71,7 +71,7 @@ pub(crate) fn job_asked(
     Ok(Ok(Accepted { job, unsupported }))
 }
 
-/// The group that shows a job which is taken next, told whether documents are still to come.
+/// The group of the job that is taken next. `incoming` says whether its documents are still to come.
 #[tactic(auto, using(crate::proofs::Waiting::waiting_shown))]
 pub(crate) fn groups_of(
     alloc: Global,

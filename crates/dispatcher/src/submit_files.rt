@@ -1,4 +1,4 @@
-//! What a job of files that an LPD client sent comes to (RFC 1179, section 6).
+//! The step of an LPD client's job of files (RFC 1179, section 6).
 ghost use Rattle.std.specs.Prelude.{◌≡◌, ◌≤◌, IfOk, IfSome, IsOk, IsSome, OnErr, None, [], slice_get};
 ghost use Rattle.std.specs.Option.{option_map_or};
 ghost use Rattle.spool.specs.Calls.{new_refusal};
@@ -12,7 +12,7 @@ use settings_file::PrinterSettings;
 use spool::NewJob;
 use std::alloc::{AllocError, Global};
 
-/// Takes the job of the files, or answers that it isn't taken. Only a job that is taken takes memory.
+/// Takes the job of the files, or responds that it isn't taken. Memory is taken only for a job that is taken.
 pub(crate) fn submit_files(
     alloc: Global,
     room: &mut PrintRoom,
@@ -33,7 +33,7 @@ pub(crate) fn submit_files(
     }
 }
 
-/// Takes a job that nothing stands against.
+/// Takes a job that passed the checks.
 fn take(
     alloc: Global,
     room: &mut PrintRoom,
@@ -51,7 +51,7 @@ fn take(
     }
 }
 
-/// The job of the files, if it is taken.
+/// The job of the files, if its queue is known and there is room for it.
 fn filed_of(
     alloc: Global,
     room: &PrintRoom,
@@ -72,7 +72,7 @@ fn filed_of(
     Ok(Some(job))
 }
 
-/// The job of the files, at the printer at a place of the settings.
+/// The job of the files at the printer at a place of the settings.
 fn job_of_files(
     alloc: Global,
     room: &PrintRoom,

@@ -1,5 +1,5 @@
-//! What a Validate-Job does (RFC 8011, section 4.2.3): it is answered what a Print-Job would be, and
-//! makes no job.
+//! The step of a Validate-Job (RFC 8011, section 4.2.3): the response is that of a Print-Job, and no job is
+//! made.
 ghost use Rattle.std.specs.Prelude.{◌≡◌, ◌≤◌};
 ghost use Rattle.dispatcher.specs.ValidateJob.{Validates, ValidatesJob, validated_of, validated_of_printer};
 
@@ -11,7 +11,7 @@ use job_template::RequestAttributes;
 use print_room::PrintRoom;
 use std::alloc::Global;
 
-/// Answers a Validate-Job request. It takes no memory.
+/// Takes the step of a Validate-Job request. It takes no memory.
 pub(crate) fn validate_job(
     alloc: Global,
     room: &mut PrintRoom,
@@ -27,7 +27,7 @@ pub(crate) fn validate_job(
     }
 }
 
-/// Answers what isn't supported.
+/// Responds with the unsupported attributes.
 fn answer(
     alloc: Global,
     room: &mut PrintRoom,
@@ -42,7 +42,7 @@ fn answer(
     Effects::answered(alloc, status, unsupported, ResponseGroups::new(alloc))
 }
 
-/// What of a request isn't supported, or the first reason against it.
+/// The unsupported attributes of a request, or the rejection of the first check that fails.
 fn validated(
     alloc: Global,
     room: &PrintRoom,
@@ -54,7 +54,8 @@ fn validated(
     validated_of_printer(alloc, &printer, request)
 }
 
-/// What a printer doesn't support of a request, or the first reason against it.
+/// The attributes of a request that a printer doesn't support, or the rejection of the first check that
+/// fails.
 fn validated_of_printer(
     alloc: Global,
     printer: &NamedPrinter<'_>,

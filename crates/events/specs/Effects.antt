@@ -1,4 +1,4 @@
--- What a request is answered (RFC 8011, sections 4.1.6 to 4.1.8): a status, what isn't supported, and groups.
+-- The responses to requests (RFC 8011, sections 4.1.6 to 4.1.8): a status, the unsupported attributes, and groups.
 use Rattle.std.specs.Prelude.{◌≡◌, List, []}
 use Rattle.ipp_codec.specs.Message.{IppAttribute, IppGroup}
 use Rattle.events.specs.declared.effects.Response.{Response}
@@ -7,19 +7,19 @@ use Rattle.events.specs.declared.effects.LpdResponse.{LpdResponse}
 use Rattle.events.specs.declared.effects.Effects.{Effects}
 use Rattle.events.specs.declared.status.Status.{Status}
 
--- an answer of just this status, what isn't supported, and these groups
+-- the response has exactly this status, these unsupported attributes and these groups
 abbrev pub IsResponse : Status → List IppAttribute → List IppGroup → Response → Type 0
 IsResponse status unsupported groups (Says.Ipp answer) = (answer.status ≡ status) × (answer.unsupported ≡ unsupported) × (answer.groups ≡ groups)
 IsResponse status unsupported groups (Says.Lpd answer) = ⊥
 IsResponse status unsupported groups Says.Nothing = ⊥
 
--- a reply of just these: no cancels, no documents
+-- effects with this response, no cancels and no documents
 pub record Replies (status : Status) (unsupported : List IppAttribute) (groups : List IppGroup) (reply : Effects) : Type 0 where
   pub answer : IsResponse status unsupported groups reply.answer
   pub cancels : reply.cancels.items ≡ []
   pub documents : reply.documents.items ≡ []
 
--- this is answered to an LPD client: no cancels, no documents
+-- effects with this response for an LPD client, no cancels and no documents
 pub record AnswersLpd (said : LpdResponse) (reply : Effects) : Type 0 where
   pub answer : reply.answer ≡ Says.Lpd said
   pub cancels : reply.cancels.items ≡ []

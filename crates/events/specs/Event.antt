@@ -1,9 +1,9 @@
--- What happens to the core: requests, which may only ask, and reports of devices.
+-- The events of the core: requests, some of which are queries, and reports of devices.
 use Rattle.std.specs.Prelude.{Bool, true, false}
 use Rattle.events.specs.declared.event.Event.{Event}
 use Rattle.events.specs.declared.event.Event.TheVariants as Is
 
--- whether an event only asks
+-- whether an event is a query
 abbrev pub is_query : Event → Bool
 is_query (Is.PrintJob request) = false
 is_query (Is.ValidateJob request) = true

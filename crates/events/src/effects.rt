@@ -1,4 +1,4 @@
-//! What an event is answered.
+//! The effects of an event.
 ghost use Rattle.std.specs.Prelude.{◌≡◌, []};
 ghost use Rattle.events.specs.declared.status.Status.TheVariants as Went;
 ghost use Rattle.events.specs.Effects.{IsResponse, Replies};
@@ -11,55 +11,55 @@ use job_template::RequestAttributes;
 use octets::Document;
 use std::alloc::Global;
 
-/// A cancel to send: the device still has the job.
+/// A cancel for a device that still has the job.
 #[derive(Clone, Copy, Debug, PartialEq, Eq)]
 pub struct Cancel {
     pub job: JobId,
     pub device: DeviceId,
 }
 
-/// The answer to an IPP request.
+/// The response to an IPP request.
 #[derive(Drop)]
 pub struct IppResponse {
     pub status: Status,
-    /// What of the request isn't supported, as it came or with the tag for unsupported values.
+    /// The unsupported attributes of the request, unchanged or with the tag for unsupported values.
     pub unsupported: RequestAttributes,
     /// The groups of jobs or of the printer.
     pub groups: ResponseGroups,
 }
 
-/// The answer to an LPD client.
+/// The response to an LPD client.
 #[derive(Drop)]
 pub enum LpdResponse {
     /// Whether the job of its files was taken.
     Taken(bool),
-    /// What is shown of the queue that it lists.
+    /// The listing of the queue.
     Queue(QueueListing),
-    /// The queue that it lists isn't known.
+    /// The queue to list isn't known.
     NoQueue,
 }
 
-/// What an event is answered.
+/// The response to an event.
 #[derive(Drop)]
 pub enum Response {
     Ipp(IppResponse),
     Lpd(LpdResponse),
-    /// A removal by an LPD client, a device's report and a tick are not answered.
+    /// No response: to an LPD client's removal, a device's report and a tick.
     Nothing,
 }
 
-/// What an event brings.
+/// The effects of an event.
 #[derive(Drop)]
 pub struct Effects {
     pub answer: Response,
-    /// Cancels to send, by rising job id.
+    /// Cancels for devices, by rising job id.
     pub cancels: Vec<Cancel>,
-    /// Documents that the core has no use for any more.
+    /// Documents that the core doesn't need any more.
     pub documents: Vec<Document>,
 }
 
 impl Effects {
-    /// A status, what isn't supported, and groups; nothing else.
+    /// Effects with a status, the unsupported attributes and groups; no cancels and no documents.
     pub fn answered(
         alloc: Global,
         status: Status,
@@ -79,7 +79,7 @@ impl Effects {
         }
     }
 
-    /// That it is done; nothing else.
+    /// Effects with the status `Ok`; no cancels and no documents.
     pub fn done(alloc: Global) -> Effects
         ensures { Replies Went.Ok [] [] result }
     {
@@ -91,7 +91,7 @@ impl Effects {
         )
     }
 
-    /// That it is done, and these cancels to send.
+    /// Effects with the status `Ok` and cancels; no documents.
     pub fn canceled(alloc: Global, cancels: Vec<Cancel>) -> Effects
         ensures answer { IsResponse Went.Ok [] [] result.answer }
         ensures cancels { result.cancels.items ≡ cancels.items }
@@ -108,7 +108,7 @@ impl Effects {
         }
     }
 
-    /// This answer to an LPD client; nothing else.
+    /// Effects with a response to an LPD client; no cancels and no documents.
     pub fn to_lpd(alloc: Global, answer: LpdResponse) -> Effects
         ensures answer { result.answer ≡ Response.Lpd answer }
         ensures cancels { result.cancels.items ≡ [] }
@@ -121,7 +121,7 @@ impl Effects {
         }
     }
 
-    /// No answer, and these cancels to send.
+    /// Effects with cancels; no response and no documents.
     pub fn removed(alloc: Global, cancels: Vec<Cancel>) -> Effects
         ensures answer { result.answer ≡ Response.Nothing }
         ensures cancels { result.cancels.items ≡ cancels.items }
@@ -134,7 +134,7 @@ impl Effects {
         }
     }
 
-    /// No answer, and these documents.
+    /// Effects with documents; no response and no cancels.
     pub fn unanswered(alloc: Global, documents: Vec<Document>) -> Effects
         ensures answer { result.answer ≡ Response.Nothing }
         ensures cancels { result.cancels.items ≡ [] }

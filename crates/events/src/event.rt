@@ -1,4 +1,4 @@
-//! What the core acts on.
+//! The events of the core.
 ghost use Rattle.std.specs.Prelude.{◌≡◌};
 ghost use Rattle.events.specs.Event.{is_query};
 ghost use Rattle.events.specs.Target.{names};
@@ -10,19 +10,20 @@ use octets::{Document, Octets};
 use printer_objects::Requested;
 use settings_file::PrinterSettings;
 
-/// Which printer a request's printer-uri names.
+/// The printer that a request's printer-uri names.
 #[derive(Debug, Drop)]
 pub enum Target {
-    /// The printer of this name.
+    /// The printer of a name.
     Named(Text),
     /// The first printer of the settings.
     First,
-    /// Nothing that this server has.
+    /// No printer of this server.
     Unknown,
 }
 
 impl Target {
-    /// Whether it names this printer; the first one is any, so that the first of all is taken.
+    /// Returns whether the target names a printer. `First` names any printer, so that the first of a list is
+    /// found.
     pub fn names(&self, printer: &PrinterSettings) -> bool
         ensures { result ≡ names self.now printer.now }
     {
@@ -34,55 +35,56 @@ impl Target {
     }
 }
 
-/// Which job a request names (RFC 8011, section 4.1.5).
+/// The job that a request names (RFC 8011, section 4.1.5).
 #[derive(Debug, Drop)]
 pub enum JobTarget {
-    /// The job of this id: its job-uri is given.
+    /// The job of an id, which a job-uri names.
     Numbered(JobId),
-    /// The job of this id, where it was sent to this printer: a printer-uri and a job-id are given.
+    /// The job of an id, if it was sent to the printer: a printer-uri and a job-id name it.
     OfPrinter(Target, JobId),
-    /// Nothing that this server has.
+    /// No job of this server.
     Unknown,
 }
 
-/// Who asks for something to be done with a job, and with which.
+/// A request about a job: the job and the user.
 #[derive(Drop)]
 pub struct JobRequest {
     pub target: JobTarget,
-    /// Who asks, as claimed: requesting-user-name.
+    /// requesting-user-name: the user of the request, as it claims.
     pub user: Text,
 }
 
-/// Who asks for something to be done with a printer, and with which.
+/// A request about a printer: the printer and the user.
 #[derive(Drop)]
 pub struct PrinterRequest {
     pub target: Target,
-    /// Who asks, as claimed: requesting-user-name.
+    /// requesting-user-name: the user of the request, as it claims.
     pub user: Text,
 }
 
-/// The job that a request asks for (RFC 8011, section 4.2.1): what is read of it.
+/// The fields of a request for a job (RFC 8011, section 4.2.1).
 #[derive(Drop)]
 pub struct JobCreation {
     pub target: Target,
-    /// Who asks, as claimed: requesting-user-name.
+    /// requesting-user-name: the user of the request, as it claims.
     pub user: Text,
     /// job-name.
     pub name: Text,
-    /// job-impressions, where it is given and isn't negative.
+    /// job-impressions, if the request has it and it isn't negative.
     pub impressions: Option<u32>,
-    /// ipp-attribute-fidelity: whether it is refused where something of its template isn't supported.
+    /// ipp-attribute-fidelity: whether the request is refused if an attribute of its template isn't
+    /// supported.
     pub fidelity: bool,
     /// The attributes of the job group (RFC 8011, section 5.2).
     pub template: RequestAttributes,
 }
 
-/// The form in which a document is sent (RFC 8011, section 4.2.1.1): what is read of it.
+/// The form in which a document is sent (RFC 8011, section 4.2.1.1).
 #[derive(Drop)]
 pub struct DocumentForm {
-    /// compression, where it is given.
+    /// compression, if the request has it.
     pub compression: Option<Text>,
-    /// document-format, where it is given.
+    /// document-format, if the request has it.
     pub format: Option<Text>,
 }
 
@@ -109,18 +111,18 @@ pub struct SendDocument {
     pub form: DocumentForm,
     /// The document data.
     pub octets: Octets,
-    /// last-document: whether none follows.
+    /// last-document: whether no document follows.
     pub last: bool,
 }
 
-/// Until when a job is to be held: the job-hold-until of a Hold-Job.
+/// The job-hold-until of a Hold-Job.
 #[derive(Drop)]
 pub enum HoldUntil {
-    /// `no-hold`: it is to be released.
+    /// `no-hold`: the job is to be released.
     NoHold,
-    /// `indefinite`, or none is given.
+    /// `indefinite`, or no value.
     Indefinite,
-    /// Another value. The job is held, and the attribute returned as it came.
+    /// Another value. The job is held, and the attribute is returned unchanged.
     Unsupported(RequestAttributes),
 }
 
@@ -145,14 +147,14 @@ pub struct GetPrinterAttributes {
     pub requested: Requested,
 }
 
-/// Which jobs are asked for: the which-jobs of a Get-Jobs.
+/// The which-jobs of a Get-Jobs.
 #[derive(Drop)]
 pub enum WhichJobs {
-    /// `completed`: the finished ones.
+    /// `completed`: the finished jobs.
     Completed,
-    /// `not-completed`, or none is given: the others.
+    /// `not-completed`, or no value: the unfinished jobs.
     NotCompleted,
-    /// Another value, which isn't supported: the attribute, as it came.
+    /// Another value, which isn't supported: the unchanged attribute.
     Unsupported(RequestAttributes),
 }
 
@@ -161,9 +163,9 @@ pub enum WhichJobs {
 pub struct GetJobs {
     pub printer: PrinterRequest,
     pub which: WhichJobs,
-    /// my-jobs: whether only those of who asks are wanted.
+    /// my-jobs: whether only jobs of the request's user are requested.
     pub mine: bool,
-    /// limit, where it is given and is at least 1: how many are wanted at most.
+    /// limit, if the request has it and it is at least 1: the most jobs of the reply.
     pub limit: Option<u32>,
     pub requested: Requested,
 }
@@ -175,11 +177,11 @@ pub struct SubmitFiles {
     pub queue: Text,
     pub owner: Text,
     pub name: Text,
-    /// One for each file that is printed, in order.
+    /// The documents, one for each print line of the control file, in order.
     pub documents: Vec<Document>,
 }
 
-/// What the core acts on: one request that is complete, or one report of a device.
+/// An event of the core: one complete request, or one report of a device, or a tick.
 #[derive(Drop)]
 pub enum Event {
     PrintJob(PrintJob),
@@ -200,17 +202,17 @@ pub enum Event {
     /// Resume-Printer (RFC 8011, section 4.2.8).
     ResumePrinter(PrinterRequest),
     SubmitFiles(SubmitFiles),
-    /// What LPD's queue commands ask (RFC 1179, sections 5.3 and 5.4).
+    /// LPD's commands to send queue state (RFC 1179, sections 5.3 and 5.4).
     ListQueue(ListQueue),
-    /// What LPD's removal asks (RFC 1179, section 5.5).
+    /// LPD's command to remove jobs (RFC 1179, section 5.5).
     RemoveJobs(RemoveJobs),
     Report(DeviceId, Report),
-    /// Time goes on.
+    /// The time went on.
     Tick,
 }
 
 impl Event {
-    /// Whether it only asks: no dispatch follows a query.
+    /// Returns whether the event is a query: no dispatch follows it.
     pub fn is_query(&self) -> bool
         ensures { result ≡ is_query self.now }
     {

@@ -1,9 +1,9 @@
-//! What happens to the core, and what it answers: the words that it shares with those who read requests
-//! and write answers.
+//! The events of the core and its responses: the types that the core shares with the crates that parse
+//! requests and write replies.
 //!
-//! A client may speak IPP or LPD: what it asks is an [`Event`] all the same, and so is what a device
-//! reports. [`Effects`] are what an event brings: an answer, cancels for devices, and documents that are
-//! needed no more. No byte of a protocol stands here, and nothing of the core's state.
+//! A request of a client, over IPP or LPD, and a report of a device are an [`Event`]. [`Effects`] are the
+//! result of an event: a response, cancels for devices, and documents that aren't needed any more. The crate
+//! has no bytes of a protocol and no state of the core.
 #![tactic(auto)]
 
 mod effects;

@@ -1,60 +1,60 @@
-//! What an LPD client asks of a queue, and what it is shown.
+//! The requests of LPD clients about a queue, and the listing of a queue.
 use base_types::{JobId, Text};
 use job_objects::{JobReasons, JobState};
 use printer_objects::PrinterState;
 
-/// How much is said of each job of a queue.
+/// The form in which the jobs of a queue are listed.
 #[derive(Clone, Copy, Debug, PartialEq, Eq)]
 pub enum QueueForm {
-    /// Its id, state, owner, octets and name (RFC 1179, section 5.3).
+    /// Id, state, owner, octets and name (RFC 1179, section 5.3).
     Short,
-    /// Also why it is in its state, its impressions and its copies (RFC 1179, section 5.4).
+    /// The short form, with the reasons of the state, impressions and copies (RFC 1179, section 5.4).
     Long,
 }
 
-/// A queue is to be listed (RFC 1179, sections 5.3 and 5.4).
+/// A request to list a queue (RFC 1179, sections 5.3 and 5.4).
 #[derive(Drop)]
 pub struct ListQueue {
     /// The name of the printer.
     pub queue: Text,
     pub form: QueueForm,
-    /// Ids of jobs and names of owners; without any, all jobs are listed.
+    /// Ids of jobs and names of owners. If there are none, all jobs are listed.
     pub operands: Vec<Text>,
 }
 
-/// Jobs of a queue are to be removed (RFC 1179, section 5.5).
+/// A request to remove jobs of a queue (RFC 1179, section 5.5).
 #[derive(Drop)]
 pub struct RemoveJobs {
     /// The name of the printer.
     pub queue: Text,
-    /// Who asks, as claimed.
+    /// The user of the request, as it claims.
     pub agent: Text,
-    /// Ids of jobs and names of owners; without any, the job that is printed is meant.
+    /// Ids of jobs and names of owners. If there are none, the job that is printed is removed.
     pub operands: Vec<Text>,
 }
 
-/// A job of a queue, as it is when the queue is listed.
+/// A job in the listing of a queue.
 #[derive(Drop)]
 pub struct QueueEntry {
     pub id: JobId,
     pub state: JobState,
     pub reasons: JobReasons,
     pub owner: Text,
-    /// Of all its documents together.
+    /// The octets of all documents together.
     pub octets: usize,
-    /// Of one copy, as given or else as estimated.
+    /// The impressions of one copy, as the request has them, else as estimated.
     pub impressions: u32,
     pub copies: u32,
     pub name: Text,
 }
 
-/// What the text of a queue shows.
+/// The content of a queue's listing.
 #[derive(Drop)]
 pub struct QueueListing {
     pub form: QueueForm,
     /// The name of the printer.
     pub name: Text,
     pub state: PrinterState,
-    /// In the order in which they are listed.
+    /// The jobs, in the order of the listing.
     pub jobs: Vec<QueueEntry>,
 }

@@ -1,4 +1,4 @@
-//! The groups of an answer.
+//! The groups of a response.
 ghost use Rattle.std.specs.Prelude.{◌≡◌, ◌∷◌, [], IfOk};
 ghost use Rattle.std.specs.List.{AllByRecursion};
 ghost use Rattle.ipp_codec.specs.Grammar.{IsGroup};
@@ -7,8 +7,7 @@ use ipp_codec::Group;
 use std::alloc::{AllocError, Global};
 use std::marker::Model;
 
-/// The groups of an answer, in their order: each has a spelling. In clauses they are the list of what
-/// they say.
+/// The groups of a response, in order, each with a spelling. In clauses they are the list of their contents.
 #[derive(Drop)]
 pub struct ResponseGroups {
     groups: Vec<Group>,
@@ -32,7 +31,7 @@ impl Model for ResponseGroups {
 }
 
 impl ResponseGroups {
-    /// None; it takes no memory.
+    /// Creates an empty list. It takes no memory.
     pub fn new(alloc: Global) -> ResponseGroups
         ensures { result ≡ [] }
     {
@@ -41,7 +40,7 @@ impl ResponseGroups {
         }
     }
 
-    /// One group.
+    /// A list of one group. The only error is out of memory.
     pub fn one(alloc: Global, group: Group) -> Result<ResponseGroups, AllocError>
         requires { IsGroup group }
         ensures { IfOk result (λ groups. groups ≡ group ∷ []) }
@@ -51,7 +50,7 @@ impl ResponseGroups {
         Ok(ResponseGroups { groups })
     }
 
-    /// These groups.
+    /// The groups of a list.
     pub fn from_vec(groups: Vec<Group>) -> ResponseGroups
         requires { AllByRecursion IsGroup groups.items }
         ensures { result ≡ groups.items }
@@ -59,7 +58,7 @@ impl ResponseGroups {
         ResponseGroups { groups }
     }
 
-    /// The groups themselves.
+    /// The list of the groups.
     pub fn into_vec(self) -> Vec<Group>
         ensures value { result.items ≡ self }
         ensures spelt { AllByRecursion IsGroup result.items }

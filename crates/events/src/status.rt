@@ -1,8 +1,8 @@
-//! The statuses that the core answers (RFC 8011, appendix B).
+//! The statuses of responses (RFC 8011, appendix B).
 ghost use Rattle.std.specs.Prelude.{◌≡◌};
 ghost use Rattle.events.specs.Status.{code_of};
 
-/// How a request went (RFC 8011, appendix B): the statuses that this server answers.
+/// The status of a response (RFC 8011, appendix B), of those that this server uses.
 #[derive(Clone, Copy, Debug, PartialEq, Eq)]
 pub enum Status {
     Ok,
@@ -23,7 +23,7 @@ pub enum Status {
 }
 
 impl Status {
-    /// Its number in a reply.
+    /// The number of the status in a reply.
     pub fn code(self) -> u16
         ensures { result ≡ code_of self }
     {

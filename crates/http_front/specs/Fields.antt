@@ -1,4 +1,4 @@
--- The fields of a head, each a name and a value without the blanks around it. Names are compared in any case of ASCII letters (RFC 9110, section 5.1).
+-- The fields of a head, each a name and a value without the blanks around it. Names are compared without regard to the case of ASCII letters (RFC 9110, section 5.1).
 use Rattle.std.specs.Prelude.{ℕ, ◌&&◌, ◌||◌, not, Bool, List, Option, option_map, count_by, find}
 use Rattle.std.specs.List.{list_any, list_all}
 use Rattle.std.specs.Str.{bytes_eq}
@@ -7,7 +7,7 @@ use Rattle.http_front.specs.Words.{is_word, lists_word}
 abbrev pub Fields : Type 0
 Fields = List (List ℕ × List ℕ)
 
--- how many fields have a name
+-- the number of fields of a name
 abbrev pub count_of : List ℕ → Fields → ℕ
 count_of name fields = count_by (λ field. is_word field.0 name) fields
 

@@ -1,8 +1,8 @@
--- The order of what a stream says: exchange by exchange, of each the head, the invitation where it is due, the body and its end. A refusal is the last, and so is an exchange that closes the connection or has too short a body.
+-- The order in a stream: exchange by exchange, each with its head, the invitation where it is due, the body and its end. A refusal is the last, and so is an exchange that closes the connection or whose body is too short.
 use Rattle.std.specs.Prelude.{ℕ, ◌≡◌, ◌+◌, Bool, true, false, if◌then◌else◌, List, [], ◌∷◌}
 use Rattle.http_front.specs.Stream.{Said, HasHead, Invites, HasByte, EndsBody, IsRefused, Exchanges, is_last}
 
--- between exchanges; after a head; or after it was invited, or has so many bytes of its body. Whether it closes the connection is told by the head
+-- the place between exchanges; after a head; or after an invitation or so many bytes of the body. The head says whether the exchange closes the connection
 pub data Place : Type 0 where
   Between : Place
   Headed : (closes : Bool) → Place
@@ -23,6 +23,6 @@ in_order (Within closes count) (EndsBody ∷ later) = if is_last closes count th
 in_order place (IsRefused refusal ∷ later) = is_none later
 in_order place (said ∷ later) = false
 
--- what a stream says is in this order
+-- each stream says its exchanges in this order
 abbrev pub SaysInOrder : Type 0
 SaysInOrder = (stream : List ℕ) (said : List Said) → Exchanges stream said → in_order Between said ≡ true

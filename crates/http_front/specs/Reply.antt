@@ -1,4 +1,4 @@
--- The heads of replies (RFC 9112, section 4; RFC 9110, section 15). A reply of 200 has a body; a refusal has none, and closes the connection.
+-- The heads of replies (RFC 9112, section 4; RFC 9110, section 15). A reply of 200 has a body. A refusal has no body and closes the connection.
 use Rattle.std.specs.Prelude.{ℕ, ◌≡◌, ◌==◌, ◌++◌, ◌⊎◌, if◌then◌else◌, Bool, true, false, List, [], codes, decimal}
 use Rattle.http.specs.StatusCode.{code_digits}
 use Rattle.http_front.specs.declared.refusal.HttpRejection.{HttpRejection}
@@ -14,11 +14,11 @@ status_of ExpectationFailed = 417
 status_of HeadTooLarge = 431
 status_of NotImplemented = 501
 
--- the status of some reply: 200, or that of a refusal
+-- the status is 200, or that of a refusal
 abbrev pub IsReplyStatus : ℕ → Type 0
 IsReplyStatus status = (status ≡ 200) ⊎ ((refusal : HttpRejection) × (status ≡ status_of refusal))
 
--- RFC 9110, section 15; RFC 6585, section 5
+-- the reason phrase of a status (RFC 9110, section 15; RFC 6585, section 5)
 abbrev pub phrase : ℕ → List ℕ
 phrase status =
     if status == 200 then codes "OK"
@@ -41,11 +41,11 @@ own_field status =
     else if status == 405 then codes "Allow: POST\r\n"
     else []
 
--- what stands before the length
+-- the head's bytes before the length
 abbrev pub opening : ℕ → List ℕ
 opening status = status_line status ++ (own_field status ++ codes "Content-Length: ")
 
--- what follows the length
+-- the head's bytes behind the length
 abbrev pub ending : Bool → List ℕ
 ending true = codes "\r\nConnection: close\r\n\r\n"
 ending false = codes "\r\n\r\n"
@@ -53,10 +53,10 @@ ending false = codes "\r\n\r\n"
 abbrev pub lines : ℕ → ℕ → Bool → List ℕ
 lines status length closes = opening status ++ (decimal length ++ ending closes)
 
--- the head of a reply: a length and whether it closes are asked of 200 alone
+-- the head of a reply; the length and `closes` are used for 200 alone
 abbrev pub head : ℕ → ℕ → Bool → List ℕ
 head status length closes = if status == 200 then lines status length closes else lines status 0 true
 
--- the interim head that tells a client to go on (RFC 9110, section 15.2.1)
+-- the interim head that tells a client to send the body (RFC 9110, section 15.2.1)
 abbrev pub continue_head : List ℕ
 continue_head = codes "HTTP/1.1 100 Continue\r\n\r\n"

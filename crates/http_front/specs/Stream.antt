@@ -1,4 +1,4 @@
--- What an HTTP client's stream of bytes gives (RFC 9112): its exchanges in order, up to the first request that is refused. The bytes of a body are told one by one, so that it does not matter in which parts they come.
+-- The exchanges in an HTTP client's stream of bytes (RFC 9112), in order, up to the first request that is refused. The bytes of a body are told one by one, so the parts in which they come make no difference.
 use Rattle.std.specs.Prelude.{ℕ, ◌≡◌, ◌==◌, ◌<◌, ◌+◌, ◌-◌, ◌*◌, ◌||◌, ◌⊎◌, nat_le, nat_lt, Bool, false, suc, zero, if◌then◌else◌, List, [], ◌∷◌, ◌++◌, map, take, drop, MatchBool, length, not, Option, Some, None, Result, Ok, Err, ⊤}
 use Rattle.text.specs.FirstLine.{first_line_of}
 use Rattle.text.specs.declared.line.FirstLine.{FirstLine}
@@ -23,7 +23,7 @@ use Rattle.http_front.specs.declared.reader.Step.TheVariants as step
 use Rattle.http_front.specs.Chunk.{IsSizeOf, chunk_end}
 use Rattle.http_front.specs.Head.{Asks}
 
--- what a stream says
+-- one thing that a stream says: a head, an invitation, a byte of a body, or the end of a body
 pub data Said : Type 0 where
   HasHead : (closes : Bool) → Said
   Invites : Said
@@ -31,7 +31,7 @@ pub data Said : Type 0 where
   EndsBody : Said
   IsRefused : HttpRejection → Said
 
--- what an item says, with the part that is lent
+-- what an item says, with the part that the reader lends
 abbrev pub said_by : HttpItem → List ℕ → List Said
 said_by (item.Head closes) part = HasHead closes ∷ []
 said_by item.Continue part = Invites ∷ []
@@ -39,7 +39,7 @@ said_by item.BodyPart part = map HasByte part
 said_by item.BodyEnd part = EndsBody ∷ []
 said_by (item.Refuse refusal) part = IsRefused refusal ∷ []
 
--- the front of bytes: what it says, what follows it, and what is awaited then; or too little to tell
+-- a step at the front of the bytes: what it says, the bytes behind it, and what is awaited next; or a wait for more bytes
 pub data Front : Type 0 where
   Goes : (said : List Said) (rest : List ℕ) (next : Awaited) → Front
   Waits : Front
@@ -47,7 +47,7 @@ pub data Front : Type 0 where
 abbrev pub refused : HttpRejection → List ℕ → Front
 refused refusal rest = Goes (IsRefused refusal ∷ []) rest Nothing
 
--- nothing counts after an exchange that closes the connection, and after a body too short for an IPP message
+-- the exchange closes the connection, or its body is too short for an IPP message: bytes behind it are dropped
 abbrev pub is_last : Bool → ℕ → Bool
 is_last closes count = closes || nat_lt count IPP_HEADER_BYTES
 
@@ -55,7 +55,7 @@ abbrev pub body_by : Framing → Bool → Awaited
 body_by (Length count) closes = Body count (Close (is_last closes count))
 body_by Chunked closes = Size HTTP_BODY_BYTES closes
 
--- the bytes that are left of a body, or of a chunk, before anything else is read
+-- the bytes that are left of a body or of a chunk and come next
 abbrev pub body_left : Awaited → ℕ
 body_left (Body count following) = count
 body_left Head = 0
@@ -64,7 +64,7 @@ body_left (Size room closes) = 0
 body_left (Trailer last) = 0
 body_left Nothing = 0
 
--- what is awaited behind so many more bytes of a body, or of a chunk
+-- what is awaited behind `count` more bytes of a body or of a chunk
 abbrev pub past_body : ℕ → Awaited → Awaited
 past_body count (Body left following) = Body (left - count) following
 past_body count Head = Head
@@ -80,21 +80,21 @@ abbrev pub begun : Result Request HttpRejection → List ℕ → Front
 begun (Ok request) rest = Goes (HasHead request.closes ∷ []) rest (after_head request)
 begun (Err refusal) rest = refused refusal rest
 
--- what follows the last exchange is dropped
+-- what is awaited behind a body: nothing behind the last, where bytes are dropped
 abbrev pub after_body : Bool → Awaited
 after_body last = if last then Nothing else Head
 
--- a head of at most so many bytes
+-- the step for a head whose lines end at `count`, or don't end within the limit
 abbrev pub HeadIn : List ℕ → FirstLine → Front → Type 0
 HeadIn bytes (Whole count) front = (asked : Result Request HttpRejection) × Asks (take count bytes) asked × (front ≡ begun asked (drop count bytes))
 HeadIn bytes TooLong front = front ≡ refused HeadTooLarge bytes
 HeadIn bytes Unfinished front = front ≡ Waits
 
--- line ends before a head are dropped (RFC 9112, section 2.2)
+-- a byte of a line end; line ends before a head are dropped (RFC 9112, section 2.2)
 abbrev pub is_line_end : ℕ → Bool
 is_line_end byte = (byte == 13) || (byte == 10)
 
--- a head's first line begins at the front
+-- the first line of a head begins at the front
 abbrev pub begins_head : List ℕ → Bool
 begins_head [] = false
 begins_head (byte ∷ bytes) = not (is_line_end byte)
@@ -117,11 +117,11 @@ abbrev pub byte_of : ℕ → Following → List ℕ → Front
 byte_of count next [] = Waits
 byte_of count next (byte ∷ bytes) = Goes (HasByte byte ∷ []) bytes (Body (count - 1) next)
 
--- so many bytes of a body, and what follows them
+-- the step at `count` bytes of a body, with what follows the body
 abbrev pub body_front : ℕ → Following → List ℕ → Front
 body_front count next bytes = if count == 0 then following next bytes else byte_of count next bytes
 
--- the last chunk has size 0; the chunks together have at most as many bytes as a body may have
+-- the step behind the size of a chunk: the last chunk has size 0; the chunks together have at most `room` bytes
 abbrev pub sized : Option ℕ → ℕ → Bool → List ℕ → Front
 sized None room closes rest = refused BadRequest rest
 sized (Some size) room closes rest =
@@ -134,13 +134,13 @@ SizeIn bytes room closes (Whole count) front = (size : Option ℕ) × IsSizeOf (
 SizeIn bytes room closes TooLong front = front ≡ refused BadRequest bytes
 SizeIn bytes room closes Unfinished front = front ≡ Waits
 
--- the trailer section isn't looked at (RFC 9112, section 7.1.2)
+-- the step at a trailer section, whose fields are dropped (RFC 9112, section 7.1.2)
 abbrev pub trailer_front : Bool → List ℕ → FirstLine → Front
 trailer_front last bytes (Whole count) = Goes (EndsBody ∷ []) (drop count bytes) (after_body last)
 trailer_front last bytes TooLong = refused BadRequest bytes
 trailer_front last bytes Unfinished = Waits
 
--- what stands at the front of bytes
+-- the step at the front of the bytes, by what is awaited
 abbrev pub FrontIs : Awaited → List ℕ → Front → Type 0
 FrontIs Head bytes front = AtHead bytes front
 FrontIs (Invitation framing closes) bytes front = front ≡ Goes (Invites ∷ []) bytes (body_by framing closes)
@@ -149,7 +149,7 @@ FrontIs (Size room closes) bytes front = SizeIn bytes room closes (first_line_of
 FrontIs (Trailer last) bytes front = front ≡ trailer_front last bytes (section_in HTTP_TRAILER_BYTES bytes)
 FrontIs Nothing bytes front = front ≡ Waits
 
--- bytes say this in so many steps, and then there is too little to tell, or nothing counts any more
+-- the bytes say this in so many steps, and then more bytes are awaited
 abbrev pub SaysIn : ℕ → Awaited → List ℕ → List Said → Type 0
 SaysIn zero awaited bytes said = (said ≡ []) × FrontIs awaited bytes Waits
 SaysIn (suc steps) awaited bytes said =
@@ -159,23 +159,23 @@ SaysIn (suc steps) awaited bytes said =
 abbrev pub Says : Awaited → List ℕ → List Said → Type 0
 Says awaited bytes said = (steps : ℕ) × SaysIn steps awaited bytes said
 
--- what a whole stream of bytes says
+-- what a whole stream says
 abbrev pub Exchanges : List ℕ → List Said → Type 0
 Exchanges stream said = Says Head stream said
 
--- a stream says one thing
+-- two readings of one stream say the same
 abbrev pub SaysOne : Type 0
 SaysOne = (stream : List ℕ) (given said : List Said) → Exchanges stream given → Exchanges stream said → given ≡ said
 
--- a stream says something
+-- each stream says something
 abbrev pub SaysSome : Type 0
 SaysSome = (stream : List ℕ) → (said : List Said) × Exchanges stream said
 
--- what a stream says stays at the front where more comes
+-- what a stream says is a front of what the stream says with more bytes behind it
 abbrev pub StaysInFront : Type 0
 StaysInFront = (stream more : List ℕ) (given said : List Said) → Exchanges stream given → Exchanges (stream ++ more) said → (later : List Said) × (said ≡ given ++ later)
 
--- bytes say this in so many steps; then this is awaited, with these bytes left
+-- the bytes say this in so many steps, and lead to this state with these bytes left
 abbrev pub LeadsIn : ℕ → Awaited → List ℕ → List Said → Awaited → List ℕ → Type 0
 LeadsIn zero awaited bytes said next left = (said ≡ []) × (next ≡ awaited) × (left ≡ bytes)
 LeadsIn (suc steps) awaited bytes said next left =
@@ -185,56 +185,56 @@ LeadsIn (suc steps) awaited bytes said next left =
 abbrev pub Leads : Awaited → List ℕ → List Said → Awaited → List ℕ → Type 0
 Leads awaited bytes said next left = (steps : ℕ) × LeadsIn steps awaited bytes said next left
 
--- a stream says this first, whatever follows
+-- a stream says this first, whatever bytes follow
 pub record SaysFirst (stream : List ℕ) (said : List Said) : Type 0 where
   pub next : Awaited
   pub left : List ℕ
   pub leads : Leads Head stream said next left
 
--- what a stream says first stays at the front where more comes
+-- what a stream says first is a front of what it says with more bytes behind it
 abbrev pub FirstStays : Type 0
 FirstStays = (stream more : List ℕ) (first said : List Said) → SaysFirst stream first → Exchanges (stream ++ more) said → (later : List Said) × (said ≡ first ++ later)
 
--- of one length a stream says one thing first, also where it says nothing as a whole yet
+-- two fronts of what a stream says are equal if their lengths are
 abbrev pub FirstIsOne : Type 0
 FirstIsOne = (stream : List ℕ) (one other : List Said) → SaysFirst stream one → SaysFirst stream other → length one ≡ length other → one ≡ other
 
--- a reader: the part of a body that it lends, the bytes that it hasn't read, and what it awaits
+-- the state of a reader: the part of a body that it lends, the bytes that aren't read, and what it awaits
 pub record HttpState : Type 0 where
   pub part : List ℕ
   pub rest : List ℕ
   pub awaited : Awaited
 
--- nothing counts any more: the reader gives nothing, and drops what it is fed
+-- the reader awaits nothing: it gives no more items, and drops the bytes that it is fed
 abbrev pub IsOver : HttpState → Type 0
 IsOver reader = reader.awaited ≡ Nothing
 
--- The reader was fed this stream and has given this: the stream says it first, and then what the reader awaits, of the bytes that the reader has left. Once nothing counts any more the reader needn't have them.
+-- The reader was fed this stream and has given this. The stream says that first, and leads to what the reader awaits with the bytes that the reader has left. A reader that awaits nothing may have dropped those bytes.
 pub record Stands (stream : List ℕ) (given : List Said) (reader : HttpState) : Type 0 where
   pub left : List ℕ
   pub leads : Leads Head stream given reader.awaited left
   pub kept : IsOver reader ⊎ (left ≡ reader.rest)
 
--- what a reader has given is the front of what its stream says
+-- what a reader has given is a front of what its stream says
 abbrev pub GivesTheFront : Type 0
 GivesTheFront = (stream : List ℕ) (given : List Said) (reader : HttpState) → Stands stream given reader → (later : List Said) × Exchanges stream (given ++ later)
 
--- whatever comes yet, the whole stream says what a reader has given, and then what it will hear
+-- a whole stream says what a reader has given, and then what the reader's state says of its bytes and those that come
 abbrev pub HearsTheRest : Type 0
 HearsTheRest =
     (stream coming : List ℕ) (given said : List Said) (reader : HttpState)
     → Stands stream given reader → Says reader.awaited (reader.rest ++ coming) said → Exchanges (stream ++ coming) (given ++ said)
 
--- from one state the reader came to another and said this, of the same stream
+-- the reader went from one state to another and gave this from its stream
 abbrev pub Advances : HttpState → List Said → HttpState → Type 0
 Advances old said new = (stream : List ℕ) (given : List Said) → Stands stream given old → Stands stream (given ++ said) new
 
--- nothing counts after a refusal
+-- after a refusal the reader awaits nothing
 abbrev pub Stops : HttpItem → HttpState → Type 0
 Stops (item.Refuse refusal) new = IsOver new
 Stops said new = ⊤
 
--- how many items can come, at most, before a byte is read
+-- an upper bound on the items that can come without reading a byte
 abbrev pub rank : Awaited → ℕ
 rank Nothing = 0
 rank Head = 1
@@ -243,17 +243,17 @@ rank (Size room closes) = 2
 rank (Trailer closes) = 2
 rank (Invitation framing closes) = 3
 
--- more than the items that can come of what was fed
+-- a bound above the items that can come from the bytes that were fed
 abbrev pub work : HttpState → ℕ
 work reader = 4 * length reader.rest + rank reader.awaited
 
--- what one step of the reader came to: only bytes that say nothing are passed without an item
+-- the result of one step of the reader: a step without an item passes bytes that say nothing, or waits and changes nothing
 abbrev pub Steps : HttpState → Step → HttpState → Type 0
 Steps old (step.Gives said) new = Advances old (said_by said new.part) new × Stops said new × (work new < work old)
 Steps old step.Passes new = Advances old [] new × (length new.rest < length old.rest)
 Steps old step.Waits new = (new ≡ old) × FrontIs old.awaited old.rest Waits
 
--- what an answer of the reader says of the stream that it was fed, and where the reader stands then
+-- the answer of a reader, and its state then: an item, which the stream says next; or none, and then the stream says no more
 abbrev pub Answers : HttpState → Option HttpItem → HttpState → Type 0
 Answers old (Some said) new = Advances old (said_by said new.part) new × Stops said new
 Answers old None new = Advances old [] new × ((stream : List ℕ) (given : List Said) → Stands stream given old → Exchanges stream given)

@@ -1,4 +1,4 @@
--- Words of field values, compared in any case of ASCII letters (RFC 9110, section 5.6).
+-- Words of field values, compared without regard to the case of ASCII letters (RFC 9110, section 5.6).
 use Rattle.std.specs.Prelude.{ℕ, ◌==◌, nat_le, Bool, if◌then◌else◌, List, length, Option, None}
 use Rattle.std.specs.List.{slice_split, list_any}
 use Rattle.std.specs.Str.{str_eq_ignore_ascii_case}
@@ -8,10 +8,10 @@ use Rattle.text.specs.Trimmed.{trimmed}
 abbrev pub is_word : List ℕ → List ℕ → Bool
 is_word bytes word = str_eq_ignore_ascii_case bytes word
 
--- whether a word stands in a list with commas (RFC 9110, section 5.6.1)
+-- whether a word is an element of a list with commas (RFC 9110, section 5.6.1)
 unfoldable pub lists_word : List ℕ → List ℕ → Bool
 lists_word word value = list_any (λ part. is_word (trimmed part) word) (slice_split (λ byte. byte == 44) value)
 
--- a length has 1 to 19 digits; one above 32 bits is the greatest of them
+-- the number of a length: 1 to 19 digits, and 2³² - 1 where it exceeds 32 bits
 unfoldable pub length_in : List ℕ → Option ℕ
 length_in value = if nat_le (length value) 19 then decimal_in value else None

@@ -1,4 +1,4 @@
--- A request as its client writes it: a head, and a body of a length or in chunks (RFC 9112, sections 6.2 and 7.1). What a stream says is told from its bytes elsewhere; here it is told from what was written.
+-- A request as its client writes it: a head, and a body of a length or in chunks (RFC 9112, sections 6.2 and 7.1). The laws here connect the written request to what its stream says.
 use Rattle.std.specs.Prelude.{ℕ, ◌≡◌, ◌+◌, ◌-◌, ◌<◌, ◌≤◌, true, if◌then◌else◌, List, [], ◌∷◌, ◌++◌, length, map, Some, Ok}
 use Rattle.std.specs.List.{flat_map}
 use Rattle.base_types.specs.declared.limits.TheConstants.Limits.{HTTP_HEAD_BYTES, HTTP_BODY_BYTES, HTTP_CHUNK_LINE_BYTES, HTTP_TRAILER_BYTES}
@@ -11,24 +11,24 @@ use Rattle.http_front.specs.Head.{Asks}
 use Rattle.http_front.specs.Section.{section_in}
 use Rattle.http_front.specs.Stream.{Said, HasHead, Invites, HasByte, EndsBody, begins_head, is_last, after_body, Says, Exchanges}
 
--- a whole head, which asks this
+-- a whole head of a request
 pub record IsHead (head : List ℕ) (request : Request) : Type 0 where
   pub begins : begins_head head ≡ true
   pub whole : section_in HTTP_HEAD_BYTES head ≡ Whole (length head)
   pub asks : Asks head (Ok request)
 
--- what a request says: its head, the invitation that it waits for, its body, and its end
+-- what the stream of a request says: its head, the invitation that the client awaits, its body, and its end
 abbrev pub says_request : Request → List ℕ → List Said
 says_request request body = HasHead request.closes ∷ ((if request.invites then Invites ∷ [] else []) ++ (map HasByte body ++ EndsBody ∷ []))
 
--- a line of a chunk's size, extensions and all
+-- a line with a chunk's size, with its extensions
 pub record IsSizeLine (line : List ℕ) (size : ℕ) : Type 0 where
   pub place : ℕ
   pub whole : first_line_of HTTP_CHUNK_LINE_BYTES line ≡ Whole place
   pub ends : length line ≡ place + 1
   pub is : IsSizeOf line (Some size)
 
--- some bytes of a body, behind a line with their number
+-- bytes of a body, behind a line with their count
 pub record Piece : Type 0 where
   pub line : List ℕ
   pub octets : List ℕ
@@ -36,7 +36,7 @@ pub record Piece : Type 0 where
 abbrev pub piece_bytes : Piece → List ℕ
 piece_bytes piece = piece.line ++ (piece.octets ++ 13 ∷ 10 ∷ [])
 
--- pieces that aren't empty, of at most so many bytes together
+-- pieces that aren't empty and have at most `room` bytes together
 abbrev pub ArePieces : ℕ → List Piece → Type 0
 ArePieces room [] = Unit {0}
 ArePieces room (piece ∷ pieces) = IsSizeLine piece.line (length piece.octets) × (0 < length piece.octets) × (length piece.octets ≤ room) × ArePieces (room - length piece.octets) pieces
@@ -44,17 +44,17 @@ ArePieces room (piece ∷ pieces) = IsSizeLine piece.line (length piece.octets) 
 abbrev pub octets_of : List Piece → List ℕ
 octets_of pieces = flat_map (λ (piece : Piece). piece.octets) pieces
 
--- the lines behind the last chunk, up to the first empty one
+-- the lines behind the last chunk, up to and with the first empty line
 abbrev pub IsTrailer : List ℕ → Type 0
 IsTrailer trailer = section_in HTTP_TRAILER_BYTES trailer ≡ Whole (length trailer)
 
--- a head of a length and as many bytes say just that request, and then what the rest says
+-- a stream that begins with a head with a length and a body of that length says that request, and then what the rest says
 abbrev pub LengthSays : Type 0
 LengthSays =
     (head body more : List ℕ) (request : Request) (later : List Said) → IsHead head request → request.framing ≡ Length (length body)
     → Says (after_body (is_last request.closes (length body))) more later → Exchanges (head ++ (body ++ more)) (says_request request body ++ later)
 
--- however a body is cut into chunks, with extensions and a trailer, the same request is said
+-- a stream that begins with a body in chunks says the same request for every cutting into chunks, with extensions and a trailer
 abbrev pub ChunksSay : Type 0
 ChunksSay =
     (head : List ℕ) (pieces : List Piece) (last trailer more : List ℕ) (request : Request) (later : List Said) → IsHead head request → request.framing ≡ Chunked → ArePieces HTTP_BODY_BYTES pieces

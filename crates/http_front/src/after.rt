@@ -5,7 +5,7 @@ ghost use Rattle.http_front.specs.Stream.{after_head, body_by, after_body, begin
 use crate::awaited::{Awaited, Following, Framing, Request};
 use base_types::Limits;
 
-/// What is read after a head.
+/// What the reader awaits after a head.
 pub(crate) fn after_head(request: Request) -> Awaited
     ensures { result ≡ after_head request }
 {
@@ -15,15 +15,15 @@ pub(crate) fn after_head(request: Request) -> Awaited
     body_by(request.framing, request.closes)
 }
 
-/// Whether nothing counts after an exchange: it closes the connection, or its body has too few bytes
-/// for an IPP message.
+/// Returns whether an exchange is the last: it closes the connection, or its body has too few bytes for an
+/// IPP message. The bytes behind the last exchange are dropped.
 pub(crate) fn is_last(closes: bool, length: u32) -> bool
     ensures { result ≡ is_last closes length }
 {
     closes || length < Limits::IPP_HEADER_BYTES as u32
 }
 
-/// How a body is read.
+/// What the reader awaits for a body of a framing.
 pub(crate) fn body_by(framing: Framing, closes: bool) -> Awaited
     ensures { result ≡ body_by framing closes }
 {
@@ -33,7 +33,7 @@ pub(crate) fn body_by(framing: Framing, closes: bool) -> Awaited
     }
 }
 
-/// What is read after a body; `last` says whether nothing counts any more.
+/// What the reader awaits after a body. `last` says whether the exchange is the last.
 pub(crate) fn after_body(last: bool) -> Awaited
     ensures { result ≡ after_body last }
 {
@@ -43,7 +43,7 @@ pub(crate) fn after_body(last: bool) -> Awaited
     Awaited::Head
 }
 
-/// Whether a head's first line begins at the front.
+/// Returns whether the first line of a head begins at the front: the bytes don't begin with CR or LF.
 pub(crate) fn begins_head(bytes: &[u8]) -> bool
     ensures { result ≡ begins_head bytes.now }
 {

@@ -1,44 +1,46 @@
-/// How the length of a body is told (RFC 9112, section 6.3).
+/// The length of a body, by the fields of the head (RFC 9112, section 6.3).
 #[derive(Clone, Copy, Debug, PartialEq, Eq)]
 pub(crate) enum Framing {
-    /// So many bytes.
+    /// A body of so many bytes.
     Length(u32),
-    /// By chunks.
+    /// A body in chunks.
     Chunked,
 }
 
-/// A head that is taken.
+/// The request of a head that passed the checks.
 #[derive(Clone, Copy, Debug, PartialEq, Eq)]
 pub(crate) struct Request {
     pub framing: Framing,
-    /// Whether the client waits to be told to go on.
+    /// Whether the client waits for `100 Continue` before it sends the body.
     pub invites: bool,
     /// Whether the connection closes after the reply.
     pub closes: bool,
 }
 
-/// What stands after bytes of a body.
+/// What follows the bytes of a body or of a chunk.
 #[derive(Clone, Copy, Debug, PartialEq, Eq)]
 pub(crate) enum Following {
-    /// Nothing more of the body; and nothing that counts after it, or the next head.
+    /// The end of the body. Whether the exchange is the last.
     Close(bool),
-    /// The end of a chunk; the chunks after it have so many bytes at most.
+    /// The end of a chunk. The most bytes that the chunks behind it may have together; whether the connection
+    /// closes after the reply.
     Chunk(u32, bool),
 }
 
-/// What a reader reads next. A truth value says whether the connection closes after the reply, and
-/// at a trailer whether nothing counts after it.
+/// What a reader reads next. A truth value says whether the connection closes after the reply; in `Trailer`
+/// it says whether the exchange is the last.
 #[derive(Clone, Copy, Debug, PartialEq, Eq)]
 pub(crate) enum Awaited {
     Head,
-    /// The client is to be told to go on.
+    /// The client awaits `100 Continue`.
     Invitation(Framing, bool),
     /// So many bytes of the body.
     Body(u32, Following),
-    /// The size of a chunk; it and those after it have so many bytes at most.
+    /// The line with the size of a chunk. The most bytes that this chunk and those behind it may have
+    /// together.
     Size(u32, bool),
     /// The fields after the last chunk.
     Trailer(bool),
-    /// Nothing any more.
+    /// No more input: the bytes that are fed are dropped.
     Nothing,
 }

@@ -4,18 +4,18 @@ ghost use Rattle.http_front.specs.Chunk.{IsSizeOf, chunk_end};
 
 use httparse::{Status, parse_chunk_size};
 
-/// What stands where a chunk ends.
+/// The bytes at the place where a chunk has to end.
 #[derive(Clone, Copy, Debug, PartialEq, Eq)]
 pub(crate) enum ChunkEnd {
-    /// The end of the chunk.
+    /// CR LF, the end of the chunk.
     Whole,
-    /// Something else.
+    /// Bytes other than CR LF.
     Broken,
-    /// Too little to tell.
+    /// A front of CR LF: more bytes are needed.
     Unfinished,
 }
 
-/// The size that the line before a chunk tells, where it is one line of the grammar.
+/// The size in a chunk line, where the bytes are exactly one line of the grammar.
 pub(crate) fn size_in(line: &[u8]) -> Option<u64>
     ensures { IsSizeOf line.now result }
 {
@@ -25,7 +25,7 @@ pub(crate) fn size_in(line: &[u8]) -> Option<u64>
     }
 }
 
-/// What stands at the front, where a chunk ends.
+/// Compares the front of the bytes with the end of a chunk.
 pub(crate) fn chunk_end(bytes: &[u8]) -> ChunkEnd
     ensures { result ≡ chunk_end bytes.now }
 {

@@ -1,4 +1,4 @@
-//! Fields of a head, by their names.
+//! The fields of a head, found by their names.
 ghost use Rattle.std.specs.Prelude.{◌≡◌, ◌≤◌, map, length};
 ghost use Rattle.std.specs.Option.{option_copied};
 ghost use Rattle.httparse.specs.Borrowed.{header_parts};
@@ -7,7 +7,7 @@ ghost use Rattle.http_front.specs.Fields.{count_of, first_of, all_have, any_list
 use crate::words::{is_word, lists_word};
 use httparse::Header;
 
-/// How many fields have a name.
+/// Returns the number of fields of a name.
 pub(crate) fn count_of(name: &[u8], fields: &[Header]) -> usize
     ensures { result ≡ count_of name.now (map header_parts fields.now) }
 {
@@ -32,7 +32,7 @@ pub(crate) fn first_of<'a>(name: &[u8], fields: &[Header<'a>]) -> Option<&'a [u8
     None
 }
 
-/// Whether all fields of a name have this value.
+/// Returns whether all fields of a name have the value.
 pub(crate) fn all_have(name: &[u8], value: &[u8], fields: &[Header]) -> bool
     ensures { result ≡ all_have name.now value.now (map header_parts fields.now) }
 {
@@ -44,7 +44,7 @@ pub(crate) fn all_have(name: &[u8], value: &[u8], fields: &[Header]) -> bool
     true
 }
 
-/// Whether a field of a name lists a word.
+/// Returns whether a field of a name lists a word.
 pub(crate) fn any_lists(name: &[u8], word: &[u8], fields: &[Header]) -> bool
     ensures { result ≡ any_lists name.now word.now (map header_parts fields.now) }
 {

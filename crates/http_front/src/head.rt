@@ -1,4 +1,4 @@
-//! The head of a request: its parts, and the checks that it has to pass.
+//! The head of a request: its parts and its checks.
 ghost use Rattle.std.specs.Prelude.{◌≡◌, codes, map};
 ghost use Rattle.httparse.specs.Borrowed.{header_parts};
 ghost use Rattle.http_front.specs.Head.{is_chunked, coded, within_limit, counted, framing_of, is_ipp, is_plain, is_plain_ipp, closes_after, is_empty, expecting, judged, Asks};
@@ -14,7 +14,7 @@ use text::without_parameters;
 
 const FIELDS: usize = Limits::HTTP_FIELDS;
 
-/// What the bytes of a head ask.
+/// Returns the request of the bytes of a head. The error is the first check that fails.
 pub(crate) fn read_head(head: &[u8]) -> Result<Request, HttpRejection>
     ensures { Asks head.now result }
 {
@@ -32,7 +32,7 @@ pub(crate) fn read_head(head: &[u8]) -> Result<Request, HttpRejection>
     judged(method.as_bytes(), minor, request.headers)
 }
 
-/// What a head of a method, a minor version and fields asks.
+/// Returns the request of a head with a method, a minor version and fields.
 fn judged(method: &[u8], minor: u8, fields: &[Header]) -> Result<Request, HttpRejection>
     ensures { result ≡ judged method.now minor (map header_parts fields.now) }
 {
@@ -49,7 +49,7 @@ fn judged(method: &[u8], minor: u8, fields: &[Header]) -> Result<Request, HttpRe
     expecting(minor, fields, framing)
 }
 
-/// How the length of the body is told.
+/// Returns the framing of the body.
 fn framing_of(minor: u8, fields: &[Header]) -> Result<Framing, HttpRejection>
     ensures { result ≡ framing_of minor (map header_parts fields.now) }
 {
@@ -59,7 +59,7 @@ fn framing_of(minor: u8, fields: &[Header]) -> Result<Framing, HttpRejection>
     counted(fields)
 }
 
-/// The framing by a transfer coding.
+/// Returns the framing by a transfer coding, which an HTTP/1.0 message and one with a length may not have.
 fn coded(minor: u8, fields: &[Header]) -> Result<Framing, HttpRejection>
     ensures { result ≡ coded minor (map header_parts fields.now) }
 {
@@ -72,7 +72,7 @@ fn coded(minor: u8, fields: &[Header]) -> Result<Framing, HttpRejection>
     Ok(Framing::Chunked)
 }
 
-/// Whether the transfer coding is chunked.
+/// Returns whether the transfer coding is chunked, by exactly one field.
 fn is_chunked(fields: &[Header]) -> bool
     ensures { result ≡ is_chunked (map header_parts fields.now) }
 {
@@ -85,7 +85,7 @@ fn is_chunked(fields: &[Header]) -> bool
     }
 }
 
-/// The framing by a length.
+/// Returns the framing by Content-Length, whose fields have to agree. Without the field the length is 0.
 fn counted(fields: &[Header]) -> Result<Framing, HttpRejection>
     ensures { result ≡ counted (map header_parts fields.now) (first_of (codes "content-length") (map header_parts fields.now)) }
 {
@@ -98,7 +98,7 @@ fn counted(fields: &[Header]) -> Result<Framing, HttpRejection>
     within_limit(length_in(value))
 }
 
-/// A length within the limit.
+/// Returns the framing of a length, which has to be a number within the limit.
 fn within_limit(length: Option<u32>) -> Result<Framing, HttpRejection>
     ensures { result ≡ within_limit length }
 {
@@ -111,14 +111,14 @@ fn within_limit(length: Option<u32>) -> Result<Framing, HttpRejection>
     }
 }
 
-/// Whether the body is IPP, and not compressed.
+/// Returns whether the body is IPP and isn't compressed.
 fn is_plain_ipp(fields: &[Header]) -> bool
     ensures { result ≡ is_plain_ipp (map header_parts fields.now) }
 {
     is_ipp(fields) && is_plain(fields)
 }
 
-/// Whether the body is IPP.
+/// Returns whether the body is IPP, by the first Content-Type field.
 fn is_ipp(fields: &[Header]) -> bool
     ensures { result ≡ is_ipp (map header_parts fields.now) }
 {
@@ -128,7 +128,7 @@ fn is_ipp(fields: &[Header]) -> bool
     }
 }
 
-/// Whether the body isn't compressed.
+/// Returns whether the body isn't compressed, by the first Content-Encoding field.
 fn is_plain(fields: &[Header]) -> bool
     ensures { result ≡ is_plain (map header_parts fields.now) }
 {
@@ -138,7 +138,7 @@ fn is_plain(fields: &[Header]) -> bool
     }
 }
 
-/// What is asked where the framing is known.
+/// Returns the request of a framing. An expectation other than `100-continue` is refused.
 fn expecting(minor: u8, fields: &[Header], framing: Framing) -> Result<Request, HttpRejection>
     ensures { result ≡ expecting minor (map header_parts fields.now) framing (first_of (codes "expect") (map header_parts fields.now)) }
 {
@@ -155,14 +155,14 @@ fn expecting(minor: u8, fields: &[Header], framing: Framing) -> Result<Request, 
     })
 }
 
-/// Whether the connection closes after the reply.
+/// Returns whether the connection closes after the reply: for HTTP/1.0 and for `Connection: close`.
 fn closes_after(minor: u8, fields: &[Header]) -> bool
     ensures { result ≡ closes_after minor (map header_parts fields.now) }
 {
     minor == 0 || any_lists(b"connection", b"close", fields)
 }
 
-/// Whether there are no bytes of a body.
+/// Returns whether the framing is a length of 0.
 fn is_empty(framing: Framing) -> bool
     ensures { result ≡ is_empty framing }
 {

@@ -1,39 +1,41 @@
-//! Laws of the exchanges. Their functions do nothing: their contracts are what they are for.
+//! Laws of the exchanges, as contracts of functions that do nothing.
 ghost use Rattle.http_front.specs.Stream.{SaysOne, SaysSome, StaysInFront, FirstIsOne, FirstStays, GivesTheFront, HearsTheRest};
 ghost use Rattle.http_front.specs.Order.{SaysInOrder};
 ghost use Rattle.http_front.specs.Written.{LengthSays, ChunksSay};
 
-/// A stream says one thing, and that stays at the front where more comes.
+/// Two readings of one stream say the same, and that is a front of what the stream says with more bytes
+/// behind it.
 pub fn one_saying()
     ensures one { SaysOne }
     ensures front { StaysInFront }
 {}
 
-/// Every stream says something. However it was cut for a reader, what that has given is the front of it.
+/// Each stream says something. What a reader has given is a front of it, for every cutting of the stream into
+/// pieces.
 pub fn some_saying()
     ensures some { SaysSome }
     ensures front { GivesTheFront }
 {}
 
-/// Of one length a stream says one thing first.
+/// Two fronts of what a stream says are equal if their lengths are.
 pub fn one_front()
     ensures { FirstIsOne }
 {}
 
-/// What a stream says is in the order of exchanges, and nothing follows the last.
+/// A stream says its exchanges in order, and nothing follows the last.
 pub fn exchanges_in_order()
     ensures { SaysInOrder }
 {}
 
-/// What a reader has given is what the whole stream says first, whatever comes yet; what follows it
-/// there is what the reader will hear.
+/// What a reader has given is a front of what the whole stream says, whatever bytes follow. The rest is what
+/// the reader's state says of its unread bytes and those that follow.
 pub fn given_first()
     ensures first { FirstStays }
     ensures rest { HearsTheRest }
 {}
 
-/// What a client writes is what its stream says: a head of a length and as many bytes, or a head and a body
-/// in chunks, however it is cut, with extensions and a trailer.
+/// The stream of a written request says that request: of a head with a length and as many bytes, and of a
+/// head with a body in chunks, for every cutting into chunks, with extensions and a trailer.
 pub fn written_is_said()
     ensures length { LengthSays }
     ensures chunks { ChunksSay }

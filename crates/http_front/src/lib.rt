@@ -1,10 +1,9 @@
-//! What an HTTP client asks (RFC 9110, RFC 9112): requests with their bodies from any cutting of
-//! its stream of bytes, and the heads of the replies.
+//! The requests of an HTTP client (RFC 9110, RFC 9112), read with their bodies from a stream that comes in
+//! pieces of any length, and the heads of the replies.
 //!
-//! It promises that an [`HttpReader`] gives exactly the exchanges of the whole stream that it was
-//! fed, in order, up to the last that counts: one that is refused, that closes the connection, or
-//! whose body is too short for an IPP message. It knows nothing else of what the bodies say, and
-//! answers nothing by itself.
+//! An [`HttpReader`] gives exactly the exchanges of the whole stream that it was fed, in order, up to the
+//! last: a request that is refused, one that closes the connection, or one whose body is too short for an IPP
+//! message. The crate reads nothing else of the bodies, and replies to no request by itself.
 //!
 //! Its rows are traces of `play_examples`.
 #![tactic(auto)]

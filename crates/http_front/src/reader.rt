@@ -18,17 +18,17 @@ use std::marker::Model;
 use std::mem;
 use text::{FirstLine, Unread, first_line};
 
-/// A reader of what an HTTP client sends, in pieces of any length. In clauses it is a record of the
-/// part of a body that it lends, what it still has to read, and what it awaits.
+/// A reader of an HTTP client's stream, which is fed in pieces of any length. In clauses it is a record of
+/// the part of a body that it lends, the bytes that aren't read, and what it awaits.
 ///
-/// After a request that is refused, after one whose connection closes, and after one whose body is
-/// too short for an IPP message, it gives nothing more, and what it is fed is dropped.
+/// After a request that is refused, one whose connection closes, and one whose body is too short for an IPP
+/// message, the reader gives no more items, and drops the bytes that it is fed.
 #[derive(Debug, Drop)]
 pub struct HttpReader {
     unread: Unread,
-    /// Room for the bytes that come where all that came before is read: what is in it counts no more.
+    /// Spare room for a piece that is fed when all bytes are read. Its content is not part of the model.
     spare: Unread,
-    /// How many of the unread bytes are read already, and lent as a part.
+    /// The number of bytes at the front of `unread` that are read and lent as a part.
     lent: usize,
     awaited: Awaited,
 }
@@ -44,18 +44,18 @@ impl Model for HttpReader {
     ghost invariant = { λ r. r.lent ≤ length r.unread };
 }
 
-/// What one step of a reader came to.
+/// The result of one step of a reader.
 #[derive(Clone, Copy, Debug, PartialEq, Eq)]
 pub(crate) enum Step {
     Gives(HttpItem),
-    /// Bytes were read that say nothing by themselves.
+    /// Bytes were read that give no item.
     Passes,
-    /// There is too little to tell.
+    /// The bytes that were fed are too few for a step.
     Waits,
 }
 
 impl HttpReader {
-    /// A reader of a new connection.
+    /// Creates the reader of a new connection.
     pub fn new(alloc: Global) -> HttpReader
         ensures { Stands [] [] result }
     {
@@ -67,9 +67,9 @@ impl HttpReader {
         }
     }
 
-    /// Takes the next bytes of the connection. The part that was lent is given back.
+    /// Feeds the next bytes of the connection. The part that was lent is given back.
     ///
-    /// Where there is no memory, none of them is taken, and the part stays lent.
+    /// The only error is out of memory: then none of the bytes is taken, and the part stays lent.
     pub fn feed(&mut self, piece: &[u8]) -> Result<(), AllocError>
         ensures fed { OnOk result ((stream : List ℕ) (given : List Said) → Stands stream given self.old → Stands (stream ++ piece.now) given self.new) }
         ensures err { OnErr result (self.new ≡ self.old) }
@@ -81,7 +81,7 @@ impl HttpReader {
         self.append(piece)
     }
 
-    /// The next item. Where it is a part of a body, `part` lends the bytes.
+    /// Returns the next item, if it is whole. For a part of a body, [`HttpReader::part`] has the bytes.
     pub fn next_item(&mut self) -> Option<HttpItem>
         ensures answer { Answers self.old result self.new }
         ensures falls { IsSome result → work self.new < work self.old }
@@ -106,8 +106,8 @@ impl HttpReader {
         &self.unread.bytes()[..self.lent]
     }
 
-    /// How many bytes of a body come next at least, before anything else is read: what is left of a body that
-    /// has a length, or of a chunk; 0 where no body comes.
+    /// Returns how many bytes of a body come next: what is left of a body that has a length, or of a chunk.
+    /// Returns 0 if something else comes next.
     pub fn body_left(&self) -> u32
         ensures { result ≡ body_left self.now.awaited }
     {
@@ -121,8 +121,8 @@ impl HttpReader {
         }
     }
 
-    /// Goes past so many bytes of a body that come next and aren't fed: whether it did. It doesn't where fewer
-    /// are left of a body, or of a chunk, nor where bytes that were fed aren't read yet.
+    /// Passes over `count` bytes of a body that come next and aren't fed. Returns false and changes nothing
+    /// if fewer are left of the body or of the chunk, or if bytes that were fed aren't read yet.
     pub fn pass_body(&mut self, count: u32) -> bool
         ensures within { IsTrue result → count ≤ body_left self.old.awaited }
         ensures passed { IsTrue result → self.new ≡ record { part = []; rest = []; awaited = past_body count self.old.awaited } }
@@ -140,7 +140,7 @@ impl HttpReader {
         }
     }
 
-    /// One step: at most one item.
+    /// Takes one step, which gives at most one item.
     fn step(&mut self) -> Step
         ensures { Steps self.old result self.new }
     {
@@ -172,7 +172,7 @@ impl HttpReader {
         self.step_lines()
     }
 
-    /// Reads a head, once its lines are there.
+    /// Reads a head, if all its lines are there.
     fn step_lines(&mut self) -> Step
         requires head { self.old.awaited ≡ Awaited.Head }
         requires begins { begins_head self.old.rest ≡ true }
@@ -185,7 +185,7 @@ impl HttpReader {
         }
     }
 
-    /// Reads the head of so many bytes.
+    /// Reads the head in the first `count` bytes.
     fn take_head(&mut self, count: usize) -> Step
         requires head { self.old.awaited ≡ Awaited.Head }
         requires begins { begins_head self.old.rest ≡ true }
@@ -204,7 +204,8 @@ impl HttpReader {
         }
     }
 
-    /// Lends those bytes of a body that are there, or reads what follows the last.
+    /// Lends those of the next `count` bytes of a body that are there. Where `count` is 0, reads what follows
+    /// the body.
     fn step_body(&mut self, count: u32, next: Following) -> Step
         requires { self.old.awaited ≡ Awaited.Body count next }
         ensures { Steps self.old result self.new }
@@ -220,7 +221,7 @@ impl HttpReader {
         Step::Gives(HttpItem::BodyPart)
     }
 
-    /// Reads what follows the bytes of a body, or of a chunk.
+    /// Reads what follows the bytes of a body or of a chunk.
     fn step_following(&mut self, next: Following) -> Step
         requires { self.old.awaited ≡ Awaited.Body 0 next }
         ensures { Steps self.old result self.new }
@@ -261,7 +262,7 @@ impl HttpReader {
         }
     }
 
-    /// Reads the line, of so many bytes and a line feed, before a chunk.
+    /// Reads the line before a chunk, of `count` bytes and a line feed.
     fn take_size(&mut self, count: usize, room: u32, closes: bool) -> Step
         requires size { self.old.awaited ≡ Awaited.Size room closes }
         requires whole { first_line_of Limits.HTTP_CHUNK_LINE_BYTES self.old.rest ≡ Whole count }
@@ -287,7 +288,7 @@ impl HttpReader {
         Step::Passes
     }
 
-    /// Drops the fields after the last chunk.
+    /// Drops the fields behind the last chunk.
     fn step_trailer(&mut self, last: bool) -> Step
         requires { self.old.awaited ≡ Awaited.Trailer last }
         ensures { Steps self.old result self.new }
@@ -302,21 +303,21 @@ impl HttpReader {
         }
     }
 
-    /// The bytes that are not read yet.
+    /// The bytes that aren't read.
     fn rest(&self) -> &[u8]
         ensures { result.now ≡ self.now.rest }
     {
         &self.unread.bytes()[self.lent..]
     }
 
-    /// What is read next.
+    /// What the reader awaits.
     fn awaited(&self) -> Awaited
         ensures { result ≡ self.now.awaited }
     {
         self.awaited
     }
 
-    /// Goes past so many bytes.
+    /// Passes over `count` bytes, and lends none.
     fn pass(&mut self, count: usize, awaited: Awaited)
         requires { count ≤ length_of self.old.rest }
         ensures { self.new ≡ record { part = []; rest = drop count self.old.rest; awaited = awaited } }
@@ -327,7 +328,7 @@ impl HttpReader {
         self.awaited = awaited;
     }
 
-    /// Goes past so many bytes, and lends them.
+    /// Passes over `count` bytes, and lends them.
     fn lend(&mut self, count: usize, awaited: Awaited)
         requires { count ≤ length_of self.old.rest }
         ensures { self.new ≡ record { part = take count self.old.rest; rest = drop count self.old.rest; awaited = awaited } }
@@ -337,7 +338,7 @@ impl HttpReader {
         self.awaited = awaited;
     }
 
-    /// Goes past so many bytes, after which nothing counts any more.
+    /// Passes over `count` bytes and refuses the request. The reader awaits nothing after it.
     fn refuse(&mut self, count: usize, refusal: HttpRejection) -> Step
         requires { count ≤ length_of self.old.rest }
         ensures state { self.new ≡ record { part = []; rest = drop count self.old.rest; awaited = Awaited.Nothing } }
@@ -347,7 +348,8 @@ impl HttpReader {
         Step::Gives(HttpItem::Refuse(refusal))
     }
 
-    /// Keeps these bytes to be read.
+    /// Appends bytes to those that aren't read. The only error is out of memory, and leaves the reader as it
+    /// was.
     fn append(&mut self, piece: &[u8]) -> Result<(), AllocError>
         ensures ok { OnOk result (self.new ≡ record { part = []; rest = self.old.rest ++ piece.now; awaited = self.old.awaited }) }
         ensures err { OnErr result (self.new ≡ self.old) }
@@ -361,8 +363,8 @@ impl HttpReader {
         Ok(())
     }
 
-    /// Keeps these bytes to be read, where all that came before is read. The part that is lent isn't moved for
-    /// them.
+    /// Takes bytes where all earlier ones are read, without moving the part that was lent. The only error is
+    /// out of memory, and leaves the reader as it was.
     fn begin(&mut self, piece: &[u8]) -> Result<(), AllocError>
         requires { self.old.rest ≡ [] }
         ensures ok { OnOk result (self.new ≡ record { part = []; rest = piece.now; awaited = self.old.awaited }) }

@@ -1,19 +1,19 @@
-//! Why a request is refused, and with which status.
+//! The refusals of requests, with their statuses.
 ghost use Rattle.std.specs.Prelude.{◌≡◌};
 ghost use Rattle.http_front.specs.Reply.{IsReplyStatus, status_of};
 
 use http::StatusCode;
 
-/// Why a request is refused: the status of the reply (RFC 9110, section 15.5 and 15.6).
+/// Why a request is refused, by the status of the reply (RFC 9110, sections 15.5 and 15.6).
 #[derive(Clone, Copy, Debug, PartialEq, Eq)]
 pub enum HttpRejection {
-    /// 400: a head, a framing or a chunk that breaks the grammar.
+    /// 400: a head, a framing or a chunk that violates the grammar.
     BadRequest,
     /// 405: a method other than POST.
     MethodNotAllowed,
     /// 413: a body above the limit.
     ContentTooLarge,
-    /// 415: a body that is no IPP, or is compressed.
+    /// 415: a body that isn't IPP, or is compressed.
     UnsupportedMediaType,
     /// 417: an expectation other than `100-continue`.
     ExpectationFailed,

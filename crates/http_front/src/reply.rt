@@ -7,7 +7,7 @@ use http::StatusCode;
 use itoa::Buffer;
 use std::alloc::AllocError;
 
-/// The interim head that tells a client to go on (RFC 9110, section 15.2.1).
+/// The interim head that tells a client to send the body (RFC 9110, section 15.2.1).
 pub fn continue_head() -> &'static [u8]
     ensures { result.now ≡ continue_head }
 {
@@ -16,11 +16,11 @@ pub fn continue_head() -> &'static [u8]
 
 /// Appends the head of a reply, whose status is 200 or that of a refusal.
 ///
-/// A reply of 200 has a body of `length` bytes, and `closes` says whether the connection closes
-/// after it. A refusal has no body and always closes: there both are of no effect.
+/// A reply of 200 has a body of `length` bytes, and `closes` says whether the connection closes after it. A
+/// refusal has no body and always closes the connection; `length` and `closes` have no effect on it.
 ///
-/// Where there is no memory, nothing is appended. Memory is taken only where there is no room for the
-/// head, as there always is in 128 bytes; the room never shrinks.
+/// The only error is out of memory, and nothing is appended then. Memory is taken only where the room is less
+/// than the head needs; 128 bytes of room always suffice. The room never shrinks.
 pub fn write_head(
     status: StatusCode,
     length: usize,
@@ -42,7 +42,7 @@ pub fn write_head(
 
 /// Appends the lines of a head.
 ///
-/// Where there is no memory, nothing is appended.
+/// The only error is out of memory, and nothing is appended then.
 fn write_lines(
     status: StatusCode,
     length: usize,
@@ -67,7 +67,7 @@ fn write_lines(
     Ok(())
 }
 
-/// What stands before the length in a head.
+/// The bytes of a head before the length.
 fn opening(status: StatusCode) -> &'static [u8]
     requires { IsReplyStatus status }
     ensures text { result.now ≡ opening status }
@@ -85,7 +85,7 @@ fn opening(status: StatusCode) -> &'static [u8]
     }
 }
 
-/// What follows the length in a head.
+/// The bytes of a head behind the length.
 fn ending(closes: bool) -> &'static [u8]
     ensures text { result.now ≡ ending closes }
     ensures short { length_of result.now ≤ 23 }

@@ -1,10 +1,10 @@
-//! The end of a head or of a trailer section: its empty line.
+//! The end of a head or of a trailer section, which is an empty line.
 ghost use Rattle.std.specs.Prelude.{◌≡◌, true};
 ghost use Rattle.http_front.specs.Section.{empty_line, empty_line_end, section_in};
 
 use text::FirstLine;
 
-/// The lines up to the first empty one, where these have at most so many bytes.
+/// The lines up to and with the first empty line, where they have at most `most` bytes.
 pub(crate) fn section_in(bytes: &[u8], most: usize) -> FirstLine
     ensures { result ≡ section_in most bytes.now }
 {
@@ -16,7 +16,7 @@ pub(crate) fn section_in(bytes: &[u8], most: usize) -> FirstLine
     }
 }
 
-/// Where the first empty line ends.
+/// The end of the first empty line.
 fn empty_line_end(bytes: &[u8]) -> Option<usize>
     ensures { result ≡ empty_line_end true 0 bytes.now }
 {
@@ -31,7 +31,7 @@ fn empty_line_end(bytes: &[u8]) -> Option<usize>
     None
 }
 
-/// The bytes of the empty line at the front, 0 where there is none.
+/// The length of an empty line at the front, 0 where no empty line is there.
 fn empty_line(bytes: &[u8]) -> usize
     ensures { result ≡ empty_line bytes.now }
 {

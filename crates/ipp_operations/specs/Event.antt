@@ -1,4 +1,4 @@
--- What a message asks that is sent as an operation, or why it is refused: the first of these checks that fails decides (RFC 8011, section 4.1).
+-- The event of a message with an operation, or why the message is refused: the first of these checks that fails decides (RFC 8011, section 4.1).
 use Rattle.std.specs.Prelude.{ℕ, ◌&&◌, not, Bool, if◌then◌else◌, List, Result, Ok, Err}
 use Rattle.std.specs.List.{list_all}
 use Rattle.std.specs.Option.{option_map_or}
@@ -18,7 +18,7 @@ use Rattle.ipp_operations.specs.PrinterRequests.{printer_request_of, get_printer
 use Rattle.ipp_operations.specs.Request.{operation_group, job_attributes, is_utf8}
 use Rattle.ipp_operations.specs.Target.{names_job}
 
--- what a request can't be without: the job or the printer that it is for, and in a Send-Document whether a document follows
+-- the attributes that a request must have: those of its job or its printer, and in a Send-Document last-document
 abbrev pub is_complete : Operation → IppGroup → Bool
 is_complete operation.SendDocument group = names_job group && has LastDocument group
 is_complete operation.CancelJob group = names_job group
@@ -27,11 +27,11 @@ is_complete operation.HoldJob group = names_job group
 is_complete operation.ReleaseJob group = names_job group
 is_complete _ group = has PrinterUri group
 
--- each attribute that the operation reads has one of its tags, where it is there
+-- each attribute that the operation reads has a tag of its syntax, if the group has it
 abbrev pub are_tagged : Operation → IppGroup → Bool
 are_tagged asked group = list_all (is_tagged group) (attributes_read asked)
 
--- the event of a request that has passed all checks, by its operation
+-- the event of a request that has passed all checks, by the operation
 abbrev pub event_in : Operation → IppGroup → List IppAttribute → List ℕ → Event
 event_in operation.PrintJob group template document = event.PrintJob (print_job_of group template document)
 event_in operation.ValidateJob group template document = event.ValidateJob (validate_job_of group template)
@@ -46,7 +46,7 @@ event_in operation.ReleaseJob group template document = event.ReleaseJob (job_re
 event_in operation.PausePrinter group template document = event.PausePrinter (printer_request_of group)
 event_in operation.ResumePrinter group template document = event.ResumePrinter (printer_request_of group)
 
--- the checks of the operation group, in their order
+-- the checks of the operation group, in order
 abbrev pub asked_in : Operation → IppGroup → List IppAttribute → List ℕ → Result Event Status
 asked_in asked group template document =
     if not (is_utf8 group) then Err CharsetNotSupported
@@ -54,6 +54,6 @@ asked_in asked group template document =
     else if not (is_complete asked group) then Err BadRequest
     else Ok (event_in asked group template document)
 
--- the message isn't a request, or what it asks
+-- the event of a message; BadRequest if the message isn't a request
 abbrev pub event_of : Operation → IppMessage → List ℕ → Result Event Status
 event_of asked message document = option_map_or (λ group. asked_in asked group (job_attributes message) document) (operation_group message) (Err BadRequest)

@@ -1,4 +1,4 @@
--- What is read of a request for a new job: Print-Job, Validate-Job and Create-Job (RFC 8011, sections 4.2.1, 4.2.3 and 4.2.4).
+-- The fields of a request for a new job: Print-Job, Validate-Job and Create-Job (RFC 8011, sections 4.2.1, 4.2.3 and 4.2.4).
 use Rattle.std.specs.Prelude.{ℕ, List, codes}
 use Rattle.ipp_codec.specs.Message.{IppAttribute, IppGroup}
 use Rattle.events.specs.declared.event.JobCreation.{JobCreation}
@@ -10,7 +10,7 @@ use Rattle.ipp_operations.specs.Attributes.{name_or, bytes_of, number_of, truth_
 use Rattle.ipp_operations.specs.Request.{user_of}
 use Rattle.ipp_operations.specs.Target.{printer_target}
 
--- the job that is asked for
+-- the requested job
 abbrev pub asked_job_of : IppGroup → List IppAttribute → JobCreation
 asked_job_of group template = record {
   target = printer_target group;

@@ -1,4 +1,4 @@
--- What is read of a request about one job (RFC 8011, section 4.3).
+-- The fields of a request about one job (RFC 8011, section 4.3).
 use Rattle.std.specs.Prelude.{ℕ, List, Option, Some, None}
 use Rattle.std.specs.Option.{option_map_or}
 use Rattle.base_types.specs.declared.hold.Hold.{Hold}
@@ -18,14 +18,14 @@ use Rattle.ipp_operations.specs.Request.{user_of}
 use Rattle.ipp_operations.specs.Requested.{all_attributes, requested_of}
 use Rattle.ipp_operations.specs.Target.{job_target}
 
--- the job, and who asks
+-- the job, and the user who sends the request
 abbrev pub job_request_of : IppGroup → JobRequest
 job_request_of group = record { target = job_target group; user = user_of group }
 
 abbrev pub send_document_of : IppGroup → List ℕ → SendDocument
 send_document_of group document = record { job = job_request_of group; form = form_of group; octets = document; last = truth_of LastDocument group }
 
--- until when a keyword says that the job is to be held; the attribute of another word is returned
+-- the hold that a keyword asks for; for another word the attribute is returned as unsupported
 abbrev pub hold_until_named : IppGroup → Option Hold → HoldUntil
 hold_until_named group (Some hold.NoHold) = NoHold
 hold_until_named group (Some hold.Indefinite) = Indefinite
@@ -34,7 +34,7 @@ hold_until_named group None = Unsupported (as_it_came JobHoldUntil group)
 abbrev pub hold_until_in : IppGroup → List ℕ → HoldUntil
 hold_until_in group word = hold_until_named group (hold_of_keyword word)
 
--- until when a job is to be held: `indefinite` where nothing is said of it
+-- the hold that a Hold-Job asks for: `indefinite` without job-hold-until
 abbrev pub hold_until_of : IppGroup → HoldUntil
 hold_until_of group = option_map_or (hold_until_in group) (bytes_of JobHoldUntil group) Indefinite
 

@@ -1,4 +1,4 @@
--- The attributes of the operation group that act (RFC 8011, sections 4.1 to 4.3): their names, the values that they may have, and which operation reads which.
+-- The attributes of the operation group that are read (RFC 8011, sections 4.1 to 4.3): their names, the tags of their values, and the operations that read them.
 use Rattle.std.specs.Prelude.{ℕ, Bool, true, false, if◌then◌else◌, List, [], ◌∷◌, codes}
 use Rattle.ipp_codec.specs.Message.{IppValue, IppAttribute}
 use Rattle.printer_objects.specs.declared.operation.Operation.{Operation}
@@ -42,7 +42,7 @@ attribute_syntax Limit = syntax.Integer
 attribute_syntax MyJobs = syntax.Boolean
 attribute_syntax JobHoldUntil = syntax.KeywordOrName
 
--- whether all its values act, or the first alone
+-- whether all values of the attribute are read, or its first alone
 abbrev pub all_values_act : OperationAttribute → Bool
 all_values_act RequestedAttributes = true
 all_values_act _ = false
@@ -50,11 +50,11 @@ all_values_act _ = false
 abbrev pub values_in_order : IppAttribute → List IppValue
 values_in_order attribute = attribute.first ∷ attribute.others
 
--- the values that act
+-- the values that are read
 abbrev pub acting_values : OperationAttribute → IppAttribute → List IppValue
 acting_values which attribute = if all_values_act which then values_in_order attribute else attribute.first ∷ []
 
--- what an operation reads; any other attribute isn't looked at
+-- the attributes that an operation reads; all others are ignored
 abbrev pub attributes_read : Operation → List OperationAttribute
 attributes_read operation.PrintJob = PrinterUri ∷ RequestingUserName ∷ JobName ∷ IppAttributeFidelity ∷ JobImpressions ∷ DocumentFormat ∷ Compression ∷ []
 attributes_read operation.ValidateJob = PrinterUri ∷ RequestingUserName ∷ JobName ∷ IppAttributeFidelity ∷ JobImpressions ∷ DocumentFormat ∷ Compression ∷ []

@@ -1,4 +1,4 @@
--- What an IPP body asks (RFC 8011, section 4.1): its header is looked at first, then its attributes; the document follows them.
+-- The request in an IPP body (RFC 8011, section 4.1): its header is checked first, then its attributes; the document is behind them.
 use Rattle.std.specs.Prelude.{ℕ, ◌≡◌, ◌≤◌, ◌⊎◌, ◌==◌, ◌||◌, not, if◌then◌else◌, List, [], ◌∷◌, take, drop, find, Option, Some, None, option_map, MatchOption, Result, Ok, Err, MatchResult}
 use Rattle.std.specs.Option.{option_map_or}
 use Rattle.std.specs.Int.{w16, w32, from_be_bytes}
@@ -31,11 +31,11 @@ header_of _ = None
 abbrev pub request_id_of : List ℕ → Option ℕ
 request_id_of body = option_map (λ header. header.request_id) (header_of body)
 
--- the operation of a code, if it is one of the table (section 5.4.15)
+-- the operation of a code, if the table has it (section 5.4.15)
 abbrev pub operation_in : ℕ → Option Operation
 operation_in code = find (λ o. operation_code o == code) operation_table
 
--- the operation that a header asks for: the version's major number is 1 or 2 (RFC 8011, section 4.1.8), and the operation is one of the table
+-- the operation of a header: the version's major number has to be 1 or 2 (RFC 8011, section 4.1.8), and the operation has to be in the table
 abbrev pub operation_of : Header → Result Operation Status
 operation_of header =
     if not ((header.major == 1) || (header.major == 2)) then Err status.VersionNotSupported
@@ -45,7 +45,7 @@ abbrev pub status_of : CodecFault → Status
 status_of fault.TooLarge = status.TooLarge
 status_of _ = status.BadRequest
 
--- the first fault of the bytes, or the event of the message that the first of them spell; the document is the others
+-- the status of the first fault of the bytes; or the event of the message that a front of the bytes spells, with the bytes behind it as the document
 abbrev pub Requests : Operation → List ℕ → Result Event Status → Type 0
 Requests asked body event =
     ((fault : CodecFault) × HeadFault body fault × (event ≡ Err (status_of fault)))
@@ -55,11 +55,11 @@ abbrev pub answered : ℕ → Result Event Status → ParsedRequest
 answered id (Ok event) = Comes id event
 answered id (Err status) = Refused status id
 
--- what a body asks that is sent as an operation
+-- the parsed request of a body with an operation
 abbrev pub AsksBy : Operation → ℕ → List ℕ → ParsedRequest → Type 0
 AsksBy operation id body asked = (event : Result Event Status) × Requests operation body event × (asked ≡ answered id event)
 
--- what a body with this header asks
+-- the parsed request of a body with this header
 abbrev pub AsksUnder : Header → List ℕ → ParsedRequest → Type 0
 AsksUnder header body asked =
     MatchResult (operation_of header)

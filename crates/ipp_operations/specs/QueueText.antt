@@ -1,5 +1,4 @@
--- The text of a queue, as an LPD client is sent it (RFC 1179, sections 5.3 and 5.4), and the byte that
--- acknowledges a job (section 6).
+-- The text of a queue for an LPD client (RFC 1179, sections 5.3 and 5.4), and the byte that acknowledges a job (section 6).
 use Rattle.std.specs.Prelude.{ℕ, ◌++◌, ◌==◌, ◌&&◌, ◌||◌, nat_lt, Bool, true, false, if◌then◌else◌, List, [], ◌∷◌, map, Option, Some, None, codes}
 use Rattle.std.specs.Fmt.{decimal}
 use Rattle.std.specs.List.{flat_map}
@@ -20,7 +19,7 @@ use Rattle.ipp_operations.specs.declared.queue_text.TheConstants.{ACCEPTED, REFU
 
 -- ---- words
 
--- a control character is written as a question mark; in what has to be one word a space is too
+-- a control character is written as a question mark; in a name that has to be one word a space is too
 abbrev pub shown_byte : Bool → ℕ → ℕ
 shown_byte one_word byte = if nat_lt byte 32 || (byte == 127) || (one_word && (byte == 32)) then 63 else byte
 
@@ -41,7 +40,7 @@ state_word Job.Canceled = codes "canceled"
 state_word Job.Aborted = codes "aborted"
 state_word Job.Completed = codes "completed"
 
--- a second reason after a comma
+-- the second reason, behind a comma
 abbrev pub further_reason : Option Reason → List ℕ
 further_reason None = []
 further_reason (Some reason) = codes "," ++ keyword_of reason
@@ -51,20 +50,20 @@ reasons_word reasons = keyword_of reasons.first ++ further_reason reasons.second
 
 -- ---- lines
 
--- id, state, owner, octets, name
+-- the line of a job in the short form: id, state, owner, octets, name
 abbrev pub short_line : QueueEntry → List ℕ
 short_line job =
     decimal job.id ++ (codes " " ++ (state_word job.state ++ (codes " " ++ (shown true job.owner ++ (codes " " ++ (decimal job.octets ++ (codes " " ++ (shown false job.name ++ codes "\n"))))))))
 
--- id, state, reasons, with a space behind
+-- the front of the long form: id, state, reasons, with a space behind them
 unfoldable pub long_start : QueueEntry → List ℕ
 long_start job = decimal job.id ++ (codes " " ++ (state_word job.state ++ (codes " " ++ (reasons_word job.reasons ++ codes " "))))
 
--- octets, impressions, copies, between spaces
+-- octets, impressions and copies, with spaces between and around them
 unfoldable pub sizes_of : QueueEntry → List ℕ
 sizes_of job = codes " " ++ (decimal job.octets ++ (codes " " ++ (decimal job.impressions ++ (codes " " ++ (decimal job.copies ++ codes " ")))))
 
--- id, state, reasons, owner, octets, impressions, copies, name
+-- the line of a job in the long form: id, state, reasons, owner, octets, impressions, copies, name
 abbrev pub long_line : QueueEntry → List ℕ
 long_line job = long_start job ++ (shown true job.owner ++ (sizes_of job ++ (shown false job.name ++ codes "\n")))
 
@@ -72,24 +71,24 @@ abbrev pub line_of : QueueForm → QueueEntry → List ℕ
 line_of Short job = short_line job
 line_of Long job = long_line job
 
--- a line for each job, or that there is none
+-- a line for each job, or the line `no entries`
 abbrev pub lines_of : QueueForm → List QueueEntry → List ℕ
 lines_of form [] = codes "no entries\n"
 lines_of form (job ∷ jobs) = flat_map (line_of form) (job ∷ jobs)
 
--- the name and the state of the printer, then its jobs
+-- the name and the state of the printer, and then its jobs
 abbrev pub queue_text : QueueListing → List ℕ
 queue_text listing = listing.name ++ (codes " " ++ (printer_word listing.state ++ (codes "\n" ++ lines_of listing.form listing.jobs.items)))
 
--- ---- answers
+-- ---- responses
 
--- the text that answers a client that lists a queue; an acknowledgement is no text
+-- the text for a client that lists a queue; empty for an acknowledgement
 abbrev pub text_of : LpdResponse → List ℕ
 text_of (Queue listing) = queue_text listing
 text_of NoQueue = codes "no queue\n"
 text_of (Taken taken) = []
 
--- the byte that acknowledges a job that is taken; any other says that there is none
+-- the byte for a client that sent a job: 0 if the job was taken, else 1
 abbrev pub ack_of : LpdResponse → ℕ
 ack_of (Taken true) = ACCEPTED
 ack_of (Taken false) = REFUSED

@@ -1,4 +1,4 @@
--- What a reader of a body has heard, in pieces of any length.
+-- The state of a parser that was fed a body, in pieces of any length.
 use Rattle.std.specs.Prelude.{◌≡◌, ℕ, Bool, true, false, if◌then◌else◌, List, [], length, drop, Result, Ok, Err}
 use Rattle.std.specs.Option.{option_map_or}
 use Rattle.ipp_codec.specs.declared.stage.Stage.{Stage}
@@ -12,12 +12,12 @@ use Rattle.ipp_operations.specs.declared.header.Header.{Header}
 use Rattle.ipp_operations.specs.declared.parsed_request.ParsedRequest.{ParsedRequest}
 use Rattle.ipp_operations.specs.ParsedRequest.{header_of, operation_of, Requests, AsksBy, AsksUnder, Asks}
 
--- a reader: the decoder of the head, and the octets that are kept of the document
+-- the state of a parser: its decoder of the head, and the octets that it keeps of the document
 pub record ReaderState : Type 0 where
   pub decoder : DecoderState
   pub document : List ℕ
 
--- a document follows the attributes of these operations
+-- the operations whose requests have a document behind the attributes
 abbrev pub has_document : Operation → Bool
 has_document PrintJob = true
 has_document SendDocument = true
@@ -27,11 +27,11 @@ abbrev pub sends_document : Result Operation Status → Bool
 sends_document (Ok operation) = has_document operation
 sends_document (Err status) = false
 
--- bytes with such a header have a document that is read
+-- whether the header in these bytes has an operation with a document
 abbrev pub reads_document : List ℕ → Bool
 reads_document head = option_map_or (λ header. sends_document (operation_of header)) (header_of head) false
 
--- what is kept of a document: all of it behind the head, if it is read
+-- the octets that the parser keeps of the document: all behind the head, if the operation has a document
 abbrev pub KeptAt : Stage → List ℕ → ReaderState → Type 0
 KeptAt Whole bytes reader = reader.document ≡ (if reads_document reader.decoder.head then drop (length reader.decoder.head) bytes else [])
 KeptAt _ bytes reader = reader.document ≡ []
@@ -45,9 +45,9 @@ pub record Heard (bytes : List ℕ) (reader : ReaderState) : Type 0 where
 abbrev pub WasFed : DecoderState → Type 0
 WasFed decoder = (bytes : List ℕ) × Stands bytes decoder
 
--- ---- what a whole body asks, of which the decoder was fed all and this document was kept
+-- ---- the parsed request of a whole body, all of which the decoder was fed, and this document
 
--- it is the document of the bytes, where that is read
+-- the document is that of the bytes, if the operation has a document
 abbrev pub Holds : Bool → List ℕ → DecoderState → List ℕ → Type 0
 Holds reads bytes decoder document = reads ≡ true → decoder.stage ≡ Whole → document ≡ drop (length decoder.head) bytes
 

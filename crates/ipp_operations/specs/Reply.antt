@@ -8,7 +8,7 @@ use Rattle.events.specs.declared.status.Status.{Status}
 use Rattle.events.specs.declared.status.Status.TheVariants.{OkIgnoredOrSubstituted, AttributesNotSupported}
 use Rattle.events.specs.Status.{code_of}
 
--- one value
+-- an attribute of one value
 abbrev pub alone : List ℕ → ℕ → List ℕ → IppAttribute
 alone name tag bytes = record { name = name; first = plain tag bytes; others = [] }
 
@@ -19,13 +19,13 @@ opening_group = record {
   attributes = alone (codes "attributes-charset") tags.charset (codes "utf-8") ∷ alone (codes "attributes-natural-language") tags.natural_language (codes "en") ∷ [];
 }
 
--- whether the status tells that something isn't supported (section 4.1.7)
+-- whether the status reports unsupported attributes (section 4.1.7)
 abbrev pub tells_unsupported : Status → Bool
 tells_unsupported OkIgnoredOrSubstituted = true
 tells_unsupported AttributesNotSupported = true
 tells_unsupported _ = false
 
--- what isn't supported, if there is any
+-- the group of the unsupported attributes, if there are any
 abbrev pub unsupported_group : List IppAttribute → List IppGroup
 unsupported_group [] = []
 unsupported_group (attribute ∷ attributes) = record { tag = tags.unsupported_attributes; attributes = attribute ∷ attributes } ∷ []
@@ -33,11 +33,11 @@ unsupported_group (attribute ∷ attributes) = record { tag = tags.unsupported_a
 abbrev pub unsupported_of : Status → List IppAttribute → List IppGroup
 unsupported_of status attributes = if tells_unsupported status then unsupported_group attributes else []
 
--- a reply of version 1.1, with these groups behind the first
+-- a reply of version 1.1, with these groups behind the operation group
 abbrev pub reply_of : Status → ℕ → List IppGroup → IppMessage
 reply_of status id groups = record { major = 1; minor = 1; code = code_of status; request_id = id; groups = opening_group ∷ groups }
 
--- a status alone
+-- the reply of a status without further groups
 abbrev pub refusal_bytes : Status → ℕ → List ℕ
 refusal_bytes status id = spelling (reply_of status id [])
 
@@ -45,6 +45,6 @@ abbrev pub message_of : IppResponse → ℕ → IppMessage
 message_of answer id =
     reply_of answer.status id (unsupported_of answer.status answer.unsupported ++ answer.groups)
 
--- the one spelling of the answer's message
+-- the bytes are the spelling of the response's message
 pub record IsReply (answer : IppResponse) (id : ℕ) (bytes : List ℕ) : Type 0 where
   pub spelt : bytes ≡ spelling (message_of answer id)

@@ -1,4 +1,4 @@
--- The kinds of values that attributes have, and their tags (RFC 8010, section 3.5.2).
+-- The syntaxes of attribute values, and their tags (RFC 8010, section 3.5.2).
 use Rattle.std.specs.Prelude.{ℕ, ◌==◌, Bool, List, [], ◌∷◌}
 use Rattle.std.specs.List.{list_any}
 use Rattle.ipp_codec.specs.Message.{IppValue, tag_of}
@@ -15,10 +15,10 @@ tags_of KeywordOrName = tags.keyword ∷ tags.name ∷ []
 tags_of Uri = tags.uri ∷ []
 tags_of MimeMediaType = tags.mime_media_type ∷ []
 
--- a tag of the syntax
+-- the tag is of the syntax
 abbrev pub has_tag : Syntax → ℕ → Bool
 has_tag syntax tag = list_any (λ known. tag == known) (tags_of syntax)
 
--- a value with a tag of the syntax
+-- the value has a tag of the syntax
 abbrev pub has_syntax : Syntax → IppValue → Bool
 has_syntax syntax value = has_tag syntax (tag_of value)

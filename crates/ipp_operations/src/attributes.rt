@@ -1,4 +1,4 @@
-//! What the attributes of a group say.
+//! The values of a group's attributes.
 ghost use Rattle.std.specs.Prelude.{◌≡◌, option_map, IfOk};
 ghost use Rattle.std.specs.List.{list_all};
 ghost use Rattle.ipp_codec.specs.Views.{attribute_shown, value_shown, group_shown};
@@ -24,7 +24,7 @@ pub(crate) fn first_named<'a>(group: &GroupView<'a>, name: &[u8]) -> Option<Attr
     None
 }
 
-/// An attribute, where it is there: the first of its name.
+/// The first attribute of its name, if the group has it.
 pub(crate) fn attribute_of<'a>(
     group: &GroupView<'a>,
     which: OperationAttribute,
@@ -34,14 +34,14 @@ pub(crate) fn attribute_of<'a>(
     first_named(group, which.name())
 }
 
-/// Whether an attribute is there.
+/// Returns whether the group has an attribute.
 pub(crate) fn has(group: &GroupView<'_>, which: OperationAttribute) -> bool
     ensures { result ≡ has which (group_shown group.now) }
 {
     attribute_of(group, which).is_some()
 }
 
-/// The first value of an attribute, where it is there.
+/// The first value of an attribute, if the group has it.
 pub(crate) fn value_of<'a>(
     group: &GroupView<'a>,
     which: OperationAttribute,
@@ -54,7 +54,7 @@ pub(crate) fn value_of<'a>(
     }
 }
 
-/// Whether each value of an attribute has a tag of a syntax.
+/// Returns whether each value of an attribute has a tag of a syntax.
 fn all_have_syntax(attribute: &AttributeView<'_>, syntax: Syntax) -> bool
     ensures { result ≡ list_all (has_syntax syntax) (values_in_order (attribute_shown attribute.now)) }
 {
@@ -66,7 +66,8 @@ fn all_have_syntax(attribute: &AttributeView<'_>, syntax: Syntax) -> bool
     true
 }
 
-/// Whether each value of an attribute that acts has a tag of its syntax, where it is there.
+/// Returns whether each value of an attribute that is read has a tag of its syntax; true if the group doesn't
+/// have the attribute.
 fn is_tagged(group: &GroupView<'_>, which: OperationAttribute) -> bool
     ensures { result ≡ is_tagged (group_shown group.now) which }
 {
@@ -78,7 +79,7 @@ fn is_tagged(group: &GroupView<'_>, which: OperationAttribute) -> bool
     }
 }
 
-/// Whether each of these attributes that is there has a tag of its syntax.
+/// Returns whether each attribute of `read` that the group has is tagged with its syntax.
 pub(crate) fn are_tagged(group: &GroupView<'_>, read: &[OperationAttribute]) -> bool
     ensures { result ≡ list_all (is_tagged (group_shown group.now)) read.now }
 {
@@ -90,7 +91,7 @@ pub(crate) fn are_tagged(group: &GroupView<'_>, read: &[OperationAttribute]) -> 
     true
 }
 
-/// What stands behind a language, which is counted, and the count of the text.
+/// The bytes behind a counted language and the length of the text.
 fn behind_language(bytes: &[u8]) -> &[u8]
     ensures { result.now ≡ behind_language bytes.now }
 {
@@ -112,7 +113,8 @@ fn name_in<'a>(value: &ValueView<'a>) -> &'a [u8]
     }
 }
 
-/// A copy of the name that an attribute is, or of a default where it isn't there.
+/// A copy of the attribute's name, or of a default if the group doesn't have it. The only error is out of
+/// memory.
 pub(crate) fn name_or(
     alloc: Global,
     group: &GroupView<'_>,
@@ -127,7 +129,7 @@ pub(crate) fn name_or(
     }
 }
 
-/// A copy of the bytes of an attribute, where it is there.
+/// A copy of the attribute's bytes, if the group has it. The only error is out of memory.
 pub(crate) fn bytes_of(
     alloc: Global,
     group: &GroupView<'_>,
@@ -141,7 +143,7 @@ pub(crate) fn bytes_of(
     }
 }
 
-/// The integer of an attribute, where it is there and isn't negative.
+/// The attribute's integer, if the group has it and it isn't negative.
 pub(crate) fn number_of(group: &GroupView<'_>, which: OperationAttribute) -> Option<u32>
     ensures { result ≡ number_of which (group_shown group.now) }
 {
@@ -149,7 +151,7 @@ pub(crate) fn number_of(group: &GroupView<'_>, which: OperationAttribute) -> Opt
     u32::try_from(number).ok()
 }
 
-/// The truth of an attribute; false where it isn't there.
+/// The attribute's truth value; false if the group doesn't have it.
 pub(crate) fn truth_of(group: &GroupView<'_>, which: OperationAttribute) -> bool
     ensures { result ≡ truth_of which (group_shown group.now) }
 {

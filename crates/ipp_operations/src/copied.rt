@@ -1,4 +1,4 @@
-//! Attributes of a request that are kept: copies of what came.
+//! Copies of a request's attributes.
 ghost use Rattle.std.specs.Prelude.{◌≡◌, ◌∷◌, [], IfOk};
 ghost use Rattle.ipp_codec.specs.Grammar.{IsAttribute, IsGroup};
 ghost use Rattle.ipp_codec.specs.Views.{group_shown};
@@ -11,7 +11,8 @@ use job_template::RequestAttributes;
 use std::alloc::{AllocError, Global};
 use std::collections::BTreeSet;
 
-/// An attribute as it came, with all its values; none where it isn't there.
+/// The attribute with all its values, unchanged; empty if the group doesn't have it. The only error is out of
+/// memory.
 pub(crate) fn as_it_came(
     alloc: Global,
     group: &GroupView<'_>,
@@ -26,7 +27,7 @@ pub(crate) fn as_it_came(
     }
 }
 
-/// One attribute.
+/// A list of one attribute.
 fn alone(alloc: Global, attribute: Attribute) -> Result<RequestAttributes, AllocError>
     requires { IsAttribute attribute }
     ensures { IfOk result (λ attributes. attributes ≡ attribute ∷ []) }
@@ -36,7 +37,7 @@ fn alone(alloc: Global, attribute: Attribute) -> Result<RequestAttributes, Alloc
     Ok(RequestAttributes::from_vec(attributes))
 }
 
-/// The attributes of a group as they came, the first of each name.
+/// The attributes of a group, unchanged, the first of each name. The only error is out of memory.
 pub(crate) fn first_of_each(
     alloc: Global,
     group: &GroupView<'_>,

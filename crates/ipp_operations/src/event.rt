@@ -1,4 +1,4 @@
-//! What a message asks, by its operation.
+//! The event of a message, by its operation.
 ghost use Rattle.std.specs.Prelude.{◌≡◌, IfOk, OnErr};
 ghost use Rattle.ipp_codec.specs.Grammar.{IsGroup, IsMessage};
 ghost use Rattle.ipp_codec.specs.Views.{group_shown, message_shown};
@@ -60,8 +60,8 @@ fn asked_in(
     Ok(Ok(event_in(alloc, operation, message, group, document)?))
 }
 
-/// Whether a request has what it can't be without: the job or the printer that it is for, and in a
-/// Send-Document whether a document follows.
+/// Returns whether a request has the attributes that it must have: those of its job or its printer, and in a
+/// Send-Document last-document.
 fn is_complete(operation: Operation, group: &GroupView<'_>) -> bool
     ensures { result ≡ is_complete operation (group_shown group.now) }
 {

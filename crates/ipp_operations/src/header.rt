@@ -9,13 +9,13 @@ use printer_objects::Operation;
 #[derive(Clone, Copy, Debug, PartialEq, Eq)]
 pub(crate) struct Header {
     pub major: u8,
-    /// The operation's code.
+    /// The code of the operation.
     pub operation: u16,
-    /// The number that the reply repeats.
+    /// The request-id, which the reply repeats.
     pub request_id: u32,
 }
 
-/// The header of a body that has a whole one.
+/// The header of a body, if the body has a whole one.
 pub(crate) fn header_of(body: &[u8]) -> Option<Header>
     ensures { result ≡ header_of body.now }
 {
@@ -29,15 +29,15 @@ pub(crate) fn header_of(body: &[u8]) -> Option<Header>
     })
 }
 
-/// The request-id of a body that has a whole header. It takes no memory.
+/// The request-id of a body, if the body has a whole header. It takes no memory.
 pub fn request_id(body: &[u8]) -> Option<u32>
     ensures { result ≡ request_id_of body.now }
 {
     header_of(body).map(|header| header.request_id)
 }
 
-/// The operation that a header asks for, or why it is refused: it has another version, or asks for an
-/// operation that isn't in the table.
+/// The operation of a header. The error is the status of its refusal: its version isn't supported, or its
+/// operation isn't in the table.
 pub(crate) fn operation_of(header: Header) -> Result<Operation, Status>
     ensures { result ≡ operation_of header }
 {
@@ -50,7 +50,7 @@ pub(crate) fn operation_of(header: Header) -> Result<Operation, Status>
     }
 }
 
-/// The operation of a code, if it is one of the table.
+/// The operation of a code, if the table has it.
 fn operation_in(code: u16) -> Option<Operation>
     ensures { result ≡ operation_in code }
 {

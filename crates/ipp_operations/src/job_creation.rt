@@ -1,4 +1,4 @@
-//! What is read of a request for a new job: Print-Job, Validate-Job and Create-Job.
+//! The fields of a request for a new job: Print-Job, Validate-Job and Create-Job.
 ghost use Rattle.std.specs.Prelude.{◌≡◌, IfOk, OnErr};
 ghost use Rattle.ipp_codec.specs.Grammar.{IsMessage};
 ghost use Rattle.ipp_codec.specs.Views.{group_shown, message_shown};
@@ -14,7 +14,7 @@ use ipp_codec::{GroupView, MessageView};
 use octets::{Octets, Pages};
 use std::alloc::{AllocError, Global};
 
-/// The job that is asked for, with the message's job group as its template.
+/// The requested job, with the message's job group as its template. The only error is out of memory.
 pub(crate) fn asked_job_of(
     alloc: Global,
     message: &MessageView<'_>,
@@ -33,7 +33,7 @@ pub(crate) fn asked_job_of(
     })
 }
 
-/// The form in which the document is sent.
+/// The form in which the document is sent. The only error is out of memory.
 pub(crate) fn form_of(alloc: Global, group: &GroupView<'_>) -> Result<DocumentForm, AllocError>
     ensures { IfOk result (λ form. form ≡ form_of (group_shown group.now)) }
 {
@@ -43,7 +43,7 @@ pub(crate) fn form_of(alloc: Global, group: &GroupView<'_>) -> Result<DocumentFo
     })
 }
 
-/// What is read of a Print-Job. The document goes to it, if all memory that is needed is there.
+/// The fields of a Print-Job. They take the document, unless memory is refused.
 pub(crate) fn print_job_of(
     alloc: Global,
     message: &MessageView<'_>,
@@ -60,7 +60,8 @@ pub(crate) fn print_job_of(
     Ok(PrintJob { job, form, octets })
 }
 
-/// What is read of a Validate-Job; what follows its attributes isn't looked at.
+/// The fields of a Validate-Job. The bytes behind its attributes are ignored. The only error is out of
+/// memory.
 pub(crate) fn validate_job_of(
     alloc: Global,
     message: &MessageView<'_>,

@@ -1,4 +1,4 @@
-//! What is read of a request about one job.
+//! The fields of a request about one job.
 ghost use Rattle.std.specs.Prelude.{◌≡◌, IfOk, OnErr};
 ghost use Rattle.ipp_codec.specs.Grammar.{IsGroup};
 ghost use Rattle.ipp_codec.specs.Views.{group_shown};
@@ -17,7 +17,7 @@ use ipp_codec::GroupView;
 use octets::{Octets, Pages};
 use std::alloc::{AllocError, Global};
 
-/// The job that a request is about, and who asks.
+/// The job of a request, and the user who sends it. The only error is out of memory.
 pub(crate) fn job_request_of(alloc: Global, group: &GroupView<'_>) -> Result<JobRequest, AllocError>
     ensures { IfOk result (λ request. request ≡ job_request_of (group_shown group.now)) }
 {
@@ -27,7 +27,7 @@ pub(crate) fn job_request_of(alloc: Global, group: &GroupView<'_>) -> Result<Job
     })
 }
 
-/// What is read of a Send-Document. The document goes to it, if all memory that is needed is there.
+/// The fields of a Send-Document. They take the document, unless memory is refused.
 pub(crate) fn send_document_of(
     alloc: Global,
     group: &GroupView<'_>,
@@ -47,7 +47,7 @@ pub(crate) fn send_document_of(
     })
 }
 
-/// Until when a job is to be held.
+/// The hold that a Hold-Job asks for. The only error is out of memory.
 fn hold_until_of(alloc: Global, group: &GroupView<'_>) -> Result<HoldUntil, AllocError>
     requires { IsGroup (group_shown group.now) }
     ensures { IfOk result (λ until. until ≡ hold_until_of (group_shown group.now)) }
@@ -63,7 +63,7 @@ fn hold_until_of(alloc: Global, group: &GroupView<'_>) -> Result<HoldUntil, Allo
     }
 }
 
-/// What is read of a Hold-Job.
+/// The fields of a Hold-Job. The only error is out of memory.
 pub(crate) fn hold_job_of(alloc: Global, group: &GroupView<'_>) -> Result<HoldJob, AllocError>
     requires { IsGroup (group_shown group.now) }
     ensures { IfOk result (λ request. request ≡ hold_job_of (group_shown group.now)) }
@@ -74,7 +74,7 @@ pub(crate) fn hold_job_of(alloc: Global, group: &GroupView<'_>) -> Result<HoldJo
     })
 }
 
-/// What is read of a Get-Job-Attributes.
+/// The fields of a Get-Job-Attributes. The only error is out of memory.
 pub(crate) fn get_job_attributes_of(
     alloc: Global,
     group: &GroupView<'_>,

@@ -1,11 +1,11 @@
-//! A law of requests. Its function does nothing: its contract is what it is for.
+//! A law of requests, as the contract of a function that does nothing.
 ghost use Rattle.std.specs.Prelude.{◌≡◌, ℕ, List};
 ghost use Rattle.ipp_operations.specs.ParsedRequest.{Asks};
 ghost use Rattle.ipp_operations.specs.declared.parsed_request.ParsedRequest.{ParsedRequest};
 
 use ipp_codec::{one_first_fault, one_spelling};
 
-/// A body asks one thing.
+/// Two parsed requests of one body are equal.
 pub fn one_asked()
     ensures { (body : List ℕ) (given said : ParsedRequest) → Asks body given → Asks body said → given ≡ said }
 {

@@ -1,13 +1,13 @@
-//! IPP's operations (RFC 8011): what bodies ask of the core, and what it answers, in bytes.
+//! The operations of IPP (RFC 8011): the events in bodies, and the core's responses as bytes.
 //!
-//! [`ipp_event`] says exactly which bodies are events, and with which status each other body is
-//! answered; a body asks one thing ([`one_asked`]). A [`RequestParser`] says the same of a body that comes
-//! in pieces. Which attributes an operation reads, with which tags, is one table (`operation_attribute`).
-//! [`ipp_response`] and [`ipp_refusal`] say each byte of a reply. The core answers LPD clients (RFC 1179)
-//! too: [`lpd_ack`] and [`lpd_queue_text`] say what they are sent.
+//! [`ipp_event`] returns the event of a body, or the status with which the body is refused. Two parsed
+//! requests of one body are equal ([`one_asked`]). A [`RequestParser`] parses a body that comes in pieces,
+//! with the same result. The table `operation_attribute` has the attributes that an operation reads, with
+//! their tags. The contracts of [`ipp_response`] and [`ipp_refusal`] determine each byte of a reply. Those of
+//! [`lpd_ack`] and [`lpd_queue_text`] determine each byte that an LPD client (RFC 1179) is sent.
 //!
-//! Nothing here knows what the core does with an event, nor over which wire a body comes. `docs/IPP.md`
-//! has the rules for someone who writes a client. Its rows are traces of `play_examples`.
+//! The crate doesn't apply an event, and reads from no wire. `docs/IPP.md` has the rules for authors of
+//! clients. Its rows are traces of `play_examples`.
 #![tactic(auto)]
 
 mod attributes;

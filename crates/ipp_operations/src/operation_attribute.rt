@@ -1,4 +1,4 @@
-//! The attributes of the operation group that act, as a table, and which operation reads which.
+//! The table of attributes of the operation group that are read, and of the operations that read them.
 ghost use Rattle.std.specs.Prelude.{◌≡◌};
 ghost use Rattle.ipp_operations.specs.OperationAttribute.{attribute_name, attribute_syntax, all_values_act, attributes_read};
 
@@ -26,7 +26,7 @@ pub(crate) enum OperationAttribute {
 }
 
 impl OperationAttribute {
-    /// Its name.
+    /// The name of the attribute.
     pub fn name(self) -> &'static [u8]
         ensures { result.now ≡ attribute_name self }
     {
@@ -49,7 +49,7 @@ impl OperationAttribute {
         }
     }
 
-    /// The syntax of its values.
+    /// The syntax of the attribute's values.
     pub fn syntax(self) -> Syntax
         ensures { result ≡ attribute_syntax self }
     {
@@ -72,7 +72,7 @@ impl OperationAttribute {
         }
     }
 
-    /// Whether all its values act; of any other attribute the first acts alone.
+    /// Returns whether all values of the attribute are read; of any other attribute the first alone is.
     pub fn all_values_act(self) -> bool
         ensures { result ≡ all_values_act self }
     {
@@ -80,7 +80,7 @@ impl OperationAttribute {
     }
 }
 
-/// What Print-Job and Validate-Job read.
+/// The attributes that Print-Job and Validate-Job read.
 const OF_DOCUMENT_JOB: [OperationAttribute; 7] = [
     OperationAttribute::PrinterUri,
     OperationAttribute::RequestingUserName,
@@ -91,7 +91,7 @@ const OF_DOCUMENT_JOB: [OperationAttribute; 7] = [
     OperationAttribute::Compression,
 ];
 
-/// What Create-Job reads.
+/// The attributes that Create-Job reads.
 const OF_CREATE_JOB: [OperationAttribute; 5] = [
     OperationAttribute::PrinterUri,
     OperationAttribute::RequestingUserName,
@@ -100,7 +100,7 @@ const OF_CREATE_JOB: [OperationAttribute; 5] = [
     OperationAttribute::JobImpressions,
 ];
 
-/// What Send-Document reads.
+/// The attributes that Send-Document reads.
 const OF_SEND_DOCUMENT: [OperationAttribute; 7] = [
     OperationAttribute::PrinterUri,
     OperationAttribute::RequestingUserName,
@@ -111,7 +111,7 @@ const OF_SEND_DOCUMENT: [OperationAttribute; 7] = [
     OperationAttribute::LastDocument,
 ];
 
-/// What Cancel-Job and Release-Job read.
+/// The attributes that Cancel-Job and Release-Job read.
 const OF_JOB: [OperationAttribute; 4] = [
     OperationAttribute::PrinterUri,
     OperationAttribute::RequestingUserName,
@@ -119,7 +119,7 @@ const OF_JOB: [OperationAttribute; 4] = [
     OperationAttribute::JobId,
 ];
 
-/// What Get-Job-Attributes reads.
+/// The attributes that Get-Job-Attributes reads.
 const OF_GET_JOB_ATTRIBUTES: [OperationAttribute; 5] = [
     OperationAttribute::PrinterUri,
     OperationAttribute::RequestingUserName,
@@ -128,7 +128,7 @@ const OF_GET_JOB_ATTRIBUTES: [OperationAttribute; 5] = [
     OperationAttribute::RequestedAttributes,
 ];
 
-/// What Get-Jobs reads.
+/// The attributes that Get-Jobs reads.
 const OF_GET_JOBS: [OperationAttribute; 6] = [
     OperationAttribute::PrinterUri,
     OperationAttribute::RequestingUserName,
@@ -138,14 +138,14 @@ const OF_GET_JOBS: [OperationAttribute; 6] = [
     OperationAttribute::MyJobs,
 ];
 
-/// What Get-Printer-Attributes reads.
+/// The attributes that Get-Printer-Attributes reads.
 const OF_GET_PRINTER_ATTRIBUTES: [OperationAttribute; 3] = [
     OperationAttribute::PrinterUri,
     OperationAttribute::RequestingUserName,
     OperationAttribute::RequestedAttributes,
 ];
 
-/// What Hold-Job reads.
+/// The attributes that Hold-Job reads.
 const OF_HOLD_JOB: [OperationAttribute; 5] = [
     OperationAttribute::PrinterUri,
     OperationAttribute::RequestingUserName,
@@ -154,13 +154,13 @@ const OF_HOLD_JOB: [OperationAttribute; 5] = [
     OperationAttribute::JobHoldUntil,
 ];
 
-/// What Pause-Printer and Resume-Printer read.
+/// The attributes that Pause-Printer and Resume-Printer read.
 const OF_PRINTER: [OperationAttribute; 2] = [
     OperationAttribute::PrinterUri,
     OperationAttribute::RequestingUserName,
 ];
 
-/// The attributes that an operation reads; no other is looked at.
+/// The attributes that an operation reads. All others are ignored.
 pub(crate) fn attributes_read(operation: Operation) -> &'static [OperationAttribute]
     ensures { result.now ≡ attributes_read operation }
 {

@@ -1,4 +1,4 @@
-//! What a body asks.
+//! The parsed request of a body.
 ghost use Rattle.std.specs.Prelude.{◌≡◌, IfOk, OnErr};
 ghost use Rattle.ipp_operations.specs.ParsedRequest.{Asks, status_of};
 ghost use Rattle.ipp_operations.specs.Reader.{WasFed, AsksOf, AsksUnderOf, AsksByOf, RequestsOf};
@@ -12,19 +12,19 @@ use octets::Pages;
 use printer_objects::Operation;
 use std::alloc::{AllocError, Global};
 
-/// What an IPP body comes to.
+/// A parsed IPP body.
 #[derive(Drop)]
 pub enum ParsedRequest {
-    /// It has no whole header.
+    /// The body has no whole header.
     TooShort,
-    /// It is answered a status, under this request-id, and is no event.
+    /// The request is refused with a status, under this request-id.
     Refused(Status, u32),
-    /// It is an event, to be answered under this request-id.
+    /// The event of the request, whose reply is due under this request-id.
     Event(u32, Event),
 }
 
-/// The event of an IPP body, or the status of the first check that it fails (RFC 8011, section
-/// 4.1). The error is out of memory.
+/// Parses an IPP body: returns its event, or the status of the first check that fails (RFC 8011, section
+/// 4.1). The only error is out of memory.
 pub fn ipp_event(alloc: Global, body: &[u8]) -> Result<ParsedRequest, AllocError>
     ensures { IfOk result (λ asked. Asks body.now asked) }
 {
@@ -33,8 +33,8 @@ pub fn ipp_event(alloc: Global, body: &[u8]) -> Result<ParsedRequest, AllocError
     reader.finish()
 }
 
-/// What a body asks whose head was fed to a decoder. Its document goes to the event, if all memory
-/// that is needed is there.
+/// The parsed request of a body whose head was fed to a decoder. Its event takes the document, unless memory
+/// is refused.
 pub(crate) fn parsed(
     alloc: Global,
     decoder: &Decoder,
@@ -50,7 +50,7 @@ pub(crate) fn parsed(
     }
 }
 
-/// What a body with this header asks.
+/// The parsed request of a body with this header.
 fn asked_under(
     alloc: Global,
     header: Header,
@@ -67,7 +67,7 @@ fn asked_under(
     }
 }
 
-/// What a body asks that is sent as an operation, under this request-id.
+/// The parsed request of a body with an operation, under this request-id.
 fn asked_by(
     alloc: Global,
     request_id: u32,
@@ -85,7 +85,7 @@ fn asked_by(
     }
 }
 
-/// The event of a body, or the status of the first check that it fails after its header.
+/// The event of a body, or the status of the first check behind the header that fails.
 fn event_by(
     alloc: Global,
     operation: Operation,
@@ -102,7 +102,7 @@ fn event_by(
     }
 }
 
-/// The status of a fault.
+/// The status of a fault of the encoding.
 fn status_of(fault: CodecFault) -> Status
     ensures { result ≡ status_of fault }
 {

@@ -1,4 +1,4 @@
-//! What is read of a request about a printer and its jobs.
+//! The fields of a request about a printer and its jobs.
 ghost use Rattle.std.specs.Prelude.{◌≡◌, IfOk};
 ghost use Rattle.ipp_codec.specs.Grammar.{IsGroup};
 ghost use Rattle.ipp_codec.specs.Views.{group_shown};
@@ -14,7 +14,7 @@ use events::{GetJobs, GetPrinterAttributes, PrinterRequest, WhichJobs};
 use ipp_codec::GroupView;
 use std::alloc::{AllocError, Global};
 
-/// The printer that a request is about, and who asks.
+/// The printer of a request, and the user who sends it. The only error is out of memory.
 pub(crate) fn printer_request_of(
     alloc: Global,
     group: &GroupView<'_>,
@@ -27,7 +27,7 @@ pub(crate) fn printer_request_of(
     })
 }
 
-/// What is read of a Get-Printer-Attributes.
+/// The fields of a Get-Printer-Attributes. The only error is out of memory.
 pub(crate) fn get_printer_attributes_of(
     alloc: Global,
     group: &GroupView<'_>,
@@ -40,7 +40,7 @@ pub(crate) fn get_printer_attributes_of(
     })
 }
 
-/// Which jobs are asked for.
+/// The jobs that a Get-Jobs asks for. The only error is out of memory.
 fn which_of(alloc: Global, group: &GroupView<'_>) -> Result<WhichJobs, AllocError>
     requires { IsGroup (group_shown group.now) }
     ensures { IfOk result (λ which. which ≡ which_of (group_shown group.now)) }
@@ -59,7 +59,7 @@ fn which_of(alloc: Global, group: &GroupView<'_>) -> Result<WhichJobs, AllocErro
     }
 }
 
-/// How many jobs are asked for at most, where that is limited.
+/// The most jobs that the reply may have, if the request limits them.
 fn limit_of(group: &GroupView<'_>) -> Option<u32>
     ensures { result ≡ limit_of (group_shown group.now) }
 {
@@ -67,7 +67,7 @@ fn limit_of(group: &GroupView<'_>) -> Option<u32>
     if limit >= 1 { Some(limit) } else { None }
 }
 
-/// What is read of a Get-Jobs.
+/// The fields of a Get-Jobs. The only error is out of memory.
 pub(crate) fn get_jobs_of(alloc: Global, group: &GroupView<'_>) -> Result<GetJobs, AllocError>
     requires { IsGroup (group_shown group.now) }
     ensures { IfOk result (λ request. request ≡ get_jobs_of (group_shown group.now)) }

@@ -1,5 +1,5 @@
-//! The text of a queue, as an LPD client is sent it (RFC 1179, sections 5.3 and 5.4), and the byte that
-//! acknowledges a job (section 6).
+//! The text of a queue for an LPD client (RFC 1179, sections 5.3 and 5.4), and the byte that acknowledges a
+//! job (section 6).
 ghost use Rattle.std.specs.Prelude.{◌≡◌, ◌++◌, IfOk, OnOk};
 ghost use Rattle.std.specs.List.{flat_map};
 ghost use Rattle.ipp_operations.specs.QueueText.{ack_of, line_of, lines_of, long_line, long_start, printer_word, queue_text, reasons_word, short_line, shown, sizes_of, shown_byte, state_word, text_of};
@@ -9,6 +9,7 @@ use job_objects::{JobReasons, JobState};
 use printer_objects::PrinterState;
 use std::alloc::{AllocError, Global};
 
+<<<<<<< HEAD
 /// The byte that accepts what an LPD client sent (RFC 1179, section 6).
 pub const ACCEPTED: u8 = 0;
 
@@ -17,6 +18,9 @@ pub const REFUSED: u8 = 1;
 
 /// The byte that answers an LPD client once its files make a job: [`ACCEPTED`] where the job was taken, else
 /// [`REFUSED`].
+=======
+/// The byte for an LPD client whose files are a whole job: 0 if the job was taken, else 1.
+>>>>>>> h3
 pub fn lpd_ack(answer: &LpdResponse) -> u8
     ensures { result ≡ ack_of answer.now }
 {
@@ -27,7 +31,7 @@ pub fn lpd_ack(answer: &LpdResponse) -> u8
     }
 }
 
-/// The text that answers an LPD client that lists a queue. The only error is out of memory.
+/// The text for an LPD client that lists a queue. The only error is out of memory.
 pub fn lpd_queue_text(alloc: Global, answer: &LpdResponse) -> Result<Vec<u8>, AllocError>
     ensures { IfOk result (λ text. text.items ≡ text_of answer.now) }
 {
@@ -38,7 +42,7 @@ pub fn lpd_queue_text(alloc: Global, answer: &LpdResponse) -> Result<Vec<u8>, Al
     }
 }
 
-/// The text of a listing: the name and the state of the printer, then its jobs.
+/// The text of a listing: the name and the state of the printer, and then its jobs.
 fn queue_text(alloc: Global, listing: &QueueListing) -> Result<Vec<u8>, AllocError>
     ensures { IfOk result (λ text. text.items ≡ queue_text listing.now) }
 {
@@ -50,7 +54,7 @@ fn queue_text(alloc: Global, listing: &QueueListing) -> Result<Vec<u8>, AllocErr
     Ok(text)
 }
 
-/// Appends a line for each job, or that there is none.
+/// Appends a line for each job, or the line `no entries`.
 fn put_lines(
     alloc: Global,
     text: &mut Vec<u8>,
@@ -122,7 +126,7 @@ fn long_line(alloc: Global, job: &QueueEntry) -> Result<Vec<u8>, AllocError>
     Ok(line)
 }
 
-/// What the long form says in front of the owner: the id, the state, and why the job is in it.
+/// The front of the long form, before the owner: the id, the state and its reasons.
 #[tactic(auto, unfolding(crate::specs::QueueText::long_start))]
 fn long_start(alloc: Global, job: &QueueEntry) -> Result<Vec<u8>, AllocError>
     ensures { IfOk result (λ start. start.items ≡ long_start job.now) }
@@ -136,7 +140,7 @@ fn long_start(alloc: Global, job: &QueueEntry) -> Result<Vec<u8>, AllocError>
     Ok(start)
 }
 
-/// What the long form says of the size of a job: its octets, its impressions and its copies.
+/// The sizes of a job in the long form: its octets, its impressions and its copies.
 #[tactic(auto, unfolding(crate::specs::QueueText::sizes_of))]
 fn sizes_of(alloc: Global, job: &QueueEntry) -> Result<Vec<u8>, AllocError>
     ensures { IfOk result (λ words. words.items ≡ sizes_of job.now) }
@@ -148,7 +152,7 @@ fn sizes_of(alloc: Global, job: &QueueEntry) -> Result<Vec<u8>, AllocError>
     Vec::from_slice(alloc, words.as_bytes())
 }
 
-/// Appends why a job is in its state: one keyword, or two with a comma between.
+/// Appends the reasons of a job's state: one keyword, or two with a comma between.
 fn put_reasons(line: &mut Vec<u8>, reasons: JobReasons) -> Result<(), AllocError>
     ensures { OnOk result (line.new.items ≡ line.old.items ++ reasons_word reasons) }
 {
@@ -160,7 +164,7 @@ fn put_reasons(line: &mut Vec<u8>, reasons: JobReasons) -> Result<(), AllocError
     Ok(())
 }
 
-/// The bytes of a name as they are written.
+/// The written form of a name.
 fn shown(alloc: Global, one_word: bool, bytes: &[u8]) -> Result<Vec<u8>, AllocError>
     ensures { IfOk result (λ written. written.items ≡ shown one_word bytes.now) }
 {
@@ -171,7 +175,7 @@ fn shown(alloc: Global, one_word: bool, bytes: &[u8]) -> Result<Vec<u8>, AllocEr
     Ok(written)
 }
 
-/// A byte as it is written: a control character as a question mark, and a space too where the name has
+/// The written form of a byte: a control character is a question mark, and so is a space in a name that has
 /// to be one word.
 fn shown_byte(one_word: bool, byte: u8) -> u8
     ensures { result ≡ shown_byte one_word byte }
@@ -194,7 +198,7 @@ fn printer_word(state: PrinterState) -> &'static str
     }
 }
 
-/// The word of a job's state. No finished job is listed.
+/// The word of a job's state. A listing has no finished jobs.
 fn state_word(state: JobState) -> &'static str
     ensures { result.now ≡ state_word state }
 {

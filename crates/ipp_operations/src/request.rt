@@ -1,4 +1,4 @@
-//! Which messages are requests, and who asks.
+//! The messages that are requests, and their users.
 ghost use Rattle.std.specs.Prelude.{◌≡◌, option_map, IfOk};
 ghost use Rattle.ipp_codec.specs.Grammar.{IsMessage};
 ghost use Rattle.ipp_codec.specs.Views.{attribute_shown, group_shown, message_shown};
@@ -12,7 +12,7 @@ use ipp_codec::{AttributeView, GroupTag, GroupView, MessageView, ValueTag};
 use job_template::RequestAttributes;
 use std::alloc::{AllocError, Global};
 
-/// The operation group of a request, which is its first group; none where the message is no request.
+/// The operation group of a request, which is its first group; `None` if the message isn't a request.
 pub(crate) fn operation_group<'a>(message: &MessageView<'a>) -> Option<GroupView<'a>>
     ensures { option_map group_shown result ≡ operation_group (message_shown message.now) }
 {
@@ -27,21 +27,21 @@ pub(crate) fn operation_group<'a>(message: &MessageView<'a>) -> Option<GroupView
     }
 }
 
-/// Whether a number is a request-id, whose syntax is `integer(1:MAX)` (RFC 8011, section 4.1.2).
+/// Returns whether a number is a request-id, whose syntax is `integer(1:MAX)` (RFC 8011, section 4.1.2).
 fn is_request_id(id: u32) -> bool
     ensures { result ≡ is_request_id id }
 {
     1 <= id && id <= Limits::LAST_INTEGER
 }
 
-/// Whether a group is the operation group of a request.
+/// Returns whether a group is the operation group of a request.
 fn is_operation_group(group: &GroupView<'_>) -> bool
     ensures { result ≡ is_operation_group (group_shown group.now) }
 {
     group.tag() == GroupTag::OPERATION && begins_request(group)
 }
 
-/// The first job group.
+/// The first job group, if there is one.
 fn job_group<'a>(message: &MessageView<'a>) -> Option<GroupView<'a>>
     ensures { option_map group_shown result ≡ job_group (message_shown message.now) }
 {
@@ -53,7 +53,7 @@ fn job_group<'a>(message: &MessageView<'a>) -> Option<GroupView<'a>>
     None
 }
 
-/// The attributes of the job group, as they came, the first of each name.
+/// The attributes of the job group, unchanged, the first of each name. The only error is out of memory.
 pub(crate) fn job_attributes(
     alloc: Global,
     message: &MessageView<'_>,
@@ -67,7 +67,7 @@ pub(crate) fn job_attributes(
     }
 }
 
-/// Whether the group begins with the charset and the natural language.
+/// Returns whether the group begins with the charset and the natural language.
 fn begins_request(group: &GroupView<'_>) -> bool
     ensures { result ≡ begins_request (group_shown group.now).attributes }
 {
@@ -83,14 +83,14 @@ fn begins_request(group: &GroupView<'_>) -> bool
         )
 }
 
-/// Whether the attribute has this name, and its first value this tag.
+/// Returns whether an attribute has a name, and its first value a tag.
 fn is_named(attribute: &AttributeView<'_>, name: &[u8], tag: ValueTag) -> bool
     ensures { result ≡ is_named name.now tag (attribute_shown attribute.now) }
 {
     attribute.name() == name && attribute.first().tag() == tag
 }
 
-/// Whether the charset is utf-8, in any case of its letters.
+/// Returns whether the charset is utf-8, without regard to the case of ASCII letters.
 pub(crate) fn is_utf8(group: &GroupView<'_>) -> bool
     ensures { result ≡ is_utf8 (group_shown group.now) }
 {
@@ -100,7 +100,7 @@ pub(crate) fn is_utf8(group: &GroupView<'_>) -> bool
     }
 }
 
-/// Who asks, as claimed.
+/// The user who sends the request, as the request claims. The only error is out of memory.
 pub(crate) fn user_of(alloc: Global, group: &GroupView<'_>) -> Result<Text, AllocError>
     ensures { IfOk result (λ user. user ≡ user_of (group_shown group.now)) }
 {

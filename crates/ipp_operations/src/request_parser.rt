@@ -1,4 +1,4 @@
-//! Bodies that come in pieces.
+//! The parser of bodies that come in pieces.
 ghost use Rattle.std.specs.Prelude.{◌≡◌, ◌++◌, ℕ, [], List, IfOk, OnOk, OnErr};
 ghost use Rattle.ipp_operations.specs.ParsedRequest.{Asks, request_id_of};
 ghost use Rattle.ipp_operations.specs.Reader.{Heard, has_document, sends_document, reads_document};
@@ -12,10 +12,10 @@ use printer_objects::Operation;
 use std::alloc::{AllocError, Global};
 use std::marker::Model;
 
-/// A reader of an IPP body that comes in pieces of any length. In clauses it is a record of its
-/// decoder and of the octets that it keeps of the document.
+/// A parser of an IPP body that comes in pieces of any length. In clauses it is a record of its decoder and
+/// of the octets that it keeps of the document.
 ///
-/// It holds the head, and the document where the operation reads one, each once.
+/// It holds one copy of the head, and one of the document if the operation has a document.
 #[derive(Debug, Drop)]
 pub struct RequestParser {
     alloc: Global,
@@ -34,7 +34,7 @@ impl Model for RequestParser {
 }
 
 impl RequestParser {
-    /// A reader of a new body.
+    /// Creates the parser of a new body.
     pub fn new(alloc: Global) -> RequestParser
         ensures { Heard [] result }
     {
@@ -45,7 +45,8 @@ impl RequestParser {
         }
     }
 
-    /// Takes the next bytes of the body. Where there is no memory, none of them is taken.
+    /// Feeds the next bytes of the body. The only error is out of memory, and none of the bytes is taken
+    /// then.
     pub fn feed(&mut self, piece: &[u8]) -> Result<(), AllocError>
         ensures fed { OnOk result ((bytes : List ℕ) → Heard bytes self.old → Heard (bytes ++ piece.now) self.new) }
         ensures err { OnErr result (self.new ≡ self.old) }
@@ -74,10 +75,10 @@ impl RequestParser {
         request_id(self.decoder.head())
     }
 
-    /// What the body asks: its event, or the status of the first check that it fails (RFC 8011,
-    /// section 4.1). The document goes to the event.
+    /// Returns the event of the body, or the status of the first check that fails (RFC 8011, section 4.1).
+    /// The event takes the document.
     ///
-    /// Where there is no memory, the reader is as it was, and can be asked again.
+    /// The only error is out of memory: then the parser is unchanged, and `finish` can be called again.
     pub fn finish(&mut self) -> Result<ParsedRequest, AllocError>
         ensures asked { IfOk result (λ asked. (bytes : List ℕ) → Heard bytes self.old → Asks bytes asked) }
         ensures err { OnErr result (self.new ≡ self.old) }
@@ -86,7 +87,7 @@ impl RequestParser {
     }
 }
 
-/// Whether bytes with this header have a document that is read.
+/// Returns whether the header in these bytes has an operation with a document.
 fn reads_document(head: &[u8]) -> bool
     ensures { result ≡ reads_document head.now }
 {
@@ -96,7 +97,7 @@ fn reads_document(head: &[u8]) -> bool
     }
 }
 
-/// Whether a document follows the attributes of a request.
+/// Returns whether a document follows the attributes of a request.
 fn sends_document(asked: Result<Operation, Status>) -> bool
     ensures { result ≡ sends_document asked }
 {
@@ -106,7 +107,7 @@ fn sends_document(asked: Result<Operation, Status>) -> bool
     }
 }
 
-/// Whether a document follows the attributes of this operation.
+/// Returns whether a document follows the attributes of an operation.
 fn has_document(operation: Operation) -> bool
     ensures { result ≡ has_document operation }
 {

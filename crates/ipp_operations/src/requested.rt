@@ -1,4 +1,4 @@
-//! Which attributes a request asks for.
+//! The attributes that a request asks for.
 ghost use Rattle.std.specs.Prelude.{◌≡◌, map, IfOk};
 ghost use Rattle.ipp_codec.specs.Message.{bytes_in};
 ghost use Rattle.ipp_codec.specs.Views.{attribute_shown, group_shown};
@@ -12,7 +12,8 @@ use ipp_codec::{AttributeView, GroupView};
 use printer_objects::Requested;
 use std::alloc::{AllocError, Global};
 
-/// The values of requested-attributes, or a default where it isn't there.
+/// The values of requested-attributes, or a default if the group doesn't have it. The only error is out of
+/// memory.
 pub(crate) fn requested_of(
     alloc: Global,
     group: &GroupView<'_>,
@@ -26,7 +27,7 @@ pub(crate) fn requested_of(
     }
 }
 
-/// The bytes of the values of an attribute.
+/// The bytes of each value of an attribute. The only error is out of memory.
 fn values_of(alloc: Global, attribute: &AttributeView<'_>) -> Result<Requested, AllocError>
     ensures { IfOk result (λ requested. requested ≡ map bytes_in (values_in_order (attribute_shown attribute.now))) }
 {
@@ -37,7 +38,7 @@ fn values_of(alloc: Global, attribute: &AttributeView<'_>) -> Result<Requested, 
     Ok(requested)
 }
 
-/// These words.
+/// A copy of a list of words. The only error is out of memory.
 fn words_of(alloc: Global, words: &[&[u8]]) -> Result<Requested, AllocError>
     ensures { IfOk result (λ requested. requested ≡ map (λ word. word.now) words.now) }
 {

@@ -1,4 +1,4 @@
-//! Answers as bytes.
+//! Responses as bytes.
 ghost use Rattle.std.specs.Prelude.{◌≡◌, ◌∷◌, IfOk};
 ghost use Rattle.ipp_codec.specs.Grammar.{IsMessage};
 ghost use Rattle.ipp_operations.specs.Reply.{opening_group, tells_unsupported, unsupported_of, message_of, IsReply};
@@ -9,8 +9,7 @@ use ipp_codec::{
 };
 use std::alloc::{AllocError, Global};
 
-/// The bytes of an answer, under a request-id (RFC 8011, section 4.1.4.2). The error is want of
-/// memory.
+/// The bytes of the reply to a request-id (RFC 8011, section 4.1.4.2). The only error is out of memory.
 pub fn ipp_response(
     alloc: Global,
     answer: IppResponse,
@@ -27,7 +26,7 @@ pub fn ipp_response(
     }
 }
 
-/// The message of an answer.
+/// The message of a response. The only error is out of memory.
 fn message_of(alloc: Global, answer: IppResponse, request_id: u32) -> Result<Message, AllocError>
     ensures value { IfOk result (λ message. message ≡ message_of answer request_id) }
     ensures spelt { IfOk result IsMessage }
@@ -52,7 +51,7 @@ fn message_of(alloc: Global, answer: IppResponse, request_id: u32) -> Result<Mes
     Ok(message)
 }
 
-/// Whether the status tells that something isn't supported.
+/// Returns whether the status reports unsupported attributes.
 fn tells_unsupported(status: Status) -> bool
     ensures { result ≡ tells_unsupported status }
 {
@@ -62,7 +61,7 @@ fn tells_unsupported(status: Status) -> bool
     )
 }
 
-/// The operation group of every reply: its charset and natural language.
+/// The operation group of each reply: its charset and natural language.
 fn opening_group(alloc: Global) -> Result<Group, AllocError>
     ensures { IfOk result (λ group. group ≡ opening_group) }
 {

@@ -1,4 +1,4 @@
-//! The kinds of values that attributes have.
+//! The syntaxes of attribute values.
 ghost use Rattle.std.specs.Prelude.{◌≡◌};
 ghost use Rattle.ipp_operations.specs.Syntax.{has_tag};
 
@@ -9,7 +9,7 @@ use ipp_codec::ValueTag;
 pub(crate) enum Syntax {
     Integer,
     Boolean,
-    /// With a language or without.
+    /// A name, with or without a language.
     Name,
     Keyword,
     /// A keyword, or a name without a language.
@@ -19,7 +19,7 @@ pub(crate) enum Syntax {
 }
 
 impl Syntax {
-    /// Whether a value of this tag is of the syntax.
+    /// Returns whether a tag is of the syntax.
     pub fn has_tag(self, tag: ValueTag) -> bool
         ensures { result ≡ has_tag self tag }
     {

@@ -1,4 +1,4 @@
-//! Which printer or job a request names.
+//! The printer or the job that a request names.
 ghost use Rattle.std.specs.Prelude.{◌≡◌, IfOk};
 ghost use Rattle.std.specs.Option.{option_copied};
 ghost use Rattle.ipp_codec.specs.Views.{group_shown};
@@ -12,7 +12,7 @@ use ipp_codec::GroupView;
 use std::alloc::{AllocError, Global};
 use text::{find_byte, is_number, number_up_to};
 
-/// What follows a scheme, in any case of its letters.
+/// The bytes behind a scheme, which is compared without regard to the case of its letters.
 fn after_scheme<'a>(uri: &'a [u8], scheme: &[u8]) -> Option<&'a [u8]>
     ensures { option_copied result ≡ after_scheme scheme.now uri.now }
 {
@@ -24,7 +24,7 @@ fn after_scheme<'a>(uri: &'a [u8], scheme: &[u8]) -> Option<&'a [u8]>
     }
 }
 
-/// What follows the scheme ipp or http.
+/// The bytes behind the scheme ipp or http.
 fn after_known_scheme(uri: &[u8]) -> Option<&[u8]>
     ensures { option_copied result ≡ after_known_scheme uri.now }
 {
@@ -34,7 +34,7 @@ fn after_known_scheme(uri: &[u8]) -> Option<&[u8]>
     }
 }
 
-/// The path behind the authority: from the first `/`, empty where there is none.
+/// The path behind the authority: from the first `/` on, empty if there is none.
 fn path_of(rest: &[u8]) -> &[u8]
     ensures { result.now ≡ path_of rest.now }
 {
@@ -44,14 +44,14 @@ fn path_of(rest: &[u8]) -> &[u8]
     }
 }
 
-/// What follows the beginning of a path.
+/// The bytes behind a front of a path.
 fn behind<'a>(path: &'a [u8], front: &[u8]) -> Option<&'a [u8]>
     ensures { option_copied result ≡ behind front.now path.now }
 {
     path.strip_prefix(front)
 }
 
-/// Whether a path names the first printer.
+/// Returns whether a path names the first printer: the empty path, `/` and `/ipp/print` do.
 fn names_first(path: &[u8]) -> bool
     ensures { result ≡ names_first path.now }
 {
@@ -71,8 +71,7 @@ fn printer_at(alloc: Global, path: &[u8]) -> Result<Target, AllocError>
     }
 }
 
-/// The printer of a URI of the scheme ipp or http. The authority isn't looked at, and nothing is
-/// percent-decoded.
+/// The printer of a URI of the scheme ipp or http. The authority is ignored, and nothing is percent-decoded.
 fn printer_of(alloc: Global, uri: &[u8]) -> Result<Target, AllocError>
     ensures { IfOk result (λ target. target ≡ printer_of uri.now) }
 {
@@ -82,7 +81,7 @@ fn printer_of(alloc: Global, uri: &[u8]) -> Result<Target, AllocError>
     }
 }
 
-/// The printer of a request, which its printer-uri names.
+/// The printer of a request: that of its printer-uri. The only error is out of memory.
 pub(crate) fn printer_target(alloc: Global, group: &GroupView<'_>) -> Result<Target, AllocError>
     ensures { IfOk result (λ target. target ≡ printer_target (group_shown group.now)) }
 {
@@ -92,14 +91,14 @@ pub(crate) fn printer_target(alloc: Global, group: &GroupView<'_>) -> Result<Tar
     }
 }
 
-/// The job of a number, if it is one of a job.
+/// The job of a number, if the number is that of a job.
 fn job_numbered(number: u32) -> Option<JobId>
     ensures { result ≡ job_numbered number }
 {
     JobId::new(number)
 }
 
-/// The job of a number in decimal digits, without zeros in front.
+/// The job of a number in decimal digits, without leading zeros.
 fn job_in(word: &[u8]) -> Option<JobId>
     ensures { result ≡ job_in word.now }
 {
@@ -123,7 +122,7 @@ fn job_at(path: &[u8]) -> JobTarget
     }
 }
 
-/// The job of a URI of the scheme ipp or http. The authority isn't looked at.
+/// The job of a URI of the scheme ipp or http. The authority is ignored.
 fn job_of(uri: &[u8]) -> JobTarget
     ensures { result ≡ job_of uri.now }
 {
@@ -133,14 +132,14 @@ fn job_of(uri: &[u8]) -> JobTarget
     }
 }
 
-/// The id that a request's job-id is.
+/// The job of the number in a request's job-id.
 fn job_id(group: &GroupView<'_>) -> Option<JobId>
     ensures { result ≡ job_id (group_shown group.now) }
 {
     job_numbered(number_of(group, OperationAttribute::JobId)?)
 }
 
-/// The job that a printer-uri and a job-id name.
+/// The job of a printer-uri and a job-id. The only error is out of memory.
 fn job_of_printer(alloc: Global, group: &GroupView<'_>) -> Result<JobTarget, AllocError>
     ensures { IfOk result (λ target. target ≡ job_of_printer (group_shown group.now)) }
 {
@@ -150,7 +149,7 @@ fn job_of_printer(alloc: Global, group: &GroupView<'_>) -> Result<JobTarget, All
     }
 }
 
-/// The job of a request, which its job-uri names alone, where it has one.
+/// The job of a request: that of its job-uri, if it has one, else that of its printer-uri and job-id.
 pub(crate) fn job_target(alloc: Global, group: &GroupView<'_>) -> Result<JobTarget, AllocError>
     ensures { IfOk result (λ target. target ≡ job_target (group_shown group.now)) }
 {
@@ -160,7 +159,7 @@ pub(crate) fn job_target(alloc: Global, group: &GroupView<'_>) -> Result<JobTarg
     }
 }
 
-/// Whether a request names a job.
+/// Returns whether a request names a job: by a job-uri, or by a printer-uri and a job-id.
 pub(crate) fn names_job(group: &GroupView<'_>) -> bool
     ensures { result ≡ names_job (group_shown group.now) }
 {

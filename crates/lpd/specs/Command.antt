@@ -1,4 +1,4 @@
--- What a line of an LPD client says (RFC 1179, sections 5 and 6): a code byte, and operands after single spaces. Empty operands don't count.
+-- The content of an LPD client's line (RFC 1179, sections 5 and 6): a code byte, and operands behind single spaces. Empty operands are left out.
 use Rattle.std.specs.Prelude.{ℕ, ◌==◌, ◌&&◌, nat_lt, nat_le, Bool, true, false, if◌then◌else◌, List, [], ◌∷◌, length, filter, drop, Result, Ok, Err}
 use Rattle.std.specs.Str.Parse.{digits_value}
 use Rattle.text.specs.Digits.{is_decimal}
@@ -22,7 +22,7 @@ first_word (word ∷ words) = word
 abbrev pub operands_of : List (List ℕ) → List (List ℕ)
 operands_of words = filter (λ operand. nat_lt 0 (length operand)) (drop 1 words)
 
--- the first operand says who asks for jobs to be removed
+-- the first operand is the agent: the user who asks for the removal
 abbrev pub removal : List ℕ → List (List ℕ) → CommandRecord
 removal queue [] = RemovesJobs queue [] []
 removal queue (agent ∷ operands) = RemovesJobs queue agent operands
@@ -44,7 +44,7 @@ most_bytes Data = JOB_OCTETS
 abbrev pub is_count : List ℕ → Bool
 is_count word = is_decimal word && nat_lt 0 (digits_value 10 word)
 
--- a file is announced by its length and its name; the first that is wrong is the fault
+-- a file is announced by its length and its name; where both are wrong, the fault is that of the first
 abbrev pub named : FileKind → ℕ → List (List ℕ) → Result ItemRecord LpdFault
 named kind count (name ∷ []) =
     if is_file_name kind name
@@ -79,7 +79,7 @@ abbrev pub subcommand_line : List ℕ → Result ItemRecord LpdFault
 subcommand_line [] = Err UnknownCode
 subcommand_line (code ∷ text) = subcommand_of code (words_of text)
 
--- what a line says where a command is awaited, or where a subcommand is
+-- the content of a line, by what is awaited: a command, or else a subcommand
 abbrev pub meaning_of : Awaited → List ℕ → Result ItemRecord LpdFault
 meaning_of await.Command line = command_line line
 meaning_of await.Subcommand line = subcommand_line line

@@ -1,4 +1,4 @@
--- What a control file says of a job (RFC 1179, section 7): lines of a letter and its operand.
+-- The job that a control file describes (RFC 1179, section 7): lines, each a letter and its operand.
 use Rattle.std.specs.Prelude.{ℕ, ◌==◌, ◌-◌, ◌||◌, nat_lt, Bool, if◌then◌else◌, List, [], ◌∷◌, ◌++◌, length, take, slice_index_or, codes, Option, Some, None, unwrap_or, Result, Ok, Err}
 use Rattle.std.specs.Option.{option_or}
 use Rattle.std.specs.Char.{is_ascii_uppercase, is_ascii_digit}
@@ -21,11 +21,11 @@ pub data LineRecord : Type 0 where
   Prints : Print → LineRecord
   Ignored : LineRecord
 
--- a data file, and how it is printed
+-- a print line: a data file and its format
 abbrev pub print_of : PrintFormat → List ℕ → Result LineRecord ControlFault
 print_of format name = if is_file_name Data name then Ok (Prints (record { format = format; name = name })) else Err BadLine
 
--- letters of formats that aren't printed here: CIF, DVI, plot, ditroff, FORTRAN, troff, raster
+-- letters of formats that aren't printed: CIF, DVI, plot, ditroff, FORTRAN, troff, raster
 abbrev pub is_left_out : ℕ → Bool
 is_left_out letter = (((((letter == 99 || letter == 100) || letter == 103) || letter == 110) || letter == 114) || letter == 116) || letter == 118
 
@@ -36,7 +36,7 @@ other_line letter =
     else if is_ascii_uppercase letter || is_ascii_digit letter then Ok Ignored
     else Err BadLine
 
--- letters and operands that act
+-- the letters whose operands are used
 abbrev pub lettered : ℕ → List ℕ → Result LineRecord ControlFault
 lettered letter operand =
     if letter == 72 then Ok (Host operand)
@@ -58,7 +58,7 @@ abbrev pub lines_in : List (List ℕ) → Result (List LineRecord) ControlFault
 lines_in [] = Ok []
 lines_in (text ∷ texts) = line_in text >>= λ line. (lines_in texts >>= λ lines. Ok (line ∷ lines))
 
--- what lines say together: of each kind the first counts, and each print line is a document
+-- the content of lines together: of each kind the first line counts, and each print line is a document
 pub record Draft : Type 0 where
   pub host : Option (List ℕ)
   pub owner : Option (List ℕ)
@@ -69,7 +69,7 @@ pub record Draft : Type 0 where
 abbrev pub nothing : Draft
 nothing = record { host = None; owner = None; job_name = None; source_name = None; prints = [] }
 
--- what an earlier text says counts before what a later one says
+-- two drafts joined, the earlier one first: of each kind the earlier value counts
 abbrev pub before : Draft → Draft → Draft
 before early late = record {
   host = option_or early.host late.host;
@@ -97,22 +97,22 @@ pub record ControlRecord : Type 0 where
   pub name : List ℕ
   pub prints : List Print
 
--- a job has a host, a user and a document
+-- a job needs a host, a user and a document
 abbrev pub owned : Option (List ℕ) → Option (List ℕ) → List ℕ → List Print → Result ControlRecord ControlFault
 owned None owner name prints = Err NoHost
 owned (Some host) None name prints = Err NoUser
 owned (Some host) (Some owner) name [] = Err NoPrintLine
 owned (Some host) (Some owner) name (print ∷ prints) = Ok (record { host = host; owner = owner; name = name; prints = print ∷ prints })
 
--- its name is the job's, else the source file's
+-- the name is that of the job, else that of the source file, else `untitled`
 abbrev pub whole : Draft → Result ControlRecord ControlFault
 whole draft = owned draft.host draft.owner (unwrap_or (option_or draft.job_name draft.source_name) (codes "untitled")) draft.prints
 
--- what these lines say after what others said
+-- a draft, joined with the lines behind it
 abbrev pub joined : Draft → List (List ℕ) → Result Draft ControlFault
 joined draft texts = lines_in texts >>= λ lines. Ok (before draft (together lines))
 
--- of the texts between line feeds the last must be empty, since each line has its line feed
+-- each line ends in a line feed: the last of the texts between line feeds has to be empty
 abbrev pub whole_lines : List (List ℕ) → List (List ℕ)
 whole_lines texts = take (length texts - 1) texts
 
@@ -123,6 +123,6 @@ abbrev pub finished : List ℕ → Draft → Result ControlRecord ControlFault
 finished [] draft = whole draft
 finished (byte ∷ bytes) draft = Err BadLine
 
--- what a control file says, or its first fault
+-- the job that a control file describes, or its first fault
 abbrev pub control_in : List ℕ → Result ControlRecord ControlFault
 control_in text = joined nothing (whole_lines (texts_of text)) >>= finished (unfinished (texts_of text))

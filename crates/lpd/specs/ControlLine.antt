@@ -1,4 +1,4 @@
--- What the code's lines of a control file, and its answers, stand for.
+-- The records for the code's lines of a control file and for its results.
 use Rattle.std.specs.Prelude.{◌≡◌, Result, Ok, Err}
 use Rattle.lpd.specs.declared.control.ControlFault.{ControlFault}
 use Rattle.lpd.specs.declared.control.ControlError.{ControlError}
@@ -19,7 +19,7 @@ abbrev pub told_line : Result ControlLine ControlFault → Result LineRecord Con
 told_line (Ok said) = Ok (line_record said)
 told_line (Err fault) = Err fault
 
--- an answer is what reading gives, unless memory ran out
+-- a result is what the definition reads, unless memory ran out
 abbrev pub Refuses : {X : Type 0} → ControlError → Result X ControlFault → Type 0
 Refuses (Fault fault) read = read ≡ Err fault
 Refuses OutOfMemory read = Unit {0}

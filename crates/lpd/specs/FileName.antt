@@ -1,4 +1,4 @@
--- The names of control and data files (RFC 1179, sections 6.2 and 6.3): `cf` or `df`, a letter, three digits, and the client's host.
+-- The names of control and data files (RFC 1179, sections 6.2 and 6.3): `cf` or `df`, a letter, three digits, and the name of the client's host.
 use Rattle.std.specs.Prelude.{ℕ, ◌==◌, ◌&&◌, not, nat_le, Bool, false, List, ◌∷◌, length}
 use Rattle.std.specs.List.{list_all}
 use Rattle.std.specs.Char.{is_ascii_alphabetic, is_ascii_digit}
@@ -6,7 +6,7 @@ use Rattle.base_types.specs.declared.limits.TheConstants.Limits.{LPD_HOST_BYTES}
 use Rattle.lpd.specs.declared.item.FileKind.{FileKind}
 use Rattle.lpd.specs.declared.item.FileKind.TheVariants.{Control, Data}
 
--- the second byte of both is `f`
+-- the first byte of a name, by the kind; the second byte is `f` for both
 abbrev pub first_of : FileKind → ℕ
 first_of Control = 99
 first_of Data = 100

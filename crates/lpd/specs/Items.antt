@@ -1,4 +1,4 @@
--- What an LPD client says, as plain data (RFC 1179, sections 5 and 6).
+-- The items of an LPD client's stream, as plain data (RFC 1179, sections 5 and 6).
 use Rattle.std.specs.Prelude.{ℕ, List, [], Result, Ok, Err}
 use Rattle.lpd.specs.declared.fault.LpdFault.{LpdFault}
 use Rattle.lpd.specs.declared.item.FileHead.{FileHead}
@@ -29,19 +29,19 @@ command_record (ListShort queue operands) = ListsShort queue operands.items
 command_record (ListLong queue operands) = ListsLong queue operands.items
 command_record (RemoveJobs queue agent operands) = RemovesJobs queue agent operands.items
 
--- what an item says, with the file that is lent
+-- the record of an item, with the file that the reader lends
 abbrev pub item_record : LpdItem → List ℕ → ItemRecord
 item_record (item.Command command) file = Says (command_record command)
 item_record item.Abort file = Aborts
 item_record (item.Announced head) file = Announces head
 item_record item.File file = HasFile file
 
--- what a line says
+-- the record of a line's item, or its fault
 abbrev pub told : Result LpdItem LpdFault → Result ItemRecord LpdFault
 told (Ok said) = Ok (item_record said [])
 told (Err fault) = Err fault
 
--- what comes after an item: after the command to receive a job subcommands, and after the announcement of a file that file; after any other command nothing counts any more, since a connection has one
+-- what is awaited after an item: after the command to receive a job a subcommand, after the announcement of a file that file; after any other command nothing, since a connection has one command
 abbrev pub awaited_after_command : CommandRecord → Awaited
 awaited_after_command (PrintsWaiting queue) = await.Nothing
 awaited_after_command (ReceivesJob queue) = await.Subcommand

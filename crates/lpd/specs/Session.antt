@@ -1,4 +1,4 @@
--- An LPD session (RFC 1179, sections 5 and 6): what each thing that a client says makes of it.
+-- An LPD session (RFC 1179, sections 5 and 6), and the change that each item makes of it.
 use Rattle.std.specs.Prelude.{ℕ, ◌≡◌, not, Bool, true, false, List, Option, Some, None, Result, Ok, Err, slice_get}
 use Rattle.std.specs.Option.{option_and_then}
 use Rattle.lpd.specs.declared.item.FileHead.{FileHead}
@@ -9,7 +9,7 @@ use Rattle.lpd.specs.Control.{ControlRecord, control_in}
 use Rattle.octets.specs.Document.{DocumentRecord}
 use Rattle.lpd.specs.Pending.{PendingRecord, JobFileRecord, no_files, with_file, with_control, is_too_much, first_complete, documents_of, without}
 
--- what is received for a queue; a file may be coming
+-- the files that are received for a queue, and the file that was announced, if it hasn't come
 pub record SessionState : Type 0 where
   pub queue : List ℕ
   pub pending : PendingRecord
@@ -19,24 +19,24 @@ pub record SessionState : Type 0 where
 abbrev pub opened : List ℕ → SessionState
 opened queue = record { queue = queue; pending = no_files; coming = None }
 
--- the client gives up what it has sent
+-- the client aborts: all pending files are dropped
 abbrev pub aborted : SessionState → SessionState
 aborted session = opened session.queue
 
--- a file is announced: it is awaited, unless it is too much
+-- whether an announced file is admitted: it exceeds no limit
 abbrev pub admits : FileHead → SessionState → Bool
 admits head session = not (is_too_much head.kind head.name head.length session.pending)
 
 abbrev pub announced : FileHead → SessionState → SessionState
 announced head session = record session { coming = Some head }
 
--- no file is coming
+-- the session without an announced file
 abbrev pub settled : SessionState → SessionState
 settled session = record session { coming = None }
 
--- ---- a file comes
+-- ---- keeping a file
 
--- what is pending then; a control file that says no job isn't kept
+-- the pending files with a control file, if that describes a job
 abbrev pub control_kept : List ℕ → PendingRecord → Result ControlRecord ControlFault → PendingRecord
 control_kept name pending (Ok control) = record pending { controls = with_control (record { name = name; control = control }) pending.controls }
 control_kept name pending (Err fault) = pending
@@ -53,7 +53,7 @@ abbrev pub is_kept : FileKind → List ℕ → Bool
 is_kept Kind.Control contents = says_job (control_in contents)
 is_kept Kind.Data contents = true
 
--- the file that was announced has come: whether it is kept
+-- whether the announced file is kept
 abbrev pub keeps_of : Option FileHead → List ℕ → Bool
 keeps_of None contents = false
 keeps_of (Some head) contents = is_kept head.kind contents
@@ -70,7 +70,7 @@ kept contents session = record session { pending = kept_of session.coming conten
 
 -- ---- a job is complete
 
--- a job of files: for which queue, whose, its name, and a document for each print line
+-- a job of files: its queue, its owner, its name, and a document for each print line
 pub record SentRecord : Type 0 where
   pub queue : List ℕ
   pub owner : List ℕ
@@ -84,6 +84,6 @@ sent_by session control = record { queue = session.queue; owner = control.contro
 abbrev pub sent_at : ℕ → SessionState → Option SentRecord
 sent_at place session = option_and_then (λ control. Some (sent_by session control)) (slice_get session.pending.controls place)
 
--- its files leave
+-- the session without the files of a job
 abbrev pub without_job : ℕ → SessionState → SessionState
 without_job place session = record session { pending = without place session.pending }

@@ -1,4 +1,4 @@
--- What an LPD client's stream of bytes says: its items in order, and then a fault, an unfinished part, or bytes that don't count.
+-- The items of an LPD client's stream of bytes, in order, and then a fault, an unfinished item, or bytes that are dropped.
 use Rattle.std.specs.Prelude.{ℕ, ◌≡◌, ◌==◌, ◌+◌, ◌⊎◌, ◌||◌, nat_le, is_some, Bool, true, false, if◌then◌else◌, List, [], ◌∷◌, ◌++◌, length, take, drop, slice_index_or, Option, Some, None, Result, Ok, Err}
 use Rattle.text.specs.FirstLine.{first_line_of}
 use Rattle.text.specs.declared.line.FirstLine.{FirstLine}
@@ -14,7 +14,7 @@ use Rattle.lpd.specs.declared.reader.Awaited.TheVariants.{Command, Subcommand, F
 use Rattle.lpd.specs.Items.{ItemRecord, HasFile, item_record, awaited_after}
 use Rattle.lpd.specs.Command.{command_line, subcommand_line, awaits_line}
 
--- what stands at the front of bytes: an item and what follows it, a fault, or nothing that can be told yet
+-- the front of the bytes: an item and the bytes behind it, a fault, or a wait for more bytes
 pub data Front : Type 0 where
   Gives : (said : ItemRecord) (rest : List ℕ) → Front
   Fails : LpdFault → Front
@@ -24,13 +24,13 @@ abbrev pub line_says : Result ItemRecord LpdFault → List ℕ → Front
 line_says (Ok said) rest = Gives said rest
 line_says (Err fault) rest = Fails fault
 
--- a line of which the meaning is known
+-- the front at a line whose content is known
 abbrev pub by_line : (List ℕ → Result ItemRecord LpdFault) → List ℕ → FirstLine → Front
 by_line meaning bytes (Whole count) = line_says (meaning (take count bytes)) (drop (count + 1) bytes)
 by_line meaning bytes TooLong = Fails LineTooLong
 by_line meaning bytes Unfinished = Waits
 
--- a file of so many bytes, and a zero byte (RFC 1179, sections 6.2 and 6.3)
+-- the front at a file of `count` bytes and its zero byte (RFC 1179, sections 6.2 and 6.3)
 abbrev pub by_file : ℕ → List ℕ → Front
 by_file count bytes =
     if nat_le (length bytes) count then Waits
@@ -52,7 +52,7 @@ abbrev pub EndsAs : Front → Ending → Type 0
 EndsAs front Open = front ≡ Waits
 EndsAs front (Faulty fault) = front ≡ Fails fault
 
--- bytes say these items, one after the other, and then end so
+-- the bytes say these items, one after the other, and then end as `ending` says
 abbrev pub Hears : Awaited → List ℕ → List ItemRecord → Ending → Type 0
 Hears awaited bytes [] ending = EndsAs (front_of awaited bytes) ending
 Hears awaited bytes (said ∷ items) ending = (rest : List ℕ) × (front_of awaited bytes ≡ Gives said rest) × Hears (awaited_after said) rest items ending
@@ -61,18 +61,18 @@ Hears awaited bytes (said ∷ items) ending = (rest : List ℕ) × (front_of awa
 abbrev pub LpdItems : List ℕ → List ItemRecord → Ending → Type 0
 LpdItems stream items ending = Hears Command stream items ending
 
--- bytes say these items; then this is awaited, with these bytes left
+-- the bytes say these items, and lead to this state with these bytes left
 abbrev pub Leads : Awaited → List ℕ → List ItemRecord → Awaited → List ℕ → Type 0
 Leads awaited bytes [] next left = (next ≡ awaited) × (left ≡ bytes)
 Leads awaited bytes (said ∷ items) next left = (rest : List ℕ) × (front_of awaited bytes ≡ Gives said rest) × Leads (awaited_after said) rest items next left
 
--- a stream says these items first, whatever follows
+-- the stream says these items first, whatever bytes follow
 pub record SaysFirst (stream : List ℕ) (items : List ItemRecord) : Type 0 where
   pub next : Awaited
   pub left : List ℕ
   pub leads : Leads Command stream items next left
 
--- a reader: the file that it lends, the bytes that it hasn't read, what is awaited, and the fault, once there is one
+-- the state of a reader: the file that it lends, the bytes that aren't read, what is awaited, and the fault, if there was one
 pub record LpdState : Type 0 where
   pub file : List ℕ
   pub rest : List ℕ
@@ -85,31 +85,31 @@ is_nothing Subcommand = false
 is_nothing (File count) = false
 is_nothing Nothing = true
 
--- nothing counts any more: the reader gives nothing, and drops what it is fed
+-- the reader gives no more items, and drops the bytes that it is fed
 abbrev pub is_over : LpdState → Bool
 is_over reader = is_some reader.fault || is_nothing reader.awaited
 
--- the bytes that are left of a stream: those that the reader hasn't read. After a fault they stand at that fault; where nothing counts any more the reader needn't have them
+-- the bytes that are left of a stream: those that the reader hasn't read. After a fault they begin with that fault; a reader that awaits nothing may have dropped them
 abbrev pub IsLeft : Option LpdFault → Awaited → List ℕ → List ℕ → Type 0
 IsLeft (Some fault) awaited rest left = front_of awaited left ≡ Fails fault
 IsLeft None awaited rest left = (awaited ≡ Nothing) ⊎ (left ≡ rest)
 
--- The reader has been fed this stream and has given these items: the stream says them first, and then what the reader awaits, of the bytes that are left.
+-- The reader was fed this stream and has given these items. The stream says them first, and leads to what the reader awaits with the bytes that are left.
 pub record Stands (stream : List ℕ) (given : List ItemRecord) (reader : LpdState) : Type 0 where
   pub left : List ℕ
   pub leads : Leads Command stream given reader.awaited left
   pub kept : IsLeft reader.fault reader.awaited reader.rest left
 
--- what a reader will hear, where these bytes are still to come
+-- the items that a reader's state says of these bytes, and their ending
 abbrev pub HearsOn : Option LpdFault → Awaited → List ℕ → List ItemRecord → Ending → Type 0
 HearsOn (Some fault) awaited bytes items ending = (items ≡ []) × (ending ≡ Faulty fault)
 HearsOn None awaited bytes items ending = Hears awaited bytes items ending
 
--- how much a reader can say, at most
+-- an upper bound on the items that a reader can still give
 abbrev pub work : LpdState → ℕ
 work reader = length reader.rest
 
--- what an answer of the reader says of the stream that it was fed, and where the reader stands then; a file takes no memory
+-- the answer of a reader, and its state then: an item, which the stream says next; or none, and then the stream says no more; or a fault, or refused memory, which a file needs none of
 abbrev pub Answers : LpdState → Result (Option LpdItem) LpdError → LpdState → Type 0
 Answers old (Ok (Some said)) new =
     (stream : List ℕ) (given : List ItemRecord) → Stands stream given old → Stands stream (given ++ item_record said new.file ∷ []) new
@@ -122,26 +122,26 @@ Answers old (Err OutOfMemory) new = (new ≡ old) × (awaits_line old.awaited �
 
 -- ---- laws
 
--- a stream says one thing
+-- two readings of one stream say the same
 abbrev pub SaysOne : Type 0
 SaysOne = (stream : List ℕ) (given items : List ItemRecord) (end ending : Ending) → LpdItems stream given end → LpdItems stream items ending → (given ≡ items) × (end ≡ ending)
 
--- a stream says something
+-- each stream says something
 abbrev pub SaysSome : Type 0
 SaysSome = (stream : List ℕ) → (items : List ItemRecord) × (ending : Ending) × LpdItems stream items ending
 
--- what a stream says stays in front where more comes; after a fault no more does
+-- what a stream says is a front of what the stream says with more bytes behind it; a fault stays the last
 abbrev pub StaysInFront : Type 0
 StaysInFront = (stream more : List ℕ) (given items : List ItemRecord) (end ending : Ending) → LpdItems stream given end → LpdItems (stream ++ more) items ending → (later : List ItemRecord) × (items ≡ given ++ later)
 
 abbrev pub FaultStays : Type 0
 FaultStays = (stream more : List ℕ) (given : List ItemRecord) (fault : LpdFault) → LpdItems stream given (Faulty fault) → LpdItems (stream ++ more) given (Faulty fault)
 
--- so does what it says first
+-- the items that a stream says first are a front of what it says with more bytes behind it
 abbrev pub FirstStays : Type 0
 FirstStays = (stream more : List ℕ) (first items : List ItemRecord) (ending : Ending) → SaysFirst stream first → LpdItems (stream ++ more) items ending → (later : List ItemRecord) × (items ≡ first ++ later)
 
--- of one length a stream says one list of items first, also where more may come
+-- two fronts of what a stream says are equal if their lengths are
 abbrev pub FirstIsOne : Type 0
 FirstIsOne = (stream : List ℕ) (one other : List ItemRecord) → SaysFirst stream one → SaysFirst stream other → length one ≡ length other → one ≡ other
 
@@ -149,7 +149,7 @@ FirstIsOne = (stream : List ℕ) (one other : List ItemRecord) → SaysFirst str
 abbrev pub NoneFollows : Type 0
 NoneFollows = (stream : List ℕ) (items : List ItemRecord) (said : ItemRecord) (ending : Ending) → SaysFirst stream (items ++ said ∷ []) → LpdItems stream items ending → ⊥
 
--- whatever comes yet, the whole stream says what a reader has given, and then what it will hear
+-- a whole stream says what a reader has given, and then what the reader's state says of its bytes and those that come
 abbrev pub HearsTheRest : Type 0
 HearsTheRest =
     (stream coming : List ℕ) (given items : List ItemRecord) (ending : Ending) (reader : LpdState)

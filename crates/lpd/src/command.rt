@@ -13,7 +13,8 @@ use base_types::{Limits, Text};
 use std::alloc::{AllocError, Global};
 use text::{decimal, words};
 
-/// A line that is a command or its fault (RFC 1179, section 5).
+/// Reads the line of a command (RFC 1179, section 5). Returns the item or the fault; the only error is out of
+/// memory.
 pub(crate) fn read_command(
     alloc: Global,
     line: &[u8],
@@ -42,7 +43,7 @@ pub(crate) fn read_command(
     Ok(Ok(LpdItem::Command(command)))
 }
 
-/// The removal of jobs: the first operand says who asks.
+/// The command to remove jobs. Its first operand is the agent, the user who asks for the removal.
 fn removal(alloc: Global, queue: Text, operands: Vec<Text>) -> LpdCommand
     ensures { command_record result ≡ removal queue operands.items }
 {
@@ -59,7 +60,8 @@ fn removal(alloc: Global, queue: Text, operands: Vec<Text>) -> LpdCommand
     }
 }
 
-/// A line that is a subcommand or its fault (RFC 1179, section 6).
+/// Reads the line of a subcommand (RFC 1179, section 6). Returns the item or the fault; the only error is out
+/// of memory.
 pub(crate) fn read_subcommand(
     alloc: Global,
     line: &[u8],
@@ -78,7 +80,7 @@ pub(crate) fn read_subcommand(
     }
 }
 
-/// The announcement of a file: its length and its name.
+/// Reads the announcement of a file, of its length and its name.
 fn announced(
     alloc: Global,
     kind: FileKind,
@@ -100,7 +102,7 @@ fn announced(
     Ok(Ok(LpdItem::Announced(FileHead { kind, length, name })))
 }
 
-/// A file's length in decimal digits that is not 0, or the greatest number where it is above that.
+/// The length of a file: decimal digits that aren't 0. A length above 32 bits is `u32::MAX`.
 #[tactic(auto, unfolding(text::specs::Digits::decimal_in))]
 fn file_length(word: &[u8]) -> Option<u32>
     ensures { MatchOption result (is_count word.now ≡ false) (λ length. (is_count word.now ≡ true) × (length ≡ min (digits_value 10 word.now) (2 ^ 32 - 1))) }
@@ -112,7 +114,7 @@ fn file_length(word: &[u8]) -> Option<u32>
     Some(length)
 }
 
-/// The most bytes of a file of a kind.
+/// The most bytes that a file of a kind may have.
 fn most_bytes(kind: FileKind) -> u32
     ensures { result ≡ most_bytes kind }
 {

@@ -1,4 +1,4 @@
-//! What a control file says (RFC 1179, section 7).
+//! The control files of jobs (RFC 1179, section 7).
 ghost use Rattle.std.specs.Prelude.{◌≡◌, ◌++◌, IfOk, OnOk, OnErr, Some, map};
 ghost use Rattle.std.specs.Option.{option_or};
 ghost use Rattle.lpd.specs.Control.{before, alone, nothing, joined, whole, control_in};
@@ -11,7 +11,7 @@ use std::marker::Model;
 use text::parts;
 use thiserror::Error;
 
-/// What is wrong with a control file.
+/// The fault of a control file.
 #[derive(Clone, Copy, Debug, PartialEq, Eq, Error)]
 pub enum ControlFault {
     /// No line names the client's host.
@@ -26,7 +26,7 @@ pub enum ControlFault {
     /// A line of no known form.
     #[error("a bad line")]
     BadLine,
-    /// A line asks for a format that isn't printed here.
+    /// A line of a format that isn't printed.
     #[error("a format that isn't printed here")]
     FormatLeftOut,
 }
@@ -34,7 +34,7 @@ pub enum ControlFault {
 /// Why a control file isn't read.
 #[derive(Clone, Copy, Debug, PartialEq, Eq, Error)]
 pub enum ControlError {
-    /// Its first faulty line, or else the first of the lines that it lacks.
+    /// The first faulty line, or else the first line that is missing.
     #[error("{0}")]
     Fault(ControlFault),
     #[error("out of memory")]
@@ -63,17 +63,17 @@ impl From<AllocError> for ControlError {
     }
 }
 
-/// How a data file is printed (RFC 1179, sections 7.15 to 7.29).
+/// The format of a data file, by the letter of its print line (RFC 1179, sections 7.15 to 7.29).
 #[derive(Clone, Copy, Debug, PartialEq, Eq)]
 pub enum PrintFormat {
-    /// As text, formatted or paginated.
+    /// Text, formatted or paginated.
     PlainText,
-    /// As it is.
+    /// Bytes that are printed without a change.
     OctetStream,
     PostScript,
 }
 
-/// A data file that is printed.
+/// A print line: a data file and its format.
 #[derive(Debug, Drop)]
 pub struct Print {
     pub format: PrintFormat,
@@ -81,16 +81,16 @@ pub struct Print {
     pub name: Text,
 }
 
-/// What a control file says of a job. In clauses it is a record of the same fields.
+/// The job that a control file describes. In clauses it is a record of the same fields.
 #[derive(Debug, Drop)]
 pub struct Control {
     /// The client's host.
     pub host: Text,
-    /// The user.
+    /// The name of the user.
     pub owner: Text,
-    /// The job's name, else the name of its source file, else `untitled`.
+    /// The name of the job, else that of its source file, else `untitled`.
     pub name: Text,
-    /// The files to print, in order: at least one. A file may stand in it more than once.
+    /// The print lines, in order: at least one. A file may be in more than one of them.
     pub prints: Vec<Print>,
 }
 
@@ -102,7 +102,7 @@ impl Model for Control {
     ghost view = { λ c. record { host = c.host; owner = c.owner; name = c.name; prints = c.prints.items } };
 }
 
-/// What the lines of a control file said so far. In clauses it is a record of the same fields.
+/// The content of the lines that were read so far. In clauses it is a record of the same fields.
 #[derive(Drop)]
 struct Draft {
     host: Option<Text>,
@@ -126,10 +126,10 @@ impl Model for Draft {
     } };
 }
 
-/// Reads a control file: what it says of a job, or its first fault.
+/// Reads a control file.
 ///
-/// The first faulty line decides; where none is faulty, a missing host, a missing user, or that
-/// nothing is to be printed, in this order.
+/// The error is the first faulty line, or out of memory. If no line is faulty, it is a missing host, a
+/// missing user, or a missing print line, in this order.
 pub fn read_control(alloc: Global, text: &[u8]) -> Result<Control, ControlError>
     ensures { Gives result (control_in text.now) }
 {
@@ -144,7 +144,7 @@ pub fn read_control(alloc: Global, text: &[u8]) -> Result<Control, ControlError>
     finish(alloc, draft)
 }
 
-/// What whole lines say together, or the first fault.
+/// Reads lines, each without its line feed, into a draft. The error is the first fault, or out of memory.
 fn read_lines(alloc: Global, lines: &[&[u8]]) -> Result<Draft, ControlError>
     ensures { Gives result (joined nothing (map (λ line. line.now) lines.now)) }
 {
@@ -156,7 +156,7 @@ fn read_lines(alloc: Global, lines: &[&[u8]]) -> Result<Draft, ControlError>
     Ok(draft)
 }
 
-/// A job that has a host, a user and something to print.
+/// Makes the job of a draft, which needs a host, a user and a print line.
 fn finish(alloc: Global, draft: Draft) -> Result<Control, ControlError>
     ensures { Gives result (whole draft) }
 {
@@ -185,7 +185,7 @@ fn finish(alloc: Global, draft: Draft) -> Result<Control, ControlError>
 }
 
 impl Draft {
-    /// Nothing is said yet.
+    /// Creates an empty draft.
     fn new(alloc: Global) -> Draft
         ensures { result ≡ nothing }
     {
@@ -198,7 +198,7 @@ impl Draft {
         }
     }
 
-    /// Adds what a line says. Of each kind the first counts.
+    /// Adds the content of a line. Of each kind the first line counts; print lines are all kept.
     fn add(&mut self, line: ControlLine) -> Result<(), AllocError>
         ensures { OnOk result (self.new ≡ before self.old (alone (line_record line))) }
     {
@@ -214,7 +214,7 @@ impl Draft {
     }
 }
 
-/// Keeps a name where there is none yet.
+/// Sets a name, if there is none yet.
 fn keep_first(slot: &mut Option<Text>, name: Text)
     ensures { slot.new ≡ option_or slot.old (Some name) }
 {

@@ -17,14 +17,14 @@ pub(crate) enum ControlLine {
     JobName(Text),
     SourceName(Text),
     Prints(Print),
-    /// A line that doesn't act here.
+    /// A line that has no effect on the job.
     Ignored,
 }
 
-/// What a line says, or its fault.
+/// The content of a line, or its fault.
 type Said = Result<ControlLine, ControlFault>;
 
-/// A line without its line feed.
+/// Reads a line, without its line feed.
 pub(crate) fn read_line(alloc: Global, line: &[u8]) -> Result<Said, AllocError>
     ensures { IfOk result (λ said. told_line said ≡ line_in line.now) }
 {
@@ -37,7 +37,7 @@ pub(crate) fn read_line(alloc: Global, line: &[u8]) -> Result<Said, AllocError>
     read_lettered(alloc, *letter, operand)
 }
 
-/// A letter and its operand (RFC 1179, section 7).
+/// Reads a line by its letter and operand (RFC 1179, section 7).
 fn read_lettered(alloc: Global, letter: u8, operand: &[u8]) -> Result<Said, AllocError>
     ensures { IfOk result (λ said. told_line said ≡ lettered letter operand.now) }
 {
@@ -53,7 +53,7 @@ fn read_lettered(alloc: Global, letter: u8, operand: &[u8]) -> Result<Said, Allo
     }
 }
 
-/// A letter that doesn't act.
+/// The content of a line of any other letter: a fault or [`ControlLine::Ignored`].
 fn other(letter: u8) -> Said
     ensures { told_line result ≡ other_line letter }
 {
@@ -64,7 +64,7 @@ fn other(letter: u8) -> Said
     }
 }
 
-/// A data file that is printed.
+/// Reads a print line, of a format and the name of a data file.
 fn print(alloc: Global, format: PrintFormat, name: &[u8]) -> Result<Said, AllocError>
     ensures { IfOk result (λ said. told_line said ≡ print_of format name.now) }
 {

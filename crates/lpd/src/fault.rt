@@ -1,36 +1,36 @@
 use std::alloc::AllocError;
 use thiserror::Error;
 
-/// What is wrong with what an LPD client sent.
+/// A fault of an LPD client's stream.
 #[derive(Clone, Copy, Debug, PartialEq, Eq, Error)]
 pub enum LpdFault {
-    /// A command or subcommand that RFC 1179 doesn't have.
+    /// A command or subcommand that isn't in RFC 1179.
     #[error("an unknown command")]
     UnknownCode,
-    /// A line of more than [`base_types::Limits::LPD_LINE_BYTES`] bytes, its line feed counted.
+    /// A line of more than [`base_types::Limits::LPD_LINE_BYTES`] bytes, with its line feed.
     #[error("a line that is too long")]
     LineTooLong,
-    /// A file's length that is 0 or no decimal number.
+    /// A file's length that is 0 or isn't a decimal number.
     #[error("a file without a length")]
     BadCount,
-    /// A file's name of another form than [`base_types`]' limits and RFC 1179, section 6, allow.
+    /// A file's name that isn't of the form of RFC 1179, section 6, within [`base_types`]' limits.
     #[error("a file without a proper name")]
     BadName,
-    /// A file that no zero byte follows.
+    /// A file without a zero byte behind it.
     #[error("a file without its end")]
     MissingZero,
-    /// A file that is longer than its kind may be.
+    /// A file longer than the limit of its kind.
     #[error("a file that is too large")]
     TooLarge,
 }
 
-/// Why no item is given.
+/// Why the reader gives no item.
 #[derive(Clone, Copy, Debug, PartialEq, Eq, Error)]
 pub enum LpdError {
-    /// The client's first fault. From now on there is no other answer.
+    /// The first fault of the stream. The reader gives no other answer from then on.
     #[error("{0}")]
     Fault(LpdFault),
-    /// There is no memory for what a line says. It stays to be read. A file needs none.
+    /// Memory for the content of a line was refused. The line stays to be read. A file needs no memory.
     #[error("out of memory")]
     OutOfMemory,
 }

@@ -9,7 +9,7 @@ use octets::{Document, Octets};
 use std::alloc::{AllocError, Global};
 use std::marker::Model;
 
-/// A file that is printed. In clauses it is a record of the same fields.
+/// A data file. In clauses it is a record of the same fields.
 #[derive(Debug, Drop)]
 pub(crate) struct DataFile {
     pub(crate) name: Text,
@@ -25,7 +25,7 @@ impl Model for DataFile {
 }
 
 impl DataFile {
-    /// Its octets, unless it has this name.
+    /// The number of the file's octets, or 0 if it has the given name.
     pub(crate) fn octets_beside(&self, name: &Text) -> usize
         ensures { result ≡ octets_beside name.now self.now }
     {
@@ -37,7 +37,7 @@ impl DataFile {
     }
 }
 
-/// A control file that says a job. In clauses it is a record of the same fields.
+/// A control file that describes a job. In clauses it is a record of the same fields.
 #[derive(Debug, Drop)]
 pub(crate) struct JobFile {
     pub(crate) name: Text,
@@ -53,7 +53,7 @@ impl Model for JobFile {
 }
 
 impl JobFile {
-    /// Whether all that it prints is there.
+    /// Returns whether `files` has each file that the control file prints.
     pub(crate) fn is_complete(&self, files: &[DataFile]) -> bool
         ensures { result ≡ is_complete files.now self.now }
     {
@@ -63,7 +63,7 @@ impl JobFile {
             .all(|print| has_file(files, print))
     }
 
-    /// Whether it prints this file.
+    /// Returns whether the control file prints a file.
     pub(crate) fn prints(&self, file: &DataFile) -> bool
         ensures { result ≡ prints self.now file.now }
     {
@@ -73,7 +73,7 @@ impl JobFile {
             .any(|print| print.name.as_bytes() == file.name.as_bytes())
     }
 
-    /// The documents of its job, one for each print line. The error is out of memory.
+    /// The documents of the job, one for each print line, in order. The only error is out of memory.
     pub(crate) fn documents(
         &self,
         alloc: Global,
@@ -89,7 +89,7 @@ impl JobFile {
     }
 }
 
-/// Whether what a line prints is there.
+/// Returns whether `files` has the file of a print line.
 fn has_file(files: &[DataFile], print: &Print) -> bool
     ensures { result ≡ has_file files.now print.now }
 {
@@ -98,7 +98,7 @@ fn has_file(files: &[DataFile], print: &Print) -> bool
         .any(|file| print.name.as_bytes() == file.name.as_bytes())
 }
 
-/// What a line prints.
+/// The document of a print line. The only error is out of memory.
 fn document_of(alloc: Global, files: &[DataFile], print: &Print) -> Result<Document, AllocError>
     ensures { IfOk result (λ document. document ≡ document_of files.now print.now) }
 {
@@ -108,7 +108,7 @@ fn document_of(alloc: Global, files: &[DataFile], print: &Print) -> Result<Docum
     })
 }
 
-/// The octets of the file of a name, shared with it.
+/// The octets of the file of a name, which share the file's memory.
 fn contents_of(alloc: Global, files: &[DataFile], name: &Text) -> Result<Octets, AllocError>
     ensures { IfOk result (λ contents. contents ≡ contents_of files.now name.now) }
 {

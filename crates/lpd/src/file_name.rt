@@ -6,7 +6,8 @@ ghost use Rattle.lpd.specs.FileName.{is_file_name, is_numbered, is_host};
 use crate::item::FileKind;
 use base_types::Limits;
 
-/// Whether a text is the name of a file of a kind (RFC 1179, sections 6.2 and 6.3).
+/// Returns whether a text is the name of a file of a kind: `cf` or `df`, a letter, three digits, and the name
+/// of a host (RFC 1179, sections 6.2 and 6.3).
 #[tactic(auto, unfolding(crate::specs::FileName::is_file_name))]
 pub(crate) fn is_file_name(kind: FileKind, name: &[u8]) -> bool
     ensures { result ≡ is_file_name kind name.now }
@@ -26,7 +27,7 @@ pub(crate) fn is_file_name(kind: FileKind, name: &[u8]) -> bool
     }
 }
 
-/// Whether these are a letter and three digits.
+/// Returns whether the bytes are a letter and three digits.
 fn is_numbered(letter: u8, hundreds: u8, tens: u8, ones: u8) -> bool
     ensures { result ≡ is_numbered letter hundreds tens ones }
 {
@@ -36,7 +37,7 @@ fn is_numbered(letter: u8, hundreds: u8, tens: u8, ones: u8) -> bool
         && ones.is_ascii_digit()
 }
 
-/// Whether a text is a host's name: some bytes, and no space among them.
+/// Returns whether a text is the name of a host: 1 to [`Limits::LPD_HOST_BYTES`] bytes without a space.
 fn is_host(host: &[u8]) -> bool
     ensures { result ≡ is_host host.now }
 {

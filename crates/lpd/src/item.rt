@@ -5,12 +5,12 @@ use base_types::Text;
 pub enum FileKind {
     /// A control file, which describes a job.
     Control,
-    /// A data file, which is printed.
+    /// A data file, with the octets of a document.
     Data,
 }
 
-/// A command (RFC 1179, section 5). A queue is the text before the first space; operands that are
-/// empty are left out.
+/// A command (RFC 1179, section 5). The queue is the text before the first space. Empty operands are left
+/// out.
 #[derive(Debug, Drop)]
 pub enum LpdCommand {
     /// Print any waiting jobs.
@@ -21,18 +21,18 @@ pub enum LpdCommand {
     ReceiveJob {
         queue: Text,
     },
-    /// Send queue state, short: of these ids and owners, or of all.
+    /// Send queue state (short): of the ids and owners in `operands`, or of all jobs if it is empty.
     ListShort {
         queue: Text,
         operands: Vec<Text>,
     },
-    /// Send queue state, long: of these ids and owners, or of all.
+    /// Send queue state (long): of the ids and owners in `operands`, or of all jobs if it is empty.
     ListLong {
         queue: Text,
         operands: Vec<Text>,
     },
-    /// Remove jobs, as this agent asks: these ids and owners, or the one that prints. Without an
-    /// agent its name has no bytes.
+    /// Remove jobs: those of the ids and owners in `operands`, or the job that prints if it is empty. `agent`
+    /// is the user who asks for it; it is empty if the command has none.
     RemoveJobs {
         queue: Text,
         agent: Text,
@@ -40,24 +40,24 @@ pub enum LpdCommand {
     },
 }
 
-/// A file that is announced.
+/// An announced file.
 #[derive(Debug, Drop)]
 pub struct FileHead {
     pub kind: FileKind,
-    /// Its bytes: at least 1, at most as many as its kind may have.
+    /// Its length in bytes: at least 1, and at most the limit of its kind.
     pub length: u32,
     /// `cf` or `df`, a letter, three digits, and the client's host.
     pub name: Text,
 }
 
-/// What an LPD client says.
+/// An item of an LPD client's stream.
 #[derive(Debug, Drop)]
 pub enum LpdItem {
     Command(LpdCommand),
-    /// The pending files of this session are dropped (RFC 1179, section 6.1).
+    /// The client drops the pending files of its session (RFC 1179, section 6.1).
     Abort,
-    /// A file will come (RFC 1179, sections 6.2 and 6.3).
+    /// A file is announced (RFC 1179, sections 6.2 and 6.3).
     Announced(FileHead),
-    /// The whole file that was announced: the one that the reader lends.
+    /// The file that was announced is whole. The reader lends it.
     File,
 }

@@ -1,12 +1,11 @@
-//! What an LPD client says (RFC 1179): commands, subcommands and files from any cutting of its stream
-//! of bytes, the control files that describe jobs, and the sessions that send them (section 6).
+//! The input of an LPD client (RFC 1179): commands, subcommands and files, read from a stream that comes in
+//! pieces of any length; the control files that describe jobs; and the sessions that send them (section 6).
 //!
-//! It promises that an [`LpdReader`] gives exactly the items of the whole stream that it was fed, in
-//! order, and then the first fault; after a command other than that to receive a job nothing counts. It
-//! lends each item until the next call. Of a [`Session`] it promises what each thing that the client says
-//! makes of the files that are sent, and the job of a control file once all that it prints is there: a
-//! document for each print line, owned together with the session. It answers nothing, and doesn't know
-//! what becomes of a job.
+//! An [`LpdReader`] gives exactly the items of the whole stream that it was fed, in order, and then the first
+//! fault. After a command other than that to receive a job, it drops the bytes that it is fed. It lends each
+//! file until the next call. A [`Session`] collects the files that a client sends. It gives the job of a
+//! control file, once all files that the control file prints are there: with one document for each print
+//! line, whose memory the job and the session share. The crate writes no replies, and doesn't print.
 //!
 //! Its rows are traces of `play_examples`.
 #![tactic(auto)]

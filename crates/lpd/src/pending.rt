@@ -1,4 +1,4 @@
-//! The files that an LPD client has sent, until they are a job.
+//! The files that an LPD client has sent and that aren't part of a job yet.
 ghost use Rattle.std.specs.Prelude.{◌≡◌, ◌+◌, not, nat_lt, IfOk, OnOk, OnErr, filter, remove, slice_get};
 ghost use Rattle.std.specs.Option.{option_copied, option_map_or};
 ghost use Rattle.base_types.specs.declared.limits.TheConstants.Limits.{JOB_OCTETS};
@@ -27,7 +27,7 @@ impl Model for Pending {
 }
 
 impl Pending {
-    /// No files.
+    /// Creates an empty set of files.
     pub(crate) fn new(alloc: Global) -> Pending
         ensures { result ≡ no_files }
     {
@@ -37,7 +37,7 @@ impl Pending {
         }
     }
 
-    /// Whether a file of this kind, name and size is too much.
+    /// Returns whether a file of a kind, name and size exceeds a limit.
     pub(crate) fn is_too_much(&self, kind: FileKind, name: &Text, size: u32) -> bool
         ensures { result ≡ is_too_much kind name.now size self.now }
     {
@@ -50,7 +50,7 @@ impl Pending {
         }
     }
 
-    /// How many control files have other names.
+    /// Returns the number of control files of other names.
     fn other_controls(&self, name: &Text) -> usize
         ensures { result ≡ other_controls name.now self.now.controls }
     {
@@ -60,7 +60,7 @@ impl Pending {
             .count()
     }
 
-    /// How many data files have other names.
+    /// Returns the number of data files of other names.
     fn other_files(&self, name: &Text) -> usize
         ensures { result ≡ other_files name.now self.now.files }
     {
@@ -70,7 +70,8 @@ impl Pending {
             .count()
     }
 
-    /// Keeps a data file. The error is out of memory: nothing is changed.
+    /// Keeps a data file, in place of one of its name. The only error is out of memory, and nothing is
+    /// changed then.
     pub(crate) fn keep_file(&mut self, file: DataFile) -> Result<(), AllocError>
         ensures ok { OnOk result (self.new ≡ record self.old { files = with_file file self.old.files }) }
         ensures err { OnErr result (self.new ≡ self.old) }
@@ -84,7 +85,8 @@ impl Pending {
         Ok(())
     }
 
-    /// Keeps a control file. The error is out of memory: nothing is changed.
+    /// Keeps a control file, in place of one of its name. The only error is out of memory, and nothing is
+    /// changed then.
     pub(crate) fn keep_control(&mut self, control: JobFile) -> Result<(), AllocError>
         ensures ok { OnOk result (self.new ≡ record self.old { controls = with_control control self.old.controls }) }
         ensures err { OnErr result (self.new ≡ self.old) }
@@ -115,7 +117,7 @@ impl Pending {
         self.controls.get(place)
     }
 
-    /// The documents of a control file's job. The error is out of memory.
+    /// The documents of a control file's job. The only error is out of memory.
     pub(crate) fn documents(
         &self,
         alloc: Global,
@@ -126,7 +128,7 @@ impl Pending {
         control.documents(alloc, &self.files)
     }
 
-    /// The files of the job at a place leave.
+    /// Removes the files of the job at a place.
     pub(crate) fn drop_job(&mut self, place: usize)
         ensures { self.new ≡ without place self.old }
     {
@@ -135,7 +137,7 @@ impl Pending {
         }
     }
 
-    /// Takes the control file at a place.
+    /// Removes and returns the control file at a place.
     fn take_control(&mut self, place: usize) -> Option<JobFile>
         ensures taken { result ≡ slice_get self.old.controls place }
         ensures left { self.new ≡ option_map_or (λ control. record self.old { controls = remove self.old.controls place }) result self.old }
@@ -146,7 +148,7 @@ impl Pending {
         Some(self.controls.remove(place))
     }
 
-    /// The files that a control file prints leave.
+    /// Removes the files that a control file prints.
     fn drop_printed(&mut self, control: &JobFile)
         ensures { self.new ≡ record self.old { files = filter (λ file. not (prints control.now file)) self.old.files } }
     {
@@ -172,7 +174,7 @@ fn place_of_control(controls: &[JobFile], name: &Text) -> Option<usize>
         .position(|control| name.as_bytes() == control.name.as_bytes())
 }
 
-/// Whether the octets of the files of other names, and so many more, are more than a job may have.
+/// Returns whether the octets of the files of other names and `size` together exceed [`Limits::JOB_OCTETS`].
 fn is_above(files: &[DataFile], name: &Text, size: usize) -> bool
     ensures { result ≡ nat_lt JOB_OCTETS (all_beside name.now files.now + size) }
 {

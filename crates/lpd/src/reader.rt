@@ -19,25 +19,25 @@ use text::{FirstLine, Unread, first_line};
 enum Awaited {
     Command,
     Subcommand,
-    /// A file of so many bytes, and the zero byte after it.
+    /// A file of so many bytes, and the zero byte behind it.
     File(u32),
-    /// Nothing any more.
+    /// No more input: the bytes that are fed are dropped.
     Nothing,
 }
 
-/// A reader of what an LPD client sends, in pieces of any length. In clauses it is a record of the
-/// file that it lends, what it still has to read, what it awaits, and its fault.
+/// A reader of an LPD client's stream, which is fed in pieces of any length. In clauses it is a record of the
+/// file that it lends, the bytes that aren't read, what it awaits, and its fault.
 ///
-/// After a fault, and after a command other than that to receive a job, it gives nothing more, and
-/// what it is fed is dropped.
+/// After a fault, and after a command other than that to receive a job, the reader gives no more items, and
+/// drops the bytes that it is fed.
 #[derive(Debug, Drop)]
 pub struct LpdReader {
     alloc: Global,
     unread: Unread,
-    /// How many of the unread bytes are read already: those of the file that is lent, and the zero
-    /// byte after it.
+    /// The number of bytes at the front of `unread` that are read: those of the file that is lent, and the
+    /// zero byte behind it.
     read: usize,
-    /// How many of them are lent as a file.
+    /// The number of those bytes that are lent as a file.
     lent: usize,
     awaited: Awaited,
     fault: Option<LpdFault>,
@@ -55,7 +55,7 @@ impl Model for LpdReader {
 }
 
 impl LpdReader {
-    /// A reader of a new connection.
+    /// Creates the reader of a new connection.
     pub fn new(alloc: Global) -> LpdReader
         ensures { Stands [] [] result }
     {
@@ -69,9 +69,9 @@ impl LpdReader {
         }
     }
 
-    /// Takes the next bytes of the connection. The file that was lent is given back.
+    /// Feeds the next bytes of the connection. The file that was lent is given back.
     ///
-    /// Where there is no memory, none of them is taken, and the file stays lent.
+    /// The only error is out of memory: then none of the bytes is taken, and the file stays lent.
     pub fn feed(&mut self, piece: &[u8]) -> Result<(), AllocError>
         ensures fed { OnOk result ((stream : List ℕ) (given : List ItemRecord) → Stands stream given self.old → Stands (stream ++ piece.now) given self.new) }
         ensures err { OnErr result (self.new ≡ self.old) }
@@ -83,10 +83,10 @@ impl LpdReader {
         self.append(piece)
     }
 
-    /// The next item, if it is whole. Where it is a file, `file` lends the bytes.
+    /// Returns the next item, if it is whole. For a file, [`LpdReader::file`] has the bytes.
     ///
-    /// After a fault it answers that fault, whatever it is fed. Where there is no memory for what a
-    /// line says, the line stays to be read.
+    /// After a fault it returns that fault at each call. If memory for the content of a line is refused, the
+    /// line stays to be read.
     #[tactic(auto, using(crate::proofs::Standing::answers_again))]
     pub fn next_item(&mut self) -> Result<Option<LpdItem>, LpdError>
         ensures answer { Answers self.old result self.new }
@@ -110,7 +110,7 @@ impl LpdReader {
         &self.unread.bytes()[..self.lent]
     }
 
-    /// The next command or subcommand.
+    /// Returns the next command or subcommand, if its line is whole.
     fn next_line(&mut self) -> Result<Option<LpdItem>, LpdError>
         requires line { awaits_line self.old.awaited ≡ true }
         requires faultless { self.old.fault ≡ None }
@@ -124,7 +124,7 @@ impl LpdReader {
         }
     }
 
-    /// Reads the line of so many bytes at the front.
+    /// Reads the line of `length` bytes at the front.
     fn take_line(&mut self, length: usize) -> Result<Option<LpdItem>, LpdError>
         requires whole { first_line_of Limits.LPD_LINE_BYTES self.old.rest ≡ Whole length }
         requires line { awaits_line self.old.awaited ≡ true }
@@ -141,7 +141,7 @@ impl LpdReader {
         }
     }
 
-    /// The file of so many bytes at the front, once it and the zero byte after it are there.
+    /// Returns the file of `length` bytes at the front, once the file and its zero byte are whole.
     fn next_file(&mut self, length: u32) -> Result<Option<LpdItem>, LpdError>
         requires file { self.old.awaited ≡ Awaited.File length }
         requires faultless { self.old.fault ≡ None }
@@ -160,35 +160,35 @@ impl LpdReader {
         Ok(Some(LpdItem::File))
     }
 
-    /// The bytes that are not read yet.
+    /// The bytes that aren't read.
     fn rest(&self) -> &[u8]
         ensures { result.now ≡ self.now.rest }
     {
         &self.unread.bytes()[self.read..]
     }
 
-    /// The fault, once there is one.
+    /// The fault, if there was one.
     fn fault(&self) -> Option<LpdFault>
         ensures { result ≡ self.now.fault }
     {
         self.fault
     }
 
-    /// What is read next.
+    /// What the reader awaits.
     fn awaited(&self) -> Awaited
         ensures { result ≡ self.now.awaited }
     {
         self.awaited
     }
 
-    /// Whether nothing counts any more.
+    /// Returns whether the reader gives no more items.
     fn is_over(&self) -> bool
         ensures { result ≡ is_over self.now }
     {
         self.fault.is_some() || matches!(self.awaited, Awaited::Nothing)
     }
 
-    /// What the line of so many bytes at the front says.
+    /// The content of the line of `length` bytes at the front.
     fn read_front(&self, length: usize) -> Result<Result<LpdItem, LpdFault>, AllocError>
         requires { length < length_of self.now.rest }
         ensures { IfOk result (λ said. told said ≡ meaning_of self.now.awaited (take length self.now.rest)) }
@@ -202,7 +202,7 @@ impl LpdReader {
         }
     }
 
-    /// Goes past the line of so many bytes at the front.
+    /// Passes over the line of `length` bytes at the front.
     fn pass_line(&mut self, length: usize, awaited: Awaited)
         requires { length < length_of self.old.rest }
         ensures { self.new ≡ record { file = []; rest = drop (length + 1) self.old.rest; awaited = awaited; fault = self.old.fault } }
@@ -214,7 +214,7 @@ impl LpdReader {
         self.awaited = awaited;
     }
 
-    /// Goes past the file of so many bytes at the front and the byte after it, and lends the file.
+    /// Passes over the file of `length` bytes at the front and its zero byte, and lends the file.
     fn lend(&mut self, length: usize)
         requires { length < length_of self.old.rest }
         ensures { self.new ≡ record { file = take length self.old.rest; rest = drop (length + 1) self.old.rest; awaited = Awaited.Subcommand; fault = self.old.fault } }
@@ -226,7 +226,7 @@ impl LpdReader {
         self.awaited = Awaited::Subcommand;
     }
 
-    /// Keeps a fault.
+    /// Records a fault.
     fn fail(&mut self, fault: LpdFault) -> LpdError
         ensures kept { self.new ≡ record self.old { fault = Some fault } }
         ensures answer { result ≡ LpdError.Fault fault }
@@ -235,7 +235,8 @@ impl LpdReader {
         LpdError::Fault(fault)
     }
 
-    /// Keeps these bytes to be read.
+    /// Appends bytes to those that aren't read. The only error is out of memory, and leaves the reader as it
+    /// was.
     fn append(&mut self, piece: &[u8]) -> Result<(), AllocError>
         ensures ok { OnOk result (self.new ≡ record self.old { file = []; rest = self.old.rest ++ piece.now }) }
         ensures err { OnErr result (self.new ≡ self.old) }
@@ -248,7 +249,7 @@ impl LpdReader {
     }
 }
 
-/// What is read after an item.
+/// What the reader awaits after an item.
 fn after(item: &LpdItem) -> Awaited
     ensures { result ≡ awaited_after (item_record item.now []) }
 {

@@ -9,7 +9,7 @@ pub struct SentJob {
     pub queue: Text,
     pub owner: Text,
     pub name: Text,
-    /// One for each print line of the control file, in order.
+    /// The documents, one for each print line of the control file, in order.
     pub documents: Vec<Document>,
 }
 

@@ -1,4 +1,4 @@
-//! What is received for a queue.
+//! A session of an LPD client.
 ghost use Rattle.std.specs.Prelude.{◌≡◌, IfOk, OnErr, IsSome, true};
 ghost use Rattle.lpd.specs.Control.{control_in};
 ghost use Rattle.lpd.specs.Pending.{first_complete, with_file};
@@ -14,8 +14,8 @@ use octets::Octets;
 use std::alloc::{AllocError, Global};
 use std::marker::Model;
 
-/// A session in which jobs are received for a queue (RFC 1179, section 6). In clauses it is a record of
-/// the queue, the pending files and the file that is coming.
+/// A session that receives jobs for a queue (RFC 1179, section 6). In clauses it is a record of the queue,
+/// the pending files and the announced file.
 #[derive(Debug, Drop)]
 pub struct Session {
     alloc: Global,
@@ -33,7 +33,7 @@ impl Model for Session {
 }
 
 impl Session {
-    /// No files yet.
+    /// Creates the session of a queue, without files.
     pub fn new(alloc: Global, queue: Text) -> Session
         ensures { result ≡ opened queue }
     {
@@ -45,7 +45,7 @@ impl Session {
         }
     }
 
-    /// The client gives up what it has sent (RFC 1179, section 6.1).
+    /// Drops all files that the client has sent (RFC 1179, section 6.1).
     pub fn abort(&mut self)
         ensures { self.new ≡ aborted self.old }
     {
@@ -53,8 +53,8 @@ impl Session {
         self.coming = None;
     }
 
-    /// Whether a file that is announced is taken: not where a 101st pending file of its kind, or more
-    /// pending data than a job may have, would be there. One of its name, which it replaces, isn't
+    /// Returns whether an announced file is admitted: with it, at most 100 files of its kind are pending, and
+    /// pending data is within [`Limits::JOB_OCTETS`]. A file of the same name, which is replaced, isn't
     /// counted.
     pub fn admits(&self, head: &FileHead) -> bool
         ensures { result ≡ admits head.now self.now }
@@ -62,16 +62,17 @@ impl Session {
         !self.pending.is_too_much(head.kind, &head.name, head.length)
     }
 
-    /// A file is announced, and comes next (RFC 1179, sections 6.2 and 6.3).
+    /// Announces a file, which comes next (RFC 1179, sections 6.2 and 6.3).
     pub fn announce(&mut self, head: FileHead)
         ensures { self.new ≡ announced head self.old }
     {
         self.coming = Some(head);
     }
 
-    /// The file that was announced has come: whether it is kept. A control file that says no job isn't.
+    /// Takes the file that was announced. Returns whether it is kept; a control file that describes no job
+    /// isn't.
     ///
-    /// Where there is no memory for it, it isn't kept, and none is coming.
+    /// The only error is out of memory: then the file isn't kept, and none is announced.
     pub fn take_file(&mut self, contents: &[u8]) -> Result<bool, AllocError>
         ensures answer { IfOk result (λ answer. answer ≡ keeps contents.now self.old) }
         ensures ok { IfOk result (λ answer. self.new ≡ kept contents.now self.old) }
@@ -83,15 +84,15 @@ impl Session {
         }
     }
 
-    /// The place of the first control file whose data files are all there.
+    /// The place of the first control file whose data files are all pending.
     pub fn complete(&self) -> Option<usize>
         ensures { result ≡ first_complete self.now.pending }
     {
         self.pending.first_complete()
     }
 
-    /// The job of the control file at a place, if there is one. Its documents are those of the session,
-    /// without a copy. The error is out of memory.
+    /// The job of the control file at a place, if there is one. Its documents share the memory of the
+    /// session's files. The only error is out of memory.
     pub fn job_at(&self, place: usize) -> Result<Option<SentJob>, AllocError>
         ensures ok { IfOk result (λ job. job ≡ sent_at place self.now) }
         ensures err { OnErr result (IsSome (sent_at place self.now)) }
@@ -102,14 +103,14 @@ impl Session {
         }
     }
 
-    /// The files of the job at a place leave.
+    /// Removes the files of the job at a place.
     pub fn drop_job(&mut self, place: usize)
         ensures { self.new ≡ without_job place self.old }
     {
         self.pending.drop_job(place);
     }
 
-    /// The job of a control file.
+    /// The job of a control file. The only error is out of memory.
     fn job_of(&self, control: &JobFile) -> Result<SentJob, AllocError>
         ensures { IfOk result (λ job. job ≡ sent_by self.now control.now) }
     {
@@ -133,7 +134,7 @@ impl Session {
         }
     }
 
-    /// Keeps a data file.
+    /// Keeps a data file. Returns true.
     fn keep_data(&mut self, name: Text, contents: &[u8]) -> Result<bool, AllocError>
         ensures answer { IfOk result (λ answer. answer ≡ true) }
         ensures ok { IfOk result (λ answer. self.new ≡ record self.old { pending = record self.old.pending { files = with_file (record { name = name; contents = contents.now }) self.old.pending.files } }) }
@@ -144,7 +145,7 @@ impl Session {
         Ok(true)
     }
 
-    /// Keeps a control file, if it says a job.
+    /// Keeps a control file, if it describes a job. Returns whether it does.
     fn keep_control(&mut self, name: Text, contents: &[u8]) -> Result<bool, AllocError>
         ensures answer { IfOk result (λ answer. answer ≡ says_job (control_in contents.now)) }
         ensures ok { IfOk result (λ answer. self.new ≡ record self.old { pending = control_kept name self.old.pending (control_in contents.now) }) }

@@ -1,11 +1,11 @@
-//! The operands of a command.
+//! The words of a line.
 ghost use Rattle.std.specs.Prelude.{◌≡◌, ◌<◌, IfOk, filter, length, map, nat_lt};
 ghost use Rattle.lpd.specs.Command.{first_word, later_words, operands_of};
 
 use base_types::Text;
 use std::alloc::{AllocError, Global};
 
-/// The first word.
+/// The first word, empty if there is none.
 pub(crate) fn first_word<'a>(words: &[&'a [u8]]) -> &'a [u8]
     ensures { result.now ≡ first_word (map (λ word. word.now) words.now) }
 {

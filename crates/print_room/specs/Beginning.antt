@@ -1,4 +1,4 @@
--- When devices can begin jobs.
+-- The conditions under which devices can begin jobs.
 use Rattle.std.specs.Prelude.{ℕ, ◌≡◌, ◌&&◌, not, Bool, true, false, List, [], ◌∷◌, None}
 use Rattle.std.specs.Option.{option_map_or}
 use Rattle.job_objects.specs.JobState.{is_pending}
@@ -13,16 +13,16 @@ use Rattle.print_room.specs.Dispatch.{beginning}
 abbrev pub is_waiting : SpooledRecord → Bool
 is_waiting spooled = is_pending spooled.job.state && not spooled.on_device
 
--- whether the job of this id is
+-- whether the job of an id is pending and no device has it
 abbrev pub waits_at : ℕ → List SpooledRecord → Bool
 waits_at id jobs = option_map_or is_waiting (spooled_at id jobs) false
 
--- the device has no job, and no device has the job, which is pending
+-- the device has no job, the job is pending, and no device has the job
 pub record CanBegin (start : Started) (state : State) : Type 0 where
   pub free : job_of state.devices start.device ≡ None
   pub waits : waits_at start.job state.spool.jobs ≡ true
 
--- each can begin, once those before it have
+-- each job can begin after those before it have begun
 abbrev pub AllCanBegin : ℕ → List Started → State → Type 0
 AllCanBegin now [] state = Unit {0}
 AllCanBegin now (start ∷ starts) state = CanBegin start state × AllCanBegin now starts (beginning now start state)

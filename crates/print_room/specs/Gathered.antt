@@ -12,7 +12,7 @@ pub record Gathered : Type 0 where
   pub id : ℕ
   pub needs : JobNeeds
   pub priority : ℕ
-  -- why no device of its printer can print it, if none can
+  -- the cause, if no device of the job's printer can print it
   pub cause : Option Cause
 
 abbrev pub gathered : State → JobRecord → Gathered
@@ -22,22 +22,22 @@ gathered state job = record { id = job.id; needs = job.needs; priority = job.pri
 abbrev pub gathered_of : State → List Gathered
 gathered_of state = map (gathered state) (ready_of state)
 
--- the job, where no device can print it
+-- the entry of the job, if no device can print it
 abbrev pub entry_of : Gathered → Option Stranded
 entry_of ready = option_map (λ cause. record { job = ready.id; cause = cause }) ready.cause
 
--- whether it has the priority and some device can print it
+-- whether the job has the priority and some device can print it
 abbrev pub is_of_class : ℕ → Gathered → Bool
 is_of_class priority ready = (ready.priority == priority) && is_none ready.cause
 
 abbrev pub class_job_of : Gathered → JobOfClass
 class_job_of ready = record { id = ready.id; needs = ready.needs }
 
--- its priority, where that is at most a level and some device can print it, and else 0
+-- the job's priority, if that is at most a level and some device can print the job; else 0
 abbrev pub level_within : ℕ → Gathered → ℕ
 level_within most ready = if nat_le ready.priority most && is_none ready.cause then ready.priority else 0
 
--- the highest of these
+-- the highest of these priorities
 abbrev pub highest_within : ℕ → List Gathered → ℕ
 highest_within most [] = 0
 highest_within most (ready ∷ others) = max (level_within most ready) (highest_within most others)

@@ -22,7 +22,7 @@ opening_device entry = record {
   not_before = 0;
 }
 
--- no jobs and no plan, and no printer paused; the first job will have this id
+-- the state has no jobs, no plan and no paused printer; the first job gets this id
 abbrev pub opening : ServerSettings → ℕ → State
 opening settings first = record {
   settings = settings;

@@ -1,5 +1,4 @@
--- The ready jobs (RFC 8011, section 5.3.7): by priority those that some device can print, and those
--- that none can.
+-- The ready jobs (RFC 8011, section 5.3.7): those that some device can print, by priority, and those that no device can print.
 use Rattle.std.specs.Prelude.{ℕ, ◌==◌, ◌&&◌, Bool, is_none, List, filter, Option, option_map}
 use Rattle.std.specs.List.{filter_map}
 use Rattle.base_types.specs.declared.needs.Cause.{Cause}
@@ -14,11 +13,11 @@ use Rattle.print_room.specs.State.{State, sets_of}
 abbrev pub ready_of : State → List JobRecord
 ready_of state = ready_jobs state.paused state.spool.jobs
 
--- why no device of its printer can print a job, if none can
+-- the cause, if no device of a job's printer can print the job
 abbrev pub cause_in : State → JobRecord → Option Cause
 cause_in state job = cause_of job.needs (printer_of job.needs (sets_of state.settings)) state.devices
 
--- the job, where no device can print it
+-- the entry of the job, if no device can print it
 abbrev pub stranding : State → JobRecord → Option Stranded
 stranding state job = option_map (λ cause. record { job = job.id; cause = cause }) (cause_in state job)
 

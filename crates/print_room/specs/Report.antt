@@ -1,4 +1,4 @@
--- What a device's report does: to the device, to the job that it has, and to that job's documents.
+-- The effect of a device's report on the device, on its job, and on the job's documents.
 use Rattle.std.specs.Prelude.{ℕ, ◌≡◌, ◌+◌, ◌-◌, ◌*◌, ◌==◌, Bool, false, if◌then◌else◌, List, [], Option, Some, None, option_map, slice_get, MatchOption}
 use Rattle.std.specs.Option.{option_map_or}
 use Rattle.base_types.specs.Needs.{JobNeeds}
@@ -21,7 +21,7 @@ use Rattle.print_room.specs.State.{State, with_device, doing, free_from, holding
 abbrev pub has_job : ℕ → Activity → Bool
 has_job number activity = option_map_or (λ id. id == number) (job_on activity) false
 
--- what the report says of the job that the device has
+-- the event of the device's job that the report has
 abbrev pub said_of_job : Report → Activity → Option DeviceSays
 said_of_job Says.Ready (Stopped interrupted) = Some Continue
 said_of_job Says.Stop (Running printing) = Some Stop
@@ -30,24 +30,24 @@ said_of_job (Says.Fail number) activity = if has_job number activity then Some F
 said_of_job Says.Gone activity = Some Fail
 said_of_job _ _ = None
 
--- the time left of a job of which so many impressions are printed, all copies together
+-- the time left of a job, in ms, of which `printed` impressions are printed, all copies together
 abbrev pub time_left : JobNeeds → Device → ℕ → ℕ
 time_left needs device printed = (needs.impressions * needs.copies - printed) * rate_of needs device
 
--- the time left of the device's job, if it has the job of this number
+-- the time left of the device's job, if the device has the job of this number
 abbrev pub left_of : ℕ → ℕ → List SpooledRecord → Device → Option ℕ
 left_of number printed jobs device =
     if has_job number device.activity then option_map (λ job. time_left job.needs device printed) (job_at number jobs) else None
 
--- what a device does of whose job so many impressions are printed
+-- the activity of a device after it has printed so many impressions of its job
 abbrev pub paged : ℕ → ℕ → ℕ → List SpooledRecord → Device → Activity
 paged now number printed jobs device = option_map_or (λ left. taking left now device.activity) (left_of number printed jobs device) device.activity
 
--- without the job of this number, if it has that
+-- the activity without the job of this number, if the device has that job
 abbrev pub without_job : ℕ → Activity → Activity
 without_job number activity = if has_job number activity then idle activity else activity
 
--- what the device does after a report
+-- the activity of the device after a report
 abbrev pub activity_after : ℕ → Report → List SpooledRecord → Device → Activity
 activity_after now (Says.Hello name) jobs device = device.activity
 activity_after now (Says.Media names) jobs device = device.activity
@@ -59,25 +59,24 @@ activity_after now (Says.Done number) jobs device = without_job number device.ac
 activity_after now (Says.Fail number) jobs device = without_job number device.activity
 activity_after now Says.Gone jobs device = stopped_at now (idle device.activity)
 
--- the device after a report: it holds other media, is kept from beginning a job, or does something else;
--- once it is gone nothing keeps it any more
+-- the device after a report: it holds other media, or begins no job for a time, or has another activity; a device that is gone has no moment before which it begins no job
 abbrev pub refitted : ℕ → Report → Activity → Device → Device
 refitted now (Says.Media names) activity device = holding names.items device
 refitted now (Says.Busy time) activity device = free_from (now + time) device
 refitted now Says.Gone activity device = free_from 0 (doing activity device)
 refitted now report activity device = doing activity device
 
--- the jobs, once the device that has a job said something of it
+-- the jobs after the device's event of its job
 abbrev pub jobs_after : ℕ → Option ℕ → Option DeviceSays → List SpooledRecord → List SpooledRecord
 jobs_after now (Some id) (Some said) jobs = jobs_told id said now jobs
 jobs_after now _ _ jobs = jobs
 
--- the documents that the job hands out then
+-- the documents that are handed out for the device's event of its job
 abbrev pub documents_out : Option ℕ → Option DeviceSays → List SpooledRecord → List DocumentRecord
 documents_out (Some id) (Some said) jobs = documents_told id said jobs
 documents_out _ _ jobs = []
 
--- the state after a report of this device, which stands at the place
+-- the state after a report of this device, which is at `place`
 abbrev pub state_after : ℕ → ℕ → Report → Device → State → State
 state_after now place report device old = record old {
   last = now;
@@ -85,8 +84,7 @@ state_after now place report device old = record old {
   spool = record old.spool { jobs = jobs_after now (job_on device.activity) (said_of_job report device.activity) old.spool.jobs };
 }
 
--- A device reports: the state after it, and the documents that it hands out. A place that no device
--- has changes only the last moment.
+-- The effect of a report: the state after it, and the documents that are handed out. If no device is at the place, only the last moment changes.
 abbrev pub Reports : ℕ → ℕ → Report → State → List DocumentRecord → State → Type 0
 Reports now place report old documents new =
     MatchOption (slice_get old.devices place)

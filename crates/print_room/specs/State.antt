@@ -1,4 +1,4 @@
--- The state of the core, and how a part of it changes.
+-- The state of the core, and changes of its parts.
 use Rattle.std.specs.Prelude.{ℕ, zero, suc, Bool, List, [], ◌∷◌, All, map, Option}
 use Rattle.std.specs.List.{list_any}
 use Rattle.std.specs.Str.{bytes_eq}
@@ -14,14 +14,14 @@ use Rattle.print_room.specs.Activity.{KeepsTime}
 pub record State : Type 0 where
   -- the settings, which never change
   pub settings : ServerSettings
-  -- whether each printer of the settings is paused, in their order
+  -- whether each printer is paused, in the order of the settings
   pub paused : List Bool
-  -- one for each device of the settings, in their order
+  -- one device for each of the settings, in their order
   pub devices : List Device
   pub spool : SpoolRecord
   -- the last moment
   pub last : ℕ
-  -- the last plan, once one was made, and what began with it
+  -- the last plan, if one was made, and the jobs that began with it
   pub plan : Option PlanRecord
   pub begun : List Started
 
@@ -29,7 +29,7 @@ pub record State : Type 0 where
 abbrev pub sets_of : ServerSettings → List (List ℕ)
 sets_of settings = map (λ p. p.devices) settings.printers
 
--- each device's job takes no longer than any job may
+-- each device's job takes at most JOB_TIME from the last moment on
 abbrev pub AllKeepTime : ℕ → List Device → Type 0
 AllKeepTime last devices = All (λ d. KeepsTime last d.activity) devices
 
@@ -39,18 +39,18 @@ with_device place change [] = []
 with_device zero change (device ∷ devices) = change device ∷ devices
 with_device (suc place) change (device ∷ devices) = device ∷ with_device place change devices
 
--- it does this from now on
+-- the device has this activity from now on
 abbrev pub doing : Activity → Device → Device
 doing activity device = record device { activity = activity }
 
--- it begins no job before a moment
+-- the device begins no job before a moment
 abbrev pub free_from : ℕ → Device → Device
 free_from moment device = record device { not_before = moment }
 
--- a medium is loaded where it is one of these
+-- a medium is loaded exactly if its name is one of these
 abbrev pub loaded_if : List (List ℕ) → Medium → Medium
 loaded_if names medium = record medium { loaded = list_any (bytes_eq medium.name) names }
 
--- it holds these media, as far as its settings have them, and no others
+-- the device holds those of its settings' media that are named, and no others
 abbrev pub holding : List (List ℕ) → Device → Device
 holding names device = record device { media = map (loaded_if names) device.media }

@@ -1,4 +1,4 @@
--- A plan that is kept: while nothing that a plan reads has changed since it was made, it is still good.
+-- A kept plan is still good while nothing that it depends on has changed.
 use Rattle.std.specs.Prelude.{ℕ, ◌≡◌, ◌==◌, Bool, if◌then◌else◌, not, List, Option, Some, None}
 use Rattle.std.specs.List.{list_all, list_any}
 use Rattle.std.specs.Str.{bytes_eq}
@@ -9,19 +9,19 @@ use Rattle.print_room.specs.Activity.{wait_of}
 use Rattle.print_room.specs.State.{State}
 use Rattle.print_room.specs.GoodPlan.{IsGoodPlan}
 
--- the last plan is a good plan of the state as it is, for a moment
+-- the last plan is a good plan of the current state, for a moment
 abbrev pub IsStillGood : ℕ → State → Type 0
 IsStillGood now state = (plan : PlanRecord) × (state.plan ≡ Some plan) × IsGoodPlan now state plan
 
--- so it is for this moment, where there is one
+-- the last plan is still good for the moment, if there is one
 abbrev pub HoldsFor : Option ℕ → State → Type 0
 HoldsFor None state = Unit {0}
 HoldsFor (Some moment) state = IsStillGood moment state
 
--- whether each device is free as long after the one moment as after the other
+-- whether each device's wait is the same at both moments
 abbrev pub waits_stay : ℕ → ℕ → List Device → Bool
 waits_stay one other devices = list_all (λ d. wait_of one d == wait_of other d) devices
 
--- whether a medium is loaded just where it is one of these
+-- whether a medium is loaded exactly if its name is one of these
 abbrev pub loads : List (List ℕ) → Medium → Bool
 loads names medium = if medium.loaded then list_any (bytes_eq medium.name) names else not (list_any (bytes_eq medium.name) names)

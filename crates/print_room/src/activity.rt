@@ -1,4 +1,4 @@
-//! What a device does over time.
+//! The activity of a device over time.
 ghost use Rattle.std.specs.Prelude.{◌≡◌, ◌≤◌, ℕ, true};
 ghost use Rattle.print_room.specs.Activity.{idle, job_on, KeepsTime, running_from, stopped_at, taken_for, taking, wait_of};
 
@@ -14,7 +14,7 @@ pub fn job_on(activity: Activity) -> Option<JobId>
     }
 }
 
-/// The device runs from a moment on.
+/// The activity of a device that runs from a moment on.
 pub fn running_from(activity: Activity, now: Moment) -> Activity
     requires { KeepsTime now activity }
     ensures activity { result ≡ running_from now activity }
@@ -30,7 +30,7 @@ pub fn running_from(activity: Activity, now: Moment) -> Activity
     }
 }
 
-/// The device stops at a moment.
+/// The activity of a device that stops at a moment.
 pub fn stopped_at(activity: Activity, now: Moment) -> Activity
     requires { KeepsTime now activity }
     ensures activity { result ≡ stopped_at now activity }
@@ -46,7 +46,7 @@ pub fn stopped_at(activity: Activity, now: Moment) -> Activity
     }
 }
 
-/// The device's job will take this much longer.
+/// The activity of a device whose job takes `left` ms from a moment on.
 pub fn taking(activity: Activity, left: u64, now: Moment) -> Activity
     requires { left ≤ Limits.JOB_TIME }
     ensures activity { result ≡ taking left now activity }
@@ -66,7 +66,7 @@ pub fn taking(activity: Activity, left: u64, now: Moment) -> Activity
     }
 }
 
-/// The device has no job any more.
+/// The activity of a device whose job is gone.
 pub fn idle(activity: Activity) -> Activity
     ensures { result ≡ idle activity }
 {
@@ -76,7 +76,7 @@ pub fn idle(activity: Activity) -> Activity
     }
 }
 
-/// How long the job that a device has will still take, from a moment on, in ms.
+/// The time in ms that the device's job still takes from a moment on.
 pub fn taken_for(activity: Activity, now: Moment) -> u64
     ensures value { result ≡ taken_for now activity }
     ensures short { (last : ℕ) → last ≤ now → KeepsTime last activity → result ≤ Limits.JOB_TIME }
@@ -88,7 +88,7 @@ pub fn taken_for(activity: Activity, now: Moment) -> u64
     }
 }
 
-/// Whether a device does the same.
+/// Returns true only if the activities are the same.
 pub(crate) fn is_same(one: &Activity, other: &Activity) -> bool
     ensures { result ≡ true → one.now ≡ other.now }
 {
@@ -105,8 +105,8 @@ pub(crate) fn is_same(one: &Activity, other: &Activity) -> bool
     }
 }
 
-/// How long it is until a device is free, from a moment on, in ms: its job has ended then, and the
-/// moment before which it begins none has come.
+/// The time in ms from a moment until the device is free: until its job has ended, and the moment before
+/// which it begins no job has come.
 pub fn wait_of(device: &DeviceNow, now: Moment) -> u64
     ensures value { result ≡ wait_of now device.now }
     ensures short { (last : ℕ) → last ≤ now → KeepsTime last device.now.activity → result ≤ Limits.NOT_BEFORE }

@@ -1,4 +1,4 @@
-//! What a room shows.
+//! The calls that read a room.
 ghost use Rattle.std.specs.Prelude.{◌≡◌};
 ghost use Rattle.std.specs.Option.{option_copied};
 ghost use Rattle.spool.specs.Calls.{paused_at};
@@ -13,17 +13,17 @@ use plan_prices::Plan;
 use settings_file::Settings;
 use spool::{Spool, is_paused};
 
-/// What is in a print room. None of it takes memory.
+/// The parts of a print room. Reading them takes no memory.
 impl PrintRoom {
-    /// The settings that it was made with.
+    /// The settings that the room was made with.
     pub fn settings(&self) -> &Settings
         ensures { result.now ≡ self.now.settings }
     {
         &self.settings
     }
 
-    /// The devices as they are now, in the settings' order: one for each of them. The job that one has is
-    /// in the spool, as one that a device has, and no other device has it.
+    /// The devices now, one for each of the settings, in their order. A device's job is in the spool, marked
+    /// as one that a device has, and no other device has it.
     pub fn devices(&self) -> &[DeviceNow]
         ensures value { result.now ≡ self.now.devices }
         ensures kept { IsRoom self.now }
@@ -31,7 +31,7 @@ impl PrintRoom {
         &self.devices
     }
 
-    /// The device that has the job of this id, if one has it.
+    /// The device that has the job of an id, if one has it.
     pub fn device_of(&self, id: JobId) -> Option<DeviceId>
         ensures { result ≡ device_of self.now.devices id }
     {
@@ -41,7 +41,7 @@ impl PrintRoom {
         }
     }
 
-    /// The place of the device that has the job of this id.
+    /// The place of the device that has the job of an id.
     fn place_of(&self, id: JobId) -> Option<usize>
         ensures { result ≡ device_of self.now.devices id }
     {
@@ -64,7 +64,7 @@ impl PrintRoom {
         self.last
     }
 
-    /// The last plan, once one was made.
+    /// The last plan, if one was made.
     pub fn plan(&self) -> Option<&Plan>
         ensures { option_copied result ≡ self.now.plan }
     {
@@ -78,7 +78,7 @@ impl PrintRoom {
         &self.begun
     }
 
-    /// The printers, in the settings' order: one for each of them.
+    /// The printers, one for each of the settings, in their order.
     pub fn printers(&self) -> &[Printer]
         ensures value { result.now ≡ self.now.paused }
         ensures kept { IsRoom self.now }

@@ -1,4 +1,4 @@
-//! A dispatch: the plan, and what it starts.
+//! The dispatch: a plan, and the jobs that it starts.
 ghost use Rattle.std.specs.Prelude.{◌≡◌, ◌≤◌, ◌<◌, All, IfOk, OnOk, OnErr, true, false, IsOk, [], Some, length};
 ghost use Rattle.plan_prices.specs.Plan.{PlanRecord};
 ghost use Rattle.print_room.specs.Beginning.{AllCanBegin};
@@ -17,17 +17,17 @@ use plan_prices::{Plan, Planner};
 use std::alloc::AllocError;
 
 impl PrintRoom {
-    /// Plans the ready jobs and starts what can start, at a moment that is not before the last one:
-    /// whether a job was ready.
+    /// Plans the ready jobs and starts the jobs that can start, at a moment that isn't before the last one.
+    /// Returns whether a job was ready.
     ///
-    /// Where none is, no plan is made, nothing changes and no memory is taken. Else each priority class,
-    /// from the highest down and given when the classes above leave each device free, has the least
-    /// total of estimated completion times among all ways to assign its ready jobs to capable devices
-    /// and order them; its prices prove this to the checker alone, and every ready job without a capable
-    /// device is named with its cause. The plan is kept, and each running device that is idle and may
-    /// begin a job starts the first of its list.
+    /// If no job is ready, no plan is made, nothing changes and no memory is taken. Otherwise each priority
+    /// class, from the highest down and given when the classes above leave each device free, has the least
+    /// total of estimated completion times among all ways to assign its ready jobs to capable devices and
+    /// order them. The plan's prices prove that, by the checker alone. Each ready job without a capable
+    /// device is named with its cause. The plan is kept, and each running device that is idle and may begin a
+    /// job starts the first of its list.
     ///
-    /// The only error is out of memory; nothing has changed then.
+    /// The only error is out of memory, and nothing is changed then.
     pub fn dispatch<P: Planner>(&mut self, planner: &mut P, now: Moment) -> Result<bool, AllocError>
         requires { self.old.last ≤ now }
         ensures idle { is_some_job (ready_of self.old) ≡ false → IsOk result }
@@ -43,7 +43,7 @@ impl PrintRoom {
         }
     }
 
-    /// Plans the ready jobs and starts what can start, where a job is ready.
+    /// Plans the ready jobs, of which there are some, and starts the jobs that can start.
     fn plan_and_start<P: Planner>(&mut self, planner: &mut P, now: Moment) -> Result<(), AllocError>
         requires later { self.old.last ≤ now }
         requires ready { is_some_job (ready_of self.old) ≡ true }
@@ -58,7 +58,7 @@ impl PrintRoom {
         }
     }
 
-    /// Makes a plan of the ready jobs and starts what can start, where a job is ready.
+    /// Makes a plan of the ready jobs, of which there are some, and starts the jobs that can start.
     fn plan_anew<P: Planner>(&mut self, planner: &mut P, now: Moment) -> Result<(), AllocError>
         requires later { self.old.last ≤ now }
         requires ready { is_some_job (ready_of self.old) ≡ true }
@@ -73,7 +73,7 @@ impl PrintRoom {
         Ok(())
     }
 
-    /// Starts what can start under the last plan, which is still good.
+    /// Starts the jobs that can start under the last plan, which is still good.
     fn start_again(&mut self, now: Moment) -> Result<(), AllocError>
         requires later { self.old.last ≤ now }
         requires ready { is_some_job (ready_of self.old) ≡ true }
@@ -82,7 +82,7 @@ impl PrintRoom {
         ensures keep { OnOk result (AllKeep self.old self.new) }
         ensures err { OnErr result (self.new ≡ self.old) }
     {
-        // Reading the jobs makes known what holds of them.
+        // Reading the jobs gives their invariant.
         let _jobs = self.spool.jobs();
         let Some(plan) = &self.plan else {
             return Ok(());
@@ -93,8 +93,8 @@ impl PrintRoom {
         Ok(())
     }
 
-    /// Whether the last plan is a good one for a moment: nothing that a plan reads has changed since it
-    /// was made, but for the moment, and no device waits longer or shorter for that.
+    /// Returns whether the last plan is good for a moment: nothing that it depends on has changed since it
+    /// was made, except the moment, and the wait of each device is the same.
     fn is_still_good(&self, now: Moment) -> bool
         ensures { result ≡ true → IsStillGood now self.now }
     {
@@ -104,7 +104,7 @@ impl PrintRoom {
         }
     }
 
-    /// Whether each device is free as long after one moment as after another.
+    /// Returns whether each device's wait is the same at both moments.
     fn waits_stay(&self, one: Moment, other: Moment) -> bool
         ensures { result ≡ waits_stay one other self.now.devices }
     {
@@ -113,7 +113,7 @@ impl PrintRoom {
             .all(|device| wait_of(device, one) == wait_of(device, other))
     }
 
-    /// Keeps the plan, and marks the ready jobs as stranded or not, as it says.
+    /// Keeps the plan, and marks each ready job as stranded or not, by the plan.
     fn keep(&mut self, now: Moment, plan: Plan)
         requires { self.old.last ≤ now }
         ensures { self.new ≡ marked_state now plan self.old }
@@ -124,7 +124,7 @@ impl PrintRoom {
         self.plan = Some(plan);
     }
 
-    /// Marks the ready jobs as stranded or not, as the last plan says.
+    /// Marks each ready job as stranded or not, by the last plan.
     fn mark_again(&mut self, now: Moment)
         requires { self.old.last ≤ now }
         ensures { (plan : PlanRecord) → self.old.plan ≡ Some plan → self.new ≡ marked_state now plan self.old }
@@ -136,7 +136,7 @@ impl PrintRoom {
         }
     }
 
-    /// Starts these jobs under the last plan. Where there are none, it is still good afterwards.
+    /// Starts jobs under the last plan. If there are none, the plan is still good afterwards.
     fn start_all(&mut self, starts: Vec<Started>)
         requires inside { All (λ start. start.device < length self.old.devices) starts.items }
         requires short { All (λ start. start.time ≤ Limits.JOB_TIME) starts.items }
@@ -152,7 +152,7 @@ impl PrintRoom {
         }
     }
 
-    /// Keeps what began with the last plan.
+    /// Records the jobs that began with the last plan.
     fn note_begun(&mut self, starts: Vec<Started>)
         ensures { self.new ≡ record self.old { begun = starts.items } }
     {
@@ -160,7 +160,7 @@ impl PrintRoom {
         self.begun = starts;
     }
 
-    /// Notes that the last plan is a good one of the room as it is, for the last moment.
+    /// Records that the last plan is good for the last moment and the room as it is.
     fn note_good(&mut self)
         requires { IsStillGood self.old.last self.old }
         ensures { self.new ≡ self.old }

@@ -1,4 +1,4 @@
-//! Jobs that come, jobs that someone wants changed, and jobs that stop coming.
+//! The calls for new jobs, for changes of jobs, and for jobs whose documents stopped coming.
 ghost use Rattle.std.specs.Prelude.{◌≡◌, ◌≤◌, [], true, false, None, Some, IfOk, IfErr, OnOk, OnErr, length};
 ghost use Rattle.job_objects.specs.declared.job_change.JobChange.TheVariants as Change;
 ghost use Rattle.spool.specs.Calls.{new_refusal, cancel_refusal, IsRefusal};
@@ -11,12 +11,11 @@ use base_types::{JobId, Moment, Text};
 use octets::Document;
 use spool::{Asker, NewJob, Refused, RefusedDocument, SpoolRefusal};
 
-/// What becomes of jobs by what people ask, at a moment that is not before the last one. A refusal
-/// changes nothing.
+/// The changes of jobs, at a moment that isn't before the last one. A refusal changes nothing.
 impl PrintRoom {
-    /// Takes a job that is all in, under the next id: it is pending, or held.
+    /// Takes a complete job under the next id: it is pending, or held.
     ///
-    /// A refusal hands the job back. In this order: too large, busy, out of memory.
+    /// A refusal returns the job. Its causes, in this order: too large, busy, out of memory.
     pub fn submit(&mut self, job: NewJob, now: Moment) -> Result<JobId, Refused>
         requires { self.old.last ≤ now }
         ensures ok { IfOk result (λ id. Submits now self.old job false id self.new) }
@@ -33,7 +32,7 @@ impl PrintRoom {
 
     /// Takes a job whose documents are still to come, under the next id.
     ///
-    /// Refused in this order: busy, out of memory.
+    /// The causes of a refusal, in this order: busy, out of memory.
     pub fn create(&mut self, job: NewJob, now: Moment) -> Result<JobId, SpoolRefusal>
         requires later { self.old.last ≤ now }
         requires empty { job.documents ≡ [] }
@@ -48,11 +47,11 @@ impl PrintRoom {
         Ok(id)
     }
 
-    /// Adds a document that someone sends to a job whose documents are still to come (RFC 8011,
-    /// section 4.3.1); with the last one the job is all in. A last document without octets isn't added.
+    /// Adds a document to a job whose documents are still to come (RFC 8011, section 4.3.1). With the last
+    /// document the job is complete. A last document without octets isn't added.
     ///
-    /// A refusal hands the document back. In this order: not found, not authorized, not possible, too
-    /// large, out of memory.
+    /// A refusal returns the document. Its causes, in this order: not found, not authorized, not possible,
+    /// too large, out of memory.
     pub fn add_document(
         &mut self,
         id: JobId,
@@ -75,8 +74,8 @@ impl PrintRoom {
         Ok(())
     }
 
-    /// Why a document of so many octets that someone sends isn't taken, if there is a cause other than
-    /// out of memory. It takes no memory.
+    /// Returns why a document of so many octets isn't taken, if there is a cause other than out of memory. It
+    /// takes no memory.
     pub fn admits_document(
         &self,
         id: JobId,
@@ -91,9 +90,9 @@ impl PrintRoom {
         self.spool.admits_document(id, &asker, octets, last)
     }
 
-    /// Holds a job that waits, for someone (RFC 8011, section 4.3.5). It takes no memory.
+    /// Holds a job that waits (RFC 8011, section 4.3.5). It takes no memory.
     ///
-    /// Refused in this order: not found, not authorized, not possible.
+    /// The causes of a refusal, in this order: not found, not authorized, not possible.
     pub fn hold(&mut self, id: JobId, name: &Text, now: Moment) -> Result<(), SpoolRefusal>
         requires { self.old.last ≤ now }
         ensures ok { OnOk result ((asked_refusal id name.now Change.Hold now self.old ≡ None) × (self.new ≡ changing now id Change.Hold self.old)) }
@@ -108,10 +107,10 @@ impl PrintRoom {
         Ok(())
     }
 
-    /// Releases a job, for someone (RFC 8011, section 4.3.6): one that is held is held no longer, one
-    /// that a device prints goes on. It takes no memory.
+    /// Releases a job (RFC 8011, section 4.3.6): a held job isn't held any more, and a job that a device
+    /// prints goes on. It takes no memory.
     ///
-    /// Refused in this order: not found, not authorized, not possible.
+    /// The causes of a refusal, in this order: not found, not authorized, not possible.
     pub fn release(&mut self, id: JobId, name: &Text, now: Moment) -> Result<(), SpoolRefusal>
         requires { self.old.last ≤ now }
         ensures ok { OnOk result ((asked_refusal id name.now Change.Release now self.old ≡ None) × (self.new ≡ changing now id Change.Release self.old)) }
@@ -126,10 +125,10 @@ impl PrintRoom {
         Ok(())
     }
 
-    /// Cancels a job that isn't finished, for someone (RFC 8011, section 4.3.3). A device that has it
-    /// keeps it until it says that it is done. It takes no memory.
+    /// Cancels a job that isn't finished (RFC 8011, section 4.3.3). A device that has the job keeps it until
+    /// it reports that it is done. It takes no memory.
     ///
-    /// Refused in this order: not found, not authorized, not possible.
+    /// The causes of a refusal, in this order: not found, not authorized, not possible.
     pub fn cancel(&mut self, id: JobId, name: &Text, now: Moment) -> Result<(), SpoolRefusal>
         requires { self.old.last ≤ now }
         ensures ok { OnOk result ((canceling_refusal id name.now self.old ≡ None) × (self.new ≡ canceling now id name.now self.old)) }
@@ -141,10 +140,10 @@ impl PrintRoom {
         self.cancel_for(id, &asker, now)
     }
 
-    /// Cancels a job that isn't finished, for someone of whom it is told whether they are an operator.
-    /// A device that has it keeps it until it says that it is done. It takes no memory.
+    /// Cancels a job that isn't finished; the asker says whether they are an operator. A device that has the
+    /// job keeps it until it reports that it is done. It takes no memory.
     ///
-    /// Refused in this order: not found, not authorized, not possible.
+    /// The causes of a refusal, in this order: not found, not authorized, not possible.
     pub fn cancel_for(
         &mut self,
         id: JobId,
@@ -163,7 +162,7 @@ impl PrintRoom {
         Ok(())
     }
 
-    /// Why a cancel isn't made, if it isn't. It takes no memory.
+    /// Returns why a cancel isn't made, if there is a cause. It takes no memory.
     pub fn admits_cancel(&self, id: JobId, name: &Text) -> Result<(), SpoolRefusal>
         ensures ok { OnOk result (canceling_refusal id name.now self.now ≡ None) }
         ensures refused { IfErr result (λ refusal. canceling_refusal id name.now self.now ≡ Some refusal) }
@@ -172,7 +171,7 @@ impl PrintRoom {
         self.spool.admits_cancel(id, &asker)
     }
 
-    /// The one of this name who asks.
+    /// The asker with a name.
     fn asker<'a>(&self, name: &'a Text) -> Asker<'a>
         ensures { result ≡ asker_of name.entry.now self.now }
     {
@@ -182,15 +181,15 @@ impl PrintRoom {
         }
     }
 
-    /// Whether a name is an operator's.
+    /// Returns whether a name is an operator's.
     pub fn is_operator(&self, name: &Text) -> bool
         ensures { result ≡ is_operator name.now self.now }
     {
         is_named(&self.settings.operators, name.as_bytes())
     }
 
-    /// Time goes on: jobs whose documents stopped coming in are aborted, and of the finished jobs the
-    /// oldest may be forgotten. It takes no memory.
+    /// Aborts the jobs whose documents stopped coming, and may forget the oldest of the finished jobs. It
+    /// takes no memory.
     pub fn expire(&mut self, now: Moment)
         requires { self.old.last ≤ now }
         ensures state { self.new ≡ expiring now self.old }

@@ -1,4 +1,4 @@
-//! What every state after this one keeps, however it comes about.
+//! A law about the documents of jobs that devices have, as the contract of a function.
 ghost use Rattle.std.specs.Prelude.{◌≡◌, ℕ, Bool, List, Option, None, length};
 ghost use Rattle.base_types.specs.declared.report.Report.{Report};
 ghost use Rattle.job_objects.specs.declared.job_change.JobChange.{JobChange};
@@ -15,8 +15,9 @@ ghost use Rattle.print_room.specs.DeviceJobs.{AllKeep, KeepsOrEnds};
 use crate::room::PrintRoom;
 
 impl PrintRoom {
-    /// The documents of jobs that devices have stay, byte for byte, whatever people ask, over time and
-    /// over a dispatch; a report hands out whole those of the job that it ends, and touches no other's.
+    /// The documents of jobs that devices have are unchanged, byte for byte, over each request, over time and
+    /// over a dispatch. A report hands out all documents of the job that it ends, and changes no other job's
+    /// documents.
     pub fn documents_stay(&self)
         ensures submits { (now : ℕ) (job : Submission) (incoming : Bool) → AllKeep self.now (with_job_taken now job incoming self.now) }
         ensures sends { (now id : ℕ) (name : List ℕ) (document : DocumentRecord) (last : Bool) → sending_refusal id name (length document.contents) last self.now ≡ None → AllKeep self.now (sending now id document last self.now) }
@@ -28,7 +29,7 @@ impl PrintRoom {
         ensures reports { (now place : ℕ) (report : Report) (documents : List DocumentRecord) (new : State) → Reports now place report self.now documents new → KeepsOrEnds place self.now documents new }
         ensures dispatches { (now : ℕ) (plan : Option PlanRecord) (started : List Started) (new : State) → Dispatches now self.now plan started new → AllKeep self.now new }
     {
-        // Reading the jobs and the devices makes known what holds of them.
+        // Reading the jobs and the devices gives their invariants.
         let _jobs = self.spool().jobs();
         let _devices = self.devices();
     }

@@ -1,10 +1,10 @@
-//! A print room: its printers, devices and jobs, what devices report, and the dispatch that plans the
-//! jobs and starts them.
+//! A print room: its printers, devices and jobs, the reports of devices, and the dispatch that plans the jobs
+//! and starts them.
 //!
-//! The one call is [`PrintRoom::dispatch`]: whenever a plan is made, each priority class has the least
-//! total of completion times, and each free device begins the first job of its list. Each other call
-//! makes exactly one state of another. What a request asks, and when a dispatch follows, is said above,
-//! in the core; no reply is made here. Its rows are traces of `play_examples`.
+//! The main call is [`PrintRoom::dispatch`]: whenever a plan is made, each priority class has the least total
+//! of completion times, and each free device begins the first job of its list. The contract of each other
+//! call determines the state after it. The core decides which call a request needs, and when a dispatch
+//! follows. The crate makes no replies. Its rows are traces of `play_examples`.
 #![tactic(auto)]
 
 mod activity;

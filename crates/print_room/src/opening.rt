@@ -14,9 +14,9 @@ use spool::Spool;
 use std::alloc::{AllocError, Global};
 
 impl PrintRoom {
-    /// The print room of a server that starts, with settings within the limits: no jobs, no plan, no
-    /// printer paused, and each device stopped, idle and with all media of its settings loaded. The
-    /// first job gets this id.
+    /// Creates the print room of a server that starts, with settings within the limits: no jobs, no plan, no
+    /// printer paused, and each device stopped, idle and loaded with all media of its settings. The first job
+    /// gets the id `first`.
     ///
     /// The only error is out of memory.
     pub fn new(alloc: Global, settings: Settings, first: JobId) -> Result<PrintRoom, AllocError>
@@ -41,7 +41,7 @@ impl PrintRoom {
     }
 }
 
-/// So many printers, none of them paused.
+/// A list of `count` printers, none of them paused. The only error is out of memory.
 fn opening_printers(alloc: Global, count: usize) -> Result<Vec<Printer>, AllocError>
     ensures { IfOk result (λ printers. printers.items ≡ replicate count false) }
 {
@@ -50,7 +50,7 @@ fn opening_printers(alloc: Global, count: usize) -> Result<Vec<Printer>, AllocEr
     Ok(printers)
 }
 
-/// The devices of each of these printers.
+/// The devices of each printer. The only error is out of memory.
 fn printer_sets(alloc: Global, settings: &[PrinterSettings]) -> Result<Vec<PrinterSet>, AllocError>
     ensures { IfOk result (λ sets. sets.items ≡ map (λ p. p.devices) settings.now) }
 {
@@ -62,7 +62,7 @@ fn printer_sets(alloc: Global, settings: &[PrinterSettings]) -> Result<Vec<Print
     Ok(sets)
 }
 
-/// The devices of these settings, as they start.
+/// The devices of the settings, as they start. The only error is out of memory.
 fn opening_devices(alloc: Global, settings: &[DeviceSettings]) -> Result<Vec<DeviceNow>, AllocError>
     ensures { IfOk result (λ devices. devices.items ≡ map opening_device settings.now) }
 {
@@ -73,7 +73,7 @@ fn opening_devices(alloc: Global, settings: &[DeviceSettings]) -> Result<Vec<Dev
     Ok(devices)
 }
 
-/// A device as it starts.
+/// The device of an entry of the settings, as it starts. The only error is out of memory.
 fn opening_device(alloc: Global, settings: &DeviceSettings) -> Result<DeviceNow, AllocError>
     ensures { IfOk result (λ device. device ≡ opening_device settings.now) }
 {
@@ -91,7 +91,7 @@ fn opening_device(alloc: Global, settings: &DeviceSettings) -> Result<DeviceNow,
     })
 }
 
-/// A copy of each text.
+/// A copy of each text. The only error is out of memory.
 fn copies_of(alloc: Global, texts: &[Text]) -> Result<Vec<Text>, AllocError>
     ensures { IfOk result (λ copies. copies.items ≡ texts.now) }
 {
@@ -102,7 +102,7 @@ fn copies_of(alloc: Global, texts: &[Text]) -> Result<Vec<Text>, AllocError>
     Ok(copies)
 }
 
-/// Each medium, loaded.
+/// A loaded medium for each name. The only error is out of memory.
 fn loaded_media(alloc: Global, names: &[Text]) -> Result<Vec<Medium>, AllocError>
     ensures { IfOk result (λ media. media.items ≡ map loaded_medium names.now) }
 {

@@ -1,4 +1,4 @@
-//! Printers that someone wants paused, or no longer.
+//! The pause of a printer.
 ghost use Rattle.std.specs.Prelude.{◌≡◌, ◌≤◌, true, false, set};
 ghost use Rattle.print_room.specs.Jobs.{pausing};
 ghost use Rattle.print_room.specs.DeviceJobs.{AllKeep};
@@ -7,10 +7,10 @@ use crate::room::PrintRoom;
 use base_types::{Moment, PrinterId};
 use job_objects::Printer;
 
-/// Printers that are paused, at a moment that is not before the last one. It takes no memory.
+/// The pause of a printer, at a moment that isn't before the last one. It takes no memory.
 impl PrintRoom {
-    /// Pauses a printer (RFC 8011, section 4.2.7): none of its jobs is planned. One that is paused stays
-    /// so; so does all, where there is no such printer.
+    /// Pauses a printer (RFC 8011, section 4.2.7): none of its jobs is planned. A paused printer stays
+    /// paused. If there is no such printer, only the moment changes.
     pub fn pause(&mut self, printer: PrinterId, now: Moment)
         requires { self.old.last ≤ now }
         ensures state { self.new ≡ pausing now printer true self.old }
@@ -20,8 +20,8 @@ impl PrintRoom {
         self.set_paused(printer, true);
     }
 
-    /// Ends the pause of a printer (RFC 8011, section 4.2.8). One that isn't paused stays so; so does
-    /// all, where there is no such printer.
+    /// Ends the pause of a printer (RFC 8011, section 4.2.8). A printer that isn't paused stays so. If there
+    /// is no such printer, only the moment changes.
     pub fn resume(&mut self, printer: PrinterId, now: Moment)
         requires { self.old.last ≤ now }
         ensures state { self.new ≡ pausing now printer false self.old }
@@ -31,7 +31,7 @@ impl PrintRoom {
         self.set_paused(printer, false);
     }
 
-    /// A printer is paused, or isn't any longer.
+    /// Sets whether a printer is paused.
     fn set_paused(&mut self, printer: PrinterId, paused: bool)
         ensures { self.new ≡ record self.old { paused = set self.old.paused printer paused } }
     {
@@ -43,7 +43,7 @@ impl PrintRoom {
     }
 }
 
-/// A printer that is paused, or isn't.
+/// A printer that is paused or not.
 fn printer_paused(paused: bool) -> Printer
     ensures { result ≡ paused }
 {

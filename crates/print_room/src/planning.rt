@@ -16,7 +16,7 @@ use plan_prices::{Plan, PlannedClass, Planner, best_at_most_timetables, waits_af
 use plan_problem::{ClassJob, build};
 use std::alloc::AllocError;
 
-/// A class that is planned, and when each device is free after it, in ms.
+/// A planned class, and the ms after which each device is free once the class is printed.
 #[derive(Drop)]
 struct Planned {
     class: PlannedClass,
@@ -24,8 +24,8 @@ struct Planned {
 }
 
 impl PrintRoom {
-    /// A good plan of the ready jobs for a moment that is not before the last one. The only error is
-    /// out of memory.
+    /// Makes a good plan of the ready jobs for a moment that isn't before the last one. The only error is out
+    /// of memory.
     pub(crate) fn good_plan<P: Planner>(
         &self,
         planner: &mut P,
@@ -43,8 +43,8 @@ impl PrintRoom {
         Ok(plan)
     }
 
-    /// The classes of all priorities that have one, the highest first, each planned best, told the
-    /// ready jobs.
+    /// Plans the class of each priority that has one, from the highest down, each with a best way. The only
+    /// error is out of memory.
     fn planned_classes<P: Planner>(
         &self,
         planner: &mut P,
@@ -70,7 +70,7 @@ impl PrintRoom {
         Ok(classes)
     }
 
-    /// When each device is free, in ms from a moment.
+    /// The ms from a moment until each device is free. The only error is out of memory.
     fn waits(&self, now: Moment) -> Result<Vec<u64>, AllocError>
         requires { self.now.last ≤ now }
         ensures waits { IfOk result (λ waits. waits.items ≡ waits_of now self.now) }
@@ -83,7 +83,8 @@ impl PrintRoom {
         Ok(waits)
     }
 
-    /// Plans the class of a priority under the waits that those above leave.
+    /// Plans the class of a priority under the waits that the classes above leave. The only error is out of
+    /// memory.
     fn plan_class<P: Planner>(
         &self,
         planner: &mut P,
@@ -105,7 +106,7 @@ impl PrintRoom {
         self.plan_jobs(planner, priority, &jobs, waits)
     }
 
-    /// Plans these jobs, those of the class of a priority.
+    /// Plans the jobs of the class of a priority. The only error is out of memory.
     fn plan_jobs<P: Planner>(
         &self,
         planner: &mut P,
@@ -124,7 +125,7 @@ impl PrintRoom {
         ensures grows { IfOk result (λ planned. GrowsByTimes planned.class.problem planned.left.items) }
     {
         let problem = build(self.alloc, jobs, &self.devices, &self.sets, waits)?;
-        // Reading the problem makes its invariant known.
+        // Reading the problem gives its invariant.
         let _problem = problem.ids();
         let priced = planner.plan_class(&problem)?;
         best_at_most_timetables(&problem, &priced.way);

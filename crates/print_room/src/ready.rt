@@ -1,4 +1,4 @@
-//! The ready jobs, read once for a plan, and who can't be printed.
+//! The ready jobs, read once for a plan, and those that no device can print.
 ghost use Rattle.std.specs.Prelude.{◌≡◌, ◌≤◌, IfOk, filter, map, unwrap_or};
 ghost use Rattle.std.specs.List.{filter_map};
 ghost use Rattle.base_types.specs.declared.limits.TheConstants.Limits.{HIGHEST_PRIORITY};
@@ -14,8 +14,8 @@ use plan_problem::{ClassJob, stranded_cause};
 use std::alloc::{AllocError, Global};
 use std::marker::Model;
 
-/// A ready job, and why no device of its printer can print it, if none can. In clauses it is a record of
-/// the same fields.
+/// A ready job, with the cause if no device of its printer can print it. In clauses it is a record of the
+/// same fields.
 #[derive(Drop)]
 pub(crate) struct ReadyJob<'a> {
     id: JobId,
@@ -33,7 +33,7 @@ impl<'a> Model for ReadyJob<'a> {
 }
 
 impl<'a> ReadyJob<'a> {
-    /// The job, where no device can print it.
+    /// The entry of the job, if no device can print it.
     fn entry(&self) -> Option<Stranded>
         ensures { result ≡ entry_of self.now }
     {
@@ -41,14 +41,14 @@ impl<'a> ReadyJob<'a> {
         self.cause.map(|cause| Stranded { job, cause })
     }
 
-    /// Whether it has the priority and some device can print it.
+    /// Returns whether the job has a priority and some device can print it.
     fn is_of_class(&self, priority: Priority) -> bool
         ensures { result ≡ is_of_class priority self.now }
     {
         self.priority == priority && self.cause.is_none()
     }
 
-    /// What a class has of it.
+    /// The fields of the job that a class needs.
     fn class_job(&self) -> ClassJob<'a>
         ensures { result ≡ class_job_of self.now }
     {
@@ -58,7 +58,7 @@ impl<'a> ReadyJob<'a> {
         }
     }
 
-    /// Its priority, where that is at most a level and some device can print it, and else 0.
+    /// The job's priority, if that is at most `most` and some device can print the job; else 0.
     fn level_within(&self, most: u8) -> u8
         ensures level { result ≡ level_within most self.now }
         ensures in_range { result ≤ HIGHEST_PRIORITY }
@@ -72,7 +72,7 @@ impl<'a> ReadyJob<'a> {
     }
 }
 
-/// The highest priority up to a level that a job has that some device can print, if there is one.
+/// The highest priority up to `most` of a job that some device can print, if there is one.
 pub(crate) fn highest_within(ready: &[ReadyJob<'_>], most: u8) -> Option<Priority>
     ensures { unwrap_or result 0 ≡ highest_within most ready.now }
 {
@@ -114,7 +114,7 @@ pub(crate) fn stranded(alloc: Global, ready: &[ReadyJob<'_>]) -> Result<Vec<Stra
 }
 
 impl PrintRoom {
-    /// Whether a job is ready.
+    /// Returns whether a job is ready.
     pub(crate) fn has_ready_job(&self) -> bool
         ensures { result ≡ is_some_job (ready_of self.now) }
     {
@@ -122,7 +122,7 @@ impl PrintRoom {
         ready.next().is_some()
     }
 
-    /// Why no device of its printer can print a job, if none can.
+    /// The cause, if no device of a job's printer can print the job.
     fn cause(&self, job: &Job) -> Option<Cause>
         ensures { result ≡ cause_in self.now job.now }
     {
@@ -145,7 +145,7 @@ impl PrintRoom {
         }
     }
 
-    /// The ready jobs, by rising id.
+    /// The ready jobs, by rising id. The only error is out of memory.
     pub(crate) fn gather_ready(&self) -> Result<Vec<ReadyJob<'_>>, AllocError>
         ensures ready { IfOk result (λ ready. ready.items ≡ gathered_of self.now) }
         ensures spool { IsSpool self.now.spool }

@@ -1,4 +1,4 @@
-//! What a device's report changes.
+//! The effect of a device's report.
 ghost use Rattle.std.specs.Prelude.{◌≡◌, ◌≤◌, ◌<◌, length, IfSome};
 ghost use Rattle.print_room.specs.Activity.{KeepsTime};
 ghost use Rattle.print_room.specs.Report.{has_job, said_of_job, time_left, without_job, left_of, paged, activity_after, jobs_after, documents_out, refitted, Reports};
@@ -12,7 +12,7 @@ use job_objects::DeviceSays;
 use octets::Document;
 use plan_problem::rate;
 
-/// Whether the device has the job of this number.
+/// Returns whether the device has the job of a number.
 pub(crate) fn has_job(activity: Activity, number: u32) -> bool
     ensures { result ≡ has_job number activity }
 {
@@ -22,7 +22,7 @@ pub(crate) fn has_job(activity: Activity, number: u32) -> bool
     }
 }
 
-/// What a report says of the job that the device has.
+/// The event of the device's job that a report has.
 fn said_of_job(report: &Report, activity: Activity) -> Option<DeviceSays>
     ensures { result ≡ said_of_job report.now activity }
 {
@@ -36,7 +36,7 @@ fn said_of_job(report: &Report, activity: Activity) -> Option<DeviceSays>
     }
 }
 
-/// The time left of a job of which so many impressions are printed, in ms.
+/// The time left of a job of which `printed` impressions are printed, in ms.
 fn time_left(needs: &Needs, device: &DeviceNow, printed: u32) -> u64
     ensures value { result ≡ time_left needs.now device.now printed }
     ensures bound { result ≤ Limits.JOB_TIME }
@@ -45,7 +45,7 @@ fn time_left(needs: &Needs, device: &DeviceNow, printed: u32) -> u64
     impressions.saturating_sub(u64::from(printed)) * u64::from(rate(needs, device))
 }
 
-/// What a device does without the job of this number, if it has that.
+/// The activity of a device without the job of a number, if the device has that job.
 fn without_job(activity: Activity, number: u32) -> Activity
     ensures { result ≡ without_job number activity }
 {
@@ -60,7 +60,7 @@ fn without_job(activity: Activity, number: u32) -> Activity
 }
 
 impl PrintRoom {
-    /// What a device does after a report.
+    /// The activity of a device after a report.
     fn activity_after(&self, report: &Report, device: &DeviceNow, now: Moment) -> Activity
         requires { KeepsTime now device.now.activity }
         ensures activity { result ≡ activity_after now report.now self.now.spool.jobs device.now }
@@ -77,7 +77,7 @@ impl PrintRoom {
         }
     }
 
-    /// What a device does of whose job so many impressions are printed.
+    /// The activity of a device after it has printed so many impressions of its job.
     fn paged(&self, number: u32, printed: u32, device: &DeviceNow, now: Moment) -> Activity
         requires { KeepsTime now device.now.activity }
         ensures activity { result ≡ paged now number printed self.now.spool.jobs device.now }
@@ -91,7 +91,7 @@ impl PrintRoom {
         }
     }
 
-    /// The time left of the device's job, if it has the job of this number.
+    /// The time left of the device's job in ms, if the device has the job of a number.
     fn left_of(&self, number: u32, printed: u32, device: &DeviceNow) -> Option<u64>
         ensures value { result ≡ left_of number printed self.now.spool.jobs device.now }
         ensures bound { IfSome result (λ left. left ≤ Limits.JOB_TIME) }
@@ -105,9 +105,9 @@ impl PrintRoom {
         Some(time_left(needs, device, printed))
     }
 
-    /// Acts on a report of the device at a place, at a moment that is not before the last one, and gives
-    /// the documents that its job hands out. A place that no device has changes only the last moment. It
-    /// takes no memory.
+    /// Applies a report of the device at a place, at a moment that isn't before the last one. Returns the
+    /// documents of a job that the report ends. If no device is at the place, only the last moment changes.
+    /// It takes no memory.
     pub fn report(&mut self, place: usize, report: &Report, now: Moment) -> Vec<Document>
         requires { self.old.last ≤ now }
         ensures reports { Reports now place report.now self.old result.items self.new }
@@ -125,8 +125,8 @@ impl PrintRoom {
         self.settle(job, said, now)
     }
 
-    /// The device at a place holds the media that the report names, is kept from beginning a job for
-    /// its time, or does this from now on.
+    /// Changes the device at a place by a report: it holds the media that the report names, or begins no job
+    /// for the time that the report states, or has the given activity.
     fn refit(&mut self, place: usize, report: &Report, activity: Activity)
         requires inside { place < length self.old.devices }
         requires in_time { KeepsTime self.old.last activity }
@@ -147,7 +147,7 @@ impl PrintRoom {
         }
     }
 
-    /// Changes the job that a report is about, if any, and gives the documents that it hands out.
+    /// Changes the job of a report, if it has one. Returns the documents that are handed out.
     fn settle(&mut self, job: Option<JobId>, said: Option<DeviceSays>, now: Moment) -> Vec<Document>
         requires { Agree self.old.devices (jobs_after now job said self.old.spool.jobs) }
         ensures jobs { self.new ≡ record self.old { spool = record self.old.spool { jobs = jobs_after now job said self.old.spool.jobs } } }

@@ -1,4 +1,4 @@
-//! The room: what it is made of, and the change of one part.
+//! The room and the changes of its parts.
 ghost use Rattle.std.specs.Prelude.{◌≡◌, ◌≤◌, ◌<◌, IfOk, length, None, Some, [], map};
 ghost use Rattle.std.specs.List.{list_all, list_any};
 ghost use Rattle.std.specs.Str.{bytes_eq};
@@ -18,8 +18,8 @@ use spool::Spool;
 use std::alloc::Global;
 use std::marker::Model;
 
-/// A print room: settings, printers, devices, jobs, the last moment and the last plan. In clauses it is
-/// a record of these.
+/// A print room: settings, printers, devices, jobs, the last moment and the last plan. In clauses it is a
+/// record of these parts.
 #[derive(Debug, Drop)]
 pub struct PrintRoom {
     pub(crate) settings: Settings,
@@ -30,9 +30,10 @@ pub struct PrintRoom {
     pub(crate) spool: Spool,
     pub(crate) last: Moment,
     pub(crate) plan: Option<Plan>,
-    /// What began with the last plan.
+    /// The jobs that began with the last plan.
     pub(crate) begun: Vec<Started>,
-    /// The moment for which the last plan is a good one of the room as it is, where that is known.
+    /// The moment for which the last plan is known to be good for the room as it is. `None` if no moment is
+    /// known.
     pub(crate) good_for: Option<Moment>,
     pub(crate) alloc: Global,
 }
@@ -61,7 +62,7 @@ impl Model for PrintRoom {
 }
 
 impl PrintRoom {
-    /// The time goes on, up to a moment that is not before the last one.
+    /// Sets the last moment, which doesn't fall.
     pub fn advance(&mut self, now: Moment)
         requires { self.old.last ≤ now }
         ensures state { self.new ≡ record self.old { last = now } }
@@ -70,7 +71,7 @@ impl PrintRoom {
         self.last = now;
     }
 
-    /// What the device at a place does from now on.
+    /// Sets the activity of the device at a place.
     pub(crate) fn set_activity(&mut self, place: usize, activity: Activity)
         requires inside { place < length self.old.devices }
         requires in_time { KeepsTime self.old.last activity }
@@ -82,7 +83,7 @@ impl PrintRoom {
         device.activity = activity;
     }
 
-    /// What the device at a place does from now on. Where it does that already, nothing changes.
+    /// Sets the activity of the device at a place. If the device has that activity already, nothing changes.
     pub(crate) fn update_activity(&mut self, place: usize, activity: Activity)
         requires inside { place < length self.old.devices }
         requires in_time { KeepsTime self.old.last activity }
@@ -94,7 +95,8 @@ impl PrintRoom {
         }
     }
 
-    /// The device at a place begins no job before this moment. Where it is so already, nothing changes.
+    /// Sets the moment before which the device at a place begins no job. If the device has that moment
+    /// already, nothing changes.
     pub(crate) fn update_free_from(&mut self, place: usize, moment: u64)
         requires inside { place < length self.old.devices }
         requires bound { IsNotBefore moment }
@@ -105,7 +107,7 @@ impl PrintRoom {
         }
     }
 
-    /// These media are loaded in the device at a place, and no others. Where it is so already, nothing
+    /// Sets the media that are loaded in the device at a place. If exactly these are loaded already, nothing
     /// changes.
     pub(crate) fn update_media(&mut self, place: usize, names: &[Text])
         requires { place < length self.old.devices }
@@ -116,7 +118,7 @@ impl PrintRoom {
         }
     }
 
-    /// The device at a place begins no job before this moment.
+    /// Sets the moment before which the device at a place begins no job.
     fn set_free_from(&mut self, place: usize, moment: u64)
         requires inside { place < length self.old.devices }
         requires bound { IsNotBefore moment }
@@ -127,7 +129,7 @@ impl PrintRoom {
         device.not_before = moment;
     }
 
-    /// These media are loaded in the device at a place, and no others.
+    /// Sets the media that are loaded in the device at a place.
     fn load(&mut self, place: usize, names: &[Text])
         requires { place < length self.old.devices }
         ensures { self.new ≡ record self.old { devices = with_device place (holding names.now) self.old.devices } }
@@ -138,7 +140,7 @@ impl PrintRoom {
     }
 }
 
-/// These media are loaded, as far as they are there, and no others.
+/// Marks each medium as loaded exactly if its name is one of `names`.
 fn load(media: &mut [Medium], names: &[Text])
     ensures { media.new ≡ map (loaded_if names.now) media.old }
 {
@@ -147,14 +149,14 @@ fn load(media: &mut [Medium], names: &[Text])
     }
 }
 
-/// Whether these media are loaded, as far as they are there, and no others.
+/// Returns whether exactly the media with one of these names are loaded.
 fn are_loaded(media: &[Medium], names: &[Text]) -> bool
     ensures { result ≡ list_all (loads names.now) media.now }
 {
     media.iter().all(|medium| medium.loaded == is_named(names, medium.name.as_bytes()))
 }
 
-/// Whether a text is one of these.
+/// Returns whether a text is one of the names.
 pub(crate) fn is_named(names: &[Text], wanted: &[u8]) -> bool
     ensures { result ≡ list_any (bytes_eq wanted.now) names.now }
 {

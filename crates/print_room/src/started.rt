@@ -5,6 +5,6 @@ use base_types::{DeviceId, JobId};
 pub struct Started {
     pub job: JobId,
     pub device: DeviceId,
-    /// How long it takes there, as estimated, in ms: at most [`base_types::Limits::JOB_TIME`].
+    /// The estimated time of the job on the device, in ms: at most [`base_types::Limits::JOB_TIME`].
     pub time: u64,
 }

@@ -1,4 +1,4 @@
-//! Which jobs begin.
+//! The jobs that begin.
 ghost use Rattle.std.specs.Prelude.{◌≡◌, ◌<◌, ◌≤◌, IfOk, IfSome, None, length, All, if◌then◌else◌};
 ghost use Rattle.plan_prices.specs.Way.{queue_of};
 ghost use Rattle.print_room.specs.Beginning.{CanBegin, AllCanBegin};
@@ -11,14 +11,15 @@ use base_types::{Activity, DeviceId, DeviceNow, JobId, Limits, Moment, Printing}
 use plan_prices::{PlannedClass, Way};
 use std::alloc::{AllocError, Global};
 
-/// Whether a device can begin a job at a moment: it runs, has no job, and isn't kept from it any longer.
+/// Returns whether a device can begin a job at a moment: it runs, has no job, and its moment to begin has
+/// come.
 fn is_free(device: &DeviceNow, now: Moment) -> bool
     ensures { result ≡ is_free now device.now }
 {
     runs_idle(device.activity) && wait_of(device, now) == 0
 }
 
-/// Whether a device runs and has no job.
+/// Returns whether a device runs and has no job.
 fn runs_idle(activity: Activity) -> bool
     ensures { result ≡ runs_idle activity }
 {
@@ -28,7 +29,7 @@ fn runs_idle(activity: Activity) -> bool
     }
 }
 
-/// The jobs that a way has for the device at a place, front first.
+/// The list that a way has for the device at a place, the first to be printed first.
 fn queue_at(way: &Way, place: usize) -> &[JobId]
     ensures { result.now ≡ queue_of way.now place }
 {
@@ -40,12 +41,12 @@ fn queue_at(way: &Way, place: usize) -> &[JobId]
     }
 }
 
-/// The first of the jobs that a class has for a device, and its time there.
+/// The first job of the list that a class has for a device, with its time there.
 fn first_of_class(class: &PlannedClass, device: DeviceId) -> Option<Started>
     ensures first { result ≡ first_of_queue class.now device (queue_of class.now.priced.way device) }
     ensures short { IfSome result (λ start. start.time ≤ Limits.JOB_TIME) }
 {
-    // Reading the problem makes its invariant known.
+    // Reading the problem gives its invariant.
     let _class = class.problem.ids();
     let jobs = queue_at(&class.priced.way, device.place());
     match jobs.first() {
@@ -58,7 +59,7 @@ fn first_of_class(class: &PlannedClass, device: DeviceId) -> Option<Started>
     }
 }
 
-/// The first job of a device's list, the lists of the classes being joined, the highest first.
+/// The first job of a device's list, the lists of the classes joined from the highest down.
 fn first_of(classes: &[PlannedClass], device: DeviceId) -> Option<Started>
     ensures first { result ≡ first_of classes.now device }
     ensures short { IfSome result (λ start. start.time ≤ Limits.JOB_TIME) }
@@ -72,8 +73,8 @@ fn first_of(classes: &[PlannedClass], device: DeviceId) -> Option<Started>
     None
 }
 
-/// What the device at a place begins under these classes at a moment: where it is free, the first job
-/// of its list.
+/// The job that the device at a place begins at a moment under these classes: the first of its list, if the
+/// device is free.
 fn start_on(
     classes: &[PlannedClass],
     place: usize,
@@ -90,7 +91,8 @@ fn start_on(
     }
 }
 
-/// What begins on these devices under these classes at a moment, by device.
+/// The jobs that the devices begin at a moment under these classes, by device. The only error is out of
+/// memory.
 pub(crate) fn starts_of(
     alloc: Global,
     classes: &[PlannedClass],
@@ -110,7 +112,7 @@ pub(crate) fn starts_of(
 }
 
 impl PrintRoom {
-    /// Devices begin these jobs, one after the other.
+    /// Begins jobs on their devices, one after the other.
     pub(crate) fn begin_all(&mut self, starts: &[Started])
         requires inside { All (λ start. start.device < length self.old.devices) starts.now }
         requires short { All (λ start. start.time ≤ Limits.JOB_TIME) starts.now }
@@ -122,7 +124,7 @@ impl PrintRoom {
         }
     }
 
-    /// A device begins a job.
+    /// Begins a job on its device.
     fn begin(&mut self, start: Started)
         requires inside { start.device < length self.old.devices }
         requires short { start.time ≤ Limits.JOB_TIME }

@@ -3,10 +3,10 @@ use Rattle.std.specs.Prelude.{ℕ, Bool, true, List, ◌++◌, length}
 use Rattle.http_front.specs.Reply.{head, status_of}
 use Rattle.http_front.specs.declared.refusal.HttpRejection.{HttpRejection}
 
--- a reply of IPP, in HTTP
+-- an IPP reply, with its head of HTTP
 unfoldable pub http_reply : Bool → List ℕ → List ℕ
 http_reply closes bytes = head 200 (length bytes) closes ++ bytes
 
--- the reply to a request that is refused
+-- the reply to a refused request
 unfoldable pub refusal_head : HttpRejection → List ℕ
 refusal_head refusal = head (status_of refusal) 0 true

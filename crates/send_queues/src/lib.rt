@@ -1,9 +1,9 @@
-//! What waits on a connection until its wire takes it.
+//! The bytes that wait on a connection until its wire takes them.
 //!
-//! A [`SendQueue`] keeps bytes and the documents of jobs in the order in which they become due, and offers
-//! a wire a front of them ([`SendQueue::offer`]); what the wire took waits no more. Documents aren't copied:
-//! their octets are shared with the spool. A few bytes need no memory but what was reserved at
-//! the start ([`RESERVED_BYTES`]).
+//! A [`SendQueue`] keeps bytes and the documents of jobs in the order in which they become due.
+//! [`SendQueue::offer`] offers a front of them to a wire, and removes the bytes that the wire took. Documents
+//! aren't copied: their octets are shared with the spool. Up to [`RESERVED_BYTES`] waiting bytes need no
+//! memory beyond what was reserved at the start.
 //!
 //! Its rows are sessions of `server_tests` and traces of `play_examples`.
 #![tactic(auto)]

@@ -1,4 +1,4 @@
-//! What waits to be taken on a connection.
+//! The queue of bytes that a connection sends.
 ghost use Rattle.std.specs.Prelude.{◌≡◌, ◌<◌, ◌≤◌, ◌+◌, ◌++◌, [], IfOk, OnOk, OnErr, ◌==◌, nat_lt, length, drop, slice_index_or, vec_len, vec_capacity};
 ghost use Rattle.std.specs.List.{flat_map, All};
 ghost use Rattle.device_link.specs.Orders.{cancel_line, job_line};
@@ -17,22 +17,22 @@ use std::io::IoSlice;
 use std::marker::Model;
 use wires::{Progress, Wire, WireId};
 
-/// How many bytes may wait on a connection without any memory but what it took when it was accepted.
+/// The number of bytes that may wait on a connection without memory beyond what it took when it was accepted.
 pub const RESERVED_BYTES: usize = 256;
 
-/// What became of an offer.
+/// The result of an offer.
 #[derive(Clone, Copy, Debug, PartialEq, Eq)]
 pub enum Offered {
-    /// Nothing waits, or no connection is there.
+    /// No bytes wait, or there is no connection.
     Nothing,
-    /// So many bytes were taken.
+    /// The wire took so many bytes.
     Done(usize),
     Waiting,
-    /// An end or a fault.
+    /// The wire had an end or a fault.
     Ended,
 }
 
-/// Octets from a place on, as many as lie together, and the place behind them.
+/// Returns the octets from `start` on that lie together in memory, and the place behind them.
 fn part(octets: &Octets, start: usize) -> (IoSlice<'_>, usize)
     requires { start ≤ length octets.now }
     ensures front { IsFrontOf (io_slice_bytes result.0) (drop start octets.now) }
@@ -44,11 +44,12 @@ fn part(octets: &Octets, start: usize) -> (IoSlice<'_>, usize)
     (IoSlice::new(piece), octets.len() - left)
 }
 
-/// The rest of octets that others may own too. In clauses it is the list of them, which isn't empty.
+/// The rest of octets that may have other owners too. In clauses it is the list of these octets, which isn't
+/// empty.
 #[derive(Debug, Drop)]
 struct Rest {
     octets: Octets,
-    /// How many of them are taken.
+    /// The number of octets at the front that were taken.
     start: usize,
 }
 
@@ -63,7 +64,7 @@ impl Model for Rest {
 }
 
 impl Rest {
-    /// All of these octets.
+    /// Creates the rest of octets of which none was taken.
     fn new(octets: Octets) -> Rest
         requires { 0 < length octets }
         ensures { result ≡ octets }
@@ -71,7 +72,7 @@ impl Rest {
         Rest { octets, start: 0 }
     }
 
-    /// A front of them, in the parts in which it lies: as many as a system call takes.
+    /// A front of the octets, in the parts in which they lie: as many parts as a system call takes.
     fn front(&self) -> [IoSlice<'_>; 4]
         ensures front { IsFrontOf (io_slices_bytes result) self.now }
         ensures some { 0 < length self.now }
@@ -83,14 +84,14 @@ impl Rest {
         [first, second, third, fourth]
     }
 
-    /// How many they are.
+    /// Returns the number of octets.
     fn len(&self) -> usize
         ensures { result ≡ length self.now }
     {
         self.octets.len() - self.start
     }
 
-    /// So many are taken, and some are left.
+    /// Removes `count` octets from the front. Some octets are left.
     fn pass(&mut self, count: usize)
         requires { count < length self.old }
         ensures { self.new ≡ drop count self.old }
@@ -102,14 +103,13 @@ impl Rest {
 
 /// The bytes that wait to be taken on a connection. In clauses it is the list of them.
 ///
-/// Documents are not copied: the output owns them together with the core, for as long as it needs
-/// them.
+/// Documents are not copied: the queue and the core share their octets, for as long as the queue has them.
 #[derive(Debug, Drop)]
 pub struct SendQueue {
     alloc: Global,
-    /// What goes out first.
+    /// The octets that go out first.
     shared: Vec<Rest>,
-    /// What follows it, in room that is kept however much of it is taken.
+    /// The bytes behind `shared`. Their room stays when they are taken.
     text: Vec<u8>,
 }
 
@@ -127,7 +127,8 @@ impl Model for SendQueue {
 }
 
 impl SendQueue {
-    /// Nothing waits, and there is room for the bytes that a connection reserves.
+    /// Creates an empty queue with room for the bytes that a connection reserves. The only error is out of
+    /// memory.
     pub fn new(alloc: Global) -> Result<SendQueue, AllocError>
         ensures { IfOk result (λ output. output ≡ []) }
     {
@@ -138,14 +139,14 @@ impl SendQueue {
         })
     }
 
-    /// Whether nothing waits.
+    /// Returns whether no bytes wait.
     pub fn is_empty(&self) -> bool
         ensures { result ≡ (length self.now == 0) }
     {
         self.shared.is_empty() && self.text.is_empty()
     }
 
-    /// Whether more bytes wait than so many.
+    /// Returns whether more than `limit` bytes wait.
     pub fn is_above(&self, limit: usize) -> bool
         ensures { result ≡ nat_lt limit (length self.now) }
     {
@@ -159,7 +160,7 @@ impl SendQueue {
         room < self.text.len()
     }
 
-    /// Bytes follow. The error is out of memory: nothing is added.
+    /// Appends bytes. The only error is out of memory, and nothing is appended then.
     pub fn push(&mut self, bytes: &[u8]) -> Result<(), AllocError>
         ensures ok { OnOk result (self.new ≡ self.old ++ bytes.now) }
         ensures err { OnErr result (self.new ≡ self.old) }
@@ -168,7 +169,7 @@ impl SendQueue {
         self.text.extend_from_slice(bytes)
     }
 
-    /// A line follows, and then documents. The error is out of memory: nothing is added.
+    /// Appends a line and then documents. The only error is out of memory, and nothing is appended then.
     fn push_documents(&mut self, line: &[u8], documents: &[Document]) -> Result<(), AllocError>
         ensures ok { OnOk result (self.new ≡ self.old ++ (line.now ++ flat_map (λ d. d.contents) documents.now)) }
         ensures err { OnErr result (self.new ≡ self.old) }
@@ -181,7 +182,7 @@ impl SendQueue {
         Ok(())
     }
 
-    /// A reply of IPP follows. The error is out of memory: nothing is added.
+    /// Appends an IPP reply. The only error is out of memory, and nothing is appended then.
     pub fn push_reply(&mut self, closes: bool, bytes: &[u8]) -> Result<(), AllocError>
         ensures ok { OnOk result (self.new ≡ self.old ++ http_reply closes bytes.now) }
         ensures err { OnErr result (self.new ≡ self.old) }
@@ -190,7 +191,7 @@ impl SendQueue {
         append_reply(&mut self.text, closes, bytes)
     }
 
-    /// The reply to a request that is refused follows. The error is out of memory: nothing is added.
+    /// Appends the reply to a refused request. The only error is out of memory, and nothing is appended then.
     pub fn push_refusal(&mut self, refusal: HttpRejection) -> Result<(), AllocError>
         ensures ok { OnOk result (self.new ≡ self.old ++ refusal_head refusal) }
         ensures err { OnErr result (self.new ≡ self.old) }
@@ -199,7 +200,7 @@ impl SendQueue {
         append_refusal(&mut self.text, refusal)
     }
 
-    /// The line that cancels a job follows. The error is out of memory: nothing is added.
+    /// Appends the line that cancels a job. The only error is out of memory, and nothing is appended then.
     pub fn push_cancel(&mut self, job: JobId) -> Result<(), AllocError>
         ensures ok { OnOk result (self.new ≡ self.old ++ cancel_line job) }
         ensures err { OnErr result (self.new ≡ self.old) }
@@ -208,8 +209,8 @@ impl SendQueue {
         write_cancel(job, &mut self.text)
     }
 
-    /// The line of a job of so many octets follows, and then its documents. The error is out of memory:
-    /// nothing is added.
+    /// Appends the line of a job of so many octets, and then its documents. The only error is out of memory,
+    /// and nothing is appended then.
     pub fn push_job(
         &mut self,
         job: JobId,
@@ -225,7 +226,7 @@ impl SendQueue {
         self.push_documents(&line, documents)
     }
 
-    /// Offers a front of what waits to the wire, which may take some of it.
+    /// Offers a front of the waiting bytes to the wire, which may take some of them.
     pub fn offer<W: Wire>(&mut self, id: WireId, wire: &mut W) -> Offered
         ensures { OffersFront W.polled id self.old wire.old result self.new wire.new }
     {
@@ -239,7 +240,7 @@ impl SendQueue {
     }
 }
 
-/// Offers the front of octets to the wire.
+/// Offers a front of the shared octets to the wire.
 fn offer_first<W: Wire>(shared: &mut Vec<Rest>, id: WireId, wire: &mut W) -> Offered
     requires there { 0 < length shared.old.items }
     requires were { All IsSome shared.old.items }
@@ -257,7 +258,7 @@ fn offer_first<W: Wire>(shared: &mut Vec<Rest>, id: WireId, wire: &mut W) -> Off
     }
 }
 
-/// So many of the first of octets were taken.
+/// Removes `count` octets from the first of the shared octets.
 fn pass(shared: &mut Vec<Rest>, count: usize)
     requires there { 0 < length shared.old.items }
     requires were { All IsSome shared.old.items }
@@ -272,7 +273,7 @@ fn pass(shared: &mut Vec<Rest>, count: usize)
     }
 }
 
-/// Offers text to the wire. Its room stays.
+/// Offers the text to the wire. The text's room stays.
 fn offer_text<W: Wire>(text: &mut Vec<u8>, id: WireId, wire: &mut W) -> Offered
     requires { 0 < length text.old.items }
     ensures offers { OffersFront W.polled id text.old.items wire.old result text.new.items wire.new }
@@ -289,7 +290,7 @@ fn offer_text<W: Wire>(text: &mut Vec<u8>, id: WireId, wire: &mut W) -> Offered
     }
 }
 
-/// Removes so many bytes from the front. The room stays.
+/// Removes `count` bytes from the front. The room stays.
 fn drop_taken(text: &mut Vec<u8>, count: usize)
     requires { count ≤ length text.old.items }
     ensures left { text.new.items ≡ drop count text.old.items }
@@ -298,7 +299,7 @@ fn drop_taken(text: &mut Vec<u8>, count: usize)
     text.drain(..count);
 }
 
-/// Text that waits, and a line.
+/// The waiting text and a line, as octets.
 fn text_of(alloc: Global, text: &[u8], line: &[u8]) -> Result<Octets, AllocError>
     ensures { IfOk result (λ octets. octets ≡ text.now ++ line.now) }
 {
@@ -308,7 +309,7 @@ fn text_of(alloc: Global, text: &[u8], line: &[u8]) -> Result<Octets, AllocError
     Octets::take(alloc, &mut joined)
 }
 
-/// Adds octets to those that go out, if there are any.
+/// Appends octets to the list, unless they are empty.
 fn add(added: &mut Vec<Rest>, octets: Octets) -> Result<(), AllocError>
     requires were { All IsSome added.old.items }
     ensures ok { OnOk result (joined added.new.items ≡ joined added.old.items ++ octets) }
@@ -320,7 +321,7 @@ fn add(added: &mut Vec<Rest>, octets: Octets) -> Result<(), AllocError>
     Ok(())
 }
 
-/// Adds the contents of documents to what goes out.
+/// Appends the contents of documents to the list.
 fn add_all(added: &mut Vec<Rest>, documents: &[Document]) -> Result<(), AllocError>
     requires were { All IsSome added.old.items }
     ensures ok { OnOk result (joined added.new.items ≡ joined added.old.items ++ flat_map (λ d. d.contents) documents.now) }
@@ -332,7 +333,8 @@ fn add_all(added: &mut Vec<Rest>, documents: &[Document]) -> Result<(), AllocErr
     Ok(())
 }
 
-/// Appends a reply of IPP. Where there is no memory for what has no room, nothing is appended.
+/// Appends an IPP reply. The only error is out of memory, where the room is too small; nothing is appended
+/// then.
 #[tactic(auto, unfolding(crate::specs::Reply::http_reply))]
 fn append_reply(output: &mut Vec<u8>, closes: bool, bytes: &[u8]) -> Result<(), AllocError>
     ensures ok { OnOk result (output.new.items ≡ output.old.items ++ http_reply closes bytes.now) }
@@ -349,8 +351,8 @@ fn append_reply(output: &mut Vec<u8>, closes: bool, bytes: &[u8]) -> Result<(), 
     appended
 }
 
-/// Appends the reply to a request that is refused. Where there is no memory for what has no room,
-/// nothing is appended.
+/// Appends the reply to a refused request. The only error is out of memory, where the room is too small;
+/// nothing is appended then.
 #[tactic(auto, unfolding(crate::specs::Reply::refusal_head))]
 fn append_refusal(output: &mut Vec<u8>, refusal: HttpRejection) -> Result<(), AllocError>
     ensures ok { OnOk result (output.new.items ≡ output.old.items ++ refusal_head refusal) }

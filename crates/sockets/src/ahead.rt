@@ -1,4 +1,4 @@
-//! What is read of a socket ahead.
+//! The buffer for bytes that are read of a socket ahead of need.
 ghost use Rattle.std.specs.Prelude.{◌≤◌, length};
 
 use mio::net::TcpStream;
@@ -8,16 +8,16 @@ use std::io;
 use std::io::Read;
 use std::marker::Model;
 
-/// How many bytes are asked for at a time.
+/// The number of bytes that one read ahead asks for.
 pub(crate) const AHEAD: usize = 65_536;
 
-/// What was read of a socket ahead of need, where much comes: the system is asked once for what is taken
-/// in many pieces. In clauses it is the list of the bytes that aren't taken yet.
+/// Bytes that were read of a socket ahead of need, where many come: one call of the system reads bytes that
+/// are taken in many pieces. In clauses it is the list of the bytes that aren't taken yet.
 #[derive(Drop)]
 pub(crate) struct Ahead {
     alloc: Global,
     bytes: Vec<u8>,
-    /// Where those begin that aren't taken, and where they end.
+    /// The range of `bytes` that isn't taken yet.
     start: usize,
     end: usize,
 }
@@ -33,7 +33,7 @@ impl Model for Ahead {
 }
 
 impl Ahead {
-    /// Nothing is read. No memory is taken yet.
+    /// Creates an empty buffer, which takes no memory yet.
     pub(crate) fn new(alloc: Global) -> Ahead {
         Ahead {
             alloc,
@@ -43,12 +43,12 @@ impl Ahead {
         }
     }
 
-    /// Whether all that was read is taken.
+    /// Returns whether all bytes that were read are taken.
     pub(crate) fn is_empty(&self) -> bool {
         self.start == self.end
     }
 
-    /// Takes as many bytes as there are and as there is room for.
+    /// Moves bytes into `buffer`, as many as there are and as it has room for. Returns their number.
     pub(crate) fn take(&mut self, buffer: &mut [u8]) -> usize
         ensures { result ≤ length buffer.new }
     {
@@ -59,7 +59,7 @@ impl Ahead {
         count
     }
 
-    /// Whether there is memory to read into, which is taken now where it wasn't yet.
+    /// Returns whether there is memory to read into. It is taken now, if it wasn't yet.
     pub(crate) fn has_room(&mut self) -> bool {
         if self.bytes.is_empty() {
             self.start = 0;
@@ -72,8 +72,8 @@ impl Ahead {
         true
     }
 
-    /// Reads what a socket has into the memory there is; the count is 0 where none will come any more. What
-    /// wasn't taken before is gone.
+    /// Reads from a socket into the buffer's memory. Returns 0 at the end of the stream. Bytes that weren't
+    /// taken before are dropped.
     pub(crate) fn read(&mut self, stream: &mut TcpStream) -> io::Result<usize> {
         self.start = 0;
         self.end = 0;
@@ -82,7 +82,7 @@ impl Ahead {
         Ok(count)
     }
 
-    /// Gives its memory back. What wasn't taken is gone.
+    /// Frees the buffer's memory. Bytes that weren't taken are dropped.
     pub(crate) fn rest(&mut self) {
         self.start = 0;
         self.end = 0;

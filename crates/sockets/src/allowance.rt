@@ -1,18 +1,18 @@
-//! How long a connection that was given up is read on.
+//! The time and the bytes for which a connection that was given up is still read.
 ghost use Rattle.std.specs.Prelude.{◌≡◌, ◌-◌};
 ghost use Rattle.sockets.specs.Allowance.{is_used_up};
 
 use base_types::Moment;
 use std::marker::Model;
 
-/// How long it is read on, in ms.
+/// The time for which a connection is still read, in ms.
 const LINGER: u64 = 2_000;
 
-/// How many of its bytes are dropped.
+/// The number of its bytes that are dropped at most.
 const DROPPED: usize = 1_048_576;
 
-/// What is left to a peer that wasn't heard to its end. In clauses it is a record of the moment at which
-/// it was given up, and of how many bytes may still come.
+/// The time and the bytes that are left to a peer whose connection was given up. In clauses it is a record of
+/// the moment at which it was given up, and the number of bytes that may still come.
 #[derive(Clone, Copy, Debug)]
 pub(crate) struct Allowance {
     from: Moment,
@@ -30,7 +30,7 @@ impl Model for Allowance {
 }
 
 impl Allowance {
-    /// A peer that is given up now.
+    /// Creates the allowance of a peer whose connection is given up now.
     pub(crate) fn new(moment: Moment) -> Allowance
         ensures { result ≡ record { from = moment; bytes = 1048576 } }
     {
@@ -40,14 +40,14 @@ impl Allowance {
         }
     }
 
-    /// So many bytes came, and were dropped.
+    /// Counts `count` bytes that came and were dropped.
     pub(crate) fn dropped(&mut self, count: usize)
         ensures { self.new ≡ record { from = self.old.from; bytes = self.old.bytes - count } }
     {
         self.bytes = self.bytes.saturating_sub(count);
     }
 
-    /// Whether it is closed now.
+    /// Returns whether the connection is to be closed now.
     pub(crate) fn is_used_up(self, moment: Moment) -> bool
         ensures { result ≡ is_used_up moment self }
     {
@@ -55,7 +55,7 @@ impl Allowance {
         self.bytes == 0 || passed >= LINGER
     }
 
-    /// The ms until it is closed at the latest.
+    /// Returns the ms until the connection is closed at the latest.
     pub(crate) fn left(self, moment: Moment) -> u64
         ensures { result ≡ 2000 - (moment - self.from) }
     {

@@ -1,4 +1,4 @@
-//! Which connections come and go.
+//! The log of connections that come and go.
 use base_types::MemoryLog;
 use std::net::SocketAddr;
 use wires::{Door, WireId};
@@ -8,31 +8,31 @@ use wires::{Door, WireId};
 pub enum CloseReason {
     /// The server is done with it.
     Served,
-    /// Its peer has ended it.
+    /// Its peer ended it.
     Left,
     /// Its peer was silent for too long.
     Silent,
-    /// The system says that it is broken.
+    /// The system reported it as broken.
     Broken,
 }
 
-/// A connection comes or goes.
+/// An event of a connection: it comes or goes.
 #[derive(Clone, Copy)]
 pub enum ConnectionEvent {
-    /// One of this number comes in at a door.
+    /// A connection of this number was accepted at a door.
     Came {
         id: WireId,
         door: Door,
         peer: SocketAddr,
     },
-    /// One may wait at a door, and the system gives none.
+    /// A connection may wait at a door, and the system's accept failed.
     Missed(Door),
-    /// The one of this number is closed.
+    /// The connection of this number is closed.
     Went {
         id: WireId,
         leave: CloseReason,
     },
 }
 
-/// The connections that come and go, as long as there is memory for them.
+/// The log of connections that come and go, as long as there is memory for it.
 pub type ConnectionLog = MemoryLog<ConnectionEvent>;

@@ -7,26 +7,26 @@ use std::io::ErrorKind;
 use std::net::{Net, SocketAddr};
 use wires::Door;
 
-/// An address at which a door's clients come in; its port is 0 for any that is free.
+/// An address at which a door listens. Its port is 0 for any free port.
 #[derive(Clone, Copy, Debug, PartialEq, Eq)]
 pub struct Listening {
     pub door: Door,
     pub address: SocketAddr,
 }
 
-/// A door's listener, and whether someone may wait at it. Where an accept had to wait, none is tried
-/// until someone is told of. An accept that failed is tried again each time.
+/// A listener of a door, and whether a connection may wait at it. After an accept that would have to wait, no
+/// accept is tried until the system reports a connection. A failed accept is tried again each time.
 #[derive(Drop)]
 pub(crate) struct Entrance {
     door: Door,
     listener: TcpListener,
     ready: bool,
-    /// Whether the last accept that didn't wait failed.
+    /// Whether the last accept failed. An accept that would have to wait doesn't count.
     failing: bool,
 }
 
 impl Entrance {
-    /// Listens, and has waits tell of who comes under this token.
+    /// Opens the listener, and registers it at the poll under `token`.
     pub(crate) fn open(
         net: &impl Net,
         poll: &Poll,
@@ -44,7 +44,7 @@ impl Entrance {
         })
     }
 
-    /// Where it listens.
+    /// The address at which the listener listens.
     fn listening(&self) -> io::Result<Listening> {
         Ok(Listening {
             door: self.door,
@@ -52,12 +52,12 @@ impl Entrance {
         })
     }
 
-    /// Someone may wait at it.
+    /// Records that a connection may wait at the listener.
     fn told(&mut self) {
         self.ready = true;
     }
 
-    /// The next who waits at it.
+    /// Accepts the next connection that waits at the listener.
     fn accept(&mut self) -> io::Result<(TcpStream, SocketAddr)> {
         if !self.ready {
             return Err(waits());
@@ -74,7 +74,8 @@ impl Entrance {
         }
     }
 
-    /// An accept failed: whether it is the first since one that didn't.
+    /// Records that an accept failed. Returns whether it is the first failure since an accept that didn't
+    /// fail.
     fn failed(&mut self) -> bool {
         let first = !self.failing;
         self.failing = true;
@@ -82,12 +83,12 @@ impl Entrance {
     }
 }
 
-/// An accept that has to wait.
+/// The error of a call that would have to wait.
 fn waits() -> io::Error {
     io::Error::from(ErrorKind::WouldBlock)
 }
 
-/// Whether an accept had to wait.
+/// Returns whether an accept would have to wait.
 fn has_to_wait(accepted: &io::Result<(TcpStream, SocketAddr)>) -> bool {
     match accepted {
         Ok(_) => false,
@@ -102,25 +103,25 @@ pub(crate) struct Entrances {
 }
 
 impl Entrances {
-    /// None is open yet.
+    /// Creates an empty list of listeners.
     pub(crate) fn new(alloc: Global) -> Entrances {
         Entrances {
             entrances: Vec::new(alloc),
         }
     }
 
-    /// How many there are.
+    /// Returns the number of listeners.
     pub(crate) fn count(&self) -> usize {
         self.entrances.len()
     }
 
-    /// Adds one behind the others.
+    /// Appends a listener.
     pub(crate) fn push(&mut self, entrance: Entrance) -> io::Result<()> {
         self.entrances.push(entrance)?;
         Ok(())
     }
 
-    /// Where each listens.
+    /// The address of each listener, in the order in which they were opened.
     pub(crate) fn listening(&self, alloc: Global) -> io::Result<Vec<Listening>> {
         let mut all = Vec::new(alloc);
         for entrance in &self.entrances {
@@ -129,14 +130,14 @@ impl Entrances {
         Ok(all)
     }
 
-    /// Someone may wait at the one of this place.
+    /// Records that a connection may wait at the listener at a place.
     pub(crate) fn told(&mut self, place: usize) {
         if let Some(entrance) = self.entrances.get_mut(place) {
             entrance.told();
         }
     }
 
-    /// The next who waits at a door.
+    /// Accepts the next connection that waits at a door.
     pub(crate) fn accept(&mut self, door: Door) -> io::Result<(TcpStream, SocketAddr)> {
         for entrance in &mut self.entrances {
             if entrance.door == door {
@@ -149,7 +150,8 @@ impl Entrances {
         Err(waits())
     }
 
-    /// An accept failed at a door: whether it is the first there since one that didn't.
+    /// Records that an accept failed at a door. Returns whether it is the first failure there since an accept
+    /// that didn't fail.
     pub(crate) fn failed(&mut self, door: Door) -> bool {
         let mut first = false;
         for entrance in &mut self.entrances {

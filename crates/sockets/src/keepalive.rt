@@ -1,28 +1,28 @@
-//! Probes of a peer that may be silent.
+//! The probes of silent peers.
 use libc::net as system;
 use mio::net::TcpStream;
 use std::os::fd::{AsRawFd, RawFd};
 
-/// For how long a peer is silent before it is probed, in s.
+/// The time for which a peer is silent before it is probed, in s.
 const IDLE: i32 = 30;
 
 /// The time between two probes, in s.
 const INTERVAL: i32 = 10;
 
-/// After how many probes without an answer the connection is broken.
+/// The number of probes without an answer after which the connection is broken.
 const PROBES: i32 = 3;
 
-/// How many bytes of an option's value are its number.
+/// The length of an option's value in bytes.
 const NUMBER_BYTES: u32 = 4;
 
-/// The value of an option.
+/// The bytes of an option's value.
 fn value(number: i32) -> [u8; 16] {
     let mut bytes = [0; 16];
     bytes[..4].copy_from_slice(&number.to_ne_bytes());
     bytes
 }
 
-/// Sets when a peer is probed: whether the system knows such options.
+/// Sets the times of the probes. Returns whether the system has these options.
 fn set_times(fd: RawFd) -> bool {
     let level = system::IPPROTO_TCP;
     let (idle, interval, probes) = (value(IDLE), value(INTERVAL), value(PROBES));
@@ -33,8 +33,8 @@ fn set_times(fd: RawFd) -> bool {
     }
 }
 
-/// Has the system probe a peer that is silent (RFC 9293, section 3.8.4), and break the connection where
-/// none of the probes is answered: whether it does.
+/// Turns on the system's probes of a silent peer (RFC 9293, section 3.8.4). The system breaks the connection
+/// if no probe is answered. Returns whether the probes are on.
 pub(crate) fn probe(stream: &TcpStream) -> bool {
     let fd = stream.as_raw_fd();
     let on = value(1);

@@ -1,9 +1,8 @@
 //! The system's sockets as a wire.
 //!
-//! [`Sockets`] is a [`wires::Wire`] of sockets, none of which is waited for in a call, and of which the
-//! system is asked for nothing that it would have to wait for. A client that is silent for a minute has
-//! ended. That what is read and written goes over the network is the system's; what is proved is what
-//! every wire promises: how many bytes a call moves, and that a fault is counted.
+//! [`Sockets`] is a [`wires::Wire`] of the system's sockets. Its calls never block. A client that is silent
+//! for a minute counts as ended. The network behind the sockets is the system's, and isn't proved. The
+//! contracts are those of every wire: a call moves at most as many bytes as it may, and a fault is counted.
 //!
 //! Tests stand in `server_tests`.
 #![tactic(auto)]

@@ -1,8 +1,8 @@
-//! The connections that were given up, and are read on until their peers end them.
+//! The connections that were given up, and are read until their peers end them.
 //!
-//! A socket that is closed while something of its peer isn't read resets the connection, and what was
-//! written last may never arrive (RFC 9112, section 9.6). So its writing side is shut first, and what
-//! comes is dropped until the peer has ended too, for a while.
+//! A socket that is closed while bytes of its peer are unread resets the connection, and the bytes that were
+//! written last may never arrive (RFC 9112, section 9.6). Therefore its writing side is shut first, and the
+//! bytes that come are dropped until the peer has ended too, or the allowance is used up.
 use crate::allowance::Allowance;
 use base_types::Moment;
 use mio::event::Event;
@@ -14,19 +14,19 @@ use std::io;
 use std::io::{ErrorKind, Read};
 use std::net::Shutdown;
 
-/// How many there are at most; one more is closed at once.
+/// The most connections that linger. A further one is closed at once.
 const MOST: usize = 64;
 
-/// How many bytes are dropped at a time.
+/// The most bytes that one read drops.
 const PIECE: usize = 16_384;
 
-/// How many pieces are dropped in a turn at most.
+/// The most pieces that are dropped of a connection in a turn.
 const PIECES: usize = 128;
 
-/// Waits tell of them under this number and those that follow, of which none is a connection's.
+/// The first token of a lingering connection at the poll. No connection's own token is in this range.
 const FIRST: usize = 0x1_0000_0000;
 
-/// One of them.
+/// A lingering connection.
 #[derive(Drop)]
 struct Lingering {
     stream: TcpStream,
@@ -35,7 +35,7 @@ struct Lingering {
 }
 
 impl Lingering {
-    /// Drops what there is of it: whether it is closed now.
+    /// Drops the bytes that have come. Returns whether the connection is to be closed now.
     fn ends(&mut self, moment: Moment) -> bool {
         for _ in 0..PIECES {
             if self.allowance.is_used_up(moment) {
@@ -51,7 +51,7 @@ impl Lingering {
         false
     }
 
-    /// Drops a piece: whether its peer has ended.
+    /// Drops a piece. Returns whether the peer has ended.
     fn drop_piece(&mut self) -> bool {
         let mut piece = [0u8; PIECE];
         match self.stream.read(&mut piece) {
@@ -67,22 +67,22 @@ impl Lingering {
     }
 }
 
-/// All of them.
+/// All lingering connections.
 #[derive(Drop)]
 pub(crate) struct Lingerings {
     all: Slab<Lingering>,
 }
 
 impl Lingerings {
-    /// None is there yet.
+    /// Creates an empty set, with memory for all. The only error is out of memory.
     pub(crate) fn new(alloc: Global) -> Result<Lingerings, AllocError> {
         Ok(Lingerings {
             all: Slab::with_capacity(alloc, MOST)?,
         })
     }
 
-    /// Reads on of a connection that is given up, of which waits tell under a new number. The error is
-    /// the system's, or that there are too many; it is closed then.
+    /// Adds a connection that is given up, under a new token. The error is the system's, or that there are
+    /// too many; the connection is closed then.
     pub(crate) fn add(
         &mut self,
         poll: &Poll,
@@ -104,7 +104,7 @@ impl Lingerings {
         Ok(())
     }
 
-    /// Takes what a wait told: whether it was of one of them.
+    /// Takes an event of the poll. Returns whether it is of a lingering connection.
     pub(crate) fn told(&mut self, event: &Event) -> bool {
         let Token(key) = event.token();
         let Some(key) = key.checked_sub(FIRST) else {
@@ -119,7 +119,7 @@ impl Lingerings {
         }
     }
 
-    /// Drops what came, and closes those that have ended or may linger no more.
+    /// Drops the bytes that have come, and closes the connections that have ended or used up their allowance.
     pub(crate) fn drain(&mut self, moment: Moment) {
         for key in 0..self.all.capacity() {
             let ended = match self.all.get_mut(key) {
@@ -132,7 +132,7 @@ impl Lingerings {
         }
     }
 
-    /// The ms until one may linger no more, at most so many.
+    /// Returns the ms until the first allowance is used up, at most `most`.
     pub(crate) fn left(&self, moment: Moment, most: u64) -> u64 {
         let mut least = most;
         for key in 0..self.all.capacity() {

@@ -1,4 +1,4 @@
-//! A connection's socket.
+//! The socket of a connection.
 ghost use Rattle.std.specs.Io.{ReadsAtMost, WritesAtMost};
 ghost use Rattle.std.specs.Io.Slices.{io_slices_bytes};
 
@@ -12,33 +12,33 @@ use std::alloc::Global;
 use std::io;
 use std::io::{ErrorKind, IoSlice, Read};
 
-/// A connection's socket, with what was told of it, and what is left of its peer's time. The system is
-/// asked for nothing that would have to wait: where a call had to, or gave less than was asked for, none
-/// is made until something is told.
+/// The socket of a connection, with the events that the poll reported and the time that its peer has left. A
+/// call never blocks. After a call that would have to wait, or that moved fewer bytes than it asked for, the
+/// system isn't called until the poll reports the socket.
 #[derive(Drop)]
 pub(crate) struct Link {
     stream: TcpStream,
     readable: bool,
     writable: bool,
-    /// Its peer has ended: once all is read, a read tells so.
+    /// The peer has ended: once all bytes are read, a read returns 0.
     ends: bool,
-    /// The last read gave all that it asked for: more may be there.
+    /// Whether the last read gave all bytes that it asked for, and more may be there.
     much: bool,
     ahead: Ahead,
     patience: Patience,
     leave: CloseReason,
 }
 
-/// A call that has to wait.
+/// The error of a call that would have to wait.
 fn waits() -> io::Error {
     io::Error::from(ErrorKind::WouldBlock)
 }
 
 impl Link {
-    /// The socket of a connection that has just come, and whether its peer is a device.
+    /// Creates the link of a connection that was just accepted. `device` says whether its peer is a device.
     ///
-    /// A device is read once a wait has told of what it sent: then the end of the connection that it had
-    /// before, which came earlier, has been told of too, and is read first.
+    /// A device is read only after the poll has reported its bytes. By then the poll has also reported the
+    /// end of the device's earlier connection, and that end is read first.
     pub(crate) fn new(alloc: Global, stream: TcpStream, moment: Moment, device: bool) -> Link {
         Link {
             stream,
@@ -52,35 +52,36 @@ impl Link {
         }
     }
 
-    /// Why it is closed, if it is closed now.
+    /// The reason for closing the connection, if it is closed now.
     pub(crate) fn leave(&self) -> CloseReason {
         self.leave
     }
 
-    /// Has it this cause from now on.
+    /// Sets the reason for closing the connection.
     pub(crate) fn leaves(&mut self, leave: CloseReason) {
         self.leave = leave;
     }
 
-    /// Its socket; what was read ahead is gone.
+    /// Returns the socket. Bytes that were read ahead are dropped.
     pub(crate) fn into_stream(self) -> TcpStream {
         self.stream
     }
 
-    /// Takes what a wait told.
+    /// Records an event of the poll.
     pub(crate) fn told(&mut self, event: &Event) {
         self.ends |= event.is_read_closed() || event.is_error();
         self.readable |= event.is_readable() || self.ends;
         self.writable |= event.is_writable() || event.is_write_closed() || event.is_error();
     }
 
-    /// The ms that its peer has left, if its time is counted.
+    /// Returns the ms that the peer has left, if its time is counted.
     pub(crate) fn left(&self, moment: Moment) -> Option<u64> {
         self.patience.left(moment)
     }
 
-    /// Whether its peer has no time left. Then the next call asks the system, whatever was told before: a
-    /// process that stood still may not have been told yet of what is there.
+    /// Returns whether the peer has no time left. If so, the next call asks the system, whatever the poll
+    /// reported before: a process that was stopped for a while may have missed a report of bytes that are
+    /// there.
     pub(crate) fn is_over(&mut self, moment: Moment) -> bool {
         let over = self.patience.left(moment) == Some(0);
         self.readable |= over;
@@ -88,13 +89,14 @@ impl Link {
         over
     }
 
-    /// Whether a read has to wait: nothing was read ahead, and nothing was told since the last that had to.
+    /// Returns whether a read would have to wait: no bytes were read ahead, and the poll has reported none
+    /// since the last read that had to wait.
     pub(crate) fn has_nothing(&self) -> bool {
         !self.readable && self.ahead.is_empty()
     }
 
-    /// Reads some bytes, of those read ahead or of the system, which is asked else; the count is 0 where none
-    /// will come any more.
+    /// Reads bytes into `buffer`: those read ahead, or else those of the socket. Returns 0 at the end of the
+    /// stream.
     pub(crate) fn read(&mut self, buffer: &mut [u8], moment: Moment) -> io::Result<usize>
         ensures { ReadsAtMost result buffer.new }
     {
@@ -105,7 +107,7 @@ impl Link {
         read
     }
 
-    /// The next bytes: of those that were read ahead, if there are any, else of the socket.
+    /// Returns the next bytes: those that were read ahead if there are any, else those of the socket.
     fn next(&mut self, buffer: &mut [u8]) -> io::Result<usize>
         ensures { ReadsAtMost result buffer.new }
     {
@@ -119,14 +121,14 @@ impl Link {
         Ok(self.ahead.take(buffer))
     }
 
-    /// Gives the memory for what is read ahead back, where nothing is left in it.
+    /// Frees the memory for reading ahead, if no bytes are left in it.
     pub(crate) fn rest(&mut self) {
         if self.ahead.is_empty() {
             self.ahead.rest();
         }
     }
 
-    /// Reads of the socket.
+    /// Reads from the socket into `buffer`.
     fn read_piece(&mut self, buffer: &mut [u8]) -> io::Result<usize>
         ensures { ReadsAtMost result buffer.new }
     {
@@ -135,14 +137,14 @@ impl Link {
         read
     }
 
-    /// Reads of the socket ahead.
+    /// Reads from the socket into the buffer for reading ahead.
     fn read_ahead(&mut self) -> io::Result<usize> {
         let read = self.ahead.read(&mut self.stream);
         self.heed(&read, AHEAD);
         read
     }
 
-    /// Heeds what came of a read that asked for so many bytes: where it gave fewer, no more are there.
+    /// Records the result of a read that asked for `asked` bytes. If it gave fewer, no more are there.
     fn heed(&mut self, read: &io::Result<usize>, asked: usize) {
         match read {
             Ok(count) => {
@@ -153,7 +155,7 @@ impl Link {
         }
     }
 
-    /// Writes some bytes.
+    /// Writes bytes to the socket. Returns how many it took.
     pub(crate) fn write(&mut self, bytes: &[IoSlice<'_>], moment: Moment) -> io::Result<usize>
         ensures { WritesAtMost result (io_slices_bytes bytes.now) }
     {

@@ -1,25 +1,25 @@
-//! How long a silent peer is waited for.
+//! The time for which a silent peer is awaited.
 ghost use Rattle.std.specs.Prelude.{◌≡◌, ◌-◌, false};
 ghost use Rattle.sockets.specs.Patience.{after_coming, left_at};
 
 use base_types::Moment;
 use std::marker::Model;
 
-/// How long a peer may stay silent, and how long [`PART`] bytes of what it sends may take, in ms.
+/// The time for which a peer may be silent, and the time for [`PART`] bytes of it, in ms.
 const PATIENCE: u64 = 60_000;
 
-/// The bytes of a peer that have [`PATIENCE`] together, from the first of them on.
+/// The number of a peer's bytes that may take [`PATIENCE`] together, counted from the first of them.
 const PART: usize = 4096;
 
-/// How far a peer has used up the time that it has. A device has time only for its first byte: it may be
-/// silent from then on. In clauses it is a record of the moment from which its time counts, of how many
-/// bytes came since, or none where it is silent, of whether it is a device, and of whether it spoke.
+/// The time that a peer has used up. Of a device only the time until its first byte counts; it may be silent
+/// from then on. In clauses it is a record of the moment from which the time counts, the number of bytes that
+/// came since (0 while the peer is silent), whether the peer is a device, and whether a byte of it came.
 #[derive(Clone, Copy, Debug)]
 pub(crate) struct Patience {
     from: Moment,
     came: usize,
     device: bool,
-    /// A byte of it came.
+    /// Whether a byte of the peer came.
     spoke: bool,
 }
 
@@ -34,7 +34,7 @@ impl Model for Patience {
 }
 
 impl Patience {
-    /// A peer that has just come, and whether it is a device.
+    /// Creates the record of a peer whose connection was just accepted. `device` says whether it is a device.
     pub(crate) fn new(moment: Moment, device: bool) -> Patience
         ensures { result ≡ record { from = moment; came = 0; device = device; spoke = false } }
     {
@@ -46,7 +46,7 @@ impl Patience {
         }
     }
 
-    /// Bytes went to it: its time begins anew.
+    /// Records that bytes were sent to the peer: its time begins anew.
     pub(crate) fn went(&mut self, moment: Moment)
         ensures { self.new ≡ record { from = moment; came = 0; device = self.old.device; spoke = self.old.spoke } }
     {
@@ -54,7 +54,8 @@ impl Patience {
         self.came = 0;
     }
 
-    /// So many bytes came of it. Its time begins anew with the first of a part, and after the last.
+    /// Counts `count` bytes of the peer. Its time begins anew with the first byte of a part, and after the
+    /// last.
     pub(crate) fn came(&mut self, count: usize, moment: Moment)
         ensures { self.new ≡ after_coming count moment self.old }
     {
@@ -71,7 +72,7 @@ impl Patience {
         self.came = came;
     }
 
-    /// The ms that it has left, if its time is counted.
+    /// Returns the ms that the peer has left, if its time is counted.
     pub(crate) fn left(self, moment: Moment) -> Option<u64>
         ensures { result ≡ left_at moment self }
     {

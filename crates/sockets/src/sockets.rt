@@ -1,4 +1,4 @@
-//! The system's sockets.
+//! The system's sockets as a wire.
 ghost use Rattle.std.specs.Prelude.{◌≡◌, ◌+◌, false, if◌then◌else◌};
 
 use crate::connection_log::{CloseReason, ConnectionEvent, ConnectionLog};
@@ -17,39 +17,40 @@ use std::time::Duration;
 use std::{io, mem};
 use wires::{Door, Progress, Wire, WireId};
 
-/// How many sockets a wait tells of at most: all that there are.
+/// The most sockets that a wait reports: all sockets that there are.
 const EVENTS: usize = 128;
 
-/// Waits tell of the first listener under this number, of the next under the one before it, and so on;
-/// of a connection under its own number. Between them are those that were given up.
+/// The token of the first listener at the poll. Each further listener has the token below that of the one
+/// before. A connection has its own number as its token; the tokens of lingering connections are between
+/// both.
 const FIRST_LISTENER: usize = usize::MAX;
 
 /// Listeners at the three doors, and the connections that they accepted.
 ///
-/// A client that is silent for a minute, or takes longer than that for 4,096 bytes to which nothing is
-/// answered, is taken as one that has ended; so is a device of which nothing came for a minute, and no other.
-/// That is judged only where a call has to wait: what is there is read, however late.
+/// A client counts as ended if it is silent for a minute, or takes longer than a minute for 4,096 bytes while
+/// nothing is sent to it. A device counts as ended only if it is silent for a minute before its first byte.
+/// The time is checked only where a call would have to wait: bytes that are there are read, however late.
 #[derive(Drop)]
 pub struct Sockets {
     alloc: Global,
     entrances: Entrances,
     links: Slab<Link>,
-    /// Those that were given up, and are read on for a while.
+    /// The connections that were given up, and are read for a while.
     lingerings: Lingerings,
     poll: Poll,
     events: Events,
     failures: u64,
-    /// Whether a call did more than to find that it has to wait.
+    /// Whether a call did more than find that it would have to wait.
     worked: bool,
     /// The moment by which silence is measured.
     moment: Moment,
-    /// That of the last wait.
+    /// The moment of the last wait.
     waited: Moment,
-    /// Who comes and goes, where that is kept.
+    /// The log of connections, if it is kept.
     visits: Option<ConnectionLog>,
 }
 
-/// Hands each socket what a wait told of it.
+/// Hands each socket the events that a wait reported for it.
 fn tell(
     events: &Events,
     entrances: &mut Entrances,
@@ -66,7 +67,7 @@ fn tell(
     }
 }
 
-/// Has each socket give the memory back that it needs only in a rush.
+/// Frees the memory of each socket that only a rush needs.
 fn rest(links: &mut Slab<Link>) {
     for key in 0..links.capacity() {
         if let Some(link) = links.get_mut(key) {
@@ -76,7 +77,7 @@ fn rest(links: &mut Slab<Link>) {
 }
 
 impl Sockets {
-    /// No door is open yet. The error is the system's, or out of memory.
+    /// Creates sockets without a listener. The error is the system's, or out of memory.
     pub fn new(alloc: Global, net: &impl Net) -> io::Result<Sockets> {
         Ok(Sockets {
             alloc,
@@ -93,35 +94,35 @@ impl Sockets {
         })
     }
 
-    /// Listens at one address more. The error is the system's: a port in use, an address that isn't the
-    /// machine's, a port that needs a right; or out of memory.
+    /// Listens at one more address. The error is the system's (a port in use, an address that isn't the
+    /// machine's, a port that needs a right), or out of memory.
     pub fn listen(&mut self, net: &impl Net, listening: Listening) -> io::Result<()> {
         let token = Token(FIRST_LISTENER - self.entrances.count());
         let entrance = Entrance::open(net, &self.poll, listening, token)?;
         self.entrances.push(entrance)
     }
 
-    /// Where it listens, in the order in which it began to.
+    /// The addresses at which it listens, in the order in which they were opened.
     pub fn listening(&self) -> io::Result<Vec<Listening>> {
         self.entrances.listening(self.alloc)
     }
 
-    /// Has it this moment from now on.
+    /// Sets the moment by which silence is measured.
     pub fn set_moment(&mut self, moment: Moment) {
         self.moment = moment;
     }
 
-    /// Has it keep who comes and goes, from now until that is taken.
+    /// Starts a log of connections, which is kept until it is taken.
     pub fn keep_visits(&mut self, alloc: Global) {
         self.visits = Some(ConnectionLog::new(alloc));
     }
 
-    /// Who came and went, if that is kept; it is kept no more.
+    /// Takes the log of connections, if there is one. No log is kept from then on.
     pub fn take_visits(&mut self) -> Option<ConnectionLog> {
         mem::replace(&mut self.visits, None)
     }
 
-    /// Keeps who came or went, where that is kept.
+    /// Appends an event to the log of connections, if one is kept.
     fn note(&mut self, visit: ConnectionEvent)
         ensures { self.new.failures ≡ self.old.failures }
     {
@@ -130,10 +131,10 @@ impl Sockets {
         }
     }
 
-    /// Waits until something happens at a socket or a client has no time left, but no longer than this.
-    /// Where nothing happened, the sockets give back what they need only in a rush.
+    /// Waits until the poll reports an event or a peer has no time left, but no longer than `most`. If
+    /// nothing happened, the sockets free the memory that only a rush needs.
     ///
-    /// Each change is told of once, and kept until a call finds that it has to wait.
+    /// Each change is reported once, and remembered until a call finds that it would have to wait.
     pub fn wait(&mut self, most: Duration) -> io::Result<()> {
         self.waited = self.moment;
         self.poll.poll(&mut self.events, Some(most))?;
@@ -150,12 +151,13 @@ impl Sockets {
         Ok(())
     }
 
-    /// Whether the last wait was at this moment: what happened since is at most a ms old.
+    /// Returns whether the last wait was at the current moment: what it reported is at most 1 ms old.
     pub fn has_just_waited(&self) -> bool {
         self.waited == self.moment
     }
 
-    /// The ms until the first client has no time left, or one that was given up, at most so many.
+    /// Returns the ms until the first peer has no time left or the first allowance is used up, at most
+    /// `most`.
     pub fn time_left(&self, most: u64) -> u64 {
         let mut least = self.lingerings.left(self.moment, most);
         for key in 0..self.links.capacity() {
@@ -166,7 +168,8 @@ impl Sockets {
         least
     }
 
-    /// Whether a call since the last one of this did more than to find that it has to wait.
+    /// Returns whether a call since the last call of `take_worked` did more than find that it would have to
+    /// wait.
     pub fn take_worked(&mut self) -> bool
         ensures was { result ≡ self.old.worked }
         ensures left { self.new.worked ≡ false }
@@ -176,8 +179,8 @@ impl Sockets {
         worked
     }
 
-    /// The next connection of a door, of which waits tell under the next free number: what is written
-    /// to it goes out at once, and a device that is silent is probed.
+    /// Accepts the next connection of a door, and registers it at the poll under the next free number. Bytes
+    /// that are written to it go out at once, and a silent device is probed.
     fn accept(&mut self, door: Door) -> io::Result<(Link, SocketAddr)>
         ensures { self.new.failures ≡ self.old.failures }
     {
@@ -194,7 +197,7 @@ impl Sockets {
         Ok((link, peer))
     }
 
-    /// None could be accepted at a door. Of several failures one after the other the first is kept.
+    /// Logs that no connection could be accepted at a door. Of consecutive failures the first is logged.
     fn miss(&mut self, door: Door)
         ensures { self.new.failures ≡ self.old.failures }
     {
@@ -203,7 +206,7 @@ impl Sockets {
         }
     }
 
-    /// The peer of this number has no time left.
+    /// Records that the peer of a number has no time left.
     fn falls_silent(&mut self, id: WireId)
         ensures { self.new.failures ≡ self.old.failures }
     {
@@ -213,7 +216,7 @@ impl Sockets {
         self.worked = true;
     }
 
-    /// The connection of this number is broken.
+    /// Records that the connection of a number is broken.
     fn breaks(&mut self, id: WireId)
         ensures { self.new.failures ≡ self.old.failures }
     {
@@ -223,7 +226,7 @@ impl Sockets {
         self.worked = true;
     }
 
-    /// Gives a connection up. One whose peer may still send is read on for a while.
+    /// Gives a connection up. A connection whose peer may still send is read for a while.
     fn lets_go(&mut self, link: Link)
         ensures { self.new.failures ≡ self.old.failures }
     {
@@ -233,8 +236,8 @@ impl Sockets {
         }
     }
 
-    /// Counts a failed call, unless it would only have waited or the count is full: whether it was
-    /// counted.
+    /// Counts a failed call, unless it only would have had to wait or the count is full. Returns whether it
+    /// was counted.
     fn counts_fault(&mut self, error: io::Error) -> bool
         ensures { self.new.failures ≡ (if result then self.old.failures + 1 else self.old.failures) }
     {
@@ -254,8 +257,8 @@ impl Wire for Sockets {
 
     ghost faults = { λ sockets. sockets.failures };
 
-    /// A failed accept is no work: where the system has no descriptor left, the next one is tried after
-    /// a wait.
+    /// Accepts a connection. A failed accept doesn't count as work: if the system has no descriptor left, the
+    /// next accept is tried after a wait.
     fn poll_accept(&mut self, door: Door) -> Progress<WireId> {
         let (link, peer) = match self.accept(door) {
             Ok(accepted) => accepted,

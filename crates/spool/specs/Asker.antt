@@ -1,11 +1,11 @@
--- Who may ask for a change of a job: its owner, and operators.
+-- The people who may change a job: its owner, and operators.
 use Rattle.std.specs.Prelude.{ℕ, Bool, ◌||◌, if◌then◌else◌, List}
 use Rattle.std.specs.Str.{bytes_eq}
 use Rattle.job_objects.specs.declared.job.Canceler.{Canceler}
 use Rattle.job_objects.specs.declared.job.Canceler.TheVariants.{Owner, Operator}
 use Rattle.job_objects.specs.Job.{JobRecord}
 
--- who asks: the name that a request claims, and whether it is an operator's
+-- an asker: the name that a request claims, and whether it is an operator's
 pub record AskerRecord : Type 0 where
   pub name : List ℕ
   pub is_operator : Bool
@@ -13,6 +13,6 @@ pub record AskerRecord : Type 0 where
 abbrev pub may_ask : AskerRecord → JobRecord → Bool
 may_ask asker job = asker.is_operator || bytes_eq asker.name job.owner
 
--- an operator who cancels their own job does so as its owner
+-- an operator who cancels a job of their own does that as its owner
 abbrev pub canceler_of : List ℕ → JobRecord → Canceler
 canceler_of name job = if bytes_eq name job.owner then Owner else Operator

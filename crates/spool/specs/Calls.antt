@@ -1,4 +1,4 @@
--- What each call does to the list of jobs, and why it is refused.
+-- The change that each call makes of the list of jobs, and the causes of its refusal.
 use Rattle.std.specs.Prelude.{ℕ, ◌≡◌, ◌+◌, ◌||◌, ◌&&◌, not, ◌==◌, nat_lt, nat_le, Bool, true, false, if◌then◌else◌, List, [], ◌∷◌, ◌++◌, length, count_by, is_some, Option, Some, None, slice_get}
 use Rattle.std.specs.List.{list_any}
 use Rattle.std.specs.Option.{option_map_or}
@@ -26,31 +26,31 @@ is_unfinished spooled = not (is_finished spooled.job.state)
 abbrev pub unfinished_jobs : List SpooledRecord → ℕ
 unfinished_jobs jobs = count_by is_unfinished jobs
 
--- No further job is taken: too many are unfinished, or the last id is used.
+-- The spool takes no further job: too many are unfinished, or the last id is used.
 abbrev pub is_full : SpoolRecord → Bool
 is_full spool = nat_le UNFINISHED_JOBS (unfinished_jobs spool.jobs) || nat_lt LAST_JOB_ID spool.next
 
--- why a job of these documents isn't taken, if there is a cause other than out of memory
+-- why a job with these documents isn't taken, if there is a cause other than out of memory
 abbrev pub new_refusal : SpoolRecord → List DocumentRecord → Option SpoolRefusal
 new_refusal spool documents =
     if nat_lt JOB_DOCUMENTS (length documents) || nat_lt JOB_OCTETS (octets_of documents) then Some Why.TooLarge
     else if is_full spool then Some Why.Busy
     else None
 
--- the cause, or out of memory where there is none
+-- a refusal by the cause, or by out of memory if there is no cause
 abbrev pub IsRefusal : Option SpoolRefusal → SpoolRefusal → Type 0
 IsRefusal cause Why.OutOfMemory = cause ≡ None
 IsRefusal cause refusal = cause ≡ Some refusal
 
--- the job is taken under the next id, told whether documents are still to come
+-- the job is taken under the next id; `incoming` says whether its documents are still to come
 pub record Takes (old : SpoolRecord) (new : Submission) (incoming : Bool) (id : ℕ) (spool : SpoolRecord) : Type 0 where
   pub free : new_refusal old new.documents ≡ None
   pub id_is : id ≡ old.next
   pub spool_is : spool ≡ record { jobs = old.jobs ++ spooled_of new id incoming ∷ []; next = id + 1 }
 
--- ---- a change that someone asks for
+-- ---- a change by an asker
 
--- why someone may not change a job, whatever its state
+-- why an asker may not change a job, without regard to its state
 abbrev pub asking_refusal : AskerRecord → Option SpooledRecord → Option SpoolRefusal
 asking_refusal asker None = Some Why.NotFound
 asking_refusal asker (Some spooled) = if may_ask asker spooled.job then None else Some Why.NotAuthorized
@@ -64,38 +64,38 @@ abbrev pub or_else : Option SpoolRefusal → Option SpoolRefusal → Option Spoo
 or_else (Some cause) later = Some cause
 or_else None later = later
 
--- why a change that someone asks for isn't made
+-- why a change by an asker isn't made
 abbrev pub change_refusal : AskerRecord → JobChange → ℕ → Option SpooledRecord → Option SpoolRefusal
 change_refusal asker change now found =
     or_else (asking_refusal asker found) (if allows change now found then None else Some Why.NotPossible)
 
--- why someone can't cancel a job: they may not change it, or it is finished
+-- why an asker can't cancel a job: they may not change it, or it is finished
 abbrev pub cancel_refusal : AskerRecord → Option SpooledRecord → Option SpoolRefusal
 cancel_refusal asker found =
     or_else (asking_refusal asker found) (if option_map_or (λ s. is_finished s.job.state) found false then Some Why.NotPossible else None)
 
--- as whom someone cancels a job
+-- the cancel by a name: that of the job's owner, or of an operator
 abbrev pub cancel_of : List ℕ → Option SpooledRecord → JobChange
 cancel_of name found = Change.Cancel (option_map_or (λ s. canceler_of name s.job) found Operator)
 
 -- ---- a further document
 
--- whether a document of so many octets is added: not where it has none and is the last
+-- whether a document of so many octets is added: an empty last document isn't
 abbrev pub adds : ℕ → Bool → Bool
 adds octets last = not last || nat_lt 0 octets
 
--- whether the job may not have so many documents and octets more
+-- whether one more document with so many octets exceeds a limit of the job
 abbrev pub is_too_large : ℕ → JobRecord → Bool
 is_too_large octets job = nat_le JOB_DOCUMENTS job.documents || nat_lt JOB_OCTETS (job.octets + octets)
 
--- why a job doesn't take a document of so many octets, told whether it is added
+-- why a job doesn't take a document of so many octets; `added` says whether the document is added
 abbrev pub taking_refusal : ℕ → Bool → Option SpooledRecord → Option SpoolRefusal
 taking_refusal octets added found =
     option_map_or (λ s. if not s.job.incoming then Some Why.NotPossible
     else if added && is_too_large octets s.job then Some Why.TooLarge
     else None) found None
 
--- why a document of so many octets that someone sends isn't taken, if there is a cause other than out of memory
+-- why a document of so many octets by an asker isn't taken, if there is a cause other than out of memory
 abbrev pub document_refusal : AskerRecord → ℕ → Bool → Option SpooledRecord → Option SpoolRefusal
 document_refusal asker octets last found =
     or_else (asking_refusal asker found) (taking_refusal octets (adds octets last) found)
@@ -105,7 +105,7 @@ abbrev pub with_document : Bool → ℕ → DocumentRecord → ℕ → List Spoo
 with_document true id document now jobs = with_job id (attached document now) jobs
 with_document false id document now jobs = jobs
 
--- the jobs, where the job of this id is all in if the document was the last
+-- the jobs, where the job of an id is complete if the document was the last
 abbrev pub closed_if : Bool → ℕ → ℕ → List SpooledRecord → List SpooledRecord
 closed_if true id now jobs = with_job id (changed Change.Close now) jobs
 closed_if false id now jobs = jobs
@@ -116,11 +116,11 @@ closed_if false id now jobs = jobs
 abbrev pub paused_at : List Bool → ℕ → Bool
 paused_at paused place = option_map_or (λ p. p) (slice_get paused place) false
 
--- Whether a job is ready: it is pending and its printer isn't paused.
+-- Whether a job is ready: it is pending, and its printer isn't paused.
 abbrev pub is_ready : List Bool → JobRecord → Bool
 is_ready paused job = is_pending job.state && not (paused_at paused job.needs.printer)
 
--- a ready job is stranded where it has an entry; others stay
+-- a ready job is marked as stranded if it has an entry, and as not stranded if it has none; other jobs are unchanged
 abbrev pub marked_by : List Bool → List Stranded → SpooledRecord → SpooledRecord
 marked_by paused stranded spooled =
     if is_ready paused spooled.job then marked (list_any (λ e. e.job == spooled.job.id) stranded) spooled else spooled

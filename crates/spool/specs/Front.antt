@@ -1,9 +1,9 @@
--- The finished jobs at the front of the list, which nothing makes ready any more.
+-- The finished jobs at the front of the list, which never become ready again.
 use Rattle.std.specs.Prelude.{ℕ, zero, suc, ◌≡◌, true, List, [], ◌∷◌}
 use Rattle.job_objects.specs.JobState.{is_finished}
 use Rattle.spool.specs.Spooled.{SpooledRecord}
 
--- there are so many jobs, and the first so many are finished
+-- there are at least `count` jobs, and the first `count` are finished
 abbrev pub AllFinished : ℕ → List SpooledRecord → Type 0
 AllFinished zero jobs = Unit {0}
 AllFinished (suc count) [] = ⊥

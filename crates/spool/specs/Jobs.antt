@@ -8,7 +8,7 @@ use Rattle.spool.specs.Spooled.{SpooledRecord, handed_out}
 
 pub record SpoolRecord : Type 0 where
   pub jobs : List SpooledRecord
-  -- the id of the next job; above the last id once all are used
+  -- the id of the next job; above LAST_JOB_ID once all ids are used
   pub next : ℕ
 
 abbrev pub spooled_at : ℕ → List SpooledRecord → Option SpooledRecord
@@ -17,7 +17,7 @@ spooled_at id jobs = find (λ s. id == s.job.id) jobs
 abbrev pub job_at : ℕ → List SpooledRecord → Option JobRecord
 job_at id jobs = option_map (λ s. s.job) (spooled_at id jobs)
 
--- the job of this id is changed
+-- the job of an id is changed
 abbrev pub with_job : ℕ → (SpooledRecord → SpooledRecord) → List SpooledRecord → List SpooledRecord
 with_job id change [] = []
 with_job id change (spooled ∷ jobs) = if id == spooled.job.id then change spooled ∷ jobs else spooled ∷ with_job id change jobs
@@ -28,13 +28,13 @@ map_at place change [] = []
 map_at zero change (spooled ∷ jobs) = change spooled ∷ jobs
 map_at (suc place) change (spooled ∷ jobs) = spooled ∷ map_at place change jobs
 
--- the documents that the job of this id hands out once a device said this of it
+-- the documents that the job of an id hands out after a device's event
 abbrev pub documents_told : ℕ → DeviceSays → List SpooledRecord → List DocumentRecord
 documents_told id says jobs = option_map_or (handed_out says) (spooled_at id jobs) []
 
 -- ---- the jobs as the entries of a map
 
--- each key is its job's id, the ids rise, and are below the next one
+-- each key is the id of its job, and the ids rise and are below the next id
 abbrev pub Keyed : List (ℕ × SpooledRecord) → ℕ → ℕ → Type 0
 Keyed [] low next = Unit {0}
 Keyed (e ∷ es) low next = (e.0 ≡ e.1.job.id) × (low < e.0) × (e.0 < next) × Keyed es e.0 next

@@ -1,4 +1,4 @@
--- Which finished jobs are kept to be asked about.
+-- The finished jobs that are kept for queries.
 use Rattle.std.specs.Prelude.{ℕ, Bool, not, ◌||◌, ◌&&◌, ◌==◌, nat_lt, if◌then◌else◌, List, filter, count_by, unwrap_or}
 use Rattle.base_types.specs.declared.limits.TheConstants.Limits.{FINISHED_JOBS_KEPT}
 use Rattle.job_objects.specs.declared.device_says.DeviceSays.{DeviceSays}
@@ -10,15 +10,15 @@ use Rattle.spool.specs.Jobs.{with_job}
 abbrev pub end_of : SpooledRecord → ℕ
 end_of spooled = unwrap_or spooled.job.finished 0
 
--- whether the first was finished later than the second; of two of one moment that of the greater id counts as later
+-- whether the first job was finished later than the second; at the same moment the job of the greater id counts as later
 abbrev pub is_later : SpooledRecord → SpooledRecord → Bool
 is_later first second = nat_lt (end_of second) (end_of first) || ((end_of first == end_of second) && nat_lt second.job.id first.job.id)
 
--- how many finished jobs that no device has were finished later than this one
+-- the number of settled jobs that were finished later than this one
 abbrev pub later_jobs : List SpooledRecord → SpooledRecord → ℕ
 later_jobs jobs spooled = count_by (λ other. is_settled other && is_later other spooled) jobs
 
--- a finished job that no device has is kept while fewer than so many were finished later; any other is kept
+-- a settled job is kept while fewer than FINISHED_JOBS_KEPT settled jobs were finished later; any other job is kept
 abbrev pub is_kept : List SpooledRecord → SpooledRecord → Bool
 is_kept jobs spooled = not (is_settled spooled) || nat_lt (later_jobs jobs spooled) FINISHED_JOBS_KEPT
 
@@ -26,6 +26,6 @@ is_kept jobs spooled = not (is_settled spooled) || nat_lt (later_jobs jobs spool
 abbrev pub retained : List SpooledRecord → List SpooledRecord
 retained jobs = filter (is_kept jobs) jobs
 
--- the jobs, once a device said this of the job of this id; where that ends, finished ones may be forgotten
+-- the jobs after a device's event of the job of an id; if the event ends the job, finished jobs may be forgotten
 abbrev pub jobs_told : ℕ → DeviceSays → ℕ → List SpooledRecord → List SpooledRecord
 jobs_told id says now jobs = if is_end says then retained (with_job id (told says now) jobs) else with_job id (told says now) jobs

@@ -5,10 +5,10 @@ use Rattle.spool.specs.Spooled.{SpooledRecord}
 use Rattle.spool.specs.Calls.{is_ready}
 use Rattle.spool.specs.declared.ready.Ready.{Ready}
 
--- the ready ones of these jobs, told which printers are paused
+-- the ready ones of these jobs; `paused` says which printers are paused
 abbrev pub ready_jobs : List Bool → List SpooledRecord → List JobRecord
 ready_jobs paused jobs = filter (is_ready paused) (map (λ s. s.job) jobs)
 
--- the jobs that are still to come
+-- the jobs that the iterator still has
 abbrev pub ready_rest : Ready → List JobRecord
 ready_rest ready = ready_jobs ready.printers.now ready.jobs.now

@@ -1,12 +1,10 @@
--- What holds of every job by its state: whether documents are still to come, whether it is held, and
--- whether a device has it (RFC 8011, section 5.3.7).
+-- The invariant of a job, by its state: whether documents are still to come, whether it is held, and whether a device has it (RFC 8011, section 5.3.7).
 use Rattle.std.specs.Prelude.{◌≡◌, ◌||◌, Bool, true, false}
 use Rattle.job_objects.specs.declared.job_state.JobState.{JobState}
 use Rattle.job_objects.specs.declared.job_state.JobState.TheVariants.{Pending, PendingHeld, Processing, Stopped, Canceled, Aborted, Completed}
 use Rattle.spool.specs.Spooled.{SpooledRecord}
 
--- A device has a job that it prints or has stopped in, and no job that waits; a canceled one it may still
--- have. What a device has, or may get, is all in and isn't held.
+-- A device has each job that is processing or processing-stopped, and no pending or held job; it may still have a canceled one. A job that a device has or may get is complete and isn't held.
 abbrev pub FitsState : JobState → Bool → Bool → Bool → Type 0
 FitsState Pending incoming held on_device = (incoming ≡ false) × (held ≡ false) × (on_device ≡ false)
 FitsState PendingHeld incoming held on_device = ((incoming || held) ≡ true) × (on_device ≡ false)

@@ -1,4 +1,4 @@
--- What holds of every spool.
+-- The invariant of a spool.
 use Rattle.std.specs.Prelude.{◌≤◌, map, All}
 use Rattle.std.specs.List.Sorted.{IsStrictlyIncreasing}
 use Rattle.base_types.specs.Ranges.{IsJobId}
@@ -7,8 +7,7 @@ use Rattle.spool.specs.Jobs.{SpoolRecord}
 use Rattle.spool.specs.Calls.{unfinished_jobs}
 use Rattle.spool.specs.Sound.{IsSound}
 
--- the ids of the jobs rise within their range, no more jobs are unfinished than the limit, and each
--- fits its state
+-- the ids of the jobs rise within their range, at most UNFINISHED_JOBS jobs are unfinished, and each job fits its state
 pub record IsSpool (spool : SpoolRecord) : Type 0 where
   pub rising : IsStrictlyIncreasing (map (λ s. s.job.id) spool.jobs)
   pub in_range : All (λ s. IsJobId s.job.id) spool.jobs

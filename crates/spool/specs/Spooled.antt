@@ -1,4 +1,4 @@
--- A job with its documents, and what each call does to one.
+-- A job with its documents, and the change that each call makes of it.
 use Rattle.std.specs.Prelude.{ℕ, ◌+◌, ◌-◌, Bool, true, false, not, ◌&&◌, nat_le, if◌then◌else◌, List, [], ◌∷◌, ◌++◌, length}
 use Rattle.std.specs.Option.{option_map_or}
 use Rattle.base_types.specs.declared.limits.TheConstants.Limits.{INCOMING_JOB_TIME}
@@ -14,44 +14,44 @@ use Rattle.octets.specs.Document.{DocumentRecord}
 
 pub record SpooledRecord : Type 0 where
   pub job : JobRecord
-  -- until they are handed out or dropped
+  -- the documents, until they are handed out or dropped
   pub documents : List DocumentRecord
-  -- when the last document came, or the job was made
+  -- the moment of the last document, or of the job's creation
   pub arrived : ℕ
-  -- a device has it, which it may also where it is canceled
+  -- whether a device has the job; a device may still have a canceled job
   pub on_device : Bool
 
--- finished, and no device has it
+-- the job is finished, and no device has it
 abbrev pub is_settled : SpooledRecord → Bool
 is_settled spooled = is_finished spooled.job.state && not spooled.on_device
 
--- a job that is finished and that no device has drops its documents
+-- a settled job drops its documents
 abbrev pub settled : SpooledRecord → SpooledRecord
 settled spooled = if is_settled spooled then record spooled { documents = [] } else spooled
 
--- a device has a job from its beginning on, and no other change but its end changes that
+-- a device has the job from its beginning on, and only the job's end changes that
 abbrev pub on_device_after : JobChange → Bool → Bool
 on_device_after Begin on_device = true
 on_device_after _ on_device = on_device
 
--- a change of the job, where its state allows it
+-- the job is changed, if its state allows the change
 abbrev pub changed : JobChange → ℕ → SpooledRecord → SpooledRecord
 changed change now spooled = option_map_or (λ job. settled (record spooled { job = job; on_device = on_device_after change spooled.on_device })) (job_after change now spooled.job) spooled
 
--- the device that has it lets go of it: it is changed, unless it is finished, and its documents are gone
+-- the device that has the job ends it: the job is changed unless it is finished, and its documents are gone
 abbrev pub let_go : JobChange → ℕ → SpooledRecord → SpooledRecord
 let_go change now spooled =
     if spooled.on_device then record spooled { job = stepped change now spooled.job; documents = []; on_device = false } else spooled
 
--- a device says this of it
+-- the job after an event of its device
 abbrev pub told : DeviceSays → ℕ → SpooledRecord → SpooledRecord
 told says now spooled = if is_end says then let_go (change_of says) now spooled else changed (change_of says) now spooled
 
--- the documents that it hands out then: all, where its device lets go of it
+-- the documents that are handed out for the event: all, if the device ends the job
 abbrev pub handed_out : DeviceSays → SpooledRecord → List DocumentRecord
 handed_out says spooled = if is_end says then (if spooled.on_device then spooled.documents else []) else []
 
--- the job with a further document of this format and so many octets
+-- the job with one more document, of this format and so many octets
 abbrev pub counted : List ℕ → ℕ → JobRecord → JobRecord
 counted format octets job = record job {
   needs = record job.needs {
@@ -62,7 +62,7 @@ counted format octets job = record job {
   octets = job.octets + octets;
 }
 
--- a further document
+-- the document is added
 abbrev pub attached : DocumentRecord → ℕ → SpooledRecord → SpooledRecord
 attached document now spooled = record spooled {
   job = counted document.format (length document.contents) spooled.job;
@@ -70,7 +70,7 @@ attached document now spooled = record spooled {
   arrived = now;
 }
 
--- still coming in, so long after the last document or its making that it is given up
+-- the job is overdue: documents are still to come, and INCOMING_JOB_TIME has passed since the last document or the job's creation
 abbrev pub is_overdue : ℕ → SpooledRecord → Bool
 is_overdue now spooled = spooled.job.incoming && nat_le INCOMING_JOB_TIME (now - spooled.arrived)
 

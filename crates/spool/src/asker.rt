@@ -1,4 +1,4 @@
-//! Who asks for a change of a job.
+//! The asker of a change of a job.
 ghost use Rattle.std.specs.Prelude.{◌≡◌};
 ghost use Rattle.std.specs.Str.{bytes_eq};
 ghost use Rattle.spool.specs.Asker.{may_ask, canceler_of};
@@ -7,8 +7,8 @@ use base_types::Text;
 use job_objects::{Canceler, Job};
 use std::marker::Model;
 
-/// Who asks for something: the name that the request claims, and whether it is an operator's. In
-/// clauses it is a record of the same fields.
+/// An asker: the name that the request claims, and whether it is an operator's. In clauses it is a record of
+/// the same fields.
 #[derive(Debug, Drop)]
 pub struct Asker<'a> {
     pub name: &'a Text,
@@ -24,21 +24,21 @@ impl<'a> Model for Asker<'a> {
 }
 
 impl Asker<'_> {
-    /// Whether the name is that of the job's owner.
+    /// Returns whether the name is that of the job's owner.
     fn owns(&self, job: &Job) -> bool
         ensures { result ≡ bytes_eq self.now.name job.now.owner }
     {
         self.name.as_bytes() == job.owner.as_bytes()
     }
 
-    /// Whether the job may be changed for them: they own it, or are an operator.
+    /// Returns whether the asker may change the job: they own it, or are an operator.
     pub(crate) fn may_change(&self, job: &Job) -> bool
         ensures { result ≡ may_ask self.now job.now }
     {
         self.is_operator || self.owns(job)
     }
 
-    /// As whom they cancel a job.
+    /// The role in which the asker cancels a job.
     pub(crate) fn canceler(&self, job: &Job) -> Canceler
         ensures { result ≡ canceler_of self.now.name job.now }
     {

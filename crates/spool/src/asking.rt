@@ -1,4 +1,4 @@
-//! What may be asked of jobs: to be shown, held, released, canceled.
+//! The calls that show, hold, release and cancel jobs.
 ghost use Rattle.std.specs.Prelude.{◌≡◌, OnOk, OnErr, IfErr, IfOk, None, Some, false, option_map};
 ghost use Rattle.std.specs.Option.{option_copied, option_map_or};
 ghost use Rattle.job_objects.specs.JobState.{is_finished};
@@ -17,10 +17,10 @@ use base_types::{JobId, Moment};
 use job_objects::{Canceler, Job, JobChange, StateRefusal};
 use octets::Document;
 
-/// What people ask of jobs. A refusal changes nothing. In this order: not found, not authorized, not
+/// The calls for askers. A refusal changes nothing. Its causes, in this order: not found, not authorized, not
 /// possible.
 impl Spool {
-    /// The job of this id.
+    /// The job of an id.
     pub fn get(&self, id: JobId) -> Option<&Job>
         ensures { option_copied result ≡ job_at id self.now.jobs }
     {
@@ -28,7 +28,7 @@ impl Spool {
         Some(spooled.job())
     }
 
-    /// The documents of the job of this id, until they are handed out or dropped.
+    /// The documents of the job of an id, until they are handed out or dropped.
     pub fn documents(&self, id: JobId) -> Option<&[Document]>
         ensures { option_map (λ d. d.now) result ≡ option_map (λ s. s.documents) (spooled_at id self.now.jobs) }
     {
@@ -36,7 +36,7 @@ impl Spool {
         Some(spooled.documents())
     }
 
-    /// Whether someone may change the job of this id, whatever its state.
+    /// Checks that the asker may change the job of an id, without regard to its state.
     pub(crate) fn may_change(&self, id: JobId, asker: &Asker<'_>) -> Result<(), SpoolRefusal>
         ensures ok { OnOk result (asking_refusal asker.now (spooled_at id self.now.jobs) ≡ None) }
         ensures refused { IfErr result (λ refusal. asking_refusal asker.now (spooled_at id self.now.jobs) ≡ Some refusal) }
@@ -61,7 +61,7 @@ impl Spool {
         self.ask(id, asker, JobChange::Hold, now)
     }
 
-    /// Holds a job no more. Of a job that a device has it changes nothing.
+    /// Releases a held job. A job that a device has is unchanged.
     pub fn release(&mut self, id: JobId, asker: &Asker<'_>, now: Moment) -> Result<(), SpoolRefusal>
         ensures ok { OnOk result ((change_refusal asker.now Change.Release now (spooled_at id self.old.jobs) ≡ None) × (self.new ≡ record self.old { jobs = with_job id (changed Change.Release now) self.old.jobs })) }
         ensures kept { OnErr result (self.new ≡ self.old) }
@@ -71,8 +71,8 @@ impl Spool {
         self.ask(id, asker, JobChange::Release, now)
     }
 
-    /// Cancels a job that isn't finished. A device that has it keeps it, with its documents, until it
-    /// says that it is done.
+    /// Cancels a job that isn't finished. A device that has the job keeps it, with its documents, until it
+    /// reports that it is done.
     pub fn cancel(&mut self, id: JobId, asker: &Asker<'_>, now: Moment) -> Result<(), SpoolRefusal>
         ensures ok { OnOk result (let found = spooled_at id self.old.jobs in let change = cancel_of asker.now.name found in (cancel_refusal asker.now found ≡ None) × (self.new ≡ record self.old { jobs = retained (with_job id (changed change now) self.old.jobs) })) }
         ensures kept { OnErr result (self.new ≡ self.old) }
@@ -87,7 +87,7 @@ impl Spool {
         Ok(())
     }
 
-    /// Why a cancel would be refused, if it would be.
+    /// Returns why a cancel would be refused, if there is a cause.
     pub fn admits_cancel(&self, id: JobId, asker: &Asker<'_>) -> Result<(), SpoolRefusal>
         ensures ok { OnOk result (cancel_refusal asker.now (spooled_at id self.now.jobs) ≡ None) }
         ensures refused { IfErr result (λ refusal. cancel_refusal asker.now (spooled_at id self.now.jobs) ≡ Some refusal) }
@@ -100,7 +100,7 @@ impl Spool {
         }
     }
 
-    /// Whether the job of this id is finished, where there is one.
+    /// Returns whether there is a job of an id, and it is finished.
     fn is_finished(&self, id: JobId) -> bool
         ensures { result ≡ option_map_or (λ s. is_finished s.job.state) (spooled_at id self.now.jobs) false }
     {
@@ -110,7 +110,7 @@ impl Spool {
         }
     }
 
-    /// How someone cancels the job of this id.
+    /// The cancel of the job of an id by an asker.
     fn cancel_by(&self, id: JobId, asker: &Asker<'_>) -> JobChange
         ensures { result ≡ cancel_of asker.now.name (spooled_at id self.now.jobs) }
     {
@@ -120,7 +120,7 @@ impl Spool {
         }
     }
 
-    /// Makes a change that someone asks for.
+    /// Makes a change for an asker.
     fn ask(
         &mut self,
         id: JobId,

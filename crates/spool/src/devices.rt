@@ -1,4 +1,4 @@
-//! What devices do to jobs.
+//! The changes that devices make of jobs.
 ghost use Rattle.std.specs.Prelude.{◌≡◌, false};
 ghost use Rattle.job_objects.specs.DeviceSays.{is_end};
 ghost use Rattle.job_objects.specs.declared.job_change.JobChange.TheVariants as Change;
@@ -12,10 +12,10 @@ use base_types::{JobId, Moment};
 use job_objects::{DeviceSays, JobChange};
 use octets::Document;
 
-/// What devices do to jobs. An id that no job has, and a change that a job's state doesn't allow,
-/// change nothing.
+/// The changes that devices make of jobs. An id that no job has, and a change that a job's state doesn't
+/// allow, change nothing.
 impl Spool {
-    /// A device begins a pending job.
+    /// Begins a pending job on a device.
     pub fn begin(&mut self, id: JobId, now: Moment)
         ensures jobs { self.new ≡ record self.old { jobs = with_job id (changed Change.Begin now) self.old.jobs } }
         ensures stay { AllStay self.old.jobs self.new.jobs }
@@ -23,8 +23,8 @@ impl Spool {
         let _refused = self.change(id, JobChange::Begin, now);
     }
 
-    /// The device that has a job says this of it. Where the job ends, the device lets go of it, and its
-    /// documents are handed out.
+    /// Applies an event of the device that has a job. If the event ends the job, the device has it no more,
+    /// and its documents are returned.
     pub fn tell(&mut self, id: JobId, says: DeviceSays, now: Moment) -> Vec<Document>
         ensures documents { result.items ≡ documents_told id says self.old.jobs }
         ensures jobs { self.new ≡ record self.old { jobs = jobs_told id says now self.old.jobs } }

@@ -1,4 +1,4 @@
-//! Jobs whose documents stopped coming in.
+//! The jobs whose documents stopped coming.
 ghost use Rattle.std.specs.Prelude.{◌≡◌, map};
 ghost use Rattle.spool.specs.Spooled.{expired};
 ghost use Rattle.spool.specs.Kept.{retained};
@@ -8,8 +8,8 @@ use crate::spool::Spool;
 use base_types::Moment;
 
 impl Spool {
-    /// Aborts each job whose documents stopped coming in: the last one, or the job's making where
-    /// there is none, is [`base_types::Limits::INCOMING_JOB_TIME`] old or older.
+    /// Aborts each job whose documents stopped coming: its last document, or its creation if there is no
+    /// document, is [`base_types::Limits::INCOMING_JOB_TIME`] old or older.
     pub fn expire(&mut self, now: Moment)
         ensures jobs { self.new ≡ record self.old { jobs = retained (map (expired now) self.old.jobs) } }
         ensures stay { AllStay self.old.jobs self.new.jobs }
@@ -18,7 +18,7 @@ impl Spool {
         self.forget();
     }
 
-    /// Aborts each job whose documents stopped coming in.
+    /// Aborts each job whose documents stopped coming.
     fn expire_all(&mut self, now: Moment)
         ensures { self.new ≡ record self.old { jobs = map (expired now) self.old.jobs } }
     {

@@ -1,4 +1,4 @@
-//! Which finished jobs are kept.
+//! The finished jobs that are kept.
 ghost use Rattle.std.specs.Prelude.{◌≡◌, count_by, not, position};
 ghost use Rattle.spool.specs.Calls.{is_unfinished, unfinished_jobs};
 ghost use Rattle.spool.specs.Spooled.{is_settled};
@@ -9,14 +9,14 @@ use crate::spooled::SpooledJob;
 use base_types::Limits;
 
 impl SpooledJob {
-    /// Whether the job is neither canceled, aborted nor completed.
+    /// Returns whether the job is neither canceled, aborted nor completed.
     fn is_unfinished(&self) -> bool
         ensures { result ≡ is_unfinished self.now }
     {
         !self.job().state.is_finished()
     }
 
-    /// The moment at which it was finished, in ms.
+    /// The moment at which the job was finished, in ms.
     fn end(&self) -> u64
         ensures { result ≡ end_of self.now }
     {
@@ -27,7 +27,8 @@ impl SpooledJob {
         }
     }
 
-    /// Whether it was finished later than another; of one moment, the greater id is the later.
+    /// Returns whether the job was finished later than another; at the same moment the job of the greater id
+    /// counts as later.
     pub fn is_later(&self, other: &SpooledJob) -> bool
         ensures { result ≡ is_later self.now other.now }
     {
@@ -39,7 +40,7 @@ impl SpooledJob {
 }
 
 impl Spool {
-    /// How many jobs are not finished.
+    /// Returns the number of jobs that aren't finished.
     pub fn unfinished(&self) -> usize
         ensures { result ≡ unfinished_jobs self.now.jobs }
     {
@@ -49,7 +50,7 @@ impl Spool {
             .count()
     }
 
-    /// How many finished jobs that no device has were finished later than this one.
+    /// Returns the number of finished jobs that no device has and that were finished later than this one.
     fn later_jobs(&self, spooled: &SpooledJob) -> usize
         ensures { result ≡ later_jobs self.now.jobs spooled.now }
     {
@@ -59,15 +60,15 @@ impl Spool {
             .count()
     }
 
-    /// Whether a job is kept: unless it is finished, no device has it, and enough jobs were
-    /// finished later.
+    /// Returns whether a job is kept: it is unfinished, or a device has it, or fewer than
+    /// [`Limits::FINISHED_JOBS_KEPT`] such jobs were finished later.
     fn is_kept(&self, spooled: &SpooledJob) -> bool
         ensures { result ≡ is_kept self.now.jobs spooled.now }
     {
         !spooled.is_settled() || self.later_jobs(spooled) < Limits::FINISHED_JOBS_KEPT
     }
 
-    /// How many jobs are finished that no device has.
+    /// Returns the number of finished jobs that no device has.
     fn settled(&self) -> usize
         ensures { result ≡ count_by is_settled self.now.jobs }
     {
@@ -77,8 +78,8 @@ impl Spool {
             .count()
     }
 
-    /// Where the first job stands that isn't kept. There is none where few are finished, and so none
-    /// is looked for.
+    /// The place of the first job that isn't kept. While at most [`Limits::FINISHED_JOBS_KEPT`] jobs are
+    /// finished there is none, and the jobs aren't searched.
     fn outdated(&self) -> Option<usize>
         ensures { result ≡ position (λ s. not (is_kept self.now.jobs s)) self.now.jobs }
     {
@@ -88,7 +89,7 @@ impl Spool {
         self.first_outdated()
     }
 
-    /// The same, by looking at each job.
+    /// The place of the first job that isn't kept, found by looking at each job.
     fn first_outdated(&self) -> Option<usize>
         ensures { result ≡ position (λ s. not (is_kept self.now.jobs s)) self.now.jobs }
     {
@@ -97,7 +98,7 @@ impl Spool {
             .position(|spooled| !self.is_kept(spooled))
     }
 
-    /// Forgets the jobs that aren't kept.
+    /// Removes the jobs that aren't kept.
     pub(crate) fn forget(&mut self)
         ensures { self.new ≡ record self.old { jobs = retained self.old.jobs } }
     {

@@ -1,10 +1,11 @@
 //! The jobs of a server, by rising id, with their documents.
 //!
-//! It promises the list of jobs after each call: what is taken, refused, changed, handed out and
-//! forgotten. A refusal changes nothing and hands back what it was given. Only [`Spool::submit`],
-//! [`Spool::create`] and [`Spool::add_document`] take memory; they make the room that the job's later
-//! states need. Jobs live in memory alone, and no document is read or converted. Which device prints
-//! a job is decided above; the spool knows only whether one has it.
+//! The contracts determine the list of jobs after each call: the jobs that are taken, refused, changed and
+//! forgotten, and the documents that are handed out. A refusal changes nothing and returns its argument. Only
+//! [`Spool::submit`], [`Spool::create`] and [`Spool::add_document`] take memory; they make the room that the
+//! job's later states need. Jobs are in memory alone, and no document is read or converted. The dispatch of
+//! jobs to devices is not of this crate; the spool has only a flag for each job that says whether a device
+//! has it.
 //!
 //! Its rows are traces of `play_examples`.
 #![tactic(auto)]

@@ -1,4 +1,4 @@
-//! A job that comes, before it has an id.
+//! A submitted job, before it has an id.
 ghost use Rattle.std.specs.Prelude.{◌≡◌, ◌≤◌, ◌<◌, IfOk, IfSome, IfNone, length, map, if◌then◌else◌};
 ghost use Rattle.octets.specs.Document.{octets_of};
 ghost use Rattle.spool.specs.Submission.{spooled_of};
@@ -25,7 +25,7 @@ pub struct NewJob {
     pub copies: u32,
     /// Whether its job-hold-until is indefinite.
     pub held: bool,
-    /// job-impressions, where it is given and isn't negative.
+    /// job-impressions, if the request has it and it isn't negative.
     pub impressions: Option<u32>,
     pub documents: Vec<Document>,
 }
@@ -54,7 +54,7 @@ impl Model for NewJob {
     ghost invariant = { λ n. IsCopies n.copies };
 }
 
-/// The octets of the documents together, if a job may have so many.
+/// The number of octets of all documents together, if it is at most [`Limits::JOB_OCTETS`].
 pub(crate) fn octets_within(documents: &[Document]) -> Option<usize>
     ensures within { IfSome result (λ octets. (octets ≡ octets_of documents.now) × (octets ≤ Limits.JOB_OCTETS)) }
     ensures beyond { IfNone result (Limits.JOB_OCTETS < octets_of documents.now) }
@@ -70,7 +70,7 @@ pub(crate) fn octets_within(documents: &[Document]) -> Option<usize>
     Some(octets)
 }
 
-/// The format of each document.
+/// The format of each document. The only error is out of memory.
 pub(crate) fn formats_of(alloc: Global, documents: &[Document]) -> Result<Vec<Text>, AllocError>
     ensures { IfOk result (λ formats. formats.items ≡ map (λ d. d.format) documents.now) }
 {
@@ -81,7 +81,7 @@ pub(crate) fn formats_of(alloc: Global, documents: &[Document]) -> Result<Vec<Te
     Ok(formats)
 }
 
-/// The job that a submission becomes, told whether documents are still to come.
+/// The job of a submission. `incoming` says whether its documents are still to come.
 pub(crate) fn taken(new: NewJob, id: JobId, formats: Vec<Text>, incoming: bool) -> SpooledJob
     requires formats { formats.items ≡ map (λ d. d.format) new.documents }
     requires documents { length new.documents ≤ Limits.JOB_DOCUMENTS }

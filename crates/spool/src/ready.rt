@@ -9,7 +9,7 @@ use crate::spooled::SpooledJob;
 use base_types::PrinterId;
 use job_objects::{Job, Printer};
 
-/// Whether a printer is paused.
+/// Returns whether a printer is paused.
 pub fn is_paused(printers: &[Printer], printer: PrinterId) -> bool
     ensures { result ≡ paused_at printers.now printer }
 {
@@ -20,7 +20,7 @@ pub fn is_paused(printers: &[Printer], printer: PrinterId) -> bool
 }
 
 impl SpooledJob {
-    /// Whether the job is ready: it is pending, and its printer isn't paused.
+    /// Returns whether the job is ready: it is pending, and its printer isn't paused.
     pub fn is_ready(&self, printers: &[Printer]) -> bool
         ensures { result ≡ is_ready printers.now self.now.job }
     {

@@ -17,14 +17,14 @@ pub enum SpoolRefusal {
     OutOfMemory,
 }
 
-/// A refused submission: why, and the job, as it was.
+/// A refused submission, with the unchanged job.
 #[derive(Debug, Drop)]
 pub struct Refused {
     pub refusal: SpoolRefusal,
     pub job: NewJob,
 }
 
-/// A refused document: why, and the document, as it was.
+/// A refused document, with the unchanged document.
 #[derive(Debug, Drop)]
 pub struct RefusedDocument {
     pub refusal: SpoolRefusal,

@@ -1,4 +1,4 @@
-//! Documents that come after their job was made.
+//! The documents that are added after their job was made.
 ghost use Rattle.std.specs.Prelude.{◌≡◌, ◌<◌, OnOk, OnErr, IfOk, IfErr, IfSome, None, Some, false, length};
 ghost use Rattle.job_objects.specs.declared.job_change.JobChange.TheVariants as Change;
 ghost use Rattle.spool.specs.Spooled.{attached, changed};
@@ -13,14 +13,14 @@ use base_types::{JobId, Limits, Moment};
 use job_objects::{Job, JobChange};
 use octets::Document;
 
-/// Whether a document of so many octets is added to its job: the last one isn't, if it has none.
+/// Returns whether a document of so many octets is added to its job: an empty last document isn't.
 fn adds(octets: usize, last: bool) -> bool
     ensures { result ≡ adds octets last }
 {
     !last || octets > 0
 }
 
-/// Whether a job may not have so many octets more in one more document.
+/// Returns whether one more document with so many octets exceeds a limit of the job.
 fn is_too_large(job: &Job, octets: usize) -> bool
     ensures { result ≡ is_too_large octets job.now }
 {
@@ -28,10 +28,10 @@ fn is_too_large(job: &Job, octets: usize) -> bool
 }
 
 impl Spool {
-    /// Adds a document to a job whose documents are still to come (RFC 8011, section 4.3.1); with the
-    /// last one the job is all in. A last document without octets isn't added.
+    /// Adds a document to a job whose documents are still to come (RFC 8011, section 4.3.1). With the last
+    /// document the job is complete. A last document without octets isn't added.
     ///
-    /// A refusal hands the document back and changes nothing. In this order: not found, not
+    /// A refusal returns the document and changes nothing. Its causes, in this order: not found, not
     /// authorized, not possible, too large, out of memory.
     pub fn add_document(
         &mut self,
@@ -61,8 +61,7 @@ impl Spool {
         Ok(())
     }
 
-    /// Why a document of so many octets that someone sends isn't taken, if there is a cause other than out
-    /// of memory.
+    /// Returns why a document of so many octets isn't taken, if there is a cause other than out of memory.
     pub fn admits_document(
         &self,
         id: JobId,
@@ -78,7 +77,7 @@ impl Spool {
         self.may_take(id, octets, adds(octets, last))
     }
 
-    /// Whether a job takes a document of so many octets, told whether it is added.
+    /// Checks that a job takes a document of so many octets. `added` says whether the document is added.
     fn may_take(&self, id: JobId, octets: usize, added: bool) -> Result<(), SpoolRefusal>
         ensures ok { OnOk result (taking_refusal octets added (spooled_at id self.now.jobs) ≡ None) }
         ensures off { OnOk result (is_on_device id self.now.jobs ≡ false) }
@@ -97,7 +96,7 @@ impl Spool {
         Ok(())
     }
 
-    /// Adds a document, if it is to be added.
+    /// Adds a document, if `added` is true.
     fn attach_if(
         &mut self,
         added: bool,
@@ -118,7 +117,7 @@ impl Spool {
         self.attach(id, document, now)
     }
 
-    /// The job is all in, if the document was the last.
+    /// Marks the job as complete, if the document was the last.
     fn close_if(&mut self, last: bool, id: JobId, now: Moment)
         ensures jobs { self.new ≡ record self.old { jobs = closed_if last id now self.old.jobs } }
         ensures stay { AllStay self.old.jobs self.new.jobs }

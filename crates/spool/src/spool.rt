@@ -1,4 +1,4 @@
-//! The spool: what it is made of, and the change of one job.
+//! The spool and the changes of one job.
 ghost use Rattle.std.specs.Prelude.{◌≡◌, ◌≤◌, ◌<◌, ◌+◌, ◌∷◌, ◌++◌, [], Bool, List, suc, false, OnOk, OnErr, IfErr, IfSome, IfNone, length, map, remove, slice_get, is_ok};
 ghost use Rattle.std.specs.Option.{option_copied};
 ghost use Rattle.spool.specs.Spooled.{changed, told, attached, expired};
@@ -27,7 +27,7 @@ use std::marker::Model;
 #[derive(Debug, Drop)]
 pub struct Spool {
     entries: IndexMap<u32, SpooledJob>,
-    /// So many of the first jobs are finished, and need not be looked at for a plan.
+    /// The number of jobs at the front that are known to be finished; a plan skips them.
     front: usize,
     next: u32,
     alloc: Global,
@@ -49,7 +49,7 @@ impl Model for Spool {
     ghost invariant = { λ s. Keyed s.entries.entries 0 s.next × (1 ≤ s.next) × (s.next ≤ LAST_JOB_ID + 1) × (unfinished_jobs (jobs_of s.entries.entries) ≤ UNFINISHED_JOBS) × All IsSound (jobs_of s.entries.entries) × AllFinished s.front (jobs_of s.entries.entries) };
 }
 
-/// How many of the jobs at the front are left, once the job at a place is gone.
+/// The number of known finished jobs at the front after the job at a place is removed.
 fn front_without(front: usize, place: usize) -> usize
     ensures among { place < front → suc result ≡ front }
     ensures behind { front ≤ place → result ≡ front }
@@ -58,7 +58,7 @@ fn front_without(front: usize, place: usize) -> usize
 }
 
 impl Spool {
-    /// No jobs; the first will have this id.
+    /// Creates a spool without jobs. The first job gets the id `first`.
     pub fn new(alloc: Global, first: JobId) -> Spool
         ensures { result ≡ record { jobs = []; next = first } }
     {
@@ -70,20 +70,20 @@ impl Spool {
         }
     }
 
-    /// What it takes memory from.
+    /// The allocator of the spool.
     pub(crate) fn allocator(&self) -> Global {
         self.alloc
     }
 
-    /// How many jobs there are, finished ones among them.
+    /// Returns the number of jobs, with the finished ones.
     pub fn len(&self) -> usize
         ensures { result ≡ length self.now.jobs }
     {
         self.entries.len()
     }
 
-    /// All jobs, by rising id, each with its documents. Each id is within its range, and no more are
-    /// unfinished than [`base_types::Limits::UNFINISHED_JOBS`].
+    /// All jobs, by rising id, each with its documents. Each id is within its range, and at most
+    /// [`base_types::Limits::UNFINISHED_JOBS`] jobs are unfinished.
     pub fn jobs(&self) -> &[SpooledJob]
         ensures value { result.now ≡ self.now.jobs }
         ensures kept { IsSpool self.now }
@@ -91,7 +91,7 @@ impl Spool {
         self.entries.values().as_slice()
     }
 
-    /// So many of the first jobs are known to be finished.
+    /// The number of jobs at the front that are known to be finished.
     pub(crate) fn front(&self) -> usize
         ensures finished { AllFinished result self.now.jobs }
         ensures inside { result ≤ length self.now.jobs }
@@ -99,8 +99,8 @@ impl Spool {
         self.front
     }
 
-    /// The jobs behind those at the front that are known to be finished: each ready one is among them,
-    /// and so is each that is unfinished.
+    /// The jobs behind those at the front that are known to be finished. All ready jobs and all unfinished
+    /// jobs are among them.
     pub fn behind_finished(&self) -> &[SpooledJob]
         ensures ready { (paused : List Bool) → ready_jobs paused result.now ≡ ready_jobs paused self.now.jobs }
         ensures unfinished { unfinished_jobs result.now ≡ unfinished_jobs self.now.jobs }
@@ -110,7 +110,7 @@ impl Spool {
         &self.jobs()[front..]
     }
 
-    /// How many of the first jobs are finished: those that are known to be, and those behind them.
+    /// Returns the number of finished jobs at the front, whether known to be finished or not.
     fn count_finished(&self) -> usize
         ensures { AllFinished result self.now.jobs }
     {
@@ -125,7 +125,7 @@ impl Spool {
         jobs.len()
     }
 
-    /// Takes note of the first jobs that are finished now.
+    /// Records the number of finished jobs at the front.
     pub(crate) fn note_finished(&mut self)
         ensures { self.new ≡ self.old }
     {
@@ -133,7 +133,7 @@ impl Spool {
         self.front = spool.count_finished();
     }
 
-    /// The job of this id, with its documents.
+    /// The job of an id, with its documents.
     pub fn spooled(&self, id: JobId) -> Option<&SpooledJob>
         ensures value { option_copied result ≡ spooled_at id self.now.jobs }
         ensures sound { IfSome (spooled_at id self.now.jobs) IsSound }
@@ -141,7 +141,7 @@ impl Spool {
         self.entries.get(&id.number())
     }
 
-    /// The id of the next job, while there is one.
+    /// The id of the next job. `None` once all ids are used.
     pub fn next_id(&self) -> Option<JobId>
         ensures value { IfSome result (λ id. id ≡ self.now.next) }
         ensures used { IfNone result (LAST_JOB_ID < self.now.next) }
@@ -149,8 +149,7 @@ impl Spool {
         JobId::new(self.next)
     }
 
-    /// A change of the job of this id, where there is one and its state allows it; a refused one
-    /// changes nothing.
+    /// Changes the job of an id, if there is one and its state allows the change. A refusal changes nothing.
     pub(crate) fn change(
         &mut self,
         id: JobId,
@@ -168,7 +167,8 @@ impl Spool {
         spooled.change(change, now)
     }
 
-    /// A device says this of the job of this id, where there is one: the documents that it hands out.
+    /// Applies a device's event to the job of an id, if there is one. Returns the documents that are handed
+    /// out.
     pub(crate) fn tell_job(&mut self, id: JobId, says: DeviceSays, now: Moment) -> Vec<Document>
         ensures documents { result.items ≡ documents_told id says self.old.jobs }
         ensures jobs { self.new ≡ record self.old { jobs = with_job id (told says now) self.old.jobs } }
@@ -182,7 +182,7 @@ impl Spool {
         spooled.tell(alloc, says, now)
     }
 
-    /// The job of this id takes a further document. Where memory is wanting, it hands it back.
+    /// Adds a document to the job of an id. If memory is refused, returns the document.
     pub(crate) fn attach(
         &mut self,
         id: JobId,
@@ -202,7 +202,7 @@ impl Spool {
         spooled.attach(alloc, document, now)
     }
 
-    /// The job at a place is given up, if its documents stopped coming in.
+    /// Aborts the job at a place, if its documents stopped coming.
     pub(crate) fn expire_at(&mut self, place: usize, now: Moment)
         requires { place < length self.old.jobs }
         ensures { self.new ≡ record self.old { jobs = map_at place (expired now) self.old.jobs } }
@@ -213,7 +213,7 @@ impl Spool {
         spooled.expire(now);
     }
 
-    /// Marks the job at a place as stranded or not, as these entries say, if it is ready.
+    /// Marks the job at a place as stranded or not, by the entries, if it is ready.
     pub(crate) fn mark_by(&mut self, place: usize, printers: &[Printer], stranded: &[Stranded])
         requires { place < length self.old.jobs }
         ensures { self.new ≡ record self.old { jobs = map_at place (marked_by printers.now stranded.now) self.old.jobs } }
@@ -232,8 +232,8 @@ impl Spool {
         let _removed = self.entries.shift_remove_index(place);
     }
 
-    /// Takes a job under the next id, while there is room for one more that is unfinished. Where memory
-    /// is wanting, it hands it back.
+    /// Appends a job under the next id, while one more unfinished job is within the limit. If memory is
+    /// refused, returns the job.
     pub(crate) fn append(
         &mut self,
         id: JobId,

@@ -14,11 +14,11 @@ use std::mem;
 #[derive(Debug, Drop)]
 pub struct SpooledJob {
     pub(crate) job: Job,
-    /// Its documents, until they are handed out or dropped.
+    /// The documents, until they are handed out or dropped.
     pub(crate) documents: Vec<Document>,
-    /// When its last document came, or it was made.
+    /// The moment of the last document, or of the job's creation.
     pub(crate) arrived: Moment,
-    /// Whether a device has it. A device keeps a canceled job until it says that it is done.
+    /// Whether a device has the job. A device keeps a canceled job until it reports that it is done.
     pub(crate) on_device: bool,
 }
 
@@ -43,28 +43,28 @@ impl SpooledJob {
         &self.job
     }
 
-    /// Its documents, until they are handed out or dropped.
+    /// The documents, until they are handed out or dropped.
     pub fn documents(&self) -> &[Document]
         ensures { result.now ≡ self.now.documents }
     {
         &self.documents
     }
 
-    /// Whether a device has it.
+    /// Returns whether a device has the job.
     pub fn is_on_device(&self) -> bool
         ensures { result ≡ self.now.on_device }
     {
         self.on_device
     }
 
-    /// Whether it is finished and no device has it.
+    /// Returns whether the job is finished and no device has it.
     pub(crate) fn is_settled(&self) -> bool
         ensures { result ≡ is_settled self.now }
     {
         self.job.state.is_finished() && !self.on_device
     }
 
-    /// A job that is finished and that no device has drops its documents.
+    /// Drops the documents, if the job is finished and no device has it.
     fn settle(&mut self)
         ensures after { self.new ≡ settled self.old }
         ensures same_job { self.new.job.id ≡ self.old.job.id }
@@ -75,7 +75,7 @@ impl SpooledJob {
         }
     }
 
-    /// A change with which no device lets go of it; a refused one leaves it as it was.
+    /// Makes a change that isn't a device's end of the job. A refusal leaves the job unchanged.
     pub(crate) fn change(&mut self, change: JobChange, now: Moment) -> Result<(), StateRefusal>
         ensures possible { is_ok result ≡ is_some (job_after change now self.old.job) }
         ensures after { self.new ≡ changed change now self.old }
@@ -88,8 +88,8 @@ impl SpooledJob {
         Ok(())
     }
 
-    /// A device says this of it: where it ends, the device that has it lets go of it, and its documents
-    /// are handed out.
+    /// Applies an event of a device. If the event ends the job, the device has it no more, and its documents
+    /// are returned.
     pub(crate) fn tell(&mut self, alloc: Global, says: DeviceSays, now: Moment) -> Vec<Document>
         ensures documents { result.items ≡ handed_out says self.old }
         ensures after { self.new ≡ told says now self.old }
@@ -103,7 +103,7 @@ impl SpooledJob {
         Vec::new(alloc)
     }
 
-    /// The device that has it lets go of it, with a change of the job, unless that is finished.
+    /// Ends the job on its device, with a change of the job unless it is finished. Returns its documents.
     fn let_go(&mut self, alloc: Global, change: JobChange, now: Moment) -> Vec<Document>
         ensures documents { result.items ≡ (if self.old.on_device then self.old.documents else []) }
         ensures after { self.new ≡ let_go change now self.old }
@@ -118,7 +118,7 @@ impl SpooledJob {
         mem::replace(&mut self.documents, none)
     }
 
-    /// It is stranded, or isn't.
+    /// Marks the job as stranded or not.
     pub(crate) fn mark(&mut self, stranded: bool)
         ensures after { self.new ≡ marked stranded self.old }
         ensures same_job { self.new.job.id ≡ self.old.job.id }
@@ -126,7 +126,7 @@ impl SpooledJob {
         self.job.stranded = stranded;
     }
 
-    /// It is given up, if documents are still to come and none came for long.
+    /// Aborts the job, if documents are still to come and none came for [`Limits::INCOMING_JOB_TIME`].
     pub(crate) fn expire(&mut self, now: Moment)
         ensures after { self.new ≡ expired now self.old }
         ensures same_job { self.new.job.id ≡ self.old.job.id }
@@ -137,7 +137,7 @@ impl SpooledJob {
         }
     }
 
-    /// Whether documents are still to come, and none came for long.
+    /// Returns whether documents are still to come and none came for [`Limits::INCOMING_JOB_TIME`].
     fn is_overdue(&self, now: Moment) -> bool
         ensures { result ≡ is_overdue now self.now }
     {
@@ -145,7 +145,7 @@ impl SpooledJob {
         self.job.incoming && waited >= Limits::INCOMING_JOB_TIME
     }
 
-    /// Takes a further document. Where memory is wanting, it hands it back and nothing is changed.
+    /// Adds a document. If memory is refused, returns the document, and the job is unchanged.
     pub(crate) fn attach(
         &mut self,
         alloc: Global,
@@ -174,7 +174,7 @@ impl SpooledJob {
     }
 }
 
-/// Whether a device has a job after a change, told whether one had it before.
+/// Returns whether a device has the job after a change. `on_device` says whether one had it before.
 fn on_device_after(change: JobChange, on_device: bool) -> bool
     ensures { result ≡ on_device_after change on_device }
 {
@@ -185,7 +185,7 @@ fn on_device_after(change: JobChange, on_device: bool) -> bool
     }
 }
 
-/// Counts a further document of the job, and estimates its impressions anew.
+/// Counts one more document of the job, and estimates its impressions anew. The only error is out of memory.
 fn count_document(job: &mut Job, format: Text, octets: usize) -> Result<(), AllocError>
     requires documents { job.old.documents < Limits.JOB_DOCUMENTS }
     requires octets { job.old.octets + octets ≤ Limits.JOB_OCTETS }

@@ -1,4 +1,4 @@
-//! Which of the ready jobs are stranded.
+//! The ready jobs that are stranded.
 ghost use Rattle.std.specs.Prelude.{◌≡◌, ◌==◌, map};
 ghost use Rattle.std.specs.List.{list_any};
 ghost use Rattle.spool.specs.Calls.{marked_by};
@@ -9,7 +9,7 @@ use crate::spooled::SpooledJob;
 use base_types::{JobId, Stranded};
 use job_objects::Printer;
 
-/// Whether the job of this id has an entry.
+/// Returns whether the job of an id has an entry.
 fn has_entry(id: JobId, stranded: &[Stranded]) -> bool
     ensures { result ≡ list_any (λ e. e.job == id) stranded.now }
 {
@@ -17,7 +17,7 @@ fn has_entry(id: JobId, stranded: &[Stranded]) -> bool
 }
 
 impl SpooledJob {
-    /// Marks it as stranded or not, as these entries say, if it is ready.
+    /// Marks the job as stranded or not, by the entries, if it is ready.
     pub(crate) fn mark_by(&mut self, printers: &[Printer], stranded: &[Stranded])
         ensures after { self.new ≡ marked_by printers.now stranded.now self.old }
         ensures same_job { self.new.job.id ≡ self.old.job.id }
@@ -31,7 +31,7 @@ impl SpooledJob {
 }
 
 impl Spool {
-    /// Marks each ready job as stranded or not, as these entries say.
+    /// Marks each ready job as stranded or not, by the entries.
     pub fn mark(&mut self, printers: &[Printer], stranded: &[Stranded])
         ensures jobs { self.new ≡ record self.old { jobs = map (marked_by printers.now stranded.now) self.old.jobs } }
         ensures stay { AllStay self.old.jobs self.new.jobs }

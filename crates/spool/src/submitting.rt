@@ -1,4 +1,4 @@
-//! Jobs that come.
+//! New jobs.
 ghost use Rattle.std.specs.Prelude.{◌≡◌, [], IfOk, OnOk, OnErr, IfErr, None, Some, true, false};
 ghost use Rattle.spool.specs.Calls.{is_full, new_refusal, IsRefusal, Takes};
 ghost use Rattle.spool.specs.OnDevice.{AllStay};
@@ -10,14 +10,14 @@ use base_types::{JobId, Limits};
 use octets::Document;
 
 impl Spool {
-    /// Whether no further job is taken: too many are unfinished, or the last id is used.
+    /// Returns whether the spool takes no further job: too many are unfinished, or the last id is used.
     pub fn is_full(&self) -> bool
         ensures { result ≡ is_full self.now }
     {
         self.unfinished() >= Limits::UNFINISHED_JOBS || self.next_id().is_none()
     }
 
-    /// The id that a job of these documents would get, or why it isn't taken.
+    /// Returns the id that a job of these documents would get, or why it isn't taken.
     pub fn admits(&self, documents: &[Document]) -> Result<JobId, SpoolRefusal>
         ensures ok { IfOk result (λ id. (id ≡ self.now.next) × (new_refusal self.now documents.now ≡ None)) }
         ensures refused { IfErr result (λ refusal. new_refusal self.now documents.now ≡ Some refusal) }
@@ -31,9 +31,9 @@ impl Spool {
         self.next_id().ok_or(SpoolRefusal::Busy)
     }
 
-    /// Takes a job that is all in, under the next id: it is pending, or held.
+    /// Takes a complete job under the next id: it is pending, or held.
     ///
-    /// A refusal hands the job back. In this order: too large, busy, out of memory.
+    /// A refusal returns the job. Its causes, in this order: too large, busy, out of memory.
     pub fn submit(&mut self, new: NewJob) -> Result<JobId, Refused>
         ensures ok { IfOk result (λ id. Takes self.old new false id self.new) }
         ensures kept { OnErr result (self.new ≡ self.old) }
@@ -46,7 +46,7 @@ impl Spool {
 
     /// Takes a job whose documents are still to come, under the next id.
     ///
-    /// In this order: busy, out of memory.
+    /// The causes of a refusal, in this order: busy, out of memory.
     pub fn create(&mut self, new: NewJob) -> Result<JobId, SpoolRefusal>
         requires { new.documents ≡ [] }
         ensures ok { IfOk result (λ id. Takes self.old new true id self.new) }
@@ -60,7 +60,7 @@ impl Spool {
         }
     }
 
-    /// Takes a job, told whether documents are still to come.
+    /// Takes a job. `incoming` says whether its documents are still to come.
     fn take(&mut self, new: NewJob, incoming: bool) -> Result<JobId, Refused>
         ensures ok { IfOk result (λ id. Takes self.old new incoming id self.new) }
         ensures kept { OnErr result (self.new ≡ self.old) }
