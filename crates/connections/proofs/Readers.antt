@@ -1,8 +1,8 @@
 -- What readers say, as entries have it.
 use Rattle.std.proofs.Common.{◌≡◌, ℕ, Bool, true, false, List, [], ◌∷◌, ◌++◌, refl, sym, ◌∙◌, ap, subst, Option, Some, None, inl, inr, Ok, Err, ◌<◌, IsSome}
-use Rattle.std.specs.Prelude.{take}
+use Rattle.std.specs.Prelude.{map, take}
 use Rattle.std.specs.Str.Lines.{strip_carriage_return}
-use Rattle.std.proofs.lemmas.List.{append-nil}
+use Rattle.std.proofs.lemmas.List.{append_assoc, append-nil}
 use Rattle.text.specs.Parts.{words_of}
 use Rattle.base_types.specs.declared.report.Report.{Report}
 use Rattle.base_types.specs.declared.report.Report.TheVariants as reported
@@ -15,7 +15,7 @@ use Rattle.device_link.specs.Stream.{LinkState}
 use Rattle.device_link.specs.Stream as Link
 use Rattle.http_front.specs.declared.item.HttpItem.{HttpItem}
 use Rattle.http_front.specs.declared.item.HttpItem.TheVariants as item
-use Rattle.http_front.specs.Stream.{HttpState, Said, said_by, Exchanges}
+use Rattle.http_front.specs.Stream.{HttpState, Said, HasByte, said_by, Exchanges}
 use Rattle.http_front.specs.Stream as Http
 use Rattle.lpd.specs.declared.fault.LpdError.{LpdError}
 use Rattle.lpd.specs.declared.fault.LpdError.TheVariants as lpd
@@ -32,8 +32,8 @@ use Rattle.connections.specs.States.{IppClientState, LpdClientState, DeviceState
 use Rattle.connections.specs.Session.{is_queue}
 use Rattle.connections.specs.Entry.{PeerRecord, Entry, talking}
 use Rattle.connections.specs.Entry as entry
-use Rattle.connections.specs.Steps.{StepsDevice, StepsHello, step_of}
-use Rattle.connections.specs.Peers.{with_http, with_lpd, with_link, HearsIpp, HearsWholeItem, HearsWholeReport, NextIpp, NextLpd, NextDevice, NextPeer, IsFedPeer, link_step, Greets, ComesOf}
+use Rattle.connections.specs.Steps.{StepsDevice, StepsHello, silent, step_of}
+use Rattle.connections.specs.Peers.{with_http, with_lpd, with_link, HearsIpp, HearsWholeItem, HearsWholeReport, IsNewIpp, IsFedIpp, NextIpp, NextLpd, NextDevice, NextPeer, IsFedPeer, link_step, Greets, ComesOf}
 use Rattle.connections.specs.Asking.{HearsIpp as NextItem, HearsItem, FindsFault, HearsReport, FindsLinkFault, Hears, IsHeardAs}
 use Rattle.connections.specs.Representation.{FitsIpp, FitsLpd, FitsDevice, FitsPeer}
 
@@ -89,10 +89,23 @@ fits_ipp : (read : List ℕ) (said : List Said) (closes : Bool) (body : List ℕ
 fits_ipp read said closes body reader u stands same is heard = record {
   said = said;
   body = body;
+  untold = [];
   is = ap (λ (x : Bool). entry.Http said x body) (sym is);
-  stands = subst (λ (r : HttpState). Http.Stands read said r) (sym same) stands;
-  heard = heard;
+  told = λ off. refl;
+  stands = subst (λ (xs : List Said). Http.Stands read xs u.reader) (sym (append-nil said)) (subst (λ (r : HttpState). Http.Stands read said r) (sym same) stands);
+  heard = subst (λ (xs : List ℕ). Body.Heard xs u.body) (sym (append-nil body)) heard;
 }
+
+-- all that the body was fed was told
+stands_told : (read : List ℕ) (talk : PeerRecord) (t : IppClientState) (f : FitsIpp read talk t) → t.untold ≡ false → Http.Stands read f.said t.reader
+stands_told read talk t f off =
+    let none : Http.Stands read (f.said ++ map HasByte []) t.reader = subst (λ (xs : List ℕ). Http.Stands read (f.said ++ map HasByte xs) t.reader) (f.told off) f.stands in
+    subst (λ (xs : List Said). Http.Stands read xs t.reader) (append-nil f.said) none
+
+heard_told : (read : List ℕ) (talk : PeerRecord) (t : IppClientState) (f : FitsIpp read talk t) → t.untold ≡ false → Body.Heard f.body t.body
+heard_told read talk t f off =
+    let none : Body.Heard (f.body ++ []) t.body = subst (λ (xs : List ℕ). Body.Heard (f.body ++ xs) t.body) (f.told off) f.heard in
+    subst (λ (xs : List ℕ). Body.Heard xs t.body) (append-nil f.body) none
 
 says_first : (read : List ℕ) (said : List Said) (reader : HttpState) → Http.Stands read said reader → Http.SaysFirst read said
 says_first read said reader stands = record { next = reader.awaited; left = stands.left; leads = stands.leads }
@@ -138,8 +151,25 @@ item_comes e said t u body reader what (item.Refuse refusal) stands heard (is, s
 )
 
 heard_ipp : (settings : ServerSettings) (e : Entry) (t u : IppClientState) (what : Step) → FitsIpp e.read e.talk t → NextIpp (Some what) t u → Heard settings e what (of.Ipp u)
-heard_ipp settings e t u what f (it, reader, answers, falls, hears) =
-    let c = item_comes e f.said t u f.body reader what it (answers.0 e.read f.said f.stands) f.heard hears in
+heard_ipp settings e t u what f (inl (on, is, same)) =
+    let fits : FitsIpp e.read (entry.Http (f.said ++ map HasByte f.untold) t.closes (f.body ++ f.untold)) u =
+    fits_ipp e.read (f.said ++ map HasByte f.untold) t.closes (f.body ++ f.untold) t.reader u f.stands (ap (λ (x : IppClientState). x.reader) same) (ap (λ (x : IppClientState). x.closes) same) (subst (λ (x : IppClientState). Body.Heard (f.body ++ f.untold) x.body) (sym same) f.heard) in
+    let next : NextItem e f.said t.closes f.body silent (talking (entry.Http (f.said ++ map HasByte f.untold) t.closes (f.body ++ f.untold)) e) = record {
+      item = item.BodyPart;
+      part = f.untold;
+      next = says_first e.read (f.said ++ map HasByte f.untold) t.reader f.stands;
+      comes = inl refl;
+      after = refl;
+    } in
+    let heard : Heard settings e silent (of.Ipp u) = record {
+      talk = entry.Http (f.said ++ map HasByte f.untold) t.closes (f.body ++ f.untold);
+      hears = subst (λ (k : PeerRecord). Hears settings k e silent (talking (entry.Http (f.said ++ map HasByte f.untold) t.closes (f.body ++ f.untold)) e)) (sym f.is) next;
+      broken = fits;
+      whole = λ goes. fits;
+    } in
+    subst (λ (w : Step). Heard settings e w (of.Ipp u)) (sym is) heard
+heard_ipp settings e t u what f (inr (off, (it, reader, answers, falls, hears))) =
+    let c = item_comes e f.said t u f.body reader what it (answers.0 e.read f.said (stands_told e.read e.talk t f off)) (heard_told e.read e.talk t f off) hears in
     record { talk = c.0; hears = subst (λ (k : PeerRecord). Hears settings k e what (talking c.0 e)) (sym f.is) c.1; broken = c.2; whole = λ goes. c.2 }
 
 -- ---- an LPD client
@@ -277,11 +307,12 @@ heard settings e (of.Device t) (of.Lpd u) what f next = absurd next
 
 -- nothing whole is left
 pub rested : (settings : ServerSettings) (read : List ℕ) (talk : PeerRecord) (x y : Peer) → FitsPeer read talk false x → NextPeer settings None x y → IsHeardAs read talk × FitsPeer read talk false y
-rested settings read talk (of.Ipp t) (of.Ipp u) f (answers, is) =
-    let all : Exchanges read f.said = answers.1 read f.said f.stands in
-    let stands : Http.Stands read f.said u.reader = subst (λ (xs : List Said). Http.Stands read xs u.reader) (append-nil f.said) (answers.0 read f.said f.stands) in
-    let same : entry.Http f.said t.closes f.body ≡ entry.Http f.said u.closes f.body = sym (ap (λ (v : IppClientState). entry.Http f.said v.closes f.body) is) in
-    (subst (λ (k : PeerRecord). IsHeardAs read k) (sym f.is) all, record { said = f.said; body = f.body; is = f.is ∙ same; stands = stands; heard = subst (λ (v : IppClientState). Body.Heard f.body v.body) (sym is) f.heard })
+rested settings read talk (of.Ipp t) (of.Ipp u) f (off, answers, is) =
+    let all : Exchanges read f.said = answers.1 read f.said (stands_told read talk t f off) in
+    let stands : Http.Stands read f.said u.reader = subst (λ (xs : List Said). Http.Stands read xs u.reader) (append-nil f.said) (answers.0 read f.said (stands_told read talk t f off)) in
+    let heard : Body.Heard f.body u.body = subst (λ (v : IppClientState). Body.Heard f.body v.body) (sym is) (heard_told read talk t f off) in
+    let fits : FitsIpp read (entry.Http f.said t.closes f.body) u = fits_ipp read f.said t.closes f.body u.reader u stands refl (ap (λ (v : IppClientState). v.closes) is) heard in
+    (subst (λ (k : PeerRecord). IsHeardAs read k) (sym f.is) all, subst (λ (k : PeerRecord). FitsIpp read k u) (sym f.is) fits)
 rested settings read talk (of.Lpd t) (of.Lpd u) f (answers, is) =
     let all : LpdItems read f.items Open = answers.1 read f.items f.stands in
     let same : entry.Queue f.items t.session ≡ entry.Queue f.items u.session = sym (ap (λ (v : LpdClientState). entry.Queue f.items v.session) is) in
@@ -304,11 +335,40 @@ rested settings read talk (of.Lpd t) (of.Device u) f it = absurd it
 rested settings read talk (of.Device t) (of.Ipp u) f it = absurd it
 rested settings read talk (of.Device t) (of.Lpd u) f it = absurd it
 
+map_bytes : (xs ys : List ℕ) → map HasByte xs ++ map HasByte ys ≡ map HasByte (xs ++ ys)
+map_bytes [] ys = refl
+map_bytes (x ∷ xs) ys = ap (λ (zs : List Said). HasByte x ∷ zs) (map_bytes xs ys)
+
+fed_ipp : (read piece : List ℕ) (talk : PeerRecord) (t u : IppClientState) → FitsIpp read talk t → IsFedIpp piece t u → FitsIpp (read ++ piece) talk u
+fed_ipp read piece talk t u f (inl (is, stands)) =
+    let same : entry.Http f.said t.closes f.body ≡ entry.Http f.said u.closes f.body = sym (ap (λ (v : IppClientState). entry.Http f.said v.closes f.body) is) in
+    record {
+      said = f.said;
+      body = f.body;
+      untold = f.untold;
+      is = f.is ∙ same;
+      told = λ off. f.told (sym (ap (λ (v : IppClientState). v.untold) is) ∙ off);
+      stands = stands read (f.said ++ map HasByte f.untold) f.stands;
+      heard = subst (λ (v : IppClientState). Body.Heard (f.body ++ f.untold) v.body) (sym is) f.heard;
+    }
+fed_ipp read piece talk t u f (inr (is, stands, heard)) =
+    let same : entry.Http f.said t.closes f.body ≡ entry.Http f.said u.closes f.body = sym (ap (λ (v : IppClientState). entry.Http f.said v.closes f.body) is) in
+    let on : u.untold ≡ true = ap (λ (v : IppClientState). v.untold) is in
+    let said : (f.said ++ map HasByte f.untold) ++ map HasByte piece ≡ f.said ++ map HasByte (f.untold ++ piece) =
+    append_assoc f.said (map HasByte f.untold) (map HasByte piece) ∙ ap (λ (xs : List Said). f.said ++ xs) (map_bytes f.untold piece) in
+    record {
+      said = f.said;
+      body = f.body;
+      untold = f.untold ++ piece;
+      is = f.is ∙ same;
+      told = λ off. let never : true ≡ false = sym on ∙ off in cc;
+      stands = subst (λ (xs : List Said). Http.Stands (read ++ piece) xs u.reader) said (stands read (f.said ++ map HasByte f.untold) f.stands);
+      heard = subst (λ (xs : List ℕ). Body.Heard xs u.body) (append_assoc f.body f.untold piece) (heard (f.body ++ f.untold) f.heard);
+    }
+
 -- a piece was fed
 pub fed_peer : (read piece : List ℕ) (talk : PeerRecord) (off : Bool) (x y : Peer) → FitsPeer read talk off x → IsFedPeer piece x y → FitsPeer (read ++ piece) talk off y
-fed_peer read piece talk off (of.Ipp t) (of.Ipp u) f (is, stands) =
-    let same : entry.Http f.said t.closes f.body ≡ entry.Http f.said u.closes f.body = sym (ap (λ (v : IppClientState). entry.Http f.said v.closes f.body) is) in
-    record { said = f.said; body = f.body; is = f.is ∙ same; stands = stands read f.said f.stands; heard = subst (λ (v : IppClientState). Body.Heard f.body v.body) (sym is) f.heard }
+fed_peer read piece talk off (of.Ipp t) (of.Ipp u) f fed = fed_ipp read piece talk t u f fed
 fed_peer read piece talk off (of.Lpd t) (of.Lpd u) f (is, stands) =
     let same : entry.Queue f.items t.session ≡ entry.Queue f.items u.session = sym (ap (λ (v : LpdClientState). entry.Queue f.items v.session) is) in
     record { items = f.items; is = f.is ∙ same; stands = stands read f.items f.stands }
@@ -325,3 +385,7 @@ fed_peer read piece talk off (of.Lpd t) (of.Ipp u) f it = absurd it
 fed_peer read piece talk off (of.Lpd t) (of.Device u) f it = absurd it
 fed_peer read piece talk off (of.Device t) (of.Ipp u) f it = absurd it
 fed_peer read piece talk off (of.Device t) (of.Lpd u) f it = absurd it
+
+-- a client of which nothing was read
+pub new_ipp : (t : IppClientState) → IsNewIpp t → FitsIpp [] (entry.Http [] false []) t
+new_ipp t (stands, closes, heard, untold) = fits_ipp [] [] false [] t.reader t stands refl closes heard

@@ -1,5 +1,5 @@
 -- The state of each kind of peer, and the change that each call makes of it.
-use Rattle.std.specs.Prelude.{ℕ, ◌≡◌, ◌⊎◌, ◌<◌, ◌++◌, Bool, true, false, List, [], Option, Some, None, Ok, Err}
+use Rattle.std.specs.Prelude.{ℕ, ◌≡◌, ◌⊎◌, ◌<◌, ◌+◌, ◌++◌, Bool, true, false, if◌then◌else◌, List, [], map, Option, Some, None, Ok, Err}
 use Rattle.base_types.specs.declared.report.Report.{Report}
 use Rattle.base_types.specs.declared.report.Report.TheVariants as report
 use Rattle.base_types.specs.Report.{ReportRecord}
@@ -17,7 +17,7 @@ use Rattle.lpd.specs.Stream.{LpdState}
 use Rattle.lpd.specs.Stream as Lpd
 use Rattle.http_front.specs.declared.item.HttpItem.{HttpItem}
 use Rattle.http_front.specs.declared.item.HttpItem.TheVariants as item
-use Rattle.http_front.specs.Stream.{HttpState, Said}
+use Rattle.http_front.specs.Stream.{HttpState, Said, HasByte}
 use Rattle.http_front.specs.Stream as Http
 use Rattle.ipp_operations.specs.Reader.{ReaderState}
 use Rattle.ipp_operations.specs.Reader as Body
@@ -37,7 +37,7 @@ use Rattle.wires.specs.declared.wire.Door.TheVariants as door
 
 -- a client of which nothing was read yet
 abbrev pub IsNewIpp : IppClientState → Type 0
-IsNewIpp t = Http.Stands [] [] t.reader × (t.closes ≡ false) × Body.Heard [] t.body
+IsNewIpp t = Http.Stands [] [] t.reader × (t.closes ≡ false) × Body.Heard [] t.body × (t.untold ≡ false)
 
 abbrev pub with_http : HttpState → IppClientState → IppClientState
 with_http reader t = record t { reader = reader }
@@ -45,9 +45,20 @@ with_http reader t = record t { reader = reader }
 abbrev pub with_body : ReaderState → IppClientState → IppClientState
 with_body body t = record t { body = body }
 
+-- a piece was fed to the reader
+abbrev pub FeedsReader : List ℕ → IppClientState → IppClientState → Type 0
+FeedsReader piece t u = (u ≡ with_http u.reader t) × ((stream : List ℕ) (given : List Said) → Http.Stands stream given t.reader → Http.Stands (stream ++ piece) given u.reader)
+
+-- a piece is bytes of a body, and was fed to the body at once; a later step tells of it
+abbrev pub FeedsBody : List ℕ → IppClientState → IppClientState → Type 0
+FeedsBody piece t u =
+    (u ≡ record t { reader = u.reader; body = u.body; untold = true })
+    × ((stream : List ℕ) (given : List Said) → Http.Stands stream given t.reader → Http.Stands (stream ++ piece) (given ++ map HasByte piece) u.reader)
+    × ((bytes : List ℕ) → Body.Heard bytes t.body → Body.Heard (bytes ++ piece) u.body)
+
 -- a piece was fed
 abbrev pub IsFedIpp : List ℕ → IppClientState → IppClientState → Type 0
-IsFedIpp piece t u = (u ≡ with_http u.reader t) × ((stream : List ℕ) (given : List Said) → Http.Stands stream given t.reader → Http.Stands (stream ++ piece) given u.reader)
+IsFedIpp piece t u = FeedsReader piece t u ⊎ FeedsBody piece t u
 
 -- a request begins, with an empty body so far
 abbrev pub BeginsIpp : Bool → Step → IppClientState → IppClientState → Type 0
@@ -75,12 +86,20 @@ HearsIpp item.BodyPart what t u = TakesPart what t u
 HearsIpp item.BodyEnd what t u = EndsIpp what t u
 HearsIpp (item.Refuse refusal) what t u = (what ≡ step.Due (due.Refusal refusal) true) × (u ≡ t)
 
--- the next item, if one is whole, was taken off the stream and acted on
-abbrev pub NextIpp : Option Step → IppClientState → IppClientState → Type 0
-NextIpp None t u = Http.Answers t.reader None u.reader × (u ≡ with_http u.reader t)
-NextIpp (Some what) t u =
+-- a step tells of the bytes that the body was fed before
+abbrev pub TellsBody : Step → IppClientState → IppClientState → Type 0
+TellsBody what t u = (t.untold ≡ true) × (what ≡ silent) × (u ≡ record t { untold = false })
+
+-- the next item was taken off the stream and acted on
+abbrev pub TakesItem : Step → IppClientState → IppClientState → Type 0
+TakesItem what t u =
     (said : HttpItem) × (reader : HttpState)
     × Http.Answers t.reader (Some said) reader × (Http.work reader < Http.work t.reader) × HearsIpp said what (with_http reader t) u
+
+-- the next item, if one is whole, was taken off the stream and acted on; before it a step tells of the bytes that the body was fed
+abbrev pub NextIpp : Option Step → IppClientState → IppClientState → Type 0
+NextIpp None t u = (t.untold ≡ false) × Http.Answers t.reader None u.reader × (u ≡ with_http u.reader t)
+NextIpp (Some what) t u = TellsBody what t u ⊎ ((t.untold ≡ false) × TakesItem what t u)
 
 -- ---- an LPD client
 
@@ -175,7 +194,7 @@ NextPeer settings what _ _ = ⊥
 
 -- an upper bound on the steps that a peer's stream can still bring
 abbrev pub work : Peer → ℕ
-work (of.Ipp t) = Http.work t.reader
+work (of.Ipp t) = Http.work t.reader + (if t.untold then 1 else 0)
 work (of.Lpd t) = Lpd.work t.reader
 work (of.Device t) = Link.work t.reader
 

@@ -1,8 +1,8 @@
 -- The entries that a connection represents: the bytes that its reader was fed are the bytes read, and its queue is what is due and wasn't taken.
-use Rattle.std.specs.Prelude.{ℕ, ◌≡◌, Bool, false, List, [], ◌++◌, None}
+use Rattle.std.specs.Prelude.{ℕ, ◌≡◌, Bool, false, List, [], ◌++◌, map, None}
 use Rattle.base_types.specs.Report.{ReportRecord}
 use Rattle.device_link.specs.Stream as Link
-use Rattle.http_front.specs.Stream.{Said}
+use Rattle.http_front.specs.Stream.{Said, HasByte}
 use Rattle.http_front.specs.Stream as Http
 use Rattle.lpd.specs.Items.{ItemRecord}
 use Rattle.lpd.specs.Stream as Lpd
@@ -18,9 +18,12 @@ use Rattle.connections.specs.declared.peer.Peer.TheVariants as of
 pub record FitsIpp (read : List ℕ) (talk : PeerRecord) (t : IppClientState) : Type 0 where
   pub said : List Said
   pub body : List ℕ
+  -- bytes that the body was fed, of which no step has told yet
+  pub untold : List ℕ
   pub is : talk ≡ entry.Http said t.closes body
-  pub stands : Http.Stands read said t.reader
-  pub heard : Body.Heard body t.body
+  pub told : t.untold ≡ false → untold ≡ []
+  pub stands : Http.Stands read (said ++ map HasByte untold) t.reader
+  pub heard : Body.Heard (body ++ untold) t.body
 
 -- the reader of an LPD client has been fed all bytes read
 pub record FitsLpd (read : List ℕ) (talk : PeerRecord) (t : LpdClientState) : Type 0 where

@@ -1,9 +1,10 @@
 //! An IPP client: requests over HTTP, whose bodies are parsed as their parts are read.
-ghost use Rattle.std.specs.Prelude.{◌≡◌, OnOk, OnErr, List, ℕ};
+ghost use Rattle.std.specs.Prelude.{◌≡◌, OnOk, OnErr, List, ℕ, length, true};
+ghost use Rattle.http_front.specs.Stream.{AwaitsBody};
 ghost use Rattle.ipp_operations.specs.ParsedRequest.{Asks};
 ghost use Rattle.ipp_operations.specs.Reader.{Heard};
 ghost use Rattle.connections.specs.Steps.{EndsBody, asked_step};
-ghost use Rattle.connections.specs.Peers.{IsNewIpp, IsFedIpp, NextIpp, HearsIpp, BeginsIpp, TakesPart, EndsIpp, LosesBody};
+ghost use Rattle.connections.specs.Peers.{IsNewIpp, IsFedIpp, FeedsReader, FeedsBody, NextIpp, TellsBody, HearsIpp, BeginsIpp, TakesPart, EndsIpp, LosesBody};
 
 use crate::ask::{Ask, Client, Growth};
 use crate::step::{Due, Step};
@@ -22,6 +23,8 @@ pub struct IppClient {
     closes: bool,
     /// The parser of that request's body.
     body: RequestParser,
+    /// Whether the body was fed bytes that no step has told of yet.
+    untold: bool,
 }
 
 impl Model for IppClient {
@@ -29,7 +32,7 @@ impl Model for IppClient {
 
     ghost Value = { IppClientState };
 
-    ghost view = { λ t. record { reader = t.reader; closes = t.closes; body = t.body } };
+    ghost view = { λ t. record { reader = t.reader; closes = t.closes; body = t.body; untold = t.untold } };
 }
 
 impl IppClient {
@@ -42,16 +45,54 @@ impl IppClient {
             reader: HttpReader::new(alloc),
             closes: false,
             body: RequestParser::new(alloc),
+            untold: false,
         }
     }
 
-    /// Feeds the next bytes of the wire to the reader. The only error is out of memory, and none of the bytes
-    /// is taken.
+    /// Feeds the next bytes of the wire to the reader, or to the body if all of them are bytes of it: so a long
+    /// body is copied once. The only error is out of memory, and none of the bytes is taken.
     pub fn feed(&mut self, piece: &[u8]) -> Result<(), AllocError>
         ensures ok { OnOk result (IsFedIpp piece.now self.old self.new) }
         ensures err { OnErr result (self.new ≡ self.old) }
     {
+        match u32::try_from(piece.len()) {
+            Ok(count) => self.feed_counted(piece, count),
+            Err(_) => self.feed_reader(piece),
+        }
+    }
+
+    /// Feeds so many bytes to the reader, or to the body.
+    fn feed_counted(&mut self, piece: &[u8], count: u32) -> Result<(), AllocError>
+        requires { length piece.now ≡ count }
+        ensures ok { OnOk result (IsFedIpp piece.now self.old self.new) }
+        ensures err { OnErr result (self.new ≡ self.old) }
+    {
+        if self.reader.awaits_body(count) {
+            self.feed_body(piece, count)
+        } else {
+            self.feed_reader(piece)
+        }
+    }
+
+    /// Feeds bytes to the reader.
+    fn feed_reader(&mut self, piece: &[u8]) -> Result<(), AllocError>
+        ensures ok { OnOk result (FeedsReader piece.now self.old self.new) }
+        ensures err { OnErr result (self.new ≡ self.old) }
+    {
         self.reader.feed(piece)
+    }
+
+    /// Feeds so many bytes, which are bytes of a body, to that body.
+    fn feed_body(&mut self, piece: &[u8], count: u32) -> Result<(), AllocError>
+        requires counted { length piece.now ≡ count }
+        requires awaited { AwaitsBody count self.old.reader }
+        ensures ok { OnOk result (FeedsBody piece.now self.old self.new) }
+        ensures err { OnErr result (self.new ≡ self.old) }
+    {
+        self.body.feed(piece)?;
+        self.reader.hear_body(count);
+        self.untold = true;
+        Ok(())
     }
 
     /// Returns whether the connection closes after the reply to the last request.
@@ -61,14 +102,27 @@ impl IppClient {
         self.closes
     }
 
-    /// Returns the step for the next item of the stream, if one is whole.
+    /// Returns the step for the next item of the stream, if one is whole. Before it comes the step for the bytes
+    /// that the body was fed.
     pub fn next(&mut self) -> Option<Step>
         ensures { NextIpp result self.old self.new }
     {
+        if self.untold {
+            return Some(self.tell_body());
+        }
         match self.reader.next_item() {
             Some(item) => Some(self.hear(item)),
             None => None,
         }
+    }
+
+    /// Returns the step for the bytes that the body was fed: nothing comes of them yet.
+    fn tell_body(&mut self) -> Step
+        requires { self.old.untold ≡ true }
+        ensures { TellsBody result self.old self.new }
+    {
+        self.untold = false;
+        due(Due::Nothing, false)
     }
 
     /// Returns the step for an item that was just taken off the stream.

@@ -1,11 +1,12 @@
 -- Where a reader stands after a piece, and what it will hear.
-use Rattle.std.specs.Prelude.{ℕ, suc, zero, ◌≡◌, ◌⊎◌, List, [], ◌++◌, Result, Ok, Err, OnOk}
-use Rattle.std.proofs.Common.{refl, subst, sym, ap, inl, inr}
+use Rattle.std.specs.Prelude.{ℕ, suc, zero, ◌≡◌, ◌⊎◌, ◌≤◌, ◌-◌, List, [], ◌∷◌, ◌++◌, length, map, take, drop, Result, Ok, Err, OnOk}
+use Rattle.std.proofs.Common.{arith, refl, subst, sym, ap, inl, inr}
 use Rattle.std.specs.declared.alloc.AllocError.{AllocError}
 use Rattle.http_front.specs.declared.awaited.Awaited.{Awaited}
-use Rattle.http_front.specs.declared.awaited.Awaited.TheVariants.{Head, Nothing}
-use Rattle.http_front.specs.Stream.{Said, Goes, Waits, SaysIn, Says, Exchanges, LeadsIn, Leads, SaysFirst, HttpState, IsOver, Stands}
-use Rattle.http_front.proofs.Steps.{says_then}
+use Rattle.http_front.specs.declared.awaited.Following.{Following}
+use Rattle.http_front.specs.declared.awaited.Awaited.TheVariants.{Head, Invitation, Body, Size, Trailer, Nothing}
+use Rattle.http_front.specs.Stream.{Said, HasByte, Goes, Waits, SaysIn, Says, Exchanges, LeadsIn, Leads, SaysFirst, HttpState, IsOver, Stands, HasLeft, AwaitsBody, past_body}
+use Rattle.http_front.proofs.Steps.{says_then, lends}
 use Rattle.http_front.proofs.Laws.{stays_in, said_first, leads_more}
 
 kept_fed : (reader : HttpState) (left piece : List ℕ) → (IsOver reader ⊎ (left ≡ reader.rest)) → IsOver reader ⊎ (left ++ piece ≡ reader.rest ++ piece)
@@ -56,3 +57,43 @@ pub all_stays : (stream more : List ℕ) (given said : List Said) → Exchanges 
 all_stays stream more given said x y =
     let first = said_first x.0 Head stream given x.1 in
     stays_in x.0 y.0 Head stream more given first.0 first.1 said first.2 y.1
+
+-- ---- bytes of a body that the caller has
+
+take_whole : (xs : List ℕ) → take (length xs) xs ≡ xs
+take_whole [] = refl
+take_whole (x ∷ xs) = ap (λ (ys : List ℕ). x ∷ ys) (take_whole xs)
+
+drop_whole : (xs : List ℕ) → drop (length xs) xs ≡ []
+drop_whole [] = refl
+drop_whole (x ∷ xs) = drop_whole xs
+
+part_heard : (old : HttpState) (left : ℕ) (next : Following) (stream : List ℕ) (given : List Said) (piece : List ℕ) → old.awaited ≡ Body left next → old.rest ≡ [] → length piece ≤ left → Stands stream given old → Stands (stream ++ piece) (given ++ map HasByte piece) (record { part = []; rest = []; awaited = Body (left - length piece) next })
+part_heard old left next stream given piece is none fits stands =
+    let fed : Stands (stream ++ piece) given (record { part = []; rest = old.rest ++ piece; awaited = old.awaited }) = stands_fed stream given piece old stands in
+    let here : Stands (stream ++ piece) given (record { part = []; rest = piece; awaited = Body left next }) =
+    subst (λ (a : Awaited). Stands (stream ++ piece) given (record { part = []; rest = piece; awaited = a })) is
+    (subst (λ (r : List ℕ). Stands (stream ++ piece) given (record { part = []; rest = r ++ piece; awaited = old.awaited })) none fed) in
+    let lent : Stands (stream ++ piece) (given ++ map HasByte (take (length piece) piece)) (record { part = take (length piece) piece; rest = drop (length piece) piece; awaited = Body (left - length piece) next }) =
+    lends (record { part = []; rest = piece; awaited = Body left next }) left next (length piece) refl (omega arith) fits (stream ++ piece) given here in
+    let said : Stands (stream ++ piece) (given ++ map HasByte piece) (record { part = take (length piece) piece; rest = drop (length piece) piece; awaited = Body (left - length piece) next }) =
+    subst (λ (p : List ℕ). Stands (stream ++ piece) (given ++ map HasByte p) (record { part = take (length piece) piece; rest = drop (length piece) piece; awaited = Body (left - length piece) next })) (take_whole piece) lent in
+    let ended : Stands (stream ++ piece) (given ++ map HasByte piece) (record { part = take (length piece) piece; rest = []; awaited = Body (left - length piece) next }) =
+    subst (λ (r : List ℕ). Stands (stream ++ piece) (given ++ map HasByte piece) (record { part = take (length piece) piece; rest = r; awaited = Body (left - length piece) next })) (drop_whole piece) said in
+    record { left = ended.left; leads = ended.leads; kept = ended.kept }
+
+heard_by : (old : HttpState) (awaited : Awaited) (stream : List ℕ) (given : List Said) (piece : List ℕ) → old.awaited ≡ awaited → old.rest ≡ [] → HasLeft (length piece) awaited → Stands stream given old → Stands (stream ++ piece) (given ++ map HasByte piece) (record { part = []; rest = []; awaited = past_body (length piece) awaited })
+heard_by old (Body left next) stream given piece is none fits stands = part_heard old left next stream given piece is none fits stands
+heard_by old Head stream given piece is none fits stands = absurd fits
+heard_by old (Invitation framing closes) stream given piece is none fits stands = absurd fits
+heard_by old (Size room closes) stream given piece is none fits stands = absurd fits
+heard_by old (Trailer last) stream given piece is none fits stands = absurd fits
+heard_by old Nothing stream given piece is none fits stands = absurd fits
+
+-- so many bytes of a body were given as they came
+pub body_heard : (old new : HttpState) (count : ℕ) (stream : List ℕ) (given : List Said) (piece : List ℕ) → AwaitsBody count old → new ≡ record { part = []; rest = []; awaited = past_body count old.awaited } → length piece ≡ count → Stands stream given old → Stands (stream ++ piece) (given ++ map HasByte piece) new
+body_heard old new count stream given piece awaits is long stands =
+    let fits : HasLeft (length piece) old.awaited = subst (λ (n : ℕ). HasLeft n old.awaited) (sym long) awaits.1 in
+    let heard : Stands (stream ++ piece) (given ++ map HasByte piece) (record { part = []; rest = []; awaited = past_body (length piece) old.awaited }) = heard_by old old.awaited stream given piece refl awaits.0 fits stands in
+    subst (λ (n : HttpState). Stands (stream ++ piece) (given ++ map HasByte piece) n) (sym is)
+    (subst (λ (n : ℕ). Stands (stream ++ piece) (given ++ map HasByte piece) (record { part = []; rest = []; awaited = past_body n old.awaited })) long heard)

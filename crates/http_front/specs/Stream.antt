@@ -1,5 +1,5 @@
 -- The exchanges in an HTTP client's stream of bytes (RFC 9112), in order, up to the first request that is refused. The bytes of a body are told one by one, so the parts in which they come make no difference.
-use Rattle.std.specs.Prelude.{ℕ, ◌≡◌, ◌==◌, ◌<◌, ◌+◌, ◌-◌, ◌*◌, ◌||◌, ◌⊎◌, nat_le, nat_lt, Bool, false, suc, zero, if◌then◌else◌, List, [], ◌∷◌, ◌++◌, map, take, drop, MatchBool, length, not, Option, Some, None, Result, Ok, Err, ⊤}
+use Rattle.std.specs.Prelude.{ℕ, ◌≡◌, ◌==◌, ◌<◌, ◌≤◌, ◌+◌, ◌-◌, ◌*◌, ◌||◌, ◌⊎◌, nat_le, nat_lt, Bool, false, suc, zero, if◌then◌else◌, List, [], ◌∷◌, ◌++◌, map, take, drop, MatchBool, length, not, Option, Some, None, Result, Ok, Err, ⊤}
 use Rattle.text.specs.FirstLine.{first_line_of}
 use Rattle.text.specs.declared.line.FirstLine.{FirstLine}
 use Rattle.text.specs.declared.line.FirstLine.TheVariants.{Whole, TooLong, Unfinished}
@@ -204,6 +204,19 @@ pub record HttpState : Type 0 where
   pub part : List ℕ
   pub rest : List ℕ
   pub awaited : Awaited
+
+-- a body, or a chunk, has so many bytes left
+abbrev pub HasLeft : ℕ → Awaited → Type 0
+HasLeft count (Body left following) = count ≤ left
+HasLeft count Head = ⊥
+HasLeft count (Invitation framing closes) = ⊥
+HasLeft count (Size room closes) = ⊥
+HasLeft count (Trailer last) = ⊥
+HasLeft count Nothing = ⊥
+
+-- the next so many bytes that the reader is fed are bytes of a body
+abbrev pub AwaitsBody : ℕ → HttpState → Type 0
+AwaitsBody count reader = (reader.rest ≡ []) × HasLeft count reader.awaited
 
 -- the reader awaits nothing: it gives no more items, and drops the bytes that it is fed
 abbrev pub IsOver : HttpState → Type 0

@@ -1,6 +1,6 @@
 //! What the reader awaits after a head or a body.
 ghost use Rattle.std.specs.Prelude.{◌≡◌};
-ghost use Rattle.http_front.specs.Stream.{after_head, body_by, after_body, begins_head, is_last};
+ghost use Rattle.http_front.specs.Stream.{after_head, body_by, after_body, begins_head, is_last, past_body};
 
 use crate::awaited::{Awaited, Following, Framing, Request};
 use base_types::Limits;
@@ -41,6 +41,20 @@ pub(crate) fn after_body(last: bool) -> Awaited
         return Awaited::Nothing;
     }
     Awaited::Head
+}
+
+/// What the reader awaits behind `count` more bytes of a body or of a chunk.
+pub(crate) fn past_body(count: u32, awaited: Awaited) -> Awaited
+    ensures { result ≡ past_body count awaited }
+{
+    match awaited {
+        Awaited::Body(left, next) => Awaited::Body(left.saturating_sub(count), next),
+        Awaited::Head => Awaited::Head,
+        Awaited::Invitation(framing, closes) => Awaited::Invitation(framing, closes),
+        Awaited::Size(room, closes) => Awaited::Size(room, closes),
+        Awaited::Trailer(last) => Awaited::Trailer(last),
+        Awaited::Nothing => Awaited::Nothing,
+    }
 }
 
 /// Returns whether the first line of a head begins at the front: the bytes don't begin with CR or LF.

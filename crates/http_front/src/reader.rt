@@ -1,11 +1,11 @@
 //! The reader of a client's stream.
-ghost use Rattle.std.specs.Prelude.{◌≡◌, ◌≤◌, ◌<◌, ◌+◌, ◌++◌, [], List, ℕ, OnOk, OnErr, IsOk, IsSome, IsTrue, IsFalse, None, true, take, drop, length as length_of};
-ghost use Rattle.http_front.specs.Stream.{Said, Stands, Answers, Steps, IsOver, work, after_body, body_by, body_left, past_body, after_head, begins_head};
+ghost use Rattle.std.specs.Prelude.{◌≡◌, ◌≤◌, ◌<◌, ◌+◌, ◌++◌, [], List, ℕ, OnOk, OnErr, IsOk, IsSome, IsTrue, IsFalse, None, true, map, take, drop, length as length_of};
+ghost use Rattle.http_front.specs.Stream.{Said, HasByte, Stands, Answers, AwaitsBody, Steps, IsOver, work, after_body, body_by, body_left, past_body, after_head, begins_head};
 ghost use Rattle.text.specs.FirstLine.{first_line_of};
 ghost use Rattle.text.specs.declared.line.FirstLine.TheVariants.{Whole};
 ghost use Rattle.http_front.specs.Section.{section_in};
 
-use crate::after::{after_body, after_head, begins_head, body_by, is_last};
+use crate::after::{after_body, after_head, begins_head, body_by, is_last, past_body};
 use crate::awaited::{Awaited, Following};
 use crate::chunk::{ChunkEnd, chunk_end, size_in};
 use crate::head::read_head;
@@ -138,6 +138,32 @@ impl HttpReader {
             }
             _ => false,
         }
+    }
+
+    /// Returns whether the next `count` bytes are bytes of a body: so many are left of the body or of the
+    /// chunk, and all bytes that were fed are read.
+    pub fn awaits_body(&self, count: u32) -> bool
+        ensures { IsTrue result → AwaitsBody count self.now }
+    {
+        if !self.rest().is_empty() {
+            return false;
+        }
+        match self.awaited() {
+            Awaited::Body(left, _) => count <= left,
+            Awaited::Head
+            | Awaited::Invitation(_, _)
+            | Awaited::Size(_, _)
+            | Awaited::Trailer(_)
+            | Awaited::Nothing => false,
+        }
+    }
+
+    /// Counts the next `count` bytes, which are bytes of a body, as fed and as given. The caller has them.
+    pub fn hear_body(&mut self, count: u32)
+        requires { AwaitsBody count self.old }
+        ensures { (stream : List ℕ) (given : List Said) (piece : List ℕ) → length_of piece ≡ count → Stands stream given self.old → Stands (stream ++ piece) (given ++ map HasByte piece) self.new }
+    {
+        self.pass(0, past_body(count, self.awaited()));
     }
 
     /// Takes one step, which gives at most one item.
