@@ -137,6 +137,16 @@ impl Entrances {
         }
     }
 
+    /// Returns whether a connection may wait at a door.
+    pub(crate) fn may_have(&self, door: Door) -> bool {
+        for entrance in &self.entrances {
+            if entrance.door == door && entrance.ready {
+                return true;
+            }
+        }
+        false
+    }
+
     /// Accepts the next connection that waits at a door.
     pub(crate) fn accept(&mut self, door: Door) -> io::Result<(TcpStream, SocketAddr)> {
         for entrance in &mut self.entrances {

@@ -260,6 +260,9 @@ impl Wire for Sockets {
     /// Accepts a connection. A failed accept doesn't count as work: if the system has no descriptor left, the
     /// next accept is tried after a wait.
     fn poll_accept(&mut self, door: Door) -> Progress<WireId> {
+        if !self.entrances.may_have(door) {
+            return Progress::Waiting;
+        }
         let (link, peer) = match self.accept(door) {
             Ok(accepted) => accepted,
             Err(error) => {
