@@ -1,4 +1,4 @@
-//! What was printed of what an engine tells.
+//! The printed text of an engine's notes.
 ghost use Rattle.std.specs.Prelude.{◌≡◌, ◌++◌, [], None, Some, IfOk, OnOk, OnErr, option_map};
 ghost use Rattle.dispatcher.specs.Dispatched.{plan_of, started_of};
 ghost use Rattle.dispatcher.specs.Notes.{Planned, Canceled};
@@ -13,8 +13,8 @@ use std::mem;
 use traces::{put_cancel, put_dispatch};
 use wires::WireId;
 
-/// A listener that keeps what is printed of each dispatch and of each cancel. In clauses it is a record
-/// of whether the texts of plans are asked for, the names of the devices, and what was heard, unless
+/// A listener that stores the printed text of each dispatch and of each cancel. In clauses it is a record of
+/// whether the texts of plans are printed, the names of the devices, and the text so far, which is `None` if
 /// memory was refused.
 #[derive(Drop)]
 pub struct Log {
@@ -57,7 +57,7 @@ impl Listener for Log {
 }
 
 impl Log {
-    /// Nothing was heard yet.
+    /// Creates an empty log.
     pub fn new(alloc: Global, texts: bool, names: Vec<Text>) -> Log
         ensures { result ≡ record { texts = texts; names = names.items; heard = Some [] } }
     {
@@ -77,8 +77,7 @@ impl Log {
         &self.names
     }
 
-    /// What was heard, which is then heard no more. The error is that memory was refused for some of
-    /// it.
+    /// Removes and returns the text. The error is that memory for a part of it was refused.
     pub fn take(&mut self) -> Result<Vec<u8>, AllocError>
         ensures { IfOk result (λ text. (self.old.heard ≡ Some text.items) × (self.new ≡ record self.old { heard = Some [] })) }
     {
@@ -89,7 +88,7 @@ impl Log {
         Ok(mem::replace(&mut self.heard, empty))
     }
 
-    /// Keeps what is printed of a dispatch.
+    /// Appends the text of a dispatch. The only error is out of memory, and nothing is appended then.
     fn keep_dispatch(&mut self, made: &Dispatched<'_>) -> Result<(), AllocError>
         ensures ok { OnOk result (self.new ≡ record self.old { heard = option_map (λ text. text ++ note_text self.old.texts self.old.names (Planned (plan_of made.now) (started_of made.now))) self.old.heard }) }
         ensures err { OnErr result (self.new ≡ self.old) }
@@ -106,7 +105,7 @@ impl Log {
         self.heard.extend_from_slice(&text)
     }
 
-    /// Keeps what is printed of a cancel.
+    /// Appends the text of a cancel. The only error is out of memory, and nothing is appended then.
     fn keep_cancel(&mut self, cancel: Cancel) -> Result<(), AllocError>
         ensures ok { OnOk result (self.new ≡ record self.old { heard = option_map (λ text. text ++ note_text self.old.texts self.old.names (Canceled cancel)) self.old.heard }) }
         ensures err { OnErr result (self.new ≡ self.old) }
@@ -116,7 +115,7 @@ impl Log {
         self.heard.extend_from_slice(&text)
     }
 
-    /// Memory was refused.
+    /// Records that memory was refused.
     fn lose(&mut self)
         ensures { self.new ≡ record self.old { heard = None } }
     {
