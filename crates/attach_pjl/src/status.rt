@@ -1,4 +1,4 @@
-/// What a printer says.
+/// A status of a printer.
 #[derive(Clone, Copy, Debug, PartialEq, Eq)]
 pub enum Status {
     /// So many pages of the job are printed.
@@ -7,6 +7,6 @@ pub enum Status {
     JobEnded,
     /// The printer is in the state of this code.
     Device(u32),
-    /// Anything else.
+    /// Any other message.
     Other,
 }
