@@ -261,7 +261,7 @@ impl<P: Printer> Desk<P> {
         self.log.note(note);
     }
 
-    /// Reports that the printer has printed so many pages of the job.
+    /// Reports that the printer has printed this many pages of the job.
     fn tell_pages(&mut self, printed: u32) -> Result<(), Stop> {
         self.figures.pages(printed);
         if let Some(report) = self.attachment.pages(printed) {

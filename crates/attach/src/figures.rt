@@ -39,7 +39,7 @@ impl Figures {
         self.measurement.begin(order.sides, impressions, self.now);
     }
 
-    /// Records that so many impressions of the job are printed.
+    /// Records that this many impressions of the job are printed.
     pub(crate) fn pages(&mut self, printed: u32) {
         self.measurement.pages(printed, self.now);
     }

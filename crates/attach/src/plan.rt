@@ -58,7 +58,7 @@ pub struct Plan {
     pub logs: bool,
     /// Whether the printer's rates and its setup are measured and written.
     pub measures: bool,
-    /// Whether it ends when its standard input does.
+    /// Whether the program ends when its standard input ends.
     pub until_closed: bool,
 }
 

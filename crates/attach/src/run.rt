@@ -108,7 +108,7 @@ pub fn attach<R: Net + Files + Clock, L: Write, F: Write>(
     }
 }
 
-/// Creates a printer with a protocol at an address, which may be silent for so many ms.
+/// Creates a printer with a protocol at an address, which may be silent for this many ms.
 fn network_printer<P: Protocol>(
     alloc: Global,
     place: Place,

@@ -48,9 +48,9 @@ pub(crate) enum Line {
 #[derive(Clone, Copy, Debug, PartialEq, Eq)]
 pub(crate) enum Awaited {
     Line(Line),
-    /// So many bytes, at least one, up to the end of the body.
+    /// This many bytes, at least one, up to the end of the body.
     Counted(u32),
-    /// So many bytes, at least one, up to the end of a chunk.
+    /// This many bytes, at least one, up to the end of a chunk.
     Chunk(u32),
     /// The body, up to the end of the connection.
     UntilEnd,

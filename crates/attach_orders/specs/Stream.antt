@@ -16,7 +16,7 @@ pub data Said : Type 0 where
   Orders : Order → Said
   HasOctet : ℕ → Said
 
--- the place in a stream: in a line, of which these bytes have come; in a job, of which so many octets are still to come; or at the first fault
+-- the place in a stream: in a line, of which these bytes have come; in a job, of which this many octets are still to come; or at the first fault
 pub data Place : Type 0 where
   InLine : List ℕ → Place
   InJob : ℕ → Place

@@ -1,7 +1,7 @@
 /// A status of a printer.
 #[derive(Clone, Copy, Debug, PartialEq, Eq)]
 pub enum Status {
-    /// So many pages of the job are printed.
+    /// This many pages of the job are printed.
     Page(u32),
     /// The job is printed, or was given up.
     JobEnded,

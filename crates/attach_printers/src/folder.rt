@@ -96,7 +96,7 @@ impl Folder {
         })
     }
 
-    /// The time in ms for so many octets, in as many copies as are wanted.
+    /// The time in ms for this number of octets, in the number of copies of the job.
     fn time_of(&self, octets: usize) -> u64 {
         let pages = octets.div_ceil(Limits::OCTETS_PER_IMPRESSION).max(1) as u64;
         pages

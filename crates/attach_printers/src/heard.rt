@@ -50,7 +50,7 @@ pub enum Heard {
     Stops,
     /// The printer reports that it prints again.
     Runs,
-    /// So many pages of the job are printed.
+    /// This many pages of the job are printed.
     Pages(u32),
     /// These parts of the job aren't passed to the printer, since it doesn't report that it supports them.
     LeftOut(LeftOut),

@@ -36,7 +36,7 @@ pub(crate) enum Stage {
 #[derive(Clone, Copy, PartialEq, Eq)]
 pub(crate) enum Moved {
     Nothing,
-    /// So many bytes were moved, at least one.
+    /// This many bytes were moved, at least one.
     Bytes(usize),
     /// The other side has ended.
     End,

@@ -6,16 +6,16 @@ use thiserror::Error;
 /// Why a printer's reply isn't usable.
 #[derive(Clone, Copy, Debug, Error)]
 pub enum ReplyBreach {
-    /// It isn't a reply of HTTP, or is too long.
+    /// The reply isn't a reply of HTTP, or is too long.
     #[error("{0}")]
     Fault(ReplyFault),
-    /// Its status isn't 200.
+    /// The status of the reply isn't 200.
     #[error("http {0}")]
     Http(u32),
-    /// Its body isn't a message of IPP, or lacks a requested attribute.
+    /// The body of the reply isn't a message of IPP, or lacks a requested attribute.
     #[error("no reply of IPP")]
     NotIpp,
-    /// Its status is a failure of the operation (RFC 8011, appendix B).
+    /// The status of the operation is a failure (RFC 8011, appendix B).
     #[error("ipp 0x{0:04x}")]
     Ipp(u16),
     /// The printer canceled or aborted the job.
@@ -59,7 +59,7 @@ pub enum Told {
     Stops,
     /// The printer reports that it prints again.
     Runs,
-    /// So many impressions of the job are printed.
+    /// This many impressions of the job are printed.
     Pages(u32),
     /// These options of the job aren't passed on.
     LeftOut(LeftOut),

@@ -6,7 +6,7 @@ use Rattle.attachment.specs.declared.state.PrinterState.{PrinterState}
 pub data Event : Type 0 where
   -- a connection to the server begins; the server knows no job and no state of the printer
   Links : Event
-  -- the server sends a job of so many octets, which are to be sent `times` times
+  -- the server sends a job of this many octets, which are to be sent `times` times
   Ordered : (job octets times : ℕ) → Event
   -- octets of the job come
   Came : (octets : List ℕ) → Event

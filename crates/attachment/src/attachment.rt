@@ -49,7 +49,7 @@ impl Attachment {
         self.forget();
     }
 
-    /// Takes a job of the server, of so many octets, which are to be sent `times` times.
+    /// Takes a job of the server, of this many octets, which are to be sent `times` times.
     pub fn order(&mut self, job: JobId, octets: u32, times: u32)
         requires { self.old.work ≡ None }
         ensures life { Lives self.old (Ordered job octets times ∷ []) self.new }
@@ -144,7 +144,7 @@ impl Attachment {
         }
     }
 
-    /// The report that the printer has printed so many impressions of the job, all copies together.
+    /// The report that the printer has printed this many impressions of the job, all copies together.
     pub fn pages(&self, printed: u32) -> Option<Report>
         ensures life { Lives self.now (said_by result) self.now }
         ensures value { option_map report_of result ≡ option_map (pages_report printed) self.now.work }

@@ -92,7 +92,7 @@ impl Measurement {
         });
     }
 
-    /// Records that so many impressions of the job are printed, all copies together.
+    /// Records that this many impressions of the job are printed, all copies together.
     pub fn pages(&mut self, printed: u32, now: u64) {
         let Some(job) = self.job else {
             return;

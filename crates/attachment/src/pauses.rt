@@ -12,8 +12,7 @@ pub struct Pauses {
 }
 
 impl Pauses {
-    /// Creates the times of tries. The first try is due at once; the first and the longest pause have so many
-    /// ms.
+    /// Creates the times of tries. The first try is due at once; the first and the longest pause are in ms.
     pub fn new(first: u64, longest: u64) -> Pauses
         ensures { result ≡ record { at = 0; pause = first; longest = longest } }
     {

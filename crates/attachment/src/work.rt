@@ -150,7 +150,7 @@ impl Work {
         }
     }
 
-    /// The report that so many impressions are printed.
+    /// The report that this many impressions are printed.
     pub(crate) fn pages_report(&self, printed: u32) -> Report
         ensures { report_of result ≡ pages_report printed self.now }
     {

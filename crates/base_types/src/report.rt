@@ -13,9 +13,9 @@ pub enum Report {
     Ready,
     /// The device stops, with the job that it has.
     Stop,
-    /// The device begins no job for so many ms from now on. The report replaces an earlier one.
+    /// The device begins no job for this many ms from now on. The report replaces an earlier one.
     Busy(u32),
-    /// So many impressions of the job are printed, all copies together.
+    /// This many impressions of the job are printed, all copies together.
     Pages { job: u32, printed: u32 },
     /// The job is printed.
     Done { job: u32 },

@@ -54,7 +54,7 @@ impl Page {
         self.put(before).put_shown(number)
     }
 
-    /// Appends a text, and behind it a length to so many decimal places.
+    /// Appends a text, and behind it a length to this many decimal places.
     fn put_rounded(self, before: &str, length: f64, places: usize) -> Page {
         let mut page = self.put(before);
         page.is_refused = page.is_refused || write!(page.text, "{length:.places$}").is_err();

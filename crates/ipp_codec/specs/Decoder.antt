@@ -98,7 +98,7 @@ abbrev pub stage_of : CodecFault → Stage
 stage_of Short = Awaiting
 stage_of fault = Faulty fault
 
--- the stage behind elements, followed by the end byte or a fault, where so many bytes are kept
+-- the stage behind elements, followed by the end byte or a fault, where this many bytes are kept
 abbrev pub stage_at : Option CodecFault → ℕ → Stage
 stage_at None kept = Whole
 stage_at (Some fault) kept = stage_of (fault_within fault (nat_le IPP_HEAD_BYTES kept))

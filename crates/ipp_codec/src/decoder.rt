@@ -317,7 +317,7 @@ impl Decoder {
     }
 }
 
-/// The stage behind elements with a fault, where so many bytes are kept.
+/// The stage behind elements with a fault, where this many bytes are kept.
 fn stage_at(fault: Option<CodecFault>, kept: usize) -> Stage
     ensures { result ≡ stage_at fault kept }
 {

@@ -132,7 +132,7 @@ impl<'a> Draft<'a> {
         }
     }
 
-    /// The needs of the job, with so many impressions. The only error is out of memory.
+    /// The needs of the job, with this many impressions. The only error is out of memory.
     fn needs(
         &self,
         alloc: Global,

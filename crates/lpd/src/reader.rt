@@ -19,7 +19,7 @@ use text::{FirstLine, Unread, first_line};
 enum Awaited {
     Command,
     Subcommand,
-    /// A file of so many bytes, and the zero byte behind it.
+    /// A file of this many bytes, and the zero byte behind it.
     File(u32),
     /// No more input: the bytes that are fed are dropped.
     Nothing,

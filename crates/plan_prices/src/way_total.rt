@@ -11,8 +11,8 @@ use plan_problem::ClassProblem;
 /// The sum of the completion times of all jobs of a way, in ms. The completion time of a job is its device's
 /// wait, the times of the jobs before it, and its own time.
 ///
-/// The same sum by places: each job adds the wait of its device, and its time as often as its place from the
-/// end of the list.
+/// By places, the sum is the same: each job adds the wait of its device, and its time as often as its place
+/// from the end of the list.
 pub fn total(class: &ClassProblem, way: &Way) -> u64
     requires { IsWay class.now way.now }
     ensures completions { result ≡ total_of class.now way.now }

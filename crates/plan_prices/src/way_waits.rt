@@ -12,8 +12,8 @@ use plan_problem::ClassProblem;
 use std::alloc::{AllocError, Global};
 
 /// The wait of each device after the way, in ms: its wait before, and the times of all its jobs. No wait
-/// exceeds the longest wait before by more than so many jobs can take at most. The only error is out of
-/// memory.
+/// exceeds the longest wait before by more than the jobs of the class can take at most. The only error is out
+/// of memory.
 pub fn waits_after(alloc: Global, class: &ClassProblem, way: &Way) -> Result<Vec<u64>, AllocError>
     requires { IsWay class.now way.now }
     ensures left { IfOk result (λ waits. waits.items ≡ waits_left class.now way.now) }

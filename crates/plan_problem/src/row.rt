@@ -36,7 +36,7 @@ impl Row {
     }
 }
 
-/// Returns whether the entries are one for each of so many devices, each a time in range or none.
+/// Returns whether there is one entry for each of `devices` devices, each a time in range or none.
 pub(crate) fn is_row(times: &[Option<u64>], devices: usize) -> bool
     ensures { IsTrue result ↔ (length times.now ≡ devices) × All (λ entry. IfSome entry IsTime) times.now }
 {

@@ -12,7 +12,7 @@ pub record AreColumnsOf (device : ℕ) (columns : List Place) (device_columns : 
   pub within : (c : ℕ) → c < length columns → (slice_index_or columns c nowhere).device ≡ device → (slice_index_or columns c nowhere).after < length device_columns
   pub there : (c : ℕ) → c < length columns → (slice_index_or columns c nowhere).device ≡ device → slice_index device_columns (slice_index_or columns c nowhere).after ≡ c
 
--- the columns of each of so many devices
+-- the columns of each of `devices` devices
 pub record AreByDevice (devices : ℕ) (columns : List Place) (by_device : List (List ℕ)) : Type 0 where
   pub one_each : length by_device ≡ devices
   pub known : (c : ℕ) → c < length columns → (slice_index_or columns c nowhere).device < devices

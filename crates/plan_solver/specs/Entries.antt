@@ -5,7 +5,7 @@ use Rattle.plan_solver.specs.declared.costs.TheConstants.{UNABLE}
 use Rattle.plan_solver.specs.declared.times.Entries.{Entries}
 use Rattle.plan_solver.specs.Costs.{row_of}
 
--- the times of a job on so many devices, UNABLE where a device isn't able
+-- the times of a job on this many devices, UNABLE where a device isn't able
 pub record IsReadRow (c : Class) (job devices : ℕ) (row : List ℕ) : Type 0 where
   pub one_each : length row ≡ devices
   pub times : (device : ℕ) → device < devices → slice_index_or row device UNABLE ≡ unwrap_or (time_in c job device) UNABLE

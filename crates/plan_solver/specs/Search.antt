@@ -105,7 +105,7 @@ pub record IsFinished (s : Matching) (x : Search) : Type 0 where
   pub far : (c : ℕ) → c < vec_len s.columns → slice_index x.ranks.items c ≡ UNSETTLED → x.exit.length ≤ slice_index x.lengths.items c
   pub room : x.settled < UNSETTLED
 
--- a search from a new job at column n for one of so many free places, before any way is taken
+-- a search from a new job at column n for one of `places` free places, before any way is taken
 pub record IsBlank (n places : ℕ) (x : Search) : Type 0 where
   pub lengths : vec_len x.lengths ≡ n + 1
   pub froms : vec_len x.froms ≡ n + 1

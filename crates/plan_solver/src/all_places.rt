@@ -124,7 +124,7 @@ fn push_unless(left: &mut Vec<Place>, place: Place, taken: Place) -> Result<(), 
     Ok(())
 }
 
-/// So many places of each device, and one more.
+/// The first `jobs` places of each device, and one more.
 fn all_places(alloc: Global, devices: usize, jobs: usize) -> Result<Vec<Place>, AllocError>
     requires { jobs < 2 ^ 63 }
     ensures there { IfOk result (λ places. (device after : ℕ) → device < devices → after ≤ jobs → Contains places.items (place_on device after)) }

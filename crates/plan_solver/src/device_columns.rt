@@ -44,7 +44,7 @@ impl DeviceColumns {
     }
 }
 
-/// The lists of so many devices without columns.
+/// The lists of this many devices without columns.
 pub(crate) fn no_columns(alloc: Global, devices: usize) -> Result<Vec<DeviceColumns>, AllocError>
     ensures len { IfOk result (λ by_device. vec_len by_device ≡ devices) }
     ensures empty { IfOk result (λ by_device. (d : ℕ) → d < devices → slice_index_or by_device.items d [] ≡ []) }

@@ -198,7 +198,7 @@ fn renumbered(
     Ok(matching)
 }
 
-/// The guesses for so many jobs.
+/// The guesses for this many jobs.
 fn guesses(
     alloc: Global,
     matching: &Matching,

@@ -56,7 +56,7 @@ pub(crate) struct Search {
     pub(crate) settled: usize,
 }
 
-/// Creates a search from the new job for one of so many places, before any way is taken.
+/// Creates a search from the new job for one of `places` places, before any way is taken.
 fn blank(alloc: Global, new: usize, len: usize, places: usize) -> Result<Search, AllocError>
     requires { len ≡ new + 1 }
     ensures { IfOk result (λ x. IsBlank new places x) }

@@ -11,7 +11,7 @@ use Rattle.plan_text.specs.NamedPlan.{NamedPlan}
 abbrev pub IsPrice : ℤ → Type 0
 IsPrice price = (neg_ℤ (pos AMOUNT) ≤ℤ price) × (price ≤ℤ pos AMOUNT)
 
--- the class is one for so many devices: it has a wait, a way and place prices for each of them
+-- the class is within the limits for `devices` devices: it has a wait, a way and place prices for each of them
 pub record IsClassInRange (devices : ℕ) (c : PlannedClass) : Type 0 where
   pub priority : IsPriority c.priority
   pub problem : IsClass c.problem

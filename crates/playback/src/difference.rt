@@ -42,7 +42,7 @@ fn connection_at(stray: &Stray) -> Option<WireId> {
     }
 }
 
-/// Appends the line of what was recorded.
+/// Appends the recorded line.
 fn put_wanted(output: &mut Vec<u8>, stray: &Stray, moment: Moment) -> Result<(), AllocError> {
     output.extend_from_slice(b"was ")?;
     match &stray.wanted {

@@ -74,8 +74,8 @@ impl<'a, R: Read> Lines<'a, R> {
         }
     }
 
-    /// Appends so many octets that follow a line, and passes over the line feed behind them. Returns whether
-    /// they are there. Another byte in the place of the line feed is appended too.
+    /// Appends this many octets that follow a line, and passes over the line feed behind them. Returns
+    /// whether they are there. Another byte in the place of the line feed is appended too.
     fn read_octets(&mut self, line: &mut Vec<u8>, count: usize) -> io::Result<bool> {
         line.push(b'\n')?;
         let mut left = count.saturating_add(1);

@@ -41,9 +41,9 @@ pub struct Played {
 /// Why a play ends early.
 #[derive(Debug, Drop)]
 enum Fault {
-    /// The reason is this sentence, and the status is this one.
+    /// The exit status, and the reason as a sentence.
     Said(ExitStatus, String),
-    /// The lines differ, as was printed.
+    /// The lines differ; the difference was printed.
     Differs,
     OutOfMemory,
     Failed,

@@ -195,7 +195,7 @@ pub fn as_written(alloc: Global, trace: &[u8]) -> Result<Written, AllocError> {
     }
 }
 
-/// Writes the lines behind the front, where so many lines are before them.
+/// Writes the lines behind the front. `before` lines are in front of them.
 fn write_lines(
     alloc: Global,
     front: &[u8],

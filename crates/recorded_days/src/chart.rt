@@ -191,7 +191,7 @@ fn draw(alloc: Global, day: &RecordedDay, form: Form) -> Result<String, AllocErr
 ///
 /// # Errors
 ///
-/// Those of [`read_day`].
+/// The errors of [`read_day`].
 pub fn draw_day(alloc: Global, file: &str, text: &[u8], form: Form) -> Result<String, DayFault> {
     let day = read_day(alloc, file, text)?;
     Ok(draw(alloc, &day, form)?)

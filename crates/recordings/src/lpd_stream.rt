@@ -14,7 +14,7 @@ const RECEIVE_JOB: &[u8] = b"\x02-\n";
 enum Next {
     /// A command, a subcommand or a control file, which the reader reads.
     Read,
-    /// So many bytes of a data file, and the zero byte behind them.
+    /// This many bytes of a data file, and the zero byte behind them.
     Data(usize),
     /// The zero byte behind a data file.
     Zero,

@@ -8,13 +8,13 @@ use std::alloc::AllocError;
 /// The next part of a message (RFC 8010, section 3.1).
 #[derive(Clone, Copy)]
 enum Next {
-    /// So many bytes that are passed over, and the part behind them.
+    /// This many bytes that are passed over, and the part behind them.
     Passed(u32, Behind),
     /// The tag of a group or of an attribute.
     Tag,
-    /// The first byte of a length, and the part behind so many bytes.
+    /// The first byte of a length, and the part behind this many bytes.
     High(Behind),
-    /// The second byte of a length, whose first byte is this, and the part behind so many bytes.
+    /// The second byte of a length, whose first byte is this, and the part behind this many bytes.
     Low(u8, Behind),
     /// The document.
     Document,

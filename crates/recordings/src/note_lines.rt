@@ -184,7 +184,7 @@ impl NoteLines {
         Ok(())
     }
 
-    /// Appends the line of a write that took so many bytes with this sum. The only error is out of memory.
+    /// Appends the line of a write that took this many bytes with this sum. The only error is out of memory.
     fn note_write(
         &mut self,
         id: WireId,

@@ -53,7 +53,7 @@ pub record Serves (texts : Bool) (names : List (List ℕ)) (moment : ℕ) (body 
 abbrev pub most_turns : ℕ
 most_turns = 16777216
 
--- at most so many turns, of which each but the last has a poll with an answer other than Waiting
+-- at most `most_turns` turns, of which each but the last has a poll with an answer other than Waiting
 pub record AreTillQuiet (turns : List (List Happening)) : Type 0 where
   pub busy : List (List Happening)
   pub each : All (λ turn. any_stirs turn ≡ true) busy

@@ -155,7 +155,7 @@ fn run_lines(
     }
 }
 
-/// Acts on lines, the first of which is behind so many others, up to a bad one, and appends their text.
+/// Acts on lines up to a bad line, and appends their text. `before` lines are in front of the first of them.
 /// Returns the status.
 fn play_lines(
     alloc: Global,

@@ -56,7 +56,7 @@ pub record IsDeviceEntry (device : DeviceEntry) : Type 0 where
   pub few_formats : IsShort device.formats
   pub each_format : All IsFormat device.formats
 
--- a printer's entry is within the limits, and its devices are among so many
+-- a printer's entry is within the limits, and its devices are among the first `devices` devices
 pub record IsPrinterEntry (devices : ℕ) (printer : PrinterEntry) : Type 0 where
   pub name : IsName printer.name
   pub few_devices : length printer.devices ≤ DEVICES

@@ -44,7 +44,7 @@ fn first_of(one: Option<Print>, other: Option<Print>) -> Option<Print> {
 }
 
 impl<'a> Floor<'a> {
-    /// The beginning of a day with so many devices. The only error is out of memory.
+    /// The beginning of a day with this many devices. The only error is out of memory.
     fn new(alloc: Global, day: &'a Day, devices: usize) -> Result<Floor<'a>, AllocError> {
         let mut running = Vec::with_capacity(alloc, devices)?;
         for _ in 0..devices {
@@ -141,7 +141,7 @@ impl<'a> Floor<'a> {
 
 /// The observer of a day's progress.
 pub trait Watch {
-    /// Tells that so many of the jobs have come, in the day of this name.
+    /// Tells that `come` of the `jobs` jobs have come, in the day of this name.
     fn come(&mut self, name: &str, come: usize, jobs: usize);
 }
 
@@ -165,8 +165,8 @@ impl Floor<'_> {
     }
 }
 
-/// Plays a day on so many devices. Returns the jobs that were printed, in the order in which they began. The
-/// only error is out of memory.
+/// Plays a day on this many devices. Returns the jobs that were printed, in the order in which they began.
+/// The only error is out of memory.
 pub(crate) fn play<R: Room, W: Watch>(
     alloc: Global,
     day: &Day,

@@ -37,7 +37,7 @@ fn play_planned<W: Watch>(
     })
 }
 
-/// Plays a day by a policy, with so many printers and devices. The only error is out of memory.
+/// Plays a day by a policy, with this many printers and devices. The only error is out of memory.
 fn play_policy<W: Watch>(
     alloc: Global,
     policy: Policy,

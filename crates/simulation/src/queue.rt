@@ -41,7 +41,7 @@ pub struct Queue<'a> {
     last: Vec<usize>,
 }
 
-/// A list of so many free devices. The only error is out of memory.
+/// A list of this many free devices. The only error is out of memory.
 fn free_devices(alloc: Global, count: usize) -> Result<Vec<Device>, AllocError> {
     let mut devices = Vec::with_capacity(alloc, count)?;
     for _ in 0..count {
@@ -53,7 +53,7 @@ fn free_devices(alloc: Global, count: usize) -> Result<Vec<Device>, AllocError> 
     Ok(devices)
 }
 
-/// The first place for each of so many printers. The only error is out of memory.
+/// The first place for each of `printers` printers. The only error is out of memory.
 fn first_places(alloc: Global, printers: usize) -> Result<Vec<usize>, AllocError> {
     let mut places = Vec::with_capacity(alloc, printers)?;
     for _ in 0..printers {
@@ -63,8 +63,8 @@ fn first_places(alloc: Global, printers: usize) -> Result<Vec<usize>, AllocError
 }
 
 impl<'a> Queue<'a> {
-    /// Creates a queue without jobs, for the jobs of a day, so many printers, and so many free devices. The
-    /// only error is out of memory.
+    /// Creates a queue without jobs, for the jobs of a day, this many printers, and this many free devices.
+    /// The only error is out of memory.
     pub fn new(
         alloc: Global,
         policy: Policy,

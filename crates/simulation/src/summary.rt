@@ -29,7 +29,7 @@ fn times_to_paper(alloc: Global, day: &Day, prints: &[Print]) -> Result<Vec<u64>
     Ok(times)
 }
 
-/// The least of these rising times that so many of 100 don't exceed; 0 if there are none.
+/// The least of these rising times that `percent` of 100 times don't exceed; 0 if there are no times.
 fn rank(times: &[u64], percent: usize) -> u64 {
     let count = times.len().saturating_mul(percent).div_ceil(100);
     times.get(count.saturating_sub(1)).copied().unwrap_or(0)

@@ -26,7 +26,7 @@ const PAIR: usize = 16;
 /// The most jobs without a device whose numbers are listed.
 const STRANDED: usize = 10;
 
-/// Appends so many spaces.
+/// Appends this many spaces.
 fn put_spaces(page: Page, count: usize) -> Page {
     let mut page = page;
     for _ in 0..count {

@@ -7,7 +7,7 @@ use crate::bytes::find_byte;
 /// The front of bytes that are read line by line.
 #[derive(Clone, Copy, Debug, PartialEq, Eq)]
 pub enum FirstLine {
-    /// A line of so many bytes, and its line feed.
+    /// A line of this many bytes, and its line feed.
     Whole(usize),
     /// More bytes than a line may have, and no line feed among them.
     TooLong,

@@ -90,7 +90,7 @@ fn stepped(
     ))
 }
 
-/// The same values by the table.
+/// The values of [`stepped`] by the table, where `code` is the entry of the table.
 fn tabled(state: JobState, code: u32) -> (u32, bool, bool, bool) {
     let is_possible = code != 0;
     let after = if is_possible { code } else { state.code() };
