@@ -37,7 +37,7 @@ pub(crate) struct Desk<P: Printer> {
 /// Why a turn is stopped.
 #[derive(Clone, Copy)]
 enum Stop {
-    /// The connection to the server ended, or the server sent what it never sends.
+    /// The connection to the server ended, or the server sent a line or job that breaks the protocol.
     Lost,
     OutOfMemory,
 }

@@ -13,7 +13,7 @@ pub(crate) enum Note {
     Unlinked,
     /// The server can't be reached.
     ServerAway,
-    /// The server sent what it never sends.
+    /// The server sent octets that are no order.
     Refused(OrderFault),
     /// The server sent a job before the last one was reported as done.
     JobTooEarly(u32),

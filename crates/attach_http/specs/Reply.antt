@@ -11,7 +11,7 @@ use Rattle.attach_http.specs.declared.awaited.Awaited.TheVariants as awaits
 use Rattle.attach_http.specs.declared.awaited.Reached.{Reached}
 use Rattle.attach_http.specs.Line.{line_read}
 
--- the state of a reader: what it reads next, the status and the framing, the number of bytes that the lines may still have, the line so far, and the body so far
+-- the state of a reader: the part that it reads next, the status and the framing, the number of bytes that the lines may still have, the line so far, and the body so far
 pub record Reply : Type 0 where
   pub awaited : Awaited
   pub status : ℕ

@@ -8,8 +8,8 @@ use crate::line::line_read;
 use std::alloc::{AllocError, Global};
 use std::marker::Model;
 
-/// A reader of a reply, byte by byte. In clauses it is a record of what it reads next, the status and the
-/// framing, the number of bytes that its lines may still have, the line so far, and the body so far.
+/// A reader of a reply, byte by byte. In clauses it is a record of the part that it reads next, the status
+/// and the framing, the number of bytes that its lines may still have, the line so far, and the body so far.
 ///
 /// Once the reply is whole or broken, further bytes change nothing.
 #[derive(Debug, Drop)]

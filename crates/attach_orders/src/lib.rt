@@ -2,10 +2,10 @@
 //! comes in pieces of any length, and the lines that a device sends.
 //!
 //! An [`OrderReader`] gives exactly the orders of the bytes that it was fed, in order, with the octets of
-//! each job, and then the first fault. [`write_report`] appends exactly a report's line. The bytes that
-//! either side writes are read by the other as what they mean ([`orders_read_back`], [`report_read_back`]).
-//! The crate opens no connection and keeps no job. The server's side is in `device_link`. `docs/DEVICES.md`
-//! describes the protocol.
+//! each job, and then the first fault. [`write_report`] appends exactly a report's line. Each side reads the
+//! orders or the report that the other side wrote ([`orders_read_back`], [`report_read_back`]). The crate
+//! opens no connection and keeps no job. The server's side is in `device_link`. `docs/DEVICES.md` describes
+//! the protocol.
 //!
 //! Tests stand in `unit_tests`.
 #![tactic(auto)]

@@ -30,8 +30,8 @@ pub(crate) struct JobAnswer {
 }
 
 impl JobAnswer {
-    /// The result of the answer, where `before` impressions were reported earlier. It has the impressions if
-    /// they are more now, also for the answer that completes the job.
+    /// The result of the answer, where `before` impressions were reported earlier. The result has the
+    /// impressions if they are more than `before`, also for the answer that completes the job.
     pub(crate) fn told(self, before: u32) -> Told
         ensures pages { pages_told result ≡ pages_due self before }
         ensures printed { is_printed result ≡ is_completed self.state }

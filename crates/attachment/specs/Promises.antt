@@ -76,7 +76,7 @@ HeedsCancel None (Ordered job octets times) next = next ≡ Some (record { job =
 HeedsCancel None event next = next ≡ None
 HeedsCancel (Some at) event next = JobHeeds at event next
 
--- ---- READY and STOP alternate as the printer's state does: each is reported for the printer's state at that time, and not twice. The state is that of the printer, and the one that was last reported.
+-- ---- READY and STOP alternate as the printer's state does: each is reported for the printer's state at that time, and not twice. The record has the printer's state, and the state that was last reported.
 
 pub record Told : Type 0 where
   pub printer : PrinterState

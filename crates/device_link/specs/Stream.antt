@@ -61,7 +61,7 @@ pub record SaysFirst (stream : List ℕ) (reports : List ReportRecord) : Type 0 
   pub left : List ℕ
   pub leads : Leads false stream reports next left
 
--- the state of a reader: the bytes that are no report yet, whether the device has given its name, and the fault, if there was one
+-- the state of a reader: the bytes that are no report yet, whether the device has given its name, and the fault, if there was a fault
 pub record LinkState : Type 0 where
   pub rest : List ℕ
   pub greeted : Bool

@@ -64,7 +64,7 @@ body_left (Size room closes) = 0
 body_left (Trailer last) = 0
 body_left Nothing = 0
 
--- what is awaited behind `count` more bytes of a body or of a chunk
+-- the part that is awaited behind `count` more bytes of a body or of a chunk
 abbrev pub past_body : ℕ → Awaited → Awaited
 past_body count (Body left following) = Body (left - count) following
 past_body count Head = Head
@@ -80,7 +80,7 @@ abbrev pub begun : Result Request HttpRejection → List ℕ → Front
 begun (Ok request) rest = Goes (HasHead request.closes ∷ []) rest (after_head request)
 begun (Err refusal) rest = refused refusal rest
 
--- what is awaited behind a body: nothing behind the last, where bytes are dropped
+-- the part that is awaited behind a body; behind the last body nothing is awaited, and bytes are dropped
 abbrev pub after_body : Bool → Awaited
 after_body last = if last then Nothing else Head
 
@@ -140,7 +140,7 @@ trailer_front last bytes (Whole count) = Goes (EndsBody ∷ []) (drop count byte
 trailer_front last bytes TooLong = refused BadRequest bytes
 trailer_front last bytes Unfinished = Waits
 
--- the step at the front of the bytes, by what is awaited
+-- the step at the front of the bytes, by the part that is awaited
 abbrev pub FrontIs : Awaited → List ℕ → Front → Type 0
 FrontIs Head bytes front = AtHead bytes front
 FrontIs (Invitation framing closes) bytes front = front ≡ Goes (Invites ∷ []) bytes (body_by framing closes)
@@ -199,7 +199,7 @@ FirstStays = (stream more : List ℕ) (first said : List Said) → SaysFirst str
 abbrev pub FirstIsOne : Type 0
 FirstIsOne = (stream : List ℕ) (one other : List Said) → SaysFirst stream one → SaysFirst stream other → length one ≡ length other → one ≡ other
 
--- the state of a reader: the part of a body that it lends, the bytes that aren't read, and what it awaits
+-- the state of a reader: the part of a body that it lends, the bytes that aren't read, and the part that it awaits
 pub record HttpState : Type 0 where
   pub part : List ℕ
   pub rest : List ℕ

@@ -72,7 +72,7 @@ pub record SaysFirst (stream : List ℕ) (items : List ItemRecord) : Type 0 wher
   pub left : List ℕ
   pub leads : Leads Command stream items next left
 
--- the state of a reader: the file that it lends, the bytes that aren't read, what is awaited, and the fault, if there was one
+-- the state of a reader: the file that it lends, the bytes that aren't read, the part that is awaited, and the fault, if there was a fault
 pub record LpdState : Type 0 where
   pub file : List ℕ
   pub rest : List ℕ

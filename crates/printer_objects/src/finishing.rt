@@ -49,7 +49,7 @@ impl Finishing {
         }
     }
 
-    /// The finishings with this one.
+    /// The finishings with this finishing added.
     pub fn with(self, finishings: Finishings) -> Finishings
         ensures { result ≡ with_finishing finishings self }
     {

@@ -94,7 +94,7 @@ Given closes client.LpdJob None bytes = bytes ≡ 1 ∷ []
 Given closes client.LpdCommand (Some reply) bytes = GivenCommand reply.answer bytes
 Given closes client.LpdCommand None bytes = ⊥
 
--- the answer to what the connection asks of the server
+-- the answer to the connection's ask
 abbrev pub IsGiven : Bool → Ask → List Handled → List ℕ → Type 0
 IsGiven closes (ask.Event who event) asked bytes = (it : Handled) × (asked ≡ it ∷ []) × (it.event ≡ event) × Given closes who (reply_of it.outcome) bytes
 IsGiven closes (ask.Unread request) asked bytes = (asked ≡ []) × (bytes ≡ http_status closes TemporaryError request)

@@ -143,7 +143,7 @@ abbrev pub IsFirst : List ℕ → PeerRecord → Type 0
 IsFirst read (Http said closes body) = SaysFirst read said
 IsFirst read talk = Unit {0}
 
--- The events of a trace are one run of the core, by which each IPP client is answered exchange by exchange, even if its connection was closed. On each connection the exchanges are a front of what its bytes say. On an open one they are all that its bytes say, unless it is draining or broken.
+-- The events of a trace are one run of the core, by which each IPP client is answered exchange by exchange, even if its connection was closed. On each connection the exchanges are a front of the exchanges that its bytes say. On an open connection they are all of these, unless the connection is draining or broken.
 pub record AreByExchanges (opening : State) (trace : Trace) (l : Ledger) : Type 0 where
   pub handled : List Handled
   pub timed : AreOf trace handled

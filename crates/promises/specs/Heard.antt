@@ -76,7 +76,7 @@ said_on (Link reports device) = reports
 abbrev pub life_of : PeerRecord → List ReportRecord
 life_of talk = said_on talk ++ IsGone ∷ []
 
--- the device gave its name on the connection, and hasn't another one since
+-- the device gave its name on the connection, and has had no other connection since
 abbrev pub is_of : ℕ → PeerRecord → Bool
 is_of device talk = names device (device_of talk)
 
@@ -89,7 +89,7 @@ HasBroken talk l =
     ((key : ℕ) × (e : Entry) × (l.entries key ≡ Some e) × (e.talk ≡ talk) × (e.broken ≡ true))
     ⊎ ((before : List (Entry × Fate)) × (it : Entry × Fate) × (behind : List (Entry × Fate)) × (l.closed ≡ before ++ it ∷ behind) × (it.0.talk ≡ talk) × (it.0.broken ≡ true))
 
--- the device has another connection: this one has no device any more, and broke
+-- the device has another connection: this connection has no device any more, and broke
 abbrev pub IsGivenUp : PeerRecord → Ledger → Type 0
 IsGivenUp talk l = (device_of talk ≡ None) × HasBroken talk l
 
@@ -101,7 +101,7 @@ IsNow device now l =
 
 -- ---- the law
 
--- The reports of a device to the core, connection by connection: those of the connection, the device's name first, and that the device is gone; and then those of the connection that is open. The connections before are exactly the closed ones of the device, in the order of their ends, and those between them that it gave up by another connection.
+-- The reports of a device to the core, connection by connection: the reports of each ended connection, the device's name first, and then that the device is gone; and at last the reports of the open connection. The ended connections are exactly the closed connections of the device, in the order of their ends, and between them the connections that the device gave up by another connection.
 pub record IsReported (device : ℕ) (told : List ReportRecord) (l : Ledger) : Type 0 where
   pub past : List PeerRecord
   pub now : List ReportRecord

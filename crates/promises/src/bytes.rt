@@ -38,11 +38,11 @@ pub fn devices_are_sent_their_orders()
 
 /// The core's events of a trace are one run. For each device the reports among the events that came in turns
 /// are those on its connections, one connection after another: its name, each further report in order, and
-/// that it is gone, when the connection was closed or the device had another one; then the reports of the
-/// connection that is open. The connections that ended are exactly the closed ones of the device, in the
-/// order of their ends, and those that it gave up by another connection. The name is that of the device in
-/// the settings. The reports of a connection are a front of those that its bytes say: all of them, unless the
-/// connection is draining or broken.
+/// that it is gone, when the connection was closed or the device had another connection; then the reports of
+/// the open connection. The connections that ended are exactly the closed connections of the device, in the
+/// order of their ends, and the connections that it gave up by another connection. The name is that of the
+/// device in the settings. The reports of a connection are a front of those that its bytes say: all of them,
+/// unless the connection is draining or broken.
 pub fn devices_are_heard()
     ensures { (opening : State) (trace : Trace) (ledger : Ledger) → Runs trace (opening_ledger opening) ledger → AreHeard opening trace ledger }
 {}

@@ -11,7 +11,7 @@ pub(crate) trait Room {
     /// Records that a job ends on its device.
     fn end(&mut self, ended: Start, now: u64) -> Result<(), AllocError>;
 
-    /// Returns a job that begins now, if another one does.
+    /// Returns the next job that begins now, if there is one.
     fn start(&mut self) -> Option<Start>;
 }
 
