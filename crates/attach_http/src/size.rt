@@ -4,7 +4,7 @@ ghost use Rattle.attach_http.specs.Size.{hex_digit, hex_from, size_in};
 
 use text::without_parameters;
 
-/// The greatest size. A greater one in a line counts as this one, which is far above the limit of a body.
+/// The greatest size. A greater size in a line counts as this size, which is far above the limit of a body.
 const MOST: u32 = 16_777_216;
 
 /// The size in a line: hexadecimal digits. Extensions behind a semicolon are ignored.

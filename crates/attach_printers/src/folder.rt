@@ -12,7 +12,7 @@ use std::net::Net;
 use std::rt::Files;
 use std::{fs, io};
 
-/// The files of a job: the one that is written, and the one that the job has once it is printed.
+/// The files of a job: the file that is written, and the file that the job has once it is printed.
 #[derive(Drop)]
 struct Sheet {
     beside: String,

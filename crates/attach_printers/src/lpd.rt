@@ -9,7 +9,7 @@ use std::alloc::{AllocError, Global};
 /// The host in the names of files.
 const HOST: &str = "printd";
 
-/// The part that is sent now. Each part is sent once the one before it is acknowledged.
+/// The part that is sent now. Each part is sent once the part before it is acknowledged.
 #[derive(Clone, Copy, PartialEq, Eq)]
 enum Part {
     /// The command to receive a job for the queue.

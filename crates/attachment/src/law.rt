@@ -16,7 +16,8 @@ pub fn setup_is_found(samples: &[Sample], one: Sample, other: Sample, setup: u32
     ensures { setup_of (sums_of samples.now) ≡ Some setup }
 {}
 
-/// The rate of samples on a line with this setup is that of the line, if one of them has impressions.
+/// The rate of samples on a line with this setup is the rate of the line, if one of the samples has
+/// impressions.
 pub fn rate_is_found(samples: &[Sample], one: Sample, setup: u32, rate: u32)
     requires on { AreOn setup rate samples.now }
     requires one { Contains samples.now one }

@@ -19,7 +19,7 @@ struct Running {
     impressions: u32,
 }
 
-/// The one-sided jobs that were printed, or the two-sided ones.
+/// The printed one-sided jobs, or the printed two-sided jobs.
 #[derive(Debug, Drop)]
 struct Tally {
     jobs: u64,
@@ -126,7 +126,7 @@ impl Measurement {
         self.job = None;
     }
 
-    /// The setup, from the one-sided jobs if they determine it, else from the two-sided ones.
+    /// The setup, from the one-sided jobs if they determine it, else from the two-sided jobs.
     fn setup(&self) -> Option<u32> {
         self.one_side
             .samples

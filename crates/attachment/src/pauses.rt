@@ -1,7 +1,7 @@
 //! Pauses that double.
 ghost use Rattle.std.specs.Prelude.{◌≡◌, ◌+◌, ◌-◌, ◌*◌, nat_le, min};
 
-/// The times of tries: a pause follows each try, and each pause is twice as long as the one before, up to a
+/// The times of tries: a pause follows each try, and each pause is twice as long as the pause before, up to a
 /// longest one.
 #[derive(Clone, Copy, Debug)]
 pub struct Pauses {

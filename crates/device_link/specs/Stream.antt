@@ -23,11 +23,11 @@ pub record Heard : Type 0 where
 abbrev pub silence : Ending → Heard
 silence ending = record { reports = []; ending = ending }
 
--- these reports, in front of the later ones
+-- these reports, in front of the later reports
 abbrev pub with_front : List ReportRecord → Heard → Heard
 with_front reports later = record { reports = reports ++ later.reports; ending = later.ending }
 
--- the report of a line, in front of the later ones; a line that isn't a report is a fault, and the end
+-- the report of a line, in front of the later reports; a line that isn't a report is a fault, and the end
 abbrev pub heard_after : Option ReportRecord → Heard → Heard
 heard_after None later = silence (Faulty BadLine)
 heard_after (Some report) later = with_front (report ∷ []) later

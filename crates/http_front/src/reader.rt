@@ -363,7 +363,7 @@ impl HttpReader {
         Ok(())
     }
 
-    /// Takes bytes where all earlier ones are read, without moving the part that was lent. The only error is
+    /// Takes bytes where all earlier bytes are read, without moving the part that was lent. The only error is
     /// out of memory, and leaves the reader as it was.
     fn begin(&mut self, piece: &[u8]) -> Result<(), AllocError>
         requires { self.old.rest ≡ [] }

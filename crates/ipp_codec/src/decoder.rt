@@ -90,7 +90,7 @@ impl Decoder {
         }
     }
 
-    /// Returns to an earlier progress, and drops the bytes that it was fed since. Its state is the one of
+    /// Returns to an earlier progress, and drops the bytes that were fed since. The state is the state of
     /// that time.
     pub fn back_to(&mut self, reached: Reached)
         requires sound { CanReach reached }

@@ -20,7 +20,7 @@ pub enum ListFault {
     NoMoment,
     /// A job has neither impressions nor octets.
     NoLength,
-    /// A job comes before the one in the line before.
+    /// A job comes before the job in the line before.
     Order,
     /// There are more jobs than [`crate::MOST_JOBS`].
     TooMany,

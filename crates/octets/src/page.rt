@@ -14,7 +14,7 @@ const FIRST_BYTES: usize = 4096;
 /// The number of full pages from which on a document isn't short.
 const LONG_PAGES: usize = 16;
 
-/// The number of octets for which the page behind `full_pages` full ones takes memory at first: few for a
+/// The number of octets for which the page behind `full_pages` full pages takes memory at first: few for a
 /// short document, all of a page for a long one.
 pub(crate) fn first_room(full_pages: usize) -> usize
     ensures { result ≤ PAGE_BYTES }

@@ -28,7 +28,7 @@ pub record NoneElsewhere (beside : Beside) (c : Class) : Type 0 where
   pub above : All (NotAbove beside.above) c.ids
   pub stranded : All (NotStranded beside.stranded) c.ids
 
--- the waits of the class are those after the class just above it; those of the first class are given
+-- the waits of the class are the waits after the class just above it; the waits of the first class are given
 abbrev pub WaitsFollow : List PlannedClass → Class → Type 0
 WaitsFollow above c = (place : ℕ) (last : PlannedClass) → suc place ≡ length above → slice_get above place ≡ Some last → c.waits ≡ waits_after last.problem last.priced.way
 

@@ -39,14 +39,15 @@ fn not_above(job: JobId, above: &[PlannedClass]) -> bool
     true
 }
 
-/// Returns whether a job isn't among the stranded ones.
+/// Returns whether a job isn't among the stranded jobs.
 fn not_stranded(job: JobId, stranded: &[Stranded]) -> bool
     ensures { IsTrue result ↔ NotStranded stranded.now job }
 {
     stranded.iter().all(|other| other.job != job)
 }
 
-/// Returns whether the waits of the class are those after the class just above, if there is one.
+/// Returns whether the waits of the class are the waits after the class just above, if there is a class
+/// above.
 pub(crate) fn waits_follow(class: &ClassProblem, above: &[PlannedClass]) -> bool
     requires { AboveHaveWays above.now }
     ensures { IsTrue result ↔ WaitsFollow above.now class.now }

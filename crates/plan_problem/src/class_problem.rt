@@ -60,7 +60,7 @@ impl ClassProblem {
         &self.waits
     }
 
-    /// The place of a job among the jobs of the class, if it is one of them.
+    /// The place of a job among the jobs of the class; `None` if it isn't among them.
     pub fn place(&self, job: JobId) -> Option<usize>
         ensures { MatchOption result (place_of self.now.ids job ≡ length self.now.ids)
             (λ place. (place_of self.now.ids job ≡ place) × (place < length self.now.ids)) }
@@ -109,7 +109,7 @@ pub fn is_class(ids: &[JobId], rows: &[Row], waits: &[u64]) -> bool
         && waits.iter().all(|wait| *wait <= Limits::WAIT)
 }
 
-/// Returns whether each id is above the one before.
+/// Returns whether each id is above the id before it.
 fn rises(ids: &[JobId]) -> bool
     ensures { IsTrue result ↔ IsStrictlyIncreasing ids.now }
 {

@@ -9,7 +9,7 @@ use Rattle.plan_solver.specs.declared.search.TheConstants.{UNSETTLED, FAR}
 use Rattle.plan_solver.specs.declared.matching.Matching.{Matching}
 use Rattle.plan_solver.specs.Costs.{cost_of, nowhere}
 
--- the place of the least length among the unsettled ones of the first n columns, if one is nearer than `reach`
+-- the place of the least length among the unsettled columns of the first n, if a length is below `reach`
 abbrev pub IsNearestOf : List ℕ → List ℕ → ℕ → (reach : ℕ) → Option ℕ → Type 0
 IsNearestOf lengths ranks n reach None = (k : ℕ) → k < n → slice_index ranks k ≡ UNSETTLED → reach ≤ slice_index lengths k
 IsNearestOf lengths ranks n reach (Some c) =

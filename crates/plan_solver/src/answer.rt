@@ -85,7 +85,7 @@ fn by_job(alloc: Global, jobs: &[usize], prices: &[u64]) -> Result<Vec<u64>, All
     Ok(charged)
 }
 
-/// The values as signed ones.
+/// The values as signed numbers.
 fn signed(alloc: Global, values: &[u64]) -> Result<Vec<i64>, AllocError>
     requires { (j : ℕ) → j < length values.now → slice_index values.now j ≤ UNABLE }
     ensures { IfOk result (λ signed. signed.items ≡ map pos values.now) }

@@ -355,7 +355,7 @@ fn note_column(search: &mut Search, c: usize)
     }
 }
 
-/// Takes the ways of the job at `q` to the free places, and updates the exit if one of them is nearer.
+/// Takes the ways of the job at `q` to the free places, and updates the exit if one of these ways is shorter.
 fn leave(costs: &Costs, matching: &Matching, free: &[Place], search: &mut Search, q: usize)
     requires sizes { IsSized matching.now search.old }
     requires one_each { vec_len search.old.nears ≡ length free.now }

@@ -126,7 +126,7 @@ fn settle(costs: &Costs, matching: &Matching, times: &[Vec<u64>], ways: &mut Way
     }
 }
 
-/// Reaches a column from another one, if that is the shortest way so far.
+/// Reaches a column from another column, if this way is the shortest so far.
 fn reach(matching: &Matching, ways: &mut Ways, other: usize, column: usize, length: u64) {
     if ways.lengths.get(other).copied().unwrap_or(0) <= length {
         return;

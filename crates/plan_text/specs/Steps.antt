@@ -129,7 +129,7 @@ class_opened heard priority =
 unfoldable pub class_next : Heard → ℕ → Result Heard TextFault
 class_next heard priority = closed heard >>= λ whole. class_opened whole priority
 
--- whether a further line of a job may come, and its id is above the one before
+-- whether a further line of a job may come, and its id is above the id of the job before
 abbrev pub may_have : Heard → ℕ → Bool
 may_have heard id = nat_lt heard.jobs UNFINISHED_JOBS && nat_lt heard.last id
 

@@ -131,7 +131,7 @@ impl Draft {
         self.open_class(alloc, priority)
     }
 
-    /// Returns whether a further line of a job may come, and its id is above the one before.
+    /// Returns whether a further line of a job may come, and its id is above the id of the job before.
     fn may_have(&self, id: JobId) -> bool
         ensures { result ≡ may_have (heard_by self.now) id }
     {

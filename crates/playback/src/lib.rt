@@ -2,7 +2,7 @@
 //! did.
 //!
 //! [`play`] writes the bytes that each connection got, the plans, the starts and the cancels; or the lines of
-//! a log; or it compares the bytes with the recorded ones and writes only whether they are the same. Nothing
+//! a log; or it compares the bytes with the recorded bytes and writes only whether they are the same. Nothing
 //! is proved of it, except that it is safe and ends. The contract of a server over a wire is in `server`, and
 //! the content of a line in `recordings`.
 //!

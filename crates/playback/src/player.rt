@@ -40,8 +40,8 @@ pub(crate) struct Player<'a> {
     script: Script,
     shows: Shows,
     audience: Audience,
-    /// The comments of a turn, one line each: `comings` are those of connections that came, and other ones;
-    /// `goings` are those of connections that went.
+    /// The comments of a turn, one line each: `comings` are the comments of connections that came, and all
+    /// other comments; `goings` are the comments of connections that went.
     comings: Vec<u8>,
     goings: Vec<u8>,
     /// The moment that was printed last.
@@ -211,7 +211,7 @@ impl<'a> Player<'a> {
         }
     }
 
-    /// Appends the text of a turn: its moment, if that isn't the one printed last, the notes of the server,
+    /// Appends the text of a turn: its moment, if another moment was printed last, the notes of the server,
     /// and the bytes that connections got.
     fn put_happenings(
         &mut self,

@@ -78,7 +78,7 @@ fn said(status: ExitStatus, sentence: Result<String, AllocError>) -> Fault {
 enum Front {
     /// The text of the settings.
     Settings(Vec<u8>),
-    /// The file continues another one.
+    /// The file continues another file.
     GoesOn,
     /// No line is a point.
     Neither,

@@ -14,7 +14,7 @@ use wires::{Door, WireId};
 /// The number of bytes from which on the bytes of a read are written behind their line.
 const MANY: usize = 1024;
 
-/// The front of the first line of a file that continues another one.
+/// The front of the first line of a file that continues another file.
 pub const GOES_ON: &[u8] = b"#goes on behind ";
 
 /// The word for a door.
@@ -199,7 +199,7 @@ pub fn put_start(
     output.extend_from_slice(if heads { b" heads\n" } else { b"\n" })
 }
 
-/// Appends the line before the turns of a file that continues another one, whose name is `name`.
+/// Appends the line before the turns of a file that continues the file `name`.
 pub fn put_goes_on(output: &mut Vec<u8>, name: &[u8]) -> Result<(), AllocError> {
     output.extend_from_slice(GOES_ON)?;
     output.extend_from_slice(name)?;

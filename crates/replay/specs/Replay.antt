@@ -32,7 +32,7 @@ pub record LinesGive (texts : Bool) (settings : ServerSettings) (number : ℕ) (
 
 -- ---- a trace
 
--- the text and the status of settings, with the lines behind the first `count` ones
+-- the text and the status of settings, with the lines behind the first `count` lines
 abbrev pub SettingsGive : Bool → List ℕ → List ℕ → ℕ → Said → Type 0
 SettingsGive texts settings rest count said =
     (¬ (IsUtf8 settings) × (said ≡ settings_refused not_toml))

@@ -38,7 +38,7 @@ pub enum LineFault {
     Input,
     /// No number follows `end`.
     End,
-    /// The line opens a connection with a number that another one has or had.
+    /// The line opens a connection with a number that another connection has or had.
     Given,
     /// No connection of the line's number is open.
     NotOpen,

@@ -1,4 +1,5 @@
-//! The devices of a day: those of the settings, without some that are away, and with further ones.
+//! The devices of a day: the devices of the settings, without those that are away, and with additional
+//! devices.
 ghost use Rattle.std.specs.Prelude.{IfOk};
 ghost use Rattle.settings_file.specs.Settings.{MeetsLimits};
 

@@ -172,8 +172,8 @@ impl<'a> Queue<'a> {
         }
     }
 
-    /// The first device of a printer that can begin a job, from the one behind the last one around to the
-    /// last one itself.
+    /// The first device of a printer that can begin a job, from the device behind the last used device,
+    /// around to the last used device itself.
     fn next_free(&self, job: &DayJob) -> Option<usize> {
         let count = job.members.len();
         let behind = self.last_of(job.printer).saturating_add(1);
